@@ -1,0 +1,63 @@
+-- Keys that stand once, and words.
+use Rattle.std.proofs.Common.{◌≡◌, ℕ, ◌≢◌, Bool, true, false, ◌||◌, List, [], ◌∷◌, ◌++◌, length, take, drop, Option, Some, None, refl, sym, ap₂, ◌∙◌, inl, inr}
+use Rattle.std.proofs.lemmas.Bool.{cases_Bool}
+use Rattle.std.proofs.lemmas.List.{take-append-drop}
+use Rattle.std.proofs.lemmas.Slice.Eq.{bytes_eq-Decides}
+use Rattle.std.specs.Prelude.{nat_eq}
+use Rattle.std.specs.List.{AllByRecursion, starts_with}
+use Rattle.std.specs.Str.{bytes_eq}
+use Rattle.jtext.specs.declared.json.Json.{Json}
+use Rattle.jtext.specs.Faults.{strip_word}
+use Rattle.jtext.specs.Grammar.{Distinct}
+use Rattle.jtext.specs.Reading.{has_key}
+use Rattle.jtext.proofs.Binds.{chosen}
+
+pub all-push : {A : Type 0} (P : A → Type 0) (xs : List A) (x : A) → AllByRecursion P xs → P x → AllByRecursion P (xs ++ x ∷ [])
+all-push P [] x all p = (p, tt)
+all-push P (y ∷ ys) x all p = (all.0, all-push P ys x all.1 p)
+
+pub all-at : {A : Type 0} (P : A → Type 0) (xs : List A) (x : A) (ys : List A) → AllByRecursion P (xs ++ x ∷ ys) → P x
+all-at P [] x ys all = all.0
+all-at P (z ∷ zs) x ys all = all-at P zs x ys all.1
+
+pub or_false : (a b : Bool) → (a || b) ≡ false → (a ≡ false) × (b ≡ false)
+or_false false b e = (refl, e)
+or_false true b e = absurd (never e)
+  where
+    never : true ≡ false → ⊥
+    never h = cc
+
+pub differ : (xs ys : List ℕ) → bytes_eq xs ys ≡ false → ys ≢ xs
+differ xs ys e same = let t : true ≡ false = sym ((bytes_eq-Decides xs ys).1 (sym same)) ∙ e in cc
+
+pub not_equal : (xs ys : List ℕ) → ys ≢ xs → bytes_eq xs ys ≡ false
+not_equal xs ys no_same =
+    elim (cases_Bool (bytes_eq xs ys)) [ inl t ↦ absurd (no_same (sym ((bytes_eq-Decides xs ys).0 t))) | inr f ↦ f ]
+
+pub distinct-push : (ps : List (List ℕ × Json)) (p : List ℕ × Json) → Distinct ps → has_key ps p.0 ≡ false → Distinct (ps ++ p ∷ [])
+distinct-push [] p d e = (tt, tt)
+distinct-push (r ∷ rs) p d e =
+    let h = or_false (bytes_eq r.0 p.0) (has_key rs p.0) e in
+    (all-push (λ q. q.0 ≢ r.0) rs p d.0 (differ r.0 p.0 h.0), distinct-push rs p d.1 h.1)
+
+pub distinct-free : (ps : List (List ℕ × Json)) (p : List ℕ × Json) (qs : List (List ℕ × Json)) → Distinct (ps ++ p ∷ qs) → has_key ps p.0 ≡ false
+distinct-free [] p qs d = refl
+distinct-free (r ∷ rs) p qs d = ap₂ (λ a b. a || b) (not_equal r.0 p.0 (all-at (λ q. q.0 ≢ r.0) rs p qs d.0)) (distinct-free rs p qs d.1)
+
+take_drop : (n : ℕ) (s : List ℕ) → s ≡ take n s ++ drop n s
+take_drop n s = sym (take-append-drop n s)
+
+pub strip_sound : (name s rest : List ℕ) → strip_word name s ≡ Some rest → s ≡ name ++ rest
+strip_sound name s rest e =
+    elim (chosen (starts_with nat_eq s name) (Some (drop (length name) s)) None (Some rest) e) [
+      | inl h ↦
+          let front : name ≡ take (length name) s = (bytes_eq-Decides name (take (length name) s)).0 h.0 in
+          take_drop (length name) s ∙ ap₂ (λ a b. a ++ b) (sym front) (inside _ rest h.1)
+      | inr h ↦ absurd (never rest h.1)
+    ]
+  where
+    inside : (u v : List ℕ) → ◌≡◌ {A = Option (List ℕ)} (Some u) (Some v) → u ≡ v
+    inside u v e = cc
+
+    never : (v : List ℕ) → ◌≡◌ {A = Option (List ℕ)} None (Some v) → ⊥
+    never v e = cc

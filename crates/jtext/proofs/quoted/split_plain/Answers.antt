@@ -1,0 +1,5 @@
+use Rattle.jtext.proofs.Runs.{plain_boundary}
+use Rattle.jtext.proofs.quoted.split_plain.Goals as goal
+
+pub split_at-requires : goal.split_at-requires
+split_at-requires c = rw (c.plain_len.ensures.len, c.as_bytes.ensures.value) (plain_boundary c.args.s.now)

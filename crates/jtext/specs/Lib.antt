@@ -1,0 +1,16 @@
+pub mod formers
+pub mod Number
+pub mod Grammar
+pub mod Depth
+pub mod Print
+pub mod Faults
+pub mod Strings
+pub mod Reading
+pub mod Gives
+pub mod Find
+pub mod Sound
+pub mod Keyed
+pub mod Loose
+pub mod Refusal
+pub mod Sorting
+pub mod Indent

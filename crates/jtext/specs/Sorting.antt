@@ -1,0 +1,40 @@
+-- Pairs in the order of their keys' bytes, as `sort_keys` of Python's `json` has them. A stable insertion sort.
+use Rattle.std.specs.Prelude.{ℕ, if◌then◌else◌, List, [], ◌∷◌}
+use Rattle.std.specs.declared.cmp.Ordering.{Ordering}
+use Rattle.std.specs.Ordering.{is_gt, nat_cmp}
+use Rattle.std.specs.Cmp.Lexicographic.{slice_cmp}
+use Rattle.jtext.specs.declared.json.Json.{Json}
+use Rattle.jtext.specs.declared.json.Json.TheVariants as json
+use Rattle.jtext.specs.declared.json.Json.TheOpen.{Json-F}
+use Rattle.jtext.specs.declared.json.Json.TheFolds.{fold-Json}
+
+-- the order of two texts by their bytes: the first byte that differs decides, and a front comes before the whole
+abbrev pub byte_order : List ℕ → List ℕ → Ordering
+byte_order = slice_cmp nat_cmp
+
+-- the new item before the first one that is not below it
+abbrev pub insert_sorted : {X : Type 0} → (X → X → Ordering) → X → List X → List X
+insert_sorted cmp new [] = new ∷ []
+insert_sorted cmp new (x ∷ xs) = if is_gt (cmp new x) then x ∷ insert_sorted cmp new xs else new ∷ x ∷ xs
+
+-- the items in that order, equal ones as they stood
+abbrev pub sort_by : {X : Type 0} → (X → X → Ordering) → List X → List X
+sort_by cmp [] = []
+sort_by cmp (x ∷ xs) = insert_sorted cmp x (sort_by cmp xs)
+
+-- pairs in the order of their keys
+abbrev pub by_key : {A : Type 0} → List (List ℕ × A) → List (List ℕ × A)
+by_key ps = sort_by (λ p q. byte_order p.0 q.0) ps
+
+-- one level, with what was sorted inside in its place
+abbrev pub sorted_step : Json-F Json → Json
+sorted_step Json-F.Null = json.Null
+sorted_step (Json-F.Bool b) = json.Bool b
+sorted_step (Json-F.Num s) = json.Num s
+sorted_step (Json-F.Str s) = json.Str s
+sorted_step (Json-F.Arr xs) = json.Arr xs
+sorted_step (Json-F.Obj ps) = json.Obj (by_key ps)
+
+-- the tree with the pairs of each object in the order of their keys
+abbrev pub sorted : Json → Json
+sorted = fold-Json Json sorted_step

@@ -1,0 +1,34 @@
+//! JSON trees and the lists and texts that they are made of (RFC 8259).
+//! Reads bytes to a tree, and writes a tree as compact or as indented text. It does no IO.
+#![tactic(auto)]
+
+mod compact;
+mod duplicate;
+mod escape;
+mod fault;
+mod indent;
+mod json;
+pub mod laws;
+mod list;
+mod lookup;
+mod no_memory;
+mod number;
+mod quoted;
+mod reader;
+mod scan;
+mod sorted;
+#[cfg(test)]
+mod tests;
+mod text;
+
+pub use compact::write_compact;
+pub use duplicate::copy;
+pub use fault::JsonFault;
+pub use indent::write_indented;
+pub use json::{Fields, Items, Json, Texts};
+pub use list::{Bytes, List};
+pub use lookup::field;
+pub use no_memory::NoMemory;
+pub use number::{NumFault, NumText};
+pub use reader::read;
+pub use text::Text;

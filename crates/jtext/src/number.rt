@@ -1,0 +1,78 @@
+//! Numbers, which keep their text: `1e2` stays `1e2`.
+ghost use Rattle.std.specs.Prelude.{◌≡◌, IfOk};
+ghost use Rattle.jtext.specs.Number.{IsNumber};
+ghost use Rattle.jtext.specs.Gives.{NumberAnswer};
+
+use crate::NoMemory;
+use crate::scan::split_number;
+use std::alloc::Global;
+use std::marker::Model;
+
+/// A text of the number grammar of RFC 8259, section 6. A contract sees it as the list of its bytes.
+#[derive(Debug, Drop)]
+pub struct NumText {
+    text: String,
+}
+
+impl Model for NumText {
+    ghost use Rattle.std.specs.Prelude.{List, ℕ, string_bytes};
+    ghost use Rattle.jtext.specs.Number.{IsNumber};
+
+    ghost Value = { List ℕ };
+
+    ghost view = { λ a. string_bytes a.text };
+
+    ghost invariant = { λ a. IsNumber (string_bytes a.text) };
+}
+
+/// Why a text is refused as a number.
+#[derive(Clone, Copy, Debug, Drop, PartialEq, Eq)]
+pub enum NumFault {
+    /// The text is outside the grammar.
+    NotNumber,
+    /// A growth was refused.
+    NoMemory,
+}
+
+impl From<NoMemory> for NumFault {
+    ghost use Rattle.jtext.specs.declared.number.NumFault.TheVariants as fault;
+
+    ghost from_gives = { λ _ e. e ≡ fault.NoMemory };
+
+    fn from(_: NoMemory) -> NumFault {
+        NumFault::NoMemory
+    }
+}
+
+impl NumText {
+    /// A copy of `text`. It is refused as `NotNumber` exactly where it is outside the grammar.
+    pub fn of(alloc: Global, text: &str) -> Result<NumText, NumFault>
+        ensures { NumberAnswer text.now result }
+    {
+        let Some((number, rest)) = split_number(text) else {
+            return Err(NumFault::NotNumber);
+        };
+        if !rest.is_empty() {
+            return Err(NumFault::NotNumber);
+        }
+        Ok(NumText::of_number(alloc, number)?)
+    }
+
+    /// A copy of a text that is known to be a number.
+    pub fn of_number(alloc: Global, text: &str) -> Result<NumText, NoMemory>
+        requires { IsNumber text.now }
+        ensures { IfOk result (λ r. r ≡ text.now) }
+    {
+        Ok(NumText {
+            text: String::from_str(alloc, text)?,
+        })
+    }
+
+    /// Its text, lent.
+    pub fn as_str(&self) -> &str
+        ensures same { result.now ≡ self.now }
+        ensures number { IsNumber result.now }
+    {
+        self.text.as_str()
+    }
+}

@@ -1,0 +1,31 @@
+//! Pairs in the order of their keys.
+ghost use Rattle.std.specs.Prelude.{◌≡◌, ◌<◌, length, map, slice_get, Some, IfOk};
+ghost use Rattle.jtext.specs.Sorting.{by_key};
+
+use crate::{Json, NoMemory, Text};
+use std::alloc::Global;
+
+/// The keys in the order of their bytes, each with the place of its pair.
+pub(crate) fn places_by_key(
+    alloc: Global,
+    pairs: &[(Text, Json)],
+) -> Result<Vec<(&str, usize)>, NoMemory>
+    ensures { IfOk result (λ v. map (λ e. slice_get pairs.now e.1) v.items ≡ map (λ p. Some p) (by_key pairs.now)) }
+{
+    let mut places = Vec::new(alloc);
+    for (i, pair) in pairs.iter().enumerate() {
+        places.push((pair.0.as_str(), i))?;
+    }
+    places.sort()?;
+    Ok(places)
+}
+
+/// The place of the pair whose key is at `i` of those keys.
+pub(crate) fn place_of(pairs: &[(Text, Json)], places: &[(&str, usize)], i: usize) -> usize
+    requires sorted { map (λ e. slice_get pairs.now e.1) places.now ≡ map (λ p. Some p) (by_key pairs.now) }
+    requires within { i < length places.now }
+    ensures within { result < length pairs.now }
+    ensures pair { slice_get (by_key pairs.now) i ≡ slice_get pairs.now result }
+{
+    places[i].1
+}
