@@ -1,0 +1,13 @@
+pub mod Acked
+pub mod Counts
+pub mod Disk
+pub mod Environment
+pub mod Folder
+pub mod Kernel
+pub mod Memory
+pub mod Moments
+pub mod Own
+pub mod Parts
+pub mod Places
+pub mod Told
+pub mod Touched

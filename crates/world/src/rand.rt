@@ -1,0 +1,19 @@
+//! The random source.
+ghost use Rattle.std.specs.Prelude.{◌≡◌};
+ghost use Rattle.world.specs.declared.entry.Entry.{Entry};
+ghost use Rattle.world.specs.Counts.{RandCause};
+ghost use Rattle.world.specs.Told.{Tells};
+
+use crate::Journal;
+
+/// A source of random words.
+pub trait Rand: Journal {
+    /// How many words could not be had, up to the last value of a `u64`.
+    fn rand_faults(&self) -> u64
+        ensures { result ≡ (Self.counts self.now).rand };
+
+    /// A random word, and `None` where the source failed.
+    fn word(&mut self) -> Option<u64>
+        ensures tells { Tells (Self.journal self.old) (Self.journal self.new) (Entry.Word result) }
+        ensures cause { RandCause (Self.counts self.old) (Self.counts self.new) (result ≡ None) };
+}

@@ -1,0 +1,22 @@
+//! What is said to the user.
+ghost use Rattle.std.specs.Prelude.{◌≡◌, ◌<◌, length};
+ghost use Rattle.world.specs.declared.entry.Entry.{Entry};
+ghost use Rattle.world.specs.Counts.{SayCause};
+ghost use Rattle.world.specs.Told.{Tells, taken_of, did_of, TookSome};
+
+use crate::{Journal, Wrote};
+
+/// The standard output.
+pub trait Say: Journal {
+    /// How many calls of this trait have failed, up to the last value of a `u64`.
+    fn say_faults(&self) -> u64
+        ensures { result ≡ (Self.counts self.now).say };
+
+    /// Says the first bytes of the piece, at least one.
+    fn write(&mut self, piece: &[u8]) -> Wrote
+        requires { 0 < length piece.now }
+        ensures some { TookSome result piece.now }
+        ensures tells { Tells (Self.journal self.old) (Self.journal self.new)
+            (Entry.Said (taken_of result piece.now) (did_of result)) }
+        ensures cause { SayCause (Self.counts self.old) (Self.counts self.new) (result ≡ Wrote.Failed) };
+}
