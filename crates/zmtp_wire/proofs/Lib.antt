@@ -1,0 +1,17 @@
+pub mod ListLemmas
+pub mod HandshakeLemmas
+pub mod ReadyLemmas
+pub mod RunLemmas
+pub mod FeedLemmas
+pub mod UnitLemmas
+pub mod StepLemmas
+pub mod TurnLemmas
+pub mod WrongLemmas
+pub mod StreamLemmas
+pub mod OutcomeLemmas
+pub mod GivesLemmas
+pub mod ShakenLemmas
+pub mod VersionLemmas
+pub mod WholeLemmas
+pub mod WriteLemmas
+pub mod LawLemmas

@@ -1,0 +1,72 @@
+-- The states of the machine as parts of units, and one step on them.
+use Rattle.std.proofs.Common.{◌≡◌, ◌≢◌, ℕ, zero, suc, ◌+◌, ◌-◌, ◌≤◌, ◌<◌, ◌^◌, Bool, true, false, cond, nat_lt, nat_le, nat_eq, List, [], ◌∷◌, ◌++◌, length, take, drop, Option, None, Some, refl, ap, sym, ◌∙◌, arith, length-append, append_assoc, append-nil, ◌⊎◌, inl, inr, subst}
+use Rattle.std.proofs.lemmas.Bool.Decides.{nat_tests}
+use Rattle.zmtp_wire.specs.declared.role.Role.{Role}
+use Rattle.zmtp_wire.specs.declared.cause.Cause.{Cause}
+use Rattle.zmtp_wire.specs.Fault.{fault_at}
+use Rattle.zmtp_wire.specs.declared.state.State.{State}
+use Rattle.zmtp_wire.specs.declared.state.State.TheVariants.{Greeting, Units, Failed}
+use Rattle.zmtp_wire.specs.declared.state.Phase.{Phase}
+use Rattle.zmtp_wire.specs.declared.state.Phase.TheVariants.{Handshake, Traffic}
+use Rattle.zmtp_wire.specs.declared.state.Open.{Open}
+use Rattle.zmtp_wire.specs.declared.state.Open.TheVariants.{Fresh, Size, Body}
+use Rattle.zmtp_wire.specs.Frame.{is_allowed, is_command, is_more, is_long, size_len, size_of}
+use Rattle.zmtp_wire.specs.Greeting.{speaks}
+use Rattle.zmtp_wire.specs.Machine.{Took, quiet, step, unit_step, size_step, body_step}
+use Rattle.zmtp_wire.specs.Stream.{Come, nothing, greeted, shaken, open_after}
+use Rattle.zmtp_wire.proofs.ListLemmas.{take_front, drop_front, take_more_same, not_less, less, pick_false, pick_true, one_more, drop_more_same}
+
+abbrev pub unit_at : List ℕ → Open
+unit_at [] = Fresh
+unit_at (f ∷ r) = cond (nat_lt (length r) (size_len f)) (Size f r) (Body f (size_of (take (size_len f) r)) (drop (size_len f) r))
+
+abbrev pub state_of : Come → List ℕ → State
+state_of nothing p = Greeting p
+state_of (greeted g) p = Units (Handshake (speaks g)) (unit_at p)
+state_of (shaken g items) p = Units (Traffic (speaks g) (open_after [] items)) (unit_at p)
+
+-- whether READY has come
+abbrev pub is_past : Come → Bool
+is_past nothing = false
+is_past (greeted g) = false
+is_past (shaken g items) = true
+
+-- the state where a test fails at the octet `at`
+abbrev pub stopped_at : Come → ℕ → Cause → State
+stopped_at come at c = Failed (is_past come) (fault_at at c)
+
+-- what stands open, where the size isn't whole, and where it is
+pub at_size : (f : ℕ) (r : List ℕ) → length r < size_len f → unit_at (f ∷ r) ≡ Size f r
+at_size f r h = pick_true _ _ _ (less _ _ h)
+
+pub at_body : (f : ℕ) (r : List ℕ) → size_len f ≤ length r → unit_at (f ∷ r) ≡ Body f (size_of (take (size_len f) r)) (drop (size_len f) r)
+at_body f r h = pick_false _ _ _ (not_less _ _ h)
+
+-- the octets of a size that is whole now
+pub at_whole_size : (f : ℕ) (r : List ℕ) → length r ≡ size_len f → unit_at (f ∷ r) ≡ Body f (size_of r) []
+at_whole_size f r h =
+    let front : take (size_len f) r ≡ r = ap (λ n. take n r) (sym h) ∙ ap (take (length r)) (sym (append-nil r)) ∙ take_front r [] in
+    let back : drop (size_len f) r ≡ [] = ap (λ n. drop n r) (sym h) ∙ ap (drop (length r)) (sym (append-nil r)) ∙ drop_front r [] in
+    at_body f r (omega arith) ∙ ap (λ o. Body f (size_of o) (drop (size_len f) r)) front ∙ ap (Body f (size_of r)) back
+
+pub at_longer_body : (f : ℕ) (r : List ℕ) (x : ℕ) → size_len f ≤ length r → unit_at (f ∷ (r ++ x ∷ [])) ≡ Body f (size_of (take (size_len f) r)) (drop (size_len f) r ++ x ∷ [])
+at_longer_body f r x h =
+    at_body f (r ++ x ∷ []) (omega (arith, one_more r x)) ∙ ap (λ o. Body f (size_of o) (drop (size_len f) (r ++ x ∷ []))) (take_more_same (size_len f) r (x ∷ []) h)
+    ∙ ap (Body f (size_of (take (size_len f) r))) (drop_more_same (size_len f) r (x ∷ []) h)
+
+-- one step in a size, at its end, and in a body
+pub step_size : (role : Role) (at : ℕ) (phase : Phase) (f : ℕ) (r : List ℕ) (x : ℕ) → length r + 1 < size_len f
+    → unit_step role at phase (unit_at (f ∷ r)) x ≡ quiet (Units phase (unit_at (f ∷ (r ++ x ∷ []))))
+step_size role at phase f r x h =
+    let longer : length (r ++ x ∷ []) < size_len f = omega (arith, one_more r x) in
+    ap (λ u. unit_step role at phase u x) (at_size f r (omega arith)) ∙ pick_true _ _ _ (less _ _ longer) ∙ ap (λ u. quiet (Units phase u)) (sym (at_size f (r ++ x ∷ []) longer))
+
+pub step_size_end : (role : Role) (at : ℕ) (phase : Phase) (f : ℕ) (r : List ℕ) (x : ℕ) → length r + 1 ≡ size_len f
+    → unit_step role at phase (unit_at (f ∷ r)) x ≡ size_step role at phase f (size_of (r ++ x ∷ []))
+step_size_end role at phase f r x h =
+    let whole : size_len f ≤ length (r ++ x ∷ []) = omega (arith, one_more r x) in
+    ap (λ u. unit_step role at phase u x) (at_size f r (omega arith)) ∙ pick_false _ _ _ (not_less _ _ whole)
+
+pub step_body : (role : Role) (at : ℕ) (phase : Phase) (f : ℕ) (r : List ℕ) (x : ℕ) → size_len f ≤ length r
+    → unit_step role at phase (unit_at (f ∷ r)) x ≡ body_step role at phase f (size_of (take (size_len f) r)) (drop (size_len f) r ++ x ∷ [])
+step_body role at phase f r x h = ap (λ u. unit_step role at phase u x) (at_body f r h)
