@@ -1,0 +1,5 @@
+pub mod BodyLemmas
+pub mod ReplyLemmas
+pub mod PrefixLemmas
+pub mod PeerLemmas
+pub mod SendingLemmas

@@ -1,0 +1,5 @@
+pub mod Envelope
+pub mod Subscription
+pub mod Reply
+pub mod Peer
+pub mod Sending
