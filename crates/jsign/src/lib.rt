@@ -1,0 +1,11 @@
+//! Signatures of Jupyter messages: HMAC-SHA256 (RFC 2104) of the four dictionary frames,
+//! in hexadecimal, and the last signatures that were seen. It does no IO.
+#![tactic(auto)]
+
+mod hmac;
+mod seen;
+#[cfg(test)]
+mod tests;
+
+pub use hmac::{check, sign};
+pub use seen::Seen;
