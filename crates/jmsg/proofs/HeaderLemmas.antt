@@ -1,0 +1,117 @@
+-- Lemmas on the dictionary of a header.
+use Rattle.std.proofs.Common.{◌≡◌, ◌≢◌, ℕ, ◌≤◌, ◌<◌, zero, suc, nat_lt, get_or, lit<, Bool, ◌&&◌, true, false, IsTrue, List, [], ◌∷◌, ◌++◌, codes, Option, Some, None, refl, sym, ◌∙◌, ap, subst, rules, arith}
+use Rattle.std.specs.List.{AllByRecursion, list_all}
+use Rattle.std.specs.Option.{IfSome, unwrap_or}
+use Rattle.std.specs.Str.{IsUtf8, bytes_eq}
+use Rattle.std.proofs.lemmas.Bool.{ltb-true}
+use Rattle.std.proofs.lemmas.Slice.Eq.{bytes_eq-Decides}
+use Rattle.std.proofs.lemmas.Str.{IsUtf8-from_ascii}
+use Rattle.jtext.specs.Depth.{depth}
+use Rattle.jtext.specs.Find.{find, fields_of}
+use Rattle.jtext.proofs.Depths.{depth-Obj, depth-Str, pairs-le}
+use Rattle.jtext.specs.Grammar.{Distinct, Lacks}
+use Rattle.jtext.specs.Keyed as keyed
+use Rattle.jtext.specs.Keyed.{Keyed, PairsKeyed}
+use Rattle.jtext.specs.Sound as sound
+use Rattle.jtext.specs.Sound.{Sound, PairsSound}
+use Rattle.jtext.specs.declared.json.Json.{Json, out-Json, the_lemmas}
+use Rattle.jtext.specs.declared.json.Json.TheOpen.{Json-F}
+use Rattle.jtext.specs.declared.json.Json.TheVariants as json
+use Rattle.jmsg.specs.Dictionary.{is_object_row, text_at, text_of, text_of_row}
+use Rattle.jmsg.specs.Header.{text_pair, pairs_of, tree_of, header_of, header_named, header_typed}
+use Rattle.jmsg.specs.Encoded.{AreTexts, IsSendableTree}
+use Rattle.jmsg.specs.declared.header.Header.{Header}
+
+abbrev header : List ℕ → List ℕ → List ℕ → Option (List ℕ) → List ℕ → List ℕ → Header
+header i s u d t v = record { msg_id = i; session = s; username = u; date = d; msg_type = t; version = v }
+
+-- ---- what is read is what was written
+
+out-Obj : (ps : List (List ℕ × Json)) → out-Json (json.Obj ps) ≡ Json-F.Obj ps
+out-Obj ps = search (rules, the_lemmas)
+
+out-Str : (s : List ℕ) → out-Json (json.Str s) ≡ Json-F.Str s
+out-Str s = search (rules, the_lemmas)
+
+at : (ps : List (List ℕ × Json)) (key s : List ℕ) → find key ps ≡ Some (json.Str s) → text_at (json.Obj ps) key ≡ Some s
+at ps key s found = ap (λ r. text_of (find key (fields_of r))) (out-Obj ps) ∙ ap text_of found ∙ ap text_of_row (out-Str s)
+
+none_at : (ps : List (List ℕ × Json)) (key : List ℕ) → find key ps ≡ None → text_at (json.Obj ps) key ≡ None
+none_at ps key found = ap (λ r. text_of (find key (fields_of r))) (out-Obj ps) ∙ ap text_of found
+
+abbrev with_texts : List ℕ → List ℕ → Option (List ℕ) → Option (List ℕ) → Option (List ℕ) → Option (List ℕ) → Option Header
+with_texts i t s u d v = Some (header i (unwrap_or s []) (unwrap_or u []) d t (unwrap_or v []))
+
+read_by : (j : Json) (i s u : List ℕ) (d : Option (List ℕ)) (t v : List ℕ) → text_at j (codes "msg_id") ≡ Some i → text_at j (codes "session") ≡ Some s → text_at j (codes "username") ≡ Some u
+    → text_at j (codes "date") ≡ d → text_at j (codes "msg_type") ≡ Some t → text_at j (codes "version") ≡ Some v → header_of j ≡ Some (header i s u d t v)
+read_by j i s u d t v ei es eu ed et ev =
+    ap (header_named j) ei ∙ ap (header_typed j i) et
+    ∙ ap (λ x. with_texts i t x (text_at j (codes "username")) (text_at j (codes "date")) (text_at j (codes "version"))) es
+    ∙ ap (λ x. with_texts i t (Some s) x (text_at j (codes "date")) (text_at j (codes "version"))) eu
+    ∙ ap (λ x. with_texts i t (Some s) (Some u) x (text_at j (codes "version"))) ed
+    ∙ ap (λ x. with_texts i t (Some s) (Some u) d x) ev
+
+read_again : (i s u : List ℕ) (d : Option (List ℕ)) (t v : List ℕ) → header_of (tree_of (header i s u d t v)) ≡ Some (header i s u d t v)
+read_again i s u None t v =
+    let ps = pairs_of (header i s u None t v) in
+    read_by (json.Obj ps) i s u None t v (at ps _ i refl) (at ps _ s refl) (at ps _ u refl) (none_at ps _ refl) (at ps _ t refl) (at ps _ v refl)
+read_again i s u (Some d) t v =
+    let ps = pairs_of (header i s u (Some d) t v) in
+    read_by (json.Obj ps) i s u (Some d) t v (at ps _ i refl) (at ps _ s refl) (at ps _ u refl) (at ps _ d refl) (at ps _ t refl) (at ps _ v refl)
+
+pub header_again : (h : Header) → header_of (tree_of h) ≡ Some h
+header_again h = read_again h.msg_id h.session h.username h.date h.msg_type h.version
+
+-- ---- it is nested one level deep
+
+at_most : (s : List ℕ) → depth (json.Str s) ≤ 99
+at_most s = omega (arith, depth-Str s)
+
+flat : (ps : List (List ℕ × Json)) → AllByRecursion (λ p. depth p.1 ≤ 99) ps → depth (json.Obj ps) ≤ 100
+flat ps all = omega (arith, depth-Obj ps, pairs-le 99 ps all)
+
+pairs_flat : (i s u : List ℕ) (d : Option (List ℕ)) (t v : List ℕ) → AllByRecursion (λ p. depth p.1 ≤ 99) (pairs_of (header i s u d t v))
+pairs_flat i s u None t v = (at_most i, (at_most s, (at_most u, (at_most t, (at_most v, tt)))))
+pairs_flat i s u (Some d) t v = (at_most i, (at_most s, (at_most u, (at_most d, (at_most t, (at_most v, tt))))))
+
+-- ---- its keys are distinct
+
+apart : (a b : List ℕ) → bytes_eq a b ≡ false → a ≢ b
+apart a b h e = let same = (bytes_eq-Decides a b).1 e in cc
+
+distinct : (i s u : List ℕ) (d : Option (List ℕ)) (t v : List ℕ) → Distinct (pairs_of (header i s u d t v))
+distinct i s u None t v = ((apart _ _ refl, (apart _ _ refl, (apart _ _ refl, (apart _ _ refl, tt)))), ((apart _ _ refl, (apart _ _ refl, (apart _ _ refl, tt))), ((apart _ _ refl, (apart _ _ refl, tt)), ((apart _ _ refl, tt), (tt, tt)))))
+distinct i s u (Some d) t v = ((apart _ _ refl, (apart _ _ refl, (apart _ _ refl, (apart _ _ refl, (apart _ _ refl, tt))))), ((apart _ _ refl, (apart _ _ refl, (apart _ _ refl, (apart _ _ refl, tt)))), ((apart _ _ refl, (apart _ _ refl, (apart _ _ refl, tt))), ((apart _ _ refl, (apart _ _ refl, tt)), ((apart _ _ refl, tt), (tt, tt))))))
+
+keyed_text : (key text : List ℕ) (ps : List (List ℕ × Json)) → PairsKeyed ps → PairsKeyed (text_pair key text ∷ ps)
+keyed_text key text ps rest = keyed.pair key (json.Str text) ps (keyed.text text) rest
+
+pairs_keyed : (i s u : List ℕ) (d : Option (List ℕ)) (t v : List ℕ) → PairsKeyed (pairs_of (header i s u d t v))
+pairs_keyed i s u None t v = keyed_text _ i _ (keyed_text _ s _ (keyed_text _ u _ (keyed_text _ t _ (keyed_text _ v _ (keyed.no_pairs)))))
+pairs_keyed i s u (Some d) t v = keyed_text _ i _ (keyed_text _ s _ (keyed_text _ u _ (keyed_text _ d _ (keyed_text _ t _ (keyed_text _ v _ (keyed.no_pairs))))))
+
+-- ---- its texts are UTF-8
+
+both : (a b : Bool) → (a && b) ≡ true → (a ≡ true) × (b ≡ true)
+both true b h = (refl, h)
+both false b h = absurd (cc)
+
+all_below : (b : List ℕ) → list_all (λ c. nat_lt c 128) b ≡ true → (i : ℕ) → get_or b i 0 < 128
+all_below [] h i = lit< tt
+all_below (c ∷ cs) h zero = ltb-true c 128 (both (nat_lt c 128) (list_all (λ d. nat_lt d 128) cs) h).0
+all_below (c ∷ cs) h (suc i) = all_below cs (both (nat_lt c 128) (list_all (λ d. nat_lt d 128) cs) h).1 i
+
+sound_text : (key text : List ℕ) (ps : List (List ℕ × Json)) → list_all (λ c. nat_lt c 128) key ≡ true → IsUtf8 text → PairsSound ps → PairsSound (text_pair key text ∷ ps)
+sound_text key text ps k is rest = sound.pair key (json.Str text) ps (IsUtf8-from_ascii key (all_below key k)) (sound.text text is) rest
+
+pairs_sound : (i s u : List ℕ) (d : Option (List ℕ)) (t v : List ℕ) → IsUtf8 i → IsUtf8 s → IsUtf8 u → IfSome d IsUtf8 → IsUtf8 t → IsUtf8 v → PairsSound (pairs_of (header i s u d t v))
+pairs_sound i s u None t v ui us uu ud ut uv = sound_text (codes "msg_id") i _ refl ui (sound_text (codes "session") s _ refl us (sound_text (codes "username") u _ refl uu (sound_text (codes "msg_type") t _ refl ut (sound_text (codes "version") v _ refl uv (sound.no_pairs)))))
+pairs_sound i s u (Some d) t v ui us uu ud ut uv = sound_text (codes "msg_id") i _ refl ui (sound_text (codes "session") s _ refl us (sound_text (codes "username") u _ refl uu (sound_text (codes "date") d _ refl ud (sound_text (codes "msg_type") t _ refl ut (sound_text (codes "version") v _ refl uv (sound.no_pairs))))))
+
+pub header_sendable : (h : Header) → AreTexts h → IsSendableTree (tree_of h)
+header_sendable h a = record {
+  object = ap is_object_row (out-Obj (pairs_of h));
+  keyed = keyed.object (pairs_of h) (pairs_keyed h.msg_id h.session h.username h.date h.msg_type h.version) (distinct h.msg_id h.session h.username h.date h.msg_type h.version);
+  nests = flat (pairs_of h) (pairs_flat h.msg_id h.session h.username h.date h.msg_type h.version);
+  sound = sound.object (pairs_of h) (pairs_sound h.msg_id h.session h.username h.date h.msg_type h.version a.msg_id a.session a.username a.date a.msg_type a.version);
+}

@@ -1,0 +1,4 @@
+pub mod FrameLemmas
+pub mod VerdictLemmas
+pub mod MessageLemmas
+pub mod HeaderLemmas

@@ -1,0 +1,36 @@
+//! From a message to parts.
+ghost use Rattle.std.specs.Prelude.{◌≡◌, IfOk};
+ghost use Rattle.jmsg.specs.Encoded.{encoded};
+
+use crate::Message;
+use crate::frames::{DELIMITER, append_copies};
+use jsign::sign;
+use jtext::{Bytes, NoMemory, write_compact};
+use std::alloc::Global;
+use zmtp_wire::Parts;
+
+/// The parts of the message, signed under the key: no routing frames, dictionaries as compact text.
+pub fn encode(alloc: Global, key: &[u8], m: &Message) -> Result<Parts, NoMemory>
+    ensures { IfOk result (λ parts. parts ≡ encoded key.now m.now) }
+{
+    let header = write_compact(alloc, &m.header.tree(alloc)?)?;
+    let parent = write_compact(alloc, &m.parent)?;
+    let metadata = write_compact(alloc, &m.metadata)?;
+    let content = write_compact(alloc, &m.content)?;
+    let signature = sign(
+        key,
+        header.bytes(),
+        parent.bytes(),
+        metadata.bytes(),
+        content.bytes(),
+    );
+    let mut parts = Parts::new(alloc);
+    parts.push(Bytes::of(alloc, DELIMITER)?)?;
+    parts.push(Bytes::of(alloc, &signature)?)?;
+    parts.push(header)?;
+    parts.push(parent)?;
+    parts.push(metadata)?;
+    parts.push(content)?;
+    append_copies(alloc, &mut parts, m.buffers.as_slice())?;
+    Ok(parts)
+}
