@@ -1,0 +1,113 @@
+-- Which trees are notebooks: the schema of nbformat 4.5, and that no two cells have one id.
+-- Where the schema asks more, as of the form of tags, it isn't tested here and the value is kept.
+use Rattle.std.specs.Prelude.{◌≡◌, ◌≤◌, ℕ, Bool, true, List, [], ◌∷◌, ◌||◌, ◌&&◌, not, map, codes, unwrap_or}
+use Rattle.std.specs.List.{list_any, list_all}
+use Rattle.std.specs.Str.{bytes_eq}
+use Rattle.std.specs.Prelude.{Option, Some, None, option_and_then}
+use Rattle.jtext.specs.declared.json.Json.{Json}
+use Rattle.jtext.specs.Find.{field, fields}
+use Rattle.jtext.specs.Depth.{depth}
+use Rattle.nb_model.specs.Look.{is_object, is_list, items, string, is_string, is_text, is_number, has, may_have, has_only, there_and}
+use Rattle.nb_model.specs.Values.{is_multiline, is_strings, is_count, is_bundle, is_id_text}
+
+-- ---- outputs
+
+-- `stream`: text that the kernel wrote to a stream of this name
+abbrev pub is_stream : Json → Bool
+is_stream o = has (codes "output_type") (is_text (codes "stream")) o
+    && has_only (codes "output_type" ∷ codes "name" ∷ codes "text" ∷ []) o
+    && has (codes "name") is_string o && has (codes "text") is_multiline o
+
+-- `display_data`: data by MIME type
+abbrev pub is_display : Json → Bool
+is_display o = has (codes "output_type") (is_text (codes "display_data")) o
+    && has_only (codes "output_type" ∷ codes "data" ∷ codes "metadata" ∷ []) o
+    && has (codes "data") is_bundle o && has (codes "metadata") is_object o
+
+-- `execute_result`: the same with a count
+abbrev pub is_result : Json → Bool
+is_result o = has (codes "output_type") (is_text (codes "execute_result")) o
+    && has_only (codes "output_type" ∷ codes "data" ∷ codes "metadata" ∷ codes "execution_count" ∷ []) o
+    && has (codes "data") is_bundle o && has (codes "metadata") is_object o && has (codes "execution_count") is_count o
+
+-- `error`: what the code raised
+abbrev pub is_error : Json → Bool
+is_error o = has (codes "output_type") (is_text (codes "error")) o
+    && has_only (codes "output_type" ∷ codes "ename" ∷ codes "evalue" ∷ codes "traceback" ∷ []) o
+    && has (codes "ename") is_string o && has (codes "evalue") is_string o && has (codes "traceback") is_strings o
+
+abbrev pub is_output : Json → Bool
+is_output o = is_object o && (is_stream o || is_display o || is_result o || is_error o)
+
+abbrev pub are_outputs : Json → Bool
+are_outputs v = is_list v && list_all is_output (items v)
+
+-- ---- cells
+
+abbrev pub is_id : Json → Bool
+is_id v = there_and is_id_text (string v)
+
+-- metadata of a cell: an object, whose tags are strings
+abbrev pub is_cell_metadata : Json → Bool
+is_cell_metadata v = is_object v && may_have (codes "tags") is_strings v
+
+-- what every kind of cell has
+abbrev pub has_common : Json → Bool
+has_common c = has (codes "id") is_id c && has (codes "metadata") is_cell_metadata c && has (codes "source") is_multiline c
+
+-- attachments: an object of bundles
+abbrev pub are_attachments : Json → Bool
+are_attachments v = is_object v && list_all (λ p. is_bundle p.1) (fields v)
+
+-- `raw_cell`, `markdown_cell`
+abbrev pub is_prose_cell : Json → Bool
+is_prose_cell c = has (codes "cell_type") (λ v. is_text (codes "raw") v || is_text (codes "markdown") v) c
+    && has_only (codes "cell_type" ∷ codes "id" ∷ codes "metadata" ∷ codes "source" ∷ codes "attachments" ∷ []) c
+    && has_common c && may_have (codes "attachments") are_attachments c
+
+-- `code_cell`
+abbrev pub is_code_cell : Json → Bool
+is_code_cell c = has (codes "cell_type") (is_text (codes "code")) c
+    && has_only (codes "cell_type" ∷ codes "id" ∷ codes "metadata" ∷ codes "source" ∷ codes "outputs" ∷ codes "execution_count" ∷ []) c
+    && has_common c && has (codes "outputs") are_outputs c && has (codes "execution_count") is_count c
+
+abbrev pub is_cell : Json → Bool
+is_cell c = is_object c && (is_prose_cell c || is_code_cell c)
+
+-- the id of a cell, and the empty text where there is none
+abbrev pub id_of : Json → List ℕ
+id_of c = unwrap_or (option_and_then string (field c (codes "id"))) []
+
+-- no two of the cells have one id
+abbrev pub ids_differ : List Json → Bool
+ids_differ [] = true
+ids_differ (c ∷ cs) = not (list_any (λ d. bytes_eq (id_of c) (id_of d)) cs) && ids_differ cs
+
+abbrev pub are_cells : Json → Bool
+are_cells v = is_list v && list_all is_cell (items v) && ids_differ (items v)
+
+-- ---- the notebook
+
+-- `kernelspec`: which kernel runs it
+abbrev pub is_kernelspec : Json → Bool
+is_kernelspec v = is_object v && has (codes "name") is_string v && has (codes "display_name") is_string v
+
+-- `language_info`: which language its cells are in
+abbrev pub is_language_info : Json → Bool
+is_language_info v = is_object v && has (codes "name") is_string v
+
+-- metadata of the notebook
+abbrev pub is_metadata : Json → Bool
+is_metadata v = is_object v && may_have (codes "kernelspec") is_kernelspec v && may_have (codes "language_info") is_language_info v
+
+-- the tree is a notebook of format 4.5, whatever its depth
+abbrev pub is_notebook : Json → Bool
+is_notebook t = is_object t
+    && has_only (codes "metadata" ∷ codes "nbformat" ∷ codes "nbformat_minor" ∷ codes "cells" ∷ []) t
+    && has (codes "nbformat") (is_number (codes "4")) t && has (codes "nbformat_minor") (is_number (codes "5")) t
+    && has (codes "metadata") is_metadata t && has (codes "cells") are_cells t
+
+-- the tree is a notebook, and nested at most so deep as we read
+pub record Valid (t : Json) : Type 0 where
+  pub notebook : is_notebook t ≡ true
+  pub within : depth t ≤ 128

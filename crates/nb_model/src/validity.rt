@@ -1,0 +1,400 @@
+//! The plain test of the nbformat 4.5 schema, as the definition states it.
+ghost use Rattle.std.specs.Prelude.{◌≡◌, ◌&&◌, ◌||◌, ◌∷◌, [], codes, map};
+ghost use Rattle.std.specs.List.{list_any, list_all};
+ghost use Rattle.std.specs.Str.{bytes_eq};
+ghost use Rattle.std.specs.Char.{is_ascii_digit};
+ghost use Rattle.jtext.specs.Find.{fields};
+ghost use Rattle.nb_model.specs.Look as look;
+ghost use Rattle.nb_model.specs.Values as values;
+ghost use Rattle.nb_model.specs.Valid as valid;
+
+use jtext::{Json, Text, field};
+
+/// Whether the tree is a notebook of format 4.5, however deep it is nested.
+/// It takes no memory, and compares each id with each other one.
+pub fn is_valid(t: &Json) -> bool
+    ensures { result ≡ valid.is_notebook t.now }
+{
+    is_object(t)
+        && has_notebook_keys(t)
+        && has_format(t)
+        && field(t, "metadata").is_some_and(|v| is_metadata(v))
+        && field(t, "cells").is_some_and(|v| are_cells(v))
+}
+
+fn has_notebook_keys(t: &Json) -> bool
+    ensures { result ≡ look.has_only (codes "metadata" ∷ codes "nbformat" ∷ codes "nbformat_minor" ∷ codes "cells" ∷ []) t.now }
+{
+    has_only(t, &["metadata", "nbformat", "nbformat_minor", "cells"])
+}
+
+fn has_format(t: &Json) -> bool
+    ensures { result ≡ (look.has (codes "nbformat") (look.is_number (codes "4")) t.now && look.has (codes "nbformat_minor") (look.is_number (codes "5")) t.now) }
+{
+    field(t, "nbformat").is_some_and(|v| is_number(v, "4"))
+        && field(t, "nbformat_minor").is_some_and(|v| is_number(v, "5"))
+}
+
+fn is_metadata(v: &Json) -> bool
+    ensures { result ≡ valid.is_metadata v.now }
+{
+    is_object(v)
+        && field(v, "kernelspec").is_none_or(|k| is_kernelspec(k))
+        && field(v, "language_info").is_none_or(|l| is_language_info(l))
+}
+
+fn is_kernelspec(v: &Json) -> bool
+    ensures { result ≡ valid.is_kernelspec v.now }
+{
+    is_object(v) && has_string(v, "name") && has_string(v, "display_name")
+}
+
+fn is_language_info(v: &Json) -> bool
+    ensures { result ≡ valid.is_language_info v.now }
+{
+    is_object(v) && has_string(v, "name")
+}
+
+// ---- cells
+
+fn are_cells(v: &Json) -> bool
+    ensures { result ≡ valid.are_cells v.now }
+{
+    match v {
+        Json::Arr(items) => all_cells(items.as_slice()) && ids_differ(items.as_slice()),
+        _ => false,
+    }
+}
+
+fn all_cells(items: &[Json]) -> bool
+    ensures { result ≡ list_all valid.is_cell items.now }
+{
+    items.iter().all(|item| is_cell(item))
+}
+
+fn is_cell(c: &Json) -> bool
+    ensures { result ≡ valid.is_cell c.now }
+{
+    is_object(c) && (is_prose_cell(c) || is_code_cell(c))
+}
+
+fn is_prose_cell(c: &Json) -> bool
+    ensures { result ≡ valid.is_prose_cell c.now }
+{
+    field(c, "cell_type").is_some_and(|v| is_text(v, "raw") || is_text(v, "markdown"))
+        && has_prose_keys(c)
+        && has_common(c)
+        && field(c, "attachments").is_none_or(|v| are_attachments(v))
+}
+
+fn has_prose_keys(c: &Json) -> bool
+    ensures { result ≡ look.has_only (codes "cell_type" ∷ codes "id" ∷ codes "metadata" ∷ codes "source" ∷ codes "attachments" ∷ []) c.now }
+{
+    has_only(c, &["cell_type", "id", "metadata", "source", "attachments"])
+}
+
+fn is_code_cell(c: &Json) -> bool
+    ensures { result ≡ valid.is_code_cell c.now }
+{
+    field(c, "cell_type").is_some_and(|v| is_text(v, "code"))
+        && has_code_keys(c)
+        && has_common(c)
+        && field(c, "outputs").is_some_and(|v| are_outputs(v))
+        && field(c, "execution_count").is_some_and(|v| is_count(v))
+}
+
+fn has_code_keys(c: &Json) -> bool
+    ensures { result ≡ look.has_only (codes "cell_type" ∷ codes "id" ∷ codes "metadata" ∷ codes "source" ∷ codes "outputs" ∷ codes "execution_count" ∷ []) c.now }
+{
+    has_only(
+        c,
+        &[
+            "cell_type",
+            "id",
+            "metadata",
+            "source",
+            "outputs",
+            "execution_count",
+        ],
+    )
+}
+
+fn has_common(c: &Json) -> bool
+    ensures { result ≡ valid.has_common c.now }
+{
+    field(c, "id").is_some_and(|v| is_id(v))
+        && field(c, "metadata").is_some_and(|v| is_cell_metadata(v))
+        && field(c, "source").is_some_and(|v| is_multiline(v))
+}
+
+fn is_cell_metadata(v: &Json) -> bool
+    ensures { result ≡ valid.is_cell_metadata v.now }
+{
+    is_object(v) && field(v, "tags").is_none_or(|tags| are_strings(tags))
+}
+
+fn are_attachments(v: &Json) -> bool
+    ensures { result ≡ valid.are_attachments v.now }
+{
+    match v {
+        Json::Obj(fields) => all_bundles(fields.as_slice()),
+        _ => false,
+    }
+}
+
+fn all_bundles(pairs: &[(Text, Json)]) -> bool
+    ensures { result ≡ list_all (λ p. values.is_bundle p.1) pairs.now }
+{
+    pairs.iter().all(|p| is_bundle(&p.1))
+}
+
+fn id_of(c: &Json) -> &[u8]
+    ensures { result.now ≡ valid.id_of c.now }
+{
+    match field(c, "id") {
+        Some(Json::Str(id)) => id.bytes(),
+        _ => &[],
+    }
+}
+
+/// Whether no two of the cells have one id.
+fn ids_differ(cells: &[Json]) -> bool
+    ensures { result ≡ valid.ids_differ cells.now }
+{
+    let mut rest = cells;
+    while let Some((first, others)) = rest.split_first() {
+        if has_id(others, id_of(first)) {
+            return false;
+        }
+        rest = others;
+    }
+    true
+}
+
+fn has_id(cells: &[Json], id: &[u8]) -> bool
+    ensures { result ≡ list_any (λ d. bytes_eq id.now (valid.id_of d)) cells.now }
+{
+    cells.iter().any(|c| id == id_of(c))
+}
+
+// ---- outputs
+
+fn are_outputs(v: &Json) -> bool
+    ensures { result ≡ valid.are_outputs v.now }
+{
+    match v {
+        Json::Arr(items) => all_outputs(items.as_slice()),
+        _ => false,
+    }
+}
+
+fn all_outputs(items: &[Json]) -> bool
+    ensures { result ≡ list_all valid.is_output items.now }
+{
+    items.iter().all(|item| is_output(item))
+}
+
+fn is_output(o: &Json) -> bool
+    ensures { result ≡ valid.is_output o.now }
+{
+    is_object(o) && (is_stream(o) || is_display(o) || is_result(o) || is_error(o))
+}
+
+fn has_type(o: &Json, name: &str) -> bool
+    ensures { result ≡ look.has (codes "output_type") (look.is_text name.now) o.now }
+{
+    field(o, "output_type").is_some_and(|v| is_text(v, name))
+}
+
+fn is_stream(o: &Json) -> bool
+    ensures { result ≡ valid.is_stream o.now }
+{
+    has_type(o, "stream")
+        && has_only(o, &["output_type", "name", "text"])
+        && has_string(o, "name")
+        && field(o, "text").is_some_and(|v| is_multiline(v))
+}
+
+fn is_display(o: &Json) -> bool
+    ensures { result ≡ valid.is_display o.now }
+{
+    has_type(o, "display_data") && has_only(o, &["output_type", "data", "metadata"]) && has_data(o)
+}
+
+fn has_data(o: &Json) -> bool
+    ensures { result ≡ (look.has (codes "data") values.is_bundle o.now && look.has (codes "metadata") look.is_object o.now) }
+{
+    field(o, "data").is_some_and(|v| is_bundle(v))
+        && field(o, "metadata").is_some_and(|v| is_object(v))
+}
+
+fn is_result(o: &Json) -> bool
+    ensures { result ≡ valid.is_result o.now }
+{
+    has_type(o, "execute_result")
+        && has_only(o, &["output_type", "data", "metadata", "execution_count"])
+        && has_data(o)
+        && field(o, "execution_count").is_some_and(|v| is_count(v))
+}
+
+fn is_error(o: &Json) -> bool
+    ensures { result ≡ valid.is_error o.now }
+{
+    has_type(o, "error")
+        && has_only(o, &["output_type", "ename", "evalue", "traceback"])
+        && has_string(o, "ename")
+        && has_string(o, "evalue")
+        && field(o, "traceback").is_some_and(|v| are_strings(v))
+}
+
+// ---- values
+
+fn is_object(v: &Json) -> bool
+    ensures { result ≡ look.is_object v.now }
+{
+    matches!(v, Json::Obj(_))
+}
+
+fn is_string(v: &Json) -> bool
+    ensures { result ≡ look.is_string v.now }
+{
+    matches!(v, Json::Str(_))
+}
+
+fn is_text(v: &Json, text: &str) -> bool
+    ensures { result ≡ look.is_text text.now v.now }
+{
+    match v {
+        Json::Str(s) => s.as_str() == text,
+        _ => false,
+    }
+}
+
+fn is_number(v: &Json, text: &str) -> bool
+    ensures { result ≡ look.is_number text.now v.now }
+{
+    match v {
+        Json::Num(s) => s.as_str() == text,
+        _ => false,
+    }
+}
+
+fn has_string(t: &Json, key: &str) -> bool
+    ensures { result ≡ look.has key.now look.is_string t.now }
+{
+    field(t, key).is_some_and(is_string)
+}
+
+fn is_among(key: &str, keys: &[&str]) -> bool
+    ensures { result ≡ list_any (λ k. bytes_eq key.now k.now) keys.now }
+{
+    keys.iter().any(|k| key == *k)
+}
+
+fn has_only(t: &Json, keys: &[&str]) -> bool
+    ensures { result ≡ list_all (λ p. list_any (λ k. bytes_eq p.0 k.now) keys.now) (fields t.now) }
+{
+    match t {
+        Json::Obj(fields) => all_among(fields.as_slice(), keys),
+        _ => true,
+    }
+}
+
+fn all_among(pairs: &[(Text, Json)], keys: &[&str]) -> bool
+    ensures { result ≡ list_all (λ p. list_any (λ k. bytes_eq p.0 k.now) keys.now) pairs.now }
+{
+    pairs.iter().all(|p| is_among(p.0.as_str(), keys))
+}
+
+fn are_strings(v: &Json) -> bool
+    ensures { result ≡ values.is_strings v.now }
+{
+    match v {
+        Json::Arr(items) => all_strings(items.as_slice()),
+        _ => false,
+    }
+}
+
+fn all_strings(items: &[Json]) -> bool
+    ensures { result ≡ list_all look.is_string items.now }
+{
+    items.iter().all(|item| is_string(item))
+}
+
+fn is_multiline(v: &Json) -> bool
+    ensures { result ≡ values.is_multiline v.now }
+{
+    is_string(v) || are_strings(v)
+}
+
+fn is_count(v: &Json) -> bool
+    ensures { result ≡ values.is_count v.now }
+{
+    match v {
+        Json::Null => true,
+        Json::Num(n) => is_whole(n.as_str().as_bytes()),
+        _ => false,
+    }
+}
+
+fn is_whole(text: &[u8]) -> bool
+    ensures { result ≡ values.is_whole_text text.now }
+{
+    1 <= text.len() && all_digits(text) && (text[0] != b'0' || text.len() == 1)
+}
+
+fn all_digits(text: &[u8]) -> bool
+    ensures { result ≡ list_all is_ascii_digit text.now }
+{
+    text.iter().all(|c| c.is_ascii_digit())
+}
+
+fn is_id(v: &Json) -> bool
+    ensures { result ≡ valid.is_id v.now }
+{
+    match v {
+        Json::Str(id) => is_id_text(id.bytes()),
+        _ => false,
+    }
+}
+
+fn is_id_text(text: &[u8]) -> bool
+    ensures { result ≡ values.is_id_text text.now }
+{
+    1 <= text.len() && text.len() <= 64 && all_id_bytes(text)
+}
+
+fn all_id_bytes(text: &[u8]) -> bool
+    ensures { result ≡ list_all values.is_id_byte text.now }
+{
+    text.iter().all(|c| is_id_byte(*c))
+}
+
+fn is_id_byte(c: u8) -> bool
+    ensures { result ≡ values.is_id_byte c }
+{
+    matches!(c, b'a'..=b'z' | b'A'..=b'Z' | b'0'..=b'9' | b'-' | b'_')
+}
+
+fn is_bundle(v: &Json) -> bool
+    ensures { result ≡ values.is_bundle v.now }
+{
+    match v {
+        Json::Obj(fields) => all_data(fields.as_slice()),
+        _ => false,
+    }
+}
+
+fn all_data(pairs: &[(Text, Json)]) -> bool
+    ensures { result ≡ list_all (λ p. values.is_json_type p.0 || values.is_multiline p.1) pairs.now }
+{
+    pairs
+        .iter()
+        .all(|p| is_json_type(p.0.bytes()) || is_multiline(&p.1))
+}
+
+fn is_json_type(key: &[u8]) -> bool
+    ensures { result ≡ values.is_json_type key.now }
+{
+    key == b"application/json".as_slice() || key.ends_with(b"+json")
+}
