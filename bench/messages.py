@@ -1,0 +1,43 @@
+#!/usr/bin/env python3
+"""Signed messages decoded, beside python3's hmac and json: 100,000 stream messages of 300 octets, and one of 16 MiB."""
+import hashlib
+import hmac
+import json
+import sys
+import time
+
+import common
+
+KEY = b"b5a1c1f6-3d0e-4c1a-9b0f-0123456789ab"
+HEADER = b'{"msg_id":"0_1","session":"s","username":"k","date":"2000-01-01T00:00:00.000Z","msg_type":"stream","version":"5.3"}'
+PARENT = b'{"msg_id":"1_1","msg_type":"execute_request"}'
+
+
+def decode(frames, signature):
+    digest = hmac.new(KEY, digestmod=hashlib.sha256)
+    for frame in frames:
+        digest.update(frame)
+    return hmac.compare_digest(digest.hexdigest().encode(), signature) and [json.loads(frame) for frame in frames]
+
+
+def beside(count, size):
+    content = b'{"name":"stdout","text":"' + b"a" * size + b'"}'
+    frames = [HEADER, PARENT, b"{}", content]
+    signature = hmac.new(KEY, b"".join(frames), hashlib.sha256).hexdigest().encode()
+    start = time.perf_counter()
+    for _ in range(count):
+        decode(frames, signature)
+    print(f"decode {(time.perf_counter() - start) * 1000}")
+
+
+def main():
+    program = common.program()
+    for count, size in ((100000, 300), (1, 16 << 20)):
+        ours, _ = common.least([program, "messages", str(count), str(size)])
+        theirs, _ = common.least([sys.executable, __file__, str(count), str(size)])
+        ratio = theirs["decode"] / max(ours["decode"], 1)
+        print(f"{count} messages of {size} octets: {ours['decode']:.0f} ms, python3 {theirs['decode']:.0f} ms, {ratio:.2f} times as fast")
+
+
+if __name__ == "__main__":
+    beside(int(sys.argv[1]), int(sys.argv[2])) if len(sys.argv) > 1 else main()
