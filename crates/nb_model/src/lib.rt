@@ -6,6 +6,7 @@ mod cell;
 mod kind;
 mod multiline;
 mod notebook;
+mod schedule;
 #[cfg(test)]
 mod tests;
 mod validity;
@@ -14,4 +15,5 @@ pub use cell::{Cell, Cells};
 pub use kind::Kind;
 pub use multiline::split_lines;
 pub use notebook::Notebook;
+pub use schedule::Plan;
 pub use validity::is_valid;
