@@ -35,3 +35,4 @@ pub mod LooseRuns
 pub mod LooseSplits
 pub mod Refusals
 pub mod PlainRuns
+pub mod Vectors

@@ -85,6 +85,10 @@ Quoted text b = (inner : List ℕ) × Letters text inner × (b ≡ 34 ∷ (inner
 abbrev pub is_plain : ℕ → Bool
 is_plain c = nat_le 32 c && (not (c == 34) && not (c == 92))
 
+-- a byte that ends a run of plain ones
+abbrev pub is_stop : ℕ → Bool
+is_stop c = not (is_plain c)
+
 abbrev pub split_plain : List ℕ → List ℕ × List ℕ
 split_plain s = (take (prefix_len is_plain s) s, drop (prefix_len is_plain s) s)
 

@@ -3,7 +3,7 @@ ghost use Rattle.std.specs.Prelude.{◌≡◌, ◌++◌, ◌<◌, OnOk, flat_map
 ghost use Rattle.std.specs.Char.{digit_char};
 ghost use Rattle.jtext.specs.Print.{quoted, escape_byte, escape_letter};
 
-use crate::quoted::plain_len;
+use crate::plain::plain_len;
 use crate::{Bytes, NoMemory};
 
 /// Appends `s` between quotes. Only what has to be escaped is, and runs of the rest are copied.

@@ -13,6 +13,7 @@ mod list;
 mod lookup;
 mod no_memory;
 mod number;
+mod plain;
 mod quoted;
 mod reader;
 mod scan;

@@ -1,11 +1,11 @@
 //! Strings with their escapes.
 ghost use Rattle.std.specs.Prelude.{◌≡◌, ℕ, [], ◌+◌, ◌<◌, ◌≤◌, length, string_bytes, IfOk, IfSome, option_map};
-ghost use Rattle.std.specs.List.{prefix_len};
 ghost use Rattle.jtext.specs.Gives.{Gives};
 ghost use Rattle.jtext.specs.Strings as spec;
 
 use crate::Text;
 use crate::fault::Fault;
+use crate::plain::plain_len;
 use crate::scan::{split_ascii, strip_word};
 use std::alloc::Global;
 
@@ -51,26 +51,12 @@ fn body(alloc: Global, s: &str) -> Result<(String, &str), Fault>
     }
 }
 
-fn is_plain(byte: u8) -> bool
-    ensures { result ≡ spec.is_plain byte }
-{
-    byte >= b' ' && byte != b'"' && byte != b'\\'
-}
-
 /// The characters that stand for themselves at the front, and the text after them.
 fn split_plain(s: &str) -> (&str, &str)
     ensures parts { (result.0.now, result.1.now) ≡ spec.split_plain s.now }
     ensures lens { length result.0.now + length result.1.now ≡ length s.now }
 {
     s.split_at(plain_len(s.as_bytes()))
-}
-
-/// How many bytes at the front stand for themselves.
-pub(crate) fn plain_len(bytes: &[u8]) -> usize
-    ensures len { result ≡ prefix_len spec.is_plain bytes.now }
-    ensures within { result ≤ length bytes.now }
-{
-    bytes.iter().take_while(|b| is_plain(**b)).count()
 }
 
 /// The character after a backslash at which `left` bytes are left.
