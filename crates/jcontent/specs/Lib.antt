@@ -1,0 +1,4 @@
+pub mod Look
+pub mod Bundle
+pub mod Contents
+pub mod Requests

@@ -1,0 +1,47 @@
+//! Contents of the messages that an executor sends.
+ghost use Rattle.std.specs.Prelude.{◌≡◌, IfOk};
+ghost use Rattle.jtext.specs.declared.json.Json.TheVariants as json;
+ghost use Rattle.jcontent.specs.Requests as spec;
+
+use jtext::{Fields, Json, NoMemory, Text};
+use std::alloc::Global;
+
+/// The content of an `execute_request` for this code: it is kept in the history, asks for no input and
+/// evaluates no further expressions. `stop_on_error` says whether the kernel aborts what is queued
+/// behind it where the code raises.
+pub fn execute_content(alloc: Global, code: &Text, stop_on_error: bool) -> Result<Json, NoMemory>
+    ensures { IfOk result (λ t. t ≡ spec.execute code.now stop_on_error) }
+{
+    let text = Text::of(alloc, code.as_str())?;
+    let none = empty_content(alloc);
+    let code = pair(alloc, "code", Json::Str(text))?;
+    let silent = pair(alloc, "silent", Json::Bool(false))?;
+    let history = pair(alloc, "store_history", Json::Bool(true))?;
+    let expressions = pair(alloc, "user_expressions", none)?;
+    let input = pair(alloc, "allow_stdin", Json::Bool(false))?;
+    let stop = pair(alloc, "stop_on_error", Json::Bool(stop_on_error))?;
+    let pairs = vec![in alloc; code, silent, history, expressions, input, stop]?;
+    Ok(Json::Obj(Fields::of_vec(pairs)))
+}
+
+/// The empty object: the content of a `kernel_info_request` and of an `interrupt_request`.
+pub fn empty_content(alloc: Global) -> Json
+    ensures { result ≡ spec.empty }
+{
+    Json::Obj(Fields::new(alloc))
+}
+
+/// The content of a `shutdown_request` after which the kernel isn't started again.
+pub fn shutdown_content(alloc: Global) -> Result<Json, NoMemory>
+    ensures { IfOk result (λ t. t ≡ spec.shutdown) }
+{
+    let restart = pair(alloc, "restart", Json::Bool(false))?;
+    let pairs = vec![in alloc; restart]?;
+    Ok(Json::Obj(Fields::of_vec(pairs)))
+}
+
+fn pair(alloc: Global, key: &str, value: Json) -> Result<(Text, Json), NoMemory>
+    ensures { IfOk result (λ p. p ≡ (key.now, value)) }
+{
+    Ok((Text::of(alloc, key)?, value))
+}
