@@ -1,0 +1,13 @@
+pub mod Lists
+pub mod Requests
+pub mod SavesLemmas
+pub mod Clocks
+pub mod Causes
+pub mod Moving
+pub mod Right
+pub mod RightRunning
+pub mod RightStarting
+pub mod RightClosing
+pub mod Runs
+pub mod OverRuns
+pub mod InOrder

@@ -1,0 +1,63 @@
+-- What holds of every list of events.
+use Rattle.std.specs.Prelude.{ℕ, zero, suc, List, [], ◌∷◌, ◌++◌, Some, true, false, ◌≡◌, map}
+use Rattle.cell_core.specs.declared.event.Event.{Event}
+use Rattle.cell_core.specs.declared.event.Event.TheVariants.{Saved}
+use Rattle.cell_core.specs.declared.why.Why.{Why}
+use Rattle.cell_core.specs.declared.act.Act.{Act}
+use Rattle.cell_core.specs.declared.act.Act.TheVariants.{Save}
+use Rattle.cell_core.specs.Task.{Task, cell_of}
+use Rattle.cell_core.specs.Requests.{after, both_came, is_over, is_passed_in}
+use Rattle.cell_core.specs.Saves.{Prefix, saves, unacked, why}
+use Rattle.cell_core.specs.Acts.{act_of, heard, has_stopped}
+
+-- Request k stands and isn't over.
+pub record IsOpen (task : Task) (k : ℕ) (events : List Event) : Type 0 where
+  pub later : List Event
+  pub stands : after task k events ≡ Some later
+  pub not_over : is_over later ≡ false
+
+-- The first request may come to stand once the kernel is ready and a save was acknowledged; each later one at the
+-- acknowledgement that follows the end of the one before, whose reply isn't fatal.
+abbrev pub IsFree : Task → ℕ → Event → List Event → Type 0
+IsFree task zero event past = both_came (event ∷ past) ≡ true
+IsFree task (suc k) event past = (event ≡ Saved) × (is_passed_in (after task k past) ≡ true)
+
+-- The cell is that of the request that comes to stand at the newest event.
+pub record IsSent (task : Task) (cell : ℕ) (event : Event) (past : List Event) : Type 0 where
+  pub request : ℕ
+  pub stands : after task request (event ∷ past) ≡ Some []
+  pub cell_is : cell_of task request ≡ cell
+  pub free : IsFree task request event past
+
+-- how many cells the saves settle that were asked for, in order
+abbrev pub settled_by : Act → List ℕ
+settled_by (Save settled) = settled ∷ []
+settled_by _ = []
+
+-- how many cells each save settles that was asked for, in order
+abbrev pub asked_for : Task → List Event → List ℕ
+asked_for task [] = []
+asked_for task (event ∷ past) = asked_for task past ++ settled_by (act_of task event past)
+
+-- how many cells each of these saves settles
+abbrev pub settles : List Prefix → List ℕ
+settles xs = map (λ (p : Prefix). p.settled) xs
+
+-- The saves that were asked for are the first of those that are due, in order, and once the job has stopped they are all.
+-- The first, with no cell settled, is asked for before any event.
+pub record AsksInOrder (task : Task) (events : List Event) : Type 0 where
+  pub rest : List ℕ
+  pub all : settles (saves task (heard task events)) ≡ (0 ∷ asked_for task events) ++ rest
+  pub whole : has_stopped task (heard task events) ≡ true → rest ≡ []
+
+-- what the save after the newest event settles, and that it is the first that is due
+pub record IsAskedFor (task : Task) (settled : ℕ) (events : List Event) : Type 0 where
+  pub first : Prefix
+  pub others : List Prefix
+  pub due : unacked task events ≡ first ∷ others
+  pub settles_it : first.settled ≡ settled
+
+-- the cause stands, and each save that is due is acknowledged
+pub record StopsBy (task : Task) (cause : Why) (events : List Event) : Type 0 where
+  pub cause_is : why task events ≡ Some cause
+  pub settled_all : unacked task events ≡ []

@@ -1,0 +1,11 @@
+pub mod Task
+pub mod Events
+pub mod Requests
+pub mod Deadlines
+pub mod Saves
+pub mod Acts
+pub mod StandsFor
+pub mod Moves
+pub mod Holds
+pub mod Laws
+pub mod Allowed

@@ -1,0 +1,411 @@
+//! The core: how it moves.
+ghost use Rattle.std.specs.Prelude.{◌<◌, ◌≤◌, ◌^◌, length, All};
+ghost use Rattle.std.specs.Option.{ForSome};
+ghost use Rattle.cell_core.specs.Holds.{reach, now_of};
+
+use crate::clock::Clock;
+use crate::moved::Moved;
+use crate::state::State;
+use crate::{Act, Brief, Event, Step, Times, Why};
+use nb_model::Plan;
+
+/// From a request's reply to its idle, in milliseconds.
+const IDLE_MS: u64 = 4000;
+
+/// From the clock entry that brings an interrupt to the reply.
+const INTERRUPT_MS: u64 = 10000;
+
+/// The state machine of one job: it takes events in their order, and answers each with an act.
+#[derive(Drop)]
+pub struct Core {
+    plan: Plan,
+    cells: u32,
+    limits: Times,
+    clock: Clock,
+    lost: bool,
+    state: State,
+    ghost inside: { reach state ≤ length plan },
+    ghost below: { All (λ i. i < cells) plan },
+    ghost early: { now_of clock < 2 ^ 47 },
+    ghost short: { limits.start_ms < 2 ^ 40 },
+    ghost limited: { ForSome limits.limit_ms (λ limit. limit < 2 ^ 40) },
+    ghost later: { ForSome limits.limit_ms (λ limit. 0 < limit) },
+}
+
+impl Core {
+    ghost use Rattle.std.specs.Prelude.{◌≡◌, ℕ, ◌+◌, ◌<◌, ◌≤◌, ◌^◌, ◌↔◌, length, All, List, ◌∷◌, IsTrue, IsSome, [], Option, None, Some, ◌≢◌, Bool, true, false};
+    ghost use Rattle.std.specs.Option.{ForSome};
+    ghost use Rattle.cell_core.specs.declared.event.Event.{Event as TheEvent};
+    ghost use Rattle.cell_core.specs.Moves.{moved as moved_by, in_preparing, in_starting, in_running, after_end as after_end_by, sent as sent_by, fails as fails_by, limit_from as limit_by, start_due as start_by, late as late_by, ends as ends_by, in_passing, on_passed};
+    ghost use Rattle.cell_core.specs.Task.{cell_of};
+    ghost use Rattle.cell_core.specs.StandsFor.{StandsFor, task_of, failing_in, awaits_saved_of};
+    ghost use Rattle.cell_core.specs.Acts.{act_of, takes_of, failing_of, due_of, IsTimely};
+    ghost use Rattle.cell_core.specs.Events.{is_saved};
+    ghost use Rattle.cell_core.specs.Holds.{is_save, IsSmall, due_in, lost_after as lost_by};
+
+    /// The core of a job before any event. It awaits the first `Saved`.
+    pub fn new(plan: Plan, cells: u32, limits: Times) -> Core
+        requires below { All (λ i. i < cells) plan }
+        requires short { limits.start_ms < 2 ^ 40 }
+        requires limited { ForSome limits.limit_ms (λ limit. limit < 2 ^ 40) }
+        requires later { ForSome limits.limit_ms (λ limit. 0 < limit) }
+        ensures stands { StandsFor result [] }
+        ensures of { task_of result ≡ record { plan = plan; cells = cells; times = limits } }
+        ensures next { awaits_saved_of result ≡ true }
+    {
+        Core {
+            plan,
+            cells,
+            limits,
+            clock: Clock::Unread,
+            lost: false,
+            state: State::Preparing,
+        }
+    }
+
+    /// Takes one event and answers the act that follows. After `Save` the next event has to be
+    /// `Saved`, as the first has, and no other may be; after `Stop` each answer is `Nothing`.
+    pub fn step(&mut self, e: Event) -> Step
+        requires order { is_saved e ≡ awaits_saved_of self.old }
+        requires small { IsSmall e }
+
+        // Whatever list of events it stood for, it now stands for that list with this event.
+        ensures stands { (events : List TheEvent) → StandsFor self.old events → IsTimely (task_of self.old) e events → StandsFor self.new (e ∷ events) }
+        ensures act { (events : List TheEvent) → StandsFor self.old events → IsTimely (task_of self.old) e events → result.act ≡ act_of (task_of self.old) e events }
+        ensures takes { (events : List TheEvent) → StandsFor self.old events → IsTimely (task_of self.old) e events → result.takes ≡ takes_of (task_of self.old) e events }
+
+        // The next event is `Saved` exactly after an act that asks for a save.
+        ensures next { awaits_saved_of self.new ≡ is_save result.act }
+        ensures same { task_of self.new ≡ task_of self.old }
+    {
+        let moved = self.moved(e);
+        self.clock = self.clock.after(e);
+        self.lost = Core::lost_after(self.lost, e);
+        self.state = moved.state;
+        moved.step
+    }
+
+    /// The next deadline, in milliseconds since 1970-01-01 UTC: none where no deadline stands.
+    pub fn due(&self) -> Option<u64>
+        ensures { (events : List TheEvent) → StandsFor self.now events → result ≡ due_of (task_of self.now) events }
+    {
+        self.deadline()
+    }
+
+    fn lost_after(lost: bool, e: Event) -> bool
+        ensures { result ≡ lost_by lost e }
+    {
+        match e {
+            Event::Lost => true,
+            _ => lost,
+        }
+    }
+
+    fn deadline(&self) -> Option<u64>
+        ensures { result ≡ due_in self.now.state }
+    {
+        match self.state {
+            State::Starting { due } => due,
+            State::Running {
+                at: _,
+                fatal: _,
+                idle: _,
+                due,
+                interrupted: _,
+            } => due,
+            _ => None,
+        }
+    }
+
+    /// The stopping cell of the save last asked for: none where no save was asked for, or where
+    /// that save isn't a stop's.
+    pub fn failing(&self) -> Option<u32>
+        ensures { (events : List TheEvent) → StandsFor self.now events → result ≡ failing_of (task_of self.now) events }
+    {
+        self.stopping_cell()
+    }
+
+    fn stopping_cell(&self) -> Option<u32>
+        ensures { result ≡ failing_in (task_of self.now) self.now.state }
+    {
+        match self.state {
+            State::Failing { at, why: _ } => Some(self.cell(at)),
+            State::Stopped { failing } => match failing {
+                Some(at) => Some(self.cell(at)),
+                None => None,
+            },
+            _ => None,
+        }
+    }
+
+    fn moved(&self, e: Event) -> Moved
+        requires { IsSmall e }
+        ensures { result ≡ moved_by (task_of self.now) self.now.clock self.now.lost self.now.state e }
+    {
+        match self.state {
+            State::Preparing => self.in_preparing(e),
+            State::Starting { due } => self.in_starting(due, e),
+            State::Running {
+                at,
+                fatal,
+                idle,
+                due,
+                interrupted,
+            } => self.in_running(at, fatal, idle, due, interrupted, e),
+            State::Passing { at } => match e {
+                Event::Saved => self.on_passed(at),
+                _ => Moved::stays(self.state),
+            },
+            State::Closing => match e {
+                Event::Saved => Moved::stops(Why::Done),
+                _ => Moved::stays(self.state),
+            },
+            State::Failing { at, why } => match e {
+                Event::Saved => {
+                    Moved::to(State::Stopped { failing: Some(at) }, false, Act::Stop(why))
+                }
+                _ => Moved::stays(self.state),
+            },
+            State::Stopped { failing } => Moved::stays(State::Stopped { failing }),
+        }
+    }
+
+    fn in_preparing(&self, e: Event) -> Moved
+        ensures { result ≡ in_preparing (task_of self.now) e }
+    {
+        match e {
+            Event::Saved => self.on_prepared(),
+            _ => Moved::stays(State::Preparing),
+        }
+    }
+
+    fn on_prepared(&self) -> Moved
+        ensures { result ≡ in_preparing (task_of self.now) Event.Saved }
+    {
+        if self.plan.len() > 0 {
+            Moved::to(State::Starting { due: None }, false, Act::Start)
+        } else if self.cells > 0 {
+            Moved::to(State::Closing, false, Act::Save(self.cells))
+        } else {
+            Moved::stops(Why::Done)
+        }
+    }
+
+    fn in_starting(&self, due: Option<u64>, e: Event) -> Moved
+        requires planned { 0 < length self.now.plan }
+        requires small { IsSmall e }
+        ensures { result ≡ in_starting (task_of self.now) self.now.clock self.now.lost due e }
+    {
+        match e {
+            Event::Ready => self.sent(0),
+            Event::Broken => Moved::stops(Why::BadPeer),
+            Event::Lost => Moved::to(State::Starting { due }, false, Act::Look),
+            Event::Looked => {
+                if self.lost {
+                    Moved::stops(Why::KernelLost)
+                } else if self.clock.is_past(due) {
+                    Moved::stops(Why::NotReady)
+                } else {
+                    Moved::stays(State::Starting { due })
+                }
+            }
+            Event::Moment(now) => {
+                let due = self.start_due(due, now);
+                Moved::look_or(State::Starting { due }, self.clock.read(now).is_past(due))
+            }
+            _ => Moved::stays(State::Starting { due }),
+        }
+    }
+
+    /// The start deadline, which the child's start fixes.
+    fn start_due(&self, due: Option<u64>, now: u64) -> Option<u64>
+        requires { now < 2 ^ 47 }
+        ensures { result ≡ start_by (task_of self.now) self.now.clock due now }
+    {
+        match self.clock {
+            Clock::Unread => Some(now + self.limits.start_ms),
+            _ => due,
+        }
+    }
+
+    /// The deadline of a request that comes to stand now.
+    fn limit_from(&self) -> Option<u64>
+        ensures { result ≡ limit_by (task_of self.now) (now_of self.now.clock) }
+    {
+        match self.limits.limit_ms {
+            Some(limit) => Some(self.clock.now() + limit),
+            None => None,
+        }
+    }
+
+    /// Request `at` comes to stand.
+    fn sent(&self, at: usize) -> Moved
+        requires { at < length self.now.plan }
+        ensures { result ≡ sent_by (task_of self.now) self.now.clock at }
+    {
+        let state = State::Running {
+            at,
+            fatal: None,
+            idle: false,
+            due: self.limit_from(),
+            interrupted: false,
+        };
+        Moved::to(state, false, Act::Send(self.cell(at)))
+    }
+
+    fn in_running(
+        &self,
+        at: usize,
+        fatal: Option<bool>,
+        idle: bool,
+        due: Option<u64>,
+        interrupted: bool,
+        e: Event,
+    ) -> Moved
+        requires planned { at < length self.now.plan }
+        requires small { IsSmall e }
+        ensures { result ≡ in_running (task_of self.now) self.now.clock self.now.lost at fatal idle due interrupted e }
+    {
+        let state = State::Running {
+            at,
+            fatal,
+            idle,
+            due,
+            interrupted,
+        };
+        match e {
+            Event::Io(_) if idle => Moved::stays(state),
+            Event::Io(Brief::Else) => Moved::to(state, true, Act::Nothing),
+            Event::Io(Brief::Idle) => match fatal {
+                Some(failed) => self.ends(at, failed),
+                None => {
+                    let idle = State::Running {
+                        at,
+                        fatal,
+                        idle: true,
+                        due,
+                        interrupted,
+                    };
+                    Moved::to(idle, true, Act::Nothing)
+                }
+            },
+            Event::Reply { fatal: failed } => match fatal {
+                Some(_) => Moved::stays(state),
+                None => {
+                    if idle {
+                        self.ends(at, failed)
+                    } else {
+                        let replied = State::Running {
+                            at,
+                            fatal: Some(failed),
+                            idle,
+                            due: Some(self.clock.now() + IDLE_MS),
+                            interrupted,
+                        };
+                        Moved::to(replied, true, Act::Nothing)
+                    }
+                }
+            },
+            Event::Broken => self.fails(at, Why::BadPeer),
+            Event::Lost => Moved::to(state, false, Act::Look),
+            Event::Looked => {
+                if self.lost {
+                    self.fails(at, Why::KernelLost)
+                } else if self.clock.is_past(due) {
+                    self.late(at, fatal, idle, interrupted)
+                } else {
+                    Moved::stays(state)
+                }
+            }
+            Event::Moment(now) => Moved::look_or(state, self.clock.read(now).is_past(due)),
+            _ => Moved::stays(state),
+        }
+    }
+
+    /// The look after the deadline brought nothing.
+    fn late(&self, at: usize, fatal: Option<bool>, idle: bool, interrupted: bool) -> Moved
+        requires { at < length self.now.plan }
+        ensures { result ≡ late_by (task_of self.now) self.now.clock at fatal idle interrupted }
+    {
+        match fatal {
+            Some(_) => self.fails(at, Why::NoIdle),
+            None => {
+                if self.limits.interrupt && !interrupted {
+                    let state = State::Running {
+                        at,
+                        fatal: None,
+                        idle,
+                        due: Some(self.clock.now() + INTERRUPT_MS),
+                        interrupted: true,
+                    };
+                    Moved::to(state, false, Act::Interrupt)
+                } else {
+                    self.fails(at, Why::TimedOut)
+                }
+            }
+        }
+    }
+
+    /// The index of the cell of request `at`.
+    fn cell(&self, at: usize) -> u32
+        requires { at < length self.now.plan }
+        ensures { result ≡ cell_of (task_of self.now) at }
+    {
+        self.plan.as_slice()[at]
+    }
+
+    /// How many cells a save settles after request `at`.
+    fn settled(&self, at: usize) -> u32
+        requires { at < length self.now.plan }
+        ensures { result ≡ cell_of (task_of self.now) at + 1 }
+    {
+        self.cell(at) + 1
+    }
+
+    /// The reply and the idle of request `at` are there.
+    fn ends(&self, at: usize, failed: bool) -> Moved
+        requires { at < length self.now.plan }
+        ensures { result ≡ ends_by (task_of self.now) at failed }
+    {
+        let save = Act::Save(self.settled(at));
+        Moved::to(Core::after_end(at, failed), true, save)
+    }
+
+    fn fails(&self, at: usize, why: Why) -> Moved
+        requires { at < length self.now.plan }
+        ensures { result ≡ fails_by (task_of self.now) at why }
+    {
+        Moved::to(
+            State::Failing { at, why },
+            false,
+            Act::Save(self.settled(at)),
+        )
+    }
+
+    fn after_end(at: usize, failed: bool) -> State
+        ensures { result ≡ after_end_by at failed }
+    {
+        if failed {
+            State::Failing {
+                at,
+                why: Why::CellError,
+            }
+        } else {
+            State::Passing { at }
+        }
+    }
+
+    fn on_passed(&self, at: usize) -> Moved
+        requires { at < length self.now.plan }
+        ensures { result ≡ on_passed (task_of self.now) self.now.clock at }
+    {
+        let len = self.plan.len();
+        if at + 1 < len {
+            self.sent(at + 1)
+        } else if self.settled(at) < self.cells {
+            Moved::to(State::Closing, false, Act::Save(self.cells))
+        } else {
+            Moved::stops(Why::Done)
+        }
+    }
+}
