@@ -1,5 +1,5 @@
 //! The indented text of a tree.
-ghost use Rattle.std.specs.Prelude.{◌≡◌, ◌++◌, [], ℕ, List as Plain, IfOk, OnOk};
+ghost use Rattle.std.specs.Prelude.{◌≡◌, ◌++◌, [], ℕ, List as Plain, replicate, IfOk, OnOk};
 ghost use Rattle.jtext.specs.Sorting.{by_key};
 ghost use Rattle.jtext.specs.Indent.{print, indented, indented_items, indented_fields, on_line, further};
 
@@ -14,11 +14,20 @@ use std::alloc::Global;
 pub fn write_indented(alloc: Global, t: &Json) -> Result<Bytes, NoMemory>
     ensures { IfOk result (λ b. b ≡ print t.now) }
 {
-    let mut out = Bytes::new(alloc);
-    let mut margin = Bytes::new(alloc);
-    indent_value(alloc, &mut out, &mut margin, t)?;
+    let mut out = write_indented_at(alloc, t, 0)?;
     out.add(b"\n")?;
     Ok(out)
+}
+
+/// The text that the value has within an indented text, this many levels deep: without the margin
+/// before it, and without a line end after it.
+pub fn write_indented_at(alloc: Global, t: &Json, level: usize) -> Result<Bytes, NoMemory>
+    ensures { IfOk result (λ b. b ≡ indented t.now (replicate level 32)) }
+{
+    let mut text = Bytes::new(alloc);
+    let mut margin = Bytes::of_vec(vec![in alloc; b' '; level]?);
+    indent_value(alloc, &mut text, &mut margin, t)?;
+    Ok(text)
 }
 
 /// Writes the value at that margin, which is as before afterwards.

@@ -25,7 +25,7 @@ mod text;
 pub use compact::write_compact;
 pub use duplicate::copy;
 pub use fault::JsonFault;
-pub use indent::write_indented;
+pub use indent::{write_indented, write_indented_at};
 pub use json::{Fields, Items, Json, Texts};
 pub use list::{Bytes, List};
 pub use lookup::field;
