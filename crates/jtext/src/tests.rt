@@ -1,3 +1,4 @@
 mod lists;
+mod notebooks;
 mod reading;
 mod writing;
