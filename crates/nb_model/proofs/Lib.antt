@@ -1,1 +1,5 @@
 pub mod LinesLemmas
+pub mod PairsLemmas
+pub mod Tautologies
+pub mod FaultLaws
+pub mod IdLemmas

@@ -6,3 +6,7 @@ pub mod Lines
 pub mod Python
 pub mod Injected
 pub mod Reading
+pub mod Pointer
+pub mod Places
+pub mod Faults
+pub mod Pairs

@@ -2,18 +2,29 @@
 //! Texts and trees only; it reads and writes no file.
 #![tactic(auto)]
 
+mod accept;
 mod cell;
+mod cell_places;
 mod kind;
+pub mod laws;
 mod multiline;
+mod nb_fault;
 mod notebook;
+mod output_places;
+mod parts;
+mod places;
+mod pointer;
 mod schedule;
 #[cfg(test)]
 mod tests;
 mod validity;
+mod value_places;
 
+pub use accept::of_json;
 pub use cell::{Cell, Cells};
 pub use kind::Kind;
 pub use multiline::split_lines;
+pub use nb_fault::NbFault;
 pub use notebook::Notebook;
 pub use schedule::Plan;
 pub use validity::is_valid;

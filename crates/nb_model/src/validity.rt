@@ -28,14 +28,14 @@ fn has_notebook_keys(t: &Json) -> bool
     has_only(t, &["metadata", "nbformat", "nbformat_minor", "cells"])
 }
 
-fn has_format(t: &Json) -> bool
+pub(crate) fn has_format(t: &Json) -> bool
     ensures { result ≡ (look.has (codes "nbformat") (look.is_number (codes "4")) t.now && look.has (codes "nbformat_minor") (look.is_number (codes "5")) t.now) }
 {
     field(t, "nbformat").is_some_and(|v| is_number(v, "4"))
         && field(t, "nbformat_minor").is_some_and(|v| is_number(v, "5"))
 }
 
-fn is_metadata(v: &Json) -> bool
+pub(crate) fn is_metadata(v: &Json) -> bool
     ensures { result ≡ valid.is_metadata v.now }
 {
     is_object(v)
@@ -43,13 +43,13 @@ fn is_metadata(v: &Json) -> bool
         && field(v, "language_info").is_none_or(|l| is_language_info(l))
 }
 
-fn is_kernelspec(v: &Json) -> bool
+pub(crate) fn is_kernelspec(v: &Json) -> bool
     ensures { result ≡ valid.is_kernelspec v.now }
 {
     is_object(v) && has_string(v, "name") && has_string(v, "display_name")
 }
 
-fn is_language_info(v: &Json) -> bool
+pub(crate) fn is_language_info(v: &Json) -> bool
     ensures { result ≡ valid.is_language_info v.now }
 {
     is_object(v) && has_string(v, "name")
@@ -57,7 +57,7 @@ fn is_language_info(v: &Json) -> bool
 
 // ---- cells
 
-fn are_cells(v: &Json) -> bool
+pub(crate) fn are_cells(v: &Json) -> bool
     ensures { result ≡ valid.are_cells v.now }
 {
     match v {
@@ -72,13 +72,13 @@ fn all_cells(items: &[Json]) -> bool
     items.iter().all(|item| is_cell(item))
 }
 
-fn is_cell(c: &Json) -> bool
+pub(crate) fn is_cell(c: &Json) -> bool
     ensures { result ≡ valid.is_cell c.now }
 {
     is_object(c) && (is_prose_cell(c) || is_code_cell(c))
 }
 
-fn is_prose_cell(c: &Json) -> bool
+pub(crate) fn is_prose_cell(c: &Json) -> bool
     ensures { result ≡ valid.is_prose_cell c.now }
 {
     field(c, "cell_type").is_some_and(|v| is_text(v, "raw") || is_text(v, "markdown"))
@@ -93,7 +93,7 @@ fn has_prose_keys(c: &Json) -> bool
     has_only(c, &["cell_type", "id", "metadata", "source", "attachments"])
 }
 
-fn is_code_cell(c: &Json) -> bool
+pub(crate) fn is_code_cell(c: &Json) -> bool
     ensures { result ≡ valid.is_code_cell c.now }
 {
     field(c, "cell_type").is_some_and(|v| is_text(v, "code"))
@@ -127,13 +127,13 @@ fn has_common(c: &Json) -> bool
         && field(c, "source").is_some_and(|v| is_multiline(v))
 }
 
-fn is_cell_metadata(v: &Json) -> bool
+pub(crate) fn is_cell_metadata(v: &Json) -> bool
     ensures { result ≡ valid.is_cell_metadata v.now }
 {
     is_object(v) && field(v, "tags").is_none_or(|tags| are_strings(tags))
 }
 
-fn are_attachments(v: &Json) -> bool
+pub(crate) fn are_attachments(v: &Json) -> bool
     ensures { result ≡ valid.are_attachments v.now }
 {
     match v {
@@ -148,12 +148,12 @@ fn all_bundles(pairs: &[(Text, Json)]) -> bool
     pairs.iter().all(|p| is_bundle(&p.1))
 }
 
-fn id_of(c: &Json) -> &[u8]
+pub(crate) fn id_of(c: &Json) -> &str
     ensures { result.now ≡ valid.id_of c.now }
 {
     match field(c, "id") {
-        Some(Json::Str(id)) => id.bytes(),
-        _ => &[],
+        Some(Json::Str(id)) => id.as_str(),
+        _ => "",
     }
 }
 
@@ -171,7 +171,7 @@ fn ids_differ(cells: &[Json]) -> bool
     true
 }
 
-fn has_id(cells: &[Json], id: &[u8]) -> bool
+fn has_id(cells: &[Json], id: &str) -> bool
     ensures { result ≡ list_any (λ d. bytes_eq id.now (valid.id_of d)) cells.now }
 {
     cells.iter().any(|c| id == id_of(c))
@@ -179,7 +179,7 @@ fn has_id(cells: &[Json], id: &[u8]) -> bool
 
 // ---- outputs
 
-fn are_outputs(v: &Json) -> bool
+pub(crate) fn are_outputs(v: &Json) -> bool
     ensures { result ≡ valid.are_outputs v.now }
 {
     match v {
@@ -194,19 +194,19 @@ fn all_outputs(items: &[Json]) -> bool
     items.iter().all(|item| is_output(item))
 }
 
-fn is_output(o: &Json) -> bool
+pub(crate) fn is_output(o: &Json) -> bool
     ensures { result ≡ valid.is_output o.now }
 {
     is_object(o) && (is_stream(o) || is_display(o) || is_result(o) || is_error(o))
 }
 
-fn has_type(o: &Json, name: &str) -> bool
+pub(crate) fn has_type(o: &Json, name: &str) -> bool
     ensures { result ≡ look.has (codes "output_type") (look.is_text name.now) o.now }
 {
     field(o, "output_type").is_some_and(|v| is_text(v, name))
 }
 
-fn is_stream(o: &Json) -> bool
+pub(crate) fn is_stream(o: &Json) -> bool
     ensures { result ≡ valid.is_stream o.now }
 {
     has_type(o, "stream")
@@ -215,7 +215,7 @@ fn is_stream(o: &Json) -> bool
         && field(o, "text").is_some_and(|v| is_multiline(v))
 }
 
-fn is_display(o: &Json) -> bool
+pub(crate) fn is_display(o: &Json) -> bool
     ensures { result ≡ valid.is_display o.now }
 {
     has_type(o, "display_data") && has_only(o, &["output_type", "data", "metadata"]) && has_data(o)
@@ -228,7 +228,7 @@ fn has_data(o: &Json) -> bool
         && field(o, "metadata").is_some_and(|v| is_object(v))
 }
 
-fn is_result(o: &Json) -> bool
+pub(crate) fn is_result(o: &Json) -> bool
     ensures { result ≡ valid.is_result o.now }
 {
     has_type(o, "execute_result")
@@ -237,7 +237,7 @@ fn is_result(o: &Json) -> bool
         && field(o, "execution_count").is_some_and(|v| is_count(v))
 }
 
-fn is_error(o: &Json) -> bool
+pub(crate) fn is_error(o: &Json) -> bool
     ensures { result ≡ valid.is_error o.now }
 {
     has_type(o, "error")
@@ -249,19 +249,19 @@ fn is_error(o: &Json) -> bool
 
 // ---- values
 
-fn is_object(v: &Json) -> bool
+pub(crate) fn is_object(v: &Json) -> bool
     ensures { result ≡ look.is_object v.now }
 {
     matches!(v, Json::Obj(_))
 }
 
-fn is_string(v: &Json) -> bool
+pub(crate) fn is_string(v: &Json) -> bool
     ensures { result ≡ look.is_string v.now }
 {
     matches!(v, Json::Str(_))
 }
 
-fn is_text(v: &Json, text: &str) -> bool
+pub(crate) fn is_text(v: &Json, text: &str) -> bool
     ensures { result ≡ look.is_text text.now v.now }
 {
     match v {
@@ -270,7 +270,7 @@ fn is_text(v: &Json, text: &str) -> bool
     }
 }
 
-fn is_number(v: &Json, text: &str) -> bool
+pub(crate) fn is_number(v: &Json, text: &str) -> bool
     ensures { result ≡ look.is_number text.now v.now }
 {
     match v {
@@ -285,7 +285,7 @@ fn has_string(t: &Json, key: &str) -> bool
     field(t, key).is_some_and(is_string)
 }
 
-fn is_among(key: &str, keys: &[&str]) -> bool
+pub(crate) fn is_among(key: &str, keys: &[&str]) -> bool
     ensures { result ≡ list_any (λ k. bytes_eq key.now k.now) keys.now }
 {
     keys.iter().any(|k| key == *k)
@@ -306,7 +306,7 @@ fn all_among(pairs: &[(Text, Json)], keys: &[&str]) -> bool
     pairs.iter().all(|p| is_among(p.0.as_str(), keys))
 }
 
-fn are_strings(v: &Json) -> bool
+pub(crate) fn are_strings(v: &Json) -> bool
     ensures { result ≡ values.is_strings v.now }
 {
     match v {
@@ -321,13 +321,13 @@ fn all_strings(items: &[Json]) -> bool
     items.iter().all(|item| is_string(item))
 }
 
-fn is_multiline(v: &Json) -> bool
+pub(crate) fn is_multiline(v: &Json) -> bool
     ensures { result ≡ values.is_multiline v.now }
 {
     is_string(v) || are_strings(v)
 }
 
-fn is_count(v: &Json) -> bool
+pub(crate) fn is_count(v: &Json) -> bool
     ensures { result ≡ values.is_count v.now }
 {
     match v {
@@ -337,7 +337,7 @@ fn is_count(v: &Json) -> bool
     }
 }
 
-fn is_whole(text: &[u8]) -> bool
+pub(crate) fn is_whole(text: &[u8]) -> bool
     ensures { result ≡ values.is_whole_text text.now }
 {
     1 <= text.len() && all_digits(text) && (text[0] != b'0' || text.len() == 1)
@@ -349,7 +349,7 @@ fn all_digits(text: &[u8]) -> bool
     text.iter().all(|c| c.is_ascii_digit())
 }
 
-fn is_id(v: &Json) -> bool
+pub(crate) fn is_id(v: &Json) -> bool
     ensures { result ≡ valid.is_id v.now }
 {
     match v {
@@ -358,7 +358,7 @@ fn is_id(v: &Json) -> bool
     }
 }
 
-fn is_id_text(text: &[u8]) -> bool
+pub(crate) fn is_id_text(text: &[u8]) -> bool
     ensures { result ≡ values.is_id_text text.now }
 {
     1 <= text.len() && text.len() <= 64 && all_id_bytes(text)
@@ -370,13 +370,13 @@ fn all_id_bytes(text: &[u8]) -> bool
     text.iter().all(|c| is_id_byte(*c))
 }
 
-fn is_id_byte(c: u8) -> bool
+pub(crate) fn is_id_byte(c: u8) -> bool
     ensures { result ≡ values.is_id_byte c }
 {
     matches!(c, b'a'..=b'z' | b'A'..=b'Z' | b'0'..=b'9' | b'-' | b'_')
 }
 
-fn is_bundle(v: &Json) -> bool
+pub(crate) fn is_bundle(v: &Json) -> bool
     ensures { result ≡ values.is_bundle v.now }
 {
     match v {
@@ -393,7 +393,7 @@ fn all_data(pairs: &[(Text, Json)]) -> bool
         .all(|p| is_json_type(p.0.bytes()) || is_multiline(&p.1))
 }
 
-fn is_json_type(key: &[u8]) -> bool
+pub(crate) fn is_json_type(key: &[u8]) -> bool
     ensures { result ≡ values.is_json_type key.now }
 {
     key == b"application/json".as_slice() || key.ends_with(b"+json")

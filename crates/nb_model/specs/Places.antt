@@ -1,0 +1,141 @@
+-- Where a tree fails the schema of nbformat 4.5: the first place in this order. A value of the wrong kind is named itself.
+-- Then, within an object: what decides its kind, a missing key (which names the object), the first unknown key, and the values of its keys in the order below.
+use Rattle.std.specs.Prelude.{ℕ, Bool, not, ◌||◌, if◌then◌else◌, List, [], ◌∷◌, Option, Some, None, is_some, is_none, position, find, codes, slice_get, option_and_then}
+use Rattle.std.specs.Option.{option_or}
+use Rattle.std.specs.List.{list_any, list_all}
+use Rattle.std.specs.Str.{bytes_eq}
+use Rattle.jtext.specs.declared.json.Json.{Json}
+use Rattle.jtext.specs.Find.{field, fields}
+use Rattle.nb_model.specs.Look.{is_object, is_list, items, is_string, is_text, has, may_have}
+use Rattle.nb_model.specs.Values.{is_multiline, is_count, is_bundle, is_json_type}
+use Rattle.nb_model.specs.Valid.{is_id, is_output, is_cell}
+use Rattle.nb_model.specs.Pointer.{unless, under_key, under_item}
+
+-- ---- objects and lists
+
+-- each of these keys is there
+abbrev pub has_all : List (List ℕ) → Json → Bool
+has_all keys t = list_all (λ key. is_some (field t key)) keys
+
+-- the keys of an object: a missing one, else the first that isn't known
+abbrev pub of_keys : List (List ℕ) → List (List ℕ) → Json → Option (List ℕ)
+of_keys required known t = option_or (unless (has_all required t))
+    (option_and_then (λ p. under_key p.0 (Some [])) (find (λ p. not (list_any (λ key. bytes_eq p.0 key) known)) (fields t)))
+
+-- the value of a key, where it is there and fails the test
+abbrev pub of_value : List ℕ → (Json → Bool) → Json → Option (List ℕ)
+of_value key test t = under_key key (unless (may_have key test t))
+
+-- the place within the value of a key, where it is there
+abbrev pub within_value : List ℕ → (Json → Option (List ℕ)) → Json → Option (List ℕ)
+within_value key place t = under_key key (option_and_then place (field t key))
+
+-- the place within the first item that fails the test
+abbrev pub within_items : (Json → Bool) → (Json → Option (List ℕ)) → List Json → Option (List ℕ)
+within_items test place xs = option_and_then (λ i. under_item i (option_and_then place (slice_get xs i))) (position (λ x. not (test x)) xs)
+
+-- the place within the value of the first pair that fails the test
+abbrev pub within_pairs : (List ℕ × Json → Bool) → (Json → Option (List ℕ)) → List (List ℕ × Json) → Option (List ℕ)
+within_pairs test place ps = option_and_then (λ p. under_key p.0 (place p.1)) (find (λ p. not (test p)) ps)
+
+-- ---- values
+
+abbrev pub of_strings : Json → Option (List ℕ)
+of_strings v = if is_list v then option_and_then (λ i. under_item i (Some [])) (position (λ x. not (is_string x)) (items v)) else Some []
+
+abbrev pub of_multiline : Json → Option (List ℕ)
+of_multiline v = if is_string v then None else of_strings v
+
+abbrev pub of_bundle : Json → Option (List ℕ)
+of_bundle v = if is_object v then within_pairs (λ p. is_json_type p.0 || is_multiline p.1) of_multiline (fields v) else Some []
+
+abbrev pub of_attachments : Json → Option (List ℕ)
+of_attachments v = if is_object v then within_pairs (λ p. is_bundle p.1) of_bundle (fields v) else Some []
+
+-- ---- outputs
+
+abbrev pub of_stream : Json → Option (List ℕ)
+of_stream o = option_or (of_keys (codes "name" ∷ codes "text" ∷ []) (codes "output_type" ∷ codes "name" ∷ codes "text" ∷ []) o)
+    (option_or (of_value (codes "name") is_string o) (within_value (codes "text") of_multiline o))
+
+-- the values of `data` and `metadata`
+abbrev pub of_data : Json → Option (List ℕ)
+of_data o = option_or (within_value (codes "data") of_bundle o) (of_value (codes "metadata") is_object o)
+
+abbrev pub of_display : Json → Option (List ℕ)
+of_display o = option_or (of_keys (codes "data" ∷ codes "metadata" ∷ []) (codes "output_type" ∷ codes "data" ∷ codes "metadata" ∷ []) o) (of_data o)
+
+abbrev pub of_result : Json → Option (List ℕ)
+of_result o = option_or (of_keys (codes "data" ∷ codes "metadata" ∷ codes "execution_count" ∷ []) (codes "output_type" ∷ codes "data" ∷ codes "metadata" ∷ codes "execution_count" ∷ []) o)
+    (option_or (of_data o) (of_value (codes "execution_count") is_count o))
+
+abbrev pub of_error : Json → Option (List ℕ)
+of_error o = option_or (of_keys (codes "ename" ∷ codes "evalue" ∷ codes "traceback" ∷ []) (codes "output_type" ∷ codes "ename" ∷ codes "evalue" ∷ codes "traceback" ∷ []) o)
+    (option_or (of_value (codes "ename") is_string o) (option_or (of_value (codes "evalue") is_string o) (within_value (codes "traceback") of_strings o)))
+
+-- an object by its `output_type`
+abbrev pub by_type : Json → Option (List ℕ)
+by_type o =
+    if has (codes "output_type") (is_text (codes "stream")) o then of_stream o
+    else if has (codes "output_type") (is_text (codes "display_data")) o then of_display o
+    else if has (codes "output_type") (is_text (codes "execute_result")) o then of_result o
+    else if has (codes "output_type") (is_text (codes "error")) o then of_error o
+    else if is_none (field o (codes "output_type")) then Some []
+    else under_key (codes "output_type") (Some [])
+
+abbrev pub of_output : Json → Option (List ℕ)
+of_output o = if is_object o then by_type o else Some []
+
+abbrev pub of_outputs : Json → Option (List ℕ)
+of_outputs v = if is_list v then within_items is_output of_output (items v) else Some []
+
+-- ---- cells
+
+abbrev pub of_cell_metadata : Json → Option (List ℕ)
+of_cell_metadata v = if is_object v then within_value (codes "tags") of_strings v else Some []
+
+-- the values that every cell has
+abbrev pub of_common : Json → Option (List ℕ)
+of_common c = option_or (of_value (codes "id") is_id c)
+    (option_or (within_value (codes "metadata") of_cell_metadata c) (within_value (codes "source") of_multiline c))
+
+abbrev pub of_prose_cell : Json → Option (List ℕ)
+of_prose_cell c = option_or (of_keys (codes "cell_type" ∷ codes "id" ∷ codes "metadata" ∷ codes "source" ∷ [])
+    (codes "cell_type" ∷ codes "id" ∷ codes "metadata" ∷ codes "source" ∷ codes "attachments" ∷ []) c)
+    (option_or (of_common c) (within_value (codes "attachments") of_attachments c))
+
+abbrev pub of_code_cell : Json → Option (List ℕ)
+of_code_cell c = option_or (of_keys (codes "cell_type" ∷ codes "id" ∷ codes "metadata" ∷ codes "source" ∷ codes "outputs" ∷ codes "execution_count" ∷ [])
+    (codes "cell_type" ∷ codes "id" ∷ codes "metadata" ∷ codes "source" ∷ codes "outputs" ∷ codes "execution_count" ∷ []) c)
+    (option_or (of_common c) (option_or (of_value (codes "execution_count") is_count c) (within_value (codes "outputs") of_outputs c)))
+
+-- an object by its `cell_type`
+abbrev pub by_kind : Json → Option (List ℕ)
+by_kind c =
+    if has (codes "cell_type") (λ v. is_text (codes "raw") v || is_text (codes "markdown") v) c then of_prose_cell c
+    else if has (codes "cell_type") (is_text (codes "code")) c then of_code_cell c
+    else if is_none (field c (codes "cell_type")) then Some []
+    else under_key (codes "cell_type") (Some [])
+
+abbrev pub of_cell : Json → Option (List ℕ)
+of_cell c = if is_object c then by_kind c else Some []
+
+abbrev pub of_cells : Json → Option (List ℕ)
+of_cells v = if is_list v then within_items is_cell of_cell (items v) else Some []
+
+-- ---- the notebook
+
+abbrev pub of_kernelspec : Json → Option (List ℕ)
+of_kernelspec v = if is_object v then option_or (unless (has_all (codes "name" ∷ codes "display_name" ∷ []) v))
+    (option_or (of_value (codes "name") is_string v) (of_value (codes "display_name") is_string v)) else Some []
+
+abbrev pub of_language_info : Json → Option (List ℕ)
+of_language_info v = if is_object v then option_or (unless (has_all (codes "name" ∷ []) v)) (of_value (codes "name") is_string v) else Some []
+
+abbrev pub of_metadata : Json → Option (List ℕ)
+of_metadata v = if is_object v then option_or (within_value (codes "kernelspec") of_kernelspec v) (within_value (codes "language_info") of_language_info v) else Some []
+
+-- an object that has its version
+abbrev pub of_notebook : Json → Option (List ℕ)
+of_notebook t = option_or (of_keys (codes "metadata" ∷ codes "nbformat" ∷ codes "nbformat_minor" ∷ codes "cells" ∷ []) (codes "metadata" ∷ codes "nbformat" ∷ codes "nbformat_minor" ∷ codes "cells" ∷ []) t)
+    (option_or (within_value (codes "metadata") of_metadata t) (within_value (codes "cells") of_cells t))
