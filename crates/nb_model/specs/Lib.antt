@@ -10,3 +10,5 @@ pub mod Pointer
 pub mod Places
 pub mod Faults
 pub mod Pairs
+pub mod Prepared
+pub mod Planned

@@ -67,14 +67,14 @@ fn take(pairs: &mut Fields, key: &str) -> Option<Json>
     }
 }
 
-fn place_of(pairs: &[(Text, Json)], key: &str) -> Option<usize>
+pub(crate) fn place_of(pairs: &[(Text, Json)], key: &str) -> Option<usize>
     ensures place { result ≡ position (λ p. bytes_eq p.0 key.now) pairs.now }
     ensures within { IfSome result (λ i. i < length pairs.now) }
 {
     pairs.iter().position(|p| p.0.as_str() == key)
 }
 
-fn pairs_of(alloc: Global, t: Json) -> Fields
+pub(crate) fn pairs_of(alloc: Global, t: Json) -> Fields
     ensures { result ≡ fields t }
 {
     match t {
