@@ -126,7 +126,7 @@ code_keys : (n1 n2 n3 n4 n5 k m1 m2 m3 m4 m5 : Bool) → (((true && (n1 && (n2 &
 code_keys n1 n2 n3 n4 n5 k m1 m2 m3 m4 m5 =
     from_same (((true && (n1 && (n2 && (n3 && (n4 && (n5 && true)))))) && k) && ((m1 && (m2 && m3)) && (m5 && m4))) ((((true && k) && ((n1 && m1) && (n2 && m2) && (n3 && m3))) && (n4 && m4)) && (n5 && m5))
     (always 11 (λ n1 n2 n3 n4 n5 k m1 m2 m3 m4 m5. same (((true && (n1 && (n2 && (n3 && (n4 && (n5 && true)))))) && k) && ((m1 && (m2 && m3)) && (m5 && m4)))
-      ((((true && k) && ((n1 && m1) && (n2 && m2) && (n3 && m3))) && (n4 && m4)) && (n5 && m5))) refl n1 n2 n3 n4 n5 k m1 m2 m3 m4 m5)
+    ((((true && k) && ((n1 && m1) && (n2 && m2) && (n3 && m3))) && (n4 && m4)) && (n5 && m5))) refl n1 n2 n3 n4 n5 k m1 m2 m3 m4 m5)
 
 notebook_keys : (n1 n2 k m1 m2 d : Bool) → ((((n1 && (true && (true && (n2 && true)))) && k) && (m1 && m2)) && d) ≡ (((((true && k) && true) && true) && (n1 && m1)) && (n2 && (m2 && d)))
 notebook_keys n1 n2 k m1 m2 d =
@@ -328,7 +328,7 @@ common-none c =
 
 common-split : (c : Json) → valid.has_common c
     ≡ ((is_some (field c (codes "id")) && may_have (codes "id") valid.is_id c) && (is_some (field c (codes "metadata")) && may_have (codes "metadata") valid.is_cell_metadata c)
-      && (is_some (field c (codes "source")) && may_have (codes "source") is_multiline c))
+    && (is_some (field c (codes "source")) && may_have (codes "source") is_multiline c))
 common-split c = and_eq (and_eq (has-split (codes "id") valid.is_id c) (has-split (codes "metadata") valid.is_cell_metadata c)) (has-split (codes "source") is_multiline c)
 
 there : (key : List ℕ) (test : Json → Bool) (t : Json) → has key test t ≡ true → is_some (field t key) ≡ true
@@ -472,7 +472,7 @@ top_keys t a b =
 
 notebook_tells : (t : Json) → is_some (field t (codes "nbformat")) ≡ true → is_some (field t (codes "nbformat_minor")) ≡ true
     → Tells (option_map (λ p. fault.Shape p) (place.of_notebook t)) (((is_some (field t (codes "metadata")) && (true && (true && (is_some (field t (codes "cells")) && true)))) && has_only (codes "metadata" ∷ codes "nbformat" ∷ codes "nbformat_minor" ∷ codes "cells" ∷ []) t)
-      && (may_have (codes "metadata") valid.is_metadata t && may_have (codes "cells") are_shaped t))
+    && (may_have (codes "metadata") valid.is_metadata t && may_have (codes "cells") are_shaped t))
 notebook_tells t a b =
     record {
       is = none-map (λ p. fault.Shape p) (place.of_notebook t)

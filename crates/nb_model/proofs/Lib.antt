@@ -3,3 +3,5 @@ pub mod PairsLemmas
 pub mod Tautologies
 pub mod FaultLaws
 pub mod IdLemmas
+pub mod KeyOrders
+pub mod TreeLaws

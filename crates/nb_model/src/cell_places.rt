@@ -170,6 +170,13 @@ fn prose_keys(alloc: Global, t: &Json) -> Result<Option<Text>, NoMemory>
 fn code_keys(alloc: Global, t: &Json) -> Result<Option<Text>, NoMemory>
     ensures { IfOk result (λ r. r ≡ spec.of_keys (codes "cell_type" ∷ codes "id" ∷ codes "metadata" ∷ codes "source" ∷ codes "outputs" ∷ codes "execution_count" ∷ []) (codes "cell_type" ∷ codes "id" ∷ codes "metadata" ∷ codes "source" ∷ codes "outputs" ∷ codes "execution_count" ∷ []) t.now) }
 {
-    let keys = ["cell_type", "id", "metadata", "source", "outputs", "execution_count"];
+    let keys = [
+        "cell_type",
+        "id",
+        "metadata",
+        "source",
+        "outputs",
+        "execution_count",
+    ];
     keys_place(alloc, t, &keys, &keys)
 }

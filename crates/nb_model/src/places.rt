@@ -11,7 +11,7 @@ ghost use Rattle.nb_model.specs.Places as spec;
 
 use crate::cell_places::cells_place;
 use crate::pointer::{under_item, under_key, unless};
-use crate::validity::{is_object, is_string, is_among};
+use crate::validity::{is_among, is_object, is_string};
 use jtext::{Json, NoMemory, Text, field};
 use std::alloc::Global;
 

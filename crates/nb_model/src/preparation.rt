@@ -69,6 +69,9 @@ fn pending(alloc: Global) -> Result<Json, NoMemory>
 {
     let mut mark = Fields::new(alloc);
     mark.push((Text::of(alloc, "exception")?, Json::Null))?;
-    mark.push((Text::of(alloc, "status")?, Json::Str(Text::of(alloc, "pending")?)))?;
+    mark.push((
+        Text::of(alloc, "status")?,
+        Json::Str(Text::of(alloc, "pending")?),
+    ))?;
     Ok(Json::Obj(mark))
 }

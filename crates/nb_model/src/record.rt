@@ -7,12 +7,7 @@ use jtext::{Fields, Json, NoMemory, Text, copy, field};
 use std::alloc::Global;
 
 /// The object with this value under the key, in its place or last. What is no object becomes one.
-pub(crate) fn set_field(
-    alloc: Global,
-    key: &str,
-    value: Json,
-    t: Json,
-) -> Result<Json, NoMemory>
+pub(crate) fn set_field(alloc: Global, key: &str, value: Json, t: Json) -> Result<Json, NoMemory>
     ensures { IfOk result (λ r. r ≡ spec.set_field key.now value t) }
 {
     Ok(Json::Obj(set_pair(alloc, key, value, pairs_of(alloc, t))?))
@@ -36,12 +31,7 @@ pub(crate) fn set_within(
     set_field(alloc, outer, inner, t)
 }
 
-fn set_pair(
-    alloc: Global,
-    key: &str,
-    value: Json,
-    pairs: Fields,
-) -> Result<Fields, NoMemory>
+fn set_pair(alloc: Global, key: &str, value: Json, pairs: Fields) -> Result<Fields, NoMemory>
     ensures { IfOk result (λ r. r ≡ spec.set_pair key.now value pairs) }
 {
     let name = Text::of(alloc, key)?;

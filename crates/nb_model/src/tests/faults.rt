@@ -79,7 +79,8 @@ same:a {"cell_type":"raw","id":"a","metadata":{},"source":""},{"cell_type":"mark
 same:b {"cell_type":"raw","id":"a","metadata":{},"source":""},{"cell_type":"raw","id":"b","metadata":{},"source":""},{"cell_type":"raw","id":"b","metadata":{},"source":""},{"cell_type":"raw","id":"a","metadata":{},"source":""}"#;
 
 /// The same, the text being the outputs of a code cell.
-const OUTPUTS: &str = r#"ok {"output_type":"stream","name":"stdout","text":["a"]},{"output_type":"stream","name":"","text":""}
+const OUTPUTS: &str =
+    r#"ok {"output_type":"stream","name":"stdout","text":["a"]},{"output_type":"stream","name":"","text":""}
 ok {"output_type":"display_data","data":{"image/png":"iVBO","application/json":{"a":[1]},"application/vnd.x+json":1},"metadata":{"x":1}}
 ok {"output_type":"execute_result","data":{},"metadata":{},"execution_count":7}
 ok {"output_type":"error","ename":"E","evalue":"","traceback":["a"]}
@@ -114,7 +115,10 @@ fn answer(rt: &HostRuntime, text: &str) -> Result<String, Fail> {
     match of_json(rt.alloc(), tree) {
         Ok(_) => Ok(format!(in rt.alloc(); "{}", if valid { "ok" } else { "not valid" })?),
         Err(NbFault::Version) => Ok(format!(in rt.alloc(); "version")?),
-        Err(NbFault::Shape { pointer }) => Ok(format!(in rt.alloc(); "shape:{}", pointer.as_str())?),
+        Err(NbFault::Shape { pointer }) => Ok(format!(in rt.alloc();
+            "shape:{}",
+            pointer.as_str()
+        )?),
         Err(NbFault::SameId { id }) => Ok(format!(in rt.alloc(); "same:{}", id.as_str())?),
         Err(NbFault::NoMemory) => Ok(format!(in rt.alloc(); "no memory")?),
     }
@@ -147,7 +151,8 @@ fn cells_are_read_or_refused_at_the_first_fault(rt: HostRuntime) -> Result<(), F
 
 #[test]
 fn outputs_are_read_or_refused_at_the_first_fault(rt: HostRuntime) -> Result<(), Fail> {
-    let start = r#"{"cells":[{"cell_type":"code","id":"a","metadata":{},"source":"","execution_count":1,"outputs":["#;
+    let start =
+        r#"{"cells":[{"cell_type":"code","id":"a","metadata":{},"source":"","execution_count":1,"outputs":["#;
     let end = r#"]}],"metadata":{},"nbformat":4,"nbformat_minor":5}"#;
     assert_eq!(rt; wrong(&rt, OUTPUTS, start, end)?, "");
     Ok(())

@@ -5,10 +5,7 @@ use std::test::Fail;
 
 /// The notebook of that text.
 fn notebook(rt: &HostRuntime, text: &str) -> Result<Notebook, Fail> {
-    Ok(of_json(
-        rt.alloc(),
-        read(rt.alloc(), text.as_bytes(), 128)?,
-    )?)
+    Ok(of_json(rt.alloc(), read(rt.alloc(), text.as_bytes(), 128)?)?)
 }
 
 fn is_text(rt: &HostRuntime, tree: &Json, text: &str) -> Result<bool, Fail> {
@@ -103,12 +100,14 @@ fn a_saved_notebook_is_read(rt: HostRuntime) -> Result<(), Fail> {
 }
 
 /// Two code cells and a markdown cell, which have marks, counts and outputs of an earlier run.
-const USED: &str = r#"{"cells":[{"cell_type":"code","execution_count":7,"id":"a","metadata":{"papermill":1,"x":2},"outputs":[{"output_type":"stream","name":"stdout","text":"1"}],"source":"print 1"},{"cell_type":"code","execution_count":null,"id":"b","metadata":{},"outputs":[],"source":["result 2"]},{"cell_type":"markdown","id":"c","metadata":{"papermill":{"status":"failed"}},"source":"x"}],"metadata":{"papermill":{"exception":true,"parameters":{"p":1}},"kernelspec":{"display_name":"Toy","name":"toy"}},"nbformat":4,"nbformat_minor":5}"#;
+const USED: &str =
+    r#"{"cells":[{"cell_type":"code","execution_count":7,"id":"a","metadata":{"papermill":1,"x":2},"outputs":[{"output_type":"stream","name":"stdout","text":"1"}],"source":"print 1"},{"cell_type":"code","execution_count":null,"id":"b","metadata":{},"outputs":[],"source":["result 2"]},{"cell_type":"markdown","id":"c","metadata":{"papermill":{"status":"failed"}},"source":"x"}],"metadata":{"papermill":{"exception":true,"parameters":{"p":1}},"kernelspec":{"display_name":"Toy","name":"toy"}},"nbformat":4,"nbformat_minor":5}"#;
 
 #[test]
 fn preparation_clears_and_marks(rt: HostRuntime) -> Result<(), Fail> {
     let n = prepare(rt.alloc(), notebook(&rt, USED)?)?;
-    let metadata = r#"{"papermill":{"exception":null,"parameters":{"p":1}},"kernelspec":{"display_name":"Toy","name":"toy"}}"#;
+    let metadata =
+        r#"{"papermill":{"exception":null,"parameters":{"p":1}},"kernelspec":{"display_name":"Toy","name":"toy"}}"#;
     assert!(rt; is_text(&rt, &n.metadata, metadata)?);
     let marks = r#"{"papermill":{"exception":null,"status":"pending"},"x":2}
 {"papermill":{"exception":null,"status":"pending"}}
@@ -169,7 +168,10 @@ fn the_plan_leaves_out_blank_and_skipped_cells(rt: HostRuntime) -> Result<(), Fa
         let (tag, source) = rest.split_once(' ').ok_or("a tag is missing")?;
         let n = of_source(&rt, kind, tag, source)?;
         assert_eq!(rt; n.cells.len(), 1);
-        assert!(rt; (plan(rt.alloc(), &n)?.len() == 1) == (planned == "yes"), "{row}");
+        assert!(rt;
+            (plan(rt.alloc(), &n)?.len() == 1) == (planned == "yes"),
+            "{row}"
+        );
     }
     Ok(())
 }

@@ -18,6 +18,6 @@ loop-first-preserved c =
       (
         more held.0 (contains_text c.loop-first.seen) (contains_text c.add.new.seen) id held.1.0 c.in_ok-add.ensures.seen,
         free held.0 (contains_text c.loop-first.seen) c.loop-first.rest.now c.in-Some.others.now c.in-Some.first.now c.args.cells.now id held.1.0 held.1.1 c.in-Some.ensures.cases.0 c.id_of-id.ensures
-          (sym c.if-not-branch.false ∙ c.in_ok-add.ensures.added),
+            (sym c.if-not-branch.false ∙ c.in_ok-add.ensures.added),
       ),
     )
