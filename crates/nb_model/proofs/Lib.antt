@@ -5,3 +5,4 @@ pub mod FaultLaws
 pub mod IdLemmas
 pub mod KeyOrders
 pub mod TreeLaws
+pub mod PreparedLaws

@@ -1,6 +1,8 @@
 //! Laws of notebooks and their trees. The functions do nothing: their contracts are the laws.
 ghost use Rattle.std.specs.Prelude.{◌≡◌, is_none, true};
 ghost use Rattle.jtext.specs.declared.json.Json as tree;
+ghost use Rattle.nb_model.specs.declared.notebook.Notebook as notebook;
+ghost use Rattle.nb_model.specs.Prepared.{prepared};
 ghost use Rattle.nb_model.specs.Valid.{is_notebook};
 ghost use Rattle.jtext.specs.Keyed.{Keyed};
 ghost use Rattle.jtext.specs.Sorting.{sorted};
@@ -18,4 +20,9 @@ pub fn faulty_where_invalid()
 pub fn notebook_of_its_tree()
     ensures sorted { (t : tree.Json) → is_notebook t ≡ true → Keyed t → sorted (notebook_tree (notebook_of t)) ≡ sorted t }
     ensures printed { (t : tree.Json) → is_notebook t ≡ true → Keyed t → print (notebook_tree (notebook_of t)) ≡ print t }
+{}
+
+/// A prepared notebook is valid where the notebook is.
+pub fn prepared_stays_valid()
+    ensures { (n : notebook.Notebook) → is_notebook (notebook_tree n) ≡ true → is_notebook (notebook_tree (prepared n)) ≡ true }
 {}
