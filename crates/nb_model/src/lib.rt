@@ -30,6 +30,7 @@ pub use multiline::split_lines;
 pub use nb_fault::NbFault;
 pub use notebook::Notebook;
 pub use preparation::prepare;
+pub use record::{set_field, set_within};
 pub use schedule::{Plan, plan};
 pub use source::{code, tagged};
 pub use validity::is_valid;

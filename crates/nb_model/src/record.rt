@@ -7,14 +7,14 @@ use jtext::{Fields, Json, NoMemory, Text, copy, field};
 use std::alloc::Global;
 
 /// The object with this value under the key, in its place or last. What is no object becomes one.
-pub(crate) fn set_field(alloc: Global, key: &str, value: Json, t: Json) -> Result<Json, NoMemory>
+pub fn set_field(alloc: Global, key: &str, value: Json, t: Json) -> Result<Json, NoMemory>
     ensures { IfOk result (λ r. r ≡ spec.set_field key.now value t) }
 {
     Ok(Json::Obj(set_pair(alloc, key, value, pairs_of(alloc, t))?))
 }
 
 /// The object with this value under `key` of the object under `outer`.
-pub(crate) fn set_within(
+pub fn set_within(
     alloc: Global,
     outer: &str,
     key: &str,
