@@ -1,0 +1,75 @@
+-- The test of a number is the number grammar.
+use Rattle.std.proofs.Common.{◌≡◌, ℕ, Bool, true, false, cond, ◌==◌, List, [], ◌∷◌, length, Option, Some, None, Result, Ok, Err, IfOk, refl, sym, ap, ◌∙◌, subst, arith}
+use Rattle.std.specs.Prelude.{codes}
+use Rattle.std.specs.Str.{bytes_eq}
+use Rattle.std.proofs.lemmas.Bool.Decides.{nat_tests}
+use Rattle.std.proofs.lemmas.List.{append-nil}
+use Rattle.jtext.specs.Number.{IsNumber}
+use Rattle.jtext.specs.Reading.{after_number}
+use Rattle.jtext.specs.declared.json.Json.{Json}
+use Rattle.jtext.specs.declared.json.Json.TheVariants as json
+use Rattle.jtext.specs.declared.no_memory.NoMemory.{NoMemory}
+use Rattle.jtext.proofs.Keys.{not_equal}
+use Rattle.jtext.proofs.Numbers.{number_text}
+use Rattle.jtext.proofs.NumberSound.{not_number, more_than_number, number_sound}
+use Rattle.words.proofs.Tests.{not_true}
+use Rattle.words.specs.Values.{is_number, is_nothing, number_or_text, value_of, IsValue}
+
+tested : (s : List ℕ) → IsNumber s → (r : Option (List ℕ)) → after_number s ≡ r → is_nothing r ≡ true
+tested s is None e = absurd (not_number s is e)
+tested s is (Some []) e = refl
+tested s is (Some (c ∷ cs)) e = absurd (more_than_number s (c ∷ cs) is e (grind (arith, nat_tests)))
+
+-- a number passes the test
+pub number_passes : (s : List ℕ) → IsNumber s → is_number s ≡ true
+number_passes s is = tested s is (after_number s) refl
+
+sound : (s : List ℕ) → (r : Option (List ℕ)) → after_number s ≡ r → is_nothing r ≡ true → IsNumber s
+sound s None e t = absurd (not_true t)
+sound s (Some []) e t = number_text s s [] (number_sound s [] e) (sym (append-nil s))
+sound s (Some (c ∷ cs)) e t = absurd (not_true (let n : false ≡ (length (c ∷ cs) == 0) = grind (arith, nat_tests) in n ∙ t))
+
+-- what passes the test is a number
+pub number_of_test : (s : List ℕ) → is_number s ≡ true → IsNumber s
+number_of_test s t = sound s (after_number s) refl t
+
+-- a text that is no number fails it
+pub number_fails : (s : List ℕ) → (IsNumber s → ⊥) → is_number s ≡ false
+number_fails s none = by_case (is_number s) refl
+  where
+    by_case : (b : Bool) → is_number s ≡ b → is_number s ≡ false
+    by_case true e = absurd (none (number_of_test s e))
+    by_case false e = e
+
+-- a number is taken as it stands
+pub number_taken : (s n : List ℕ) → n ≡ s → IsNumber s → json.Num n ≡ number_or_text s
+number_taken s n same is = ap (λ x. json.Num x) same ∙ ap (λ b. cond b (json.Num s) (json.Str s)) (sym (number_passes s is))
+
+-- any other text is a string
+pub text_taken : (s t : List ℕ) → t ≡ s → (IsNumber s → ⊥) → json.Str t ≡ number_or_text s
+text_taken s t same none = ap (λ x. json.Str x) same ∙ ap (λ b. cond b (json.Num s) (json.Str s)) (sym (number_fails s none))
+
+not_word : (t w : List ℕ) → is_number w ≡ false → IsNumber t → bytes_eq t w ≡ false
+not_word t w other is = not_equal t w (λ same. not_true (sym other ∙ ap is_number same ∙ number_passes t is))
+
+else_three : (a b c : Bool) (x y z n : Json) → a ≡ false → b ≡ false → c ≡ false → cond a x (cond b y (cond c z n)) ≡ n
+else_three a b c x y z n ea eb ec = ap (λ k. cond k x (cond b y (cond c z n))) ea ∙ ap (λ k. cond k y (cond c z n)) eb ∙ ap (λ k. cond k z n) ec
+
+plain : (t : List ℕ) → bytes_eq t (codes "True") ≡ false → bytes_eq t (codes "False") ≡ false → bytes_eq t (codes "None") ≡ false → value_of t ≡ number_or_text t
+plain t a b c = else_three (bytes_eq t (codes "True")) (bytes_eq t (codes "False")) (bytes_eq t (codes "None")) (json.Bool true) (json.Bool false) json.Null (number_or_text t) a b c
+
+-- the value is what the word stands for
+pub is_value : (t : List ℕ) → IsValue t (value_of t)
+is_value t = record {
+  yes = λ e. ap value_of e;
+  no = λ e. ap value_of e;
+  none = λ e. ap value_of e;
+  number = λ is. plain t (not_word t (codes "True") refl is) (not_word t (codes "False") refl is) (not_word t (codes "None") refl is) ∙ ap (λ b. cond b (json.Num t) (json.Str t)) (number_passes t is);
+  text_else = λ a b c none.
+      plain t (not_equal t (codes "True") (λ s. a (sym s))) (not_equal t (codes "False") (λ s. b (sym s))) (not_equal t (codes "None") (λ s. c (sym s)))
+      ∙ ap (λ b. cond b (json.Num t) (json.Str t)) (number_fails t none);
+}
+
+pub means : (t : List ℕ) (r : Result Json NoMemory) → IfOk r (λ v. v ≡ value_of t) → IfOk r (λ v. IsValue t v)
+means t (Ok v) e = subst (IsValue t) (sym e) (is_value t)
+means t (Err e) was = tt

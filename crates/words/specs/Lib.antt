@@ -1,0 +1,11 @@
+pub mod Apart
+pub mod Options
+pub mod Parts
+pub mod Numbers
+pub mod Values
+pub mod Paths
+pub mod Forms
+pub mod Refusals
+pub mod Parameters
+pub mod Asked
+pub mod Grammar

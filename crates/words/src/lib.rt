@@ -1,0 +1,28 @@
+//! The command line and the jobs file: what they ask for, or the first fault with its place.
+//! Words and bytes only; it reads no file.
+#![tactic(auto)]
+
+mod ask;
+mod choice;
+mod command;
+mod command_line;
+mod compose;
+mod fault;
+mod form;
+mod kind;
+pub mod laws;
+mod number;
+mod parameters;
+mod part;
+mod path;
+mod takes;
+#[cfg(test)]
+mod tests;
+mod usage;
+mod value;
+
+pub use ask::{Ask, Asks};
+pub use command::Command;
+pub use command_line::read;
+pub use usage::Usage;
+pub use value::value_of;
