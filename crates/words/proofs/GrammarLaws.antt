@@ -21,7 +21,7 @@ use Rattle.words.specs.Paths.{path, path_text, word_at, are_apart}
 use Rattle.words.specs.Forms.{form_of, extra}
 use Rattle.words.specs.Refusals.{value_fault, fault_of, first_fault, second_path_fault, beyond, missing, form_fault, refusal}
 use Rattle.words.specs.Grammar.{fits, is_well_formed, paths_in, fits_form, IsCommand}
-use Rattle.words.proofs.Tests.{no_some, not_true, if_none, else_none, or_none, none_or, both, each, negated, unnegated, doubly}
+use Rattle.words.proofs.Truths.{no_some, not_true, if_none, else_none, or_none, none_or, both, each, negated, unnegated, doubly}
 use Rattle.words.proofs.ApartLemmas.{no_earlier, no_earlier_apart}
 use Rattle.words.proofs.PathCounts.{path_none, none_path}
 

@@ -1,7 +1,11 @@
-pub mod Tests
+pub mod Truths
 pub mod Fronts
 pub mod ApartLemmas
 pub mod PathCounts
 pub mod NumberTests
 pub mod PartSteps
 pub mod GrammarLaws
+pub mod JobsLaws
+pub mod PutLemmas
+pub mod RunnableWords
+pub mod RunnableJobs

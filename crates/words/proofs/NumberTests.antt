@@ -12,7 +12,7 @@ use Rattle.jtext.specs.declared.no_memory.NoMemory.{NoMemory}
 use Rattle.jtext.proofs.Keys.{not_equal}
 use Rattle.jtext.proofs.Numbers.{number_text}
 use Rattle.jtext.proofs.NumberSound.{not_number, more_than_number, number_sound}
-use Rattle.words.proofs.Tests.{not_true}
+use Rattle.words.proofs.Truths.{not_true}
 use Rattle.words.specs.Values.{is_number, is_nothing, number_or_text, value_of, IsValue}
 
 tested : (s : List ℕ) → IsNumber s → (r : Option (List ℕ)) → after_number s ≡ r → is_nothing r ≡ true

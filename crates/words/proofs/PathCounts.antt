@@ -6,7 +6,7 @@ use Rattle.words.specs.declared.part.Part.{Part}
 use Rattle.words.specs.Parts.{is_path}
 use Rattle.words.specs.Paths.{path}
 use Rattle.words.specs.Grammar.{paths_in}
-use Rattle.words.proofs.Tests.{no_some}
+use Rattle.words.proofs.Truths.{no_some}
 
 positive : (n : ℕ) → (n == 0) ≡ false → 0 < n
 positive n e = grind (arith, nat_tests)

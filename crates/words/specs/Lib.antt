@@ -9,3 +9,10 @@ pub mod Refusals
 pub mod Parameters
 pub mod Asked
 pub mod Grammar
+pub mod Runnable
+pub mod Look
+pub mod Members
+pub mod Places
+pub mod JobsFile
+pub mod JobsFaults
+pub mod JobsAsked

@@ -1,5 +1,5 @@
 -- The parameters of a command line: names with values, a later value of a name in the place of the earlier one.
-use Rattle.std.specs.Prelude.{ℕ, List, [], ◌∷◌, ◌++◌, Option, Some, None, if◌then◌else◌, position, slice_set}
+use Rattle.std.specs.Prelude.{ℕ, List, [], ◌∷◌, if◌then◌else◌}
 use Rattle.std.specs.Str.{bytes_eq}
 use Rattle.jtext.specs.declared.json.Json.{Json}
 use Rattle.jtext.specs.declared.json.Json.TheVariants as json
@@ -8,13 +8,10 @@ use Rattle.words.specs.declared.part.Part.{Part}
 use Rattle.words.specs.Parts.{word, is_choice}
 use Rattle.words.specs.Values.{value_of}
 
-abbrev pub put_at : Option ℕ → List ℕ → Json → List (List ℕ × Json) → List (List ℕ × Json)
-put_at None name v fields = fields ++ (name, v) ∷ []
-put_at (Some i) name v fields = slice_set fields i (name, v)
-
 -- the fields with this value for the name: where the name stands, or else at the end
 abbrev pub put : List ℕ → Json → List (List ℕ × Json) → List (List ℕ × Json)
-put name v fields = put_at (position (λ p. bytes_eq p.0 name) fields) name v fields
+put name v [] = (name, v) ∷ []
+put name v (p ∷ ps) = if bytes_eq p.0 name then (name, v) ∷ ps else p ∷ put name v ps
 
 -- the fields with what a part gives; a raw value is a string whatever it spells
 abbrev pub given : List (List ℕ) → Part → List (List ℕ × Json) → List (List ℕ × Json)

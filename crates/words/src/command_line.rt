@@ -2,6 +2,7 @@
 ghost use Rattle.std.specs.Prelude.{◌≡◌, ◌⊎◌, Some, None, map, string_bytes, IfOk, IfErr};
 ghost use Rattle.words.specs.Asked.{asked};
 ghost use Rattle.words.specs.Refusals as spec;
+ghost use Rattle.words.specs.Runnable.{IsRunnableCommand};
 ghost use Rattle.words.specs.declared.usage.Usage.TheVariants as usage;
 
 use crate::compose::command;
@@ -16,6 +17,8 @@ pub fn read(alloc: Global, words: &[String]) -> Result<Command, Usage>
     ensures asked { IfOk result (λ c. c ≡ asked (map string_bytes words.now)) }
     // Words are refused exactly where they have a fault, and the first one is named.
     ensures accepted { IfOk result (λ c. spec.refusal (map string_bytes words.now) ≡ None) }
+    // Names stand once, and values and times are in their range.
+    ensures runnable { IfOk result IsRunnableCommand }
     ensures refused { IfErr result (λ u. (u ≡ usage.NoMemory) ⊎ (spec.refusal (map string_bytes words.now) ≡ Some u)) }
 {
     let parts = parts_of(alloc, words)?;

@@ -3,25 +3,33 @@
 #![tactic(auto)]
 
 mod ask;
+mod batch;
 mod choice;
 mod command;
 mod command_line;
 mod compose;
 mod fault;
 mod form;
+mod job;
 mod kind;
 pub mod laws;
+mod look;
+mod member;
 mod number;
 mod parameters;
 mod part;
 mod path;
+mod place;
+mod shape;
 mod takes;
 #[cfg(test)]
 mod tests;
 mod usage;
+mod used_path;
 mod value;
 
 pub use ask::{Ask, Asks};
+pub use batch::jobs;
 pub use command::Command;
 pub use command_line::read;
 pub use usage::Usage;

@@ -1,2 +1,5 @@
 mod answers;
+mod asks;
 mod fields;
+mod files;
+mod shown;

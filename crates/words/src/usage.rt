@@ -22,7 +22,8 @@ pub enum Usage {
     SamePath { i: usize },
     /// A value that is no name of a parameter.
     BadName { i: usize },
-    /// The first value of the jobs file that isn't as it has to be, by its JSON pointer (RFC 6901).
+    /// The first value of the jobs file that isn't as it has to be, or else gives an earlier path again,
+    /// by its JSON pointer (RFC 6901).
     BadJobs { pointer: Text },
     /// A growth was refused.
     NoMemory,

@@ -236,33 +236,36 @@ fn shape(value: &Result<Json, NoMemory>) -> &'static str {
     }
 }
 
+/// A word a row, after what it stands for.
+const VALUES: &str = "\
+true|True
+false|False
+null|None
+string|true
+string|null
+string|none
+string|
+number|0
+number|-0
+number|7
+string|007
+string|-
+number|1e2
+number|1.50
+string|1.
+string|.5
+string|+1
+string| 1
+string|1 \n\
+string|NaN
+string|0x10
+string|[1]";
+
 #[test]
 fn a_word_stands_for_a_number_where_json_has_it(rt: HostRuntime) -> Result<(), Fail> {
-    let rows = [
-        ("True", "true"),
-        ("False", "false"),
-        ("None", "null"),
-        ("true", "string"),
-        ("null", "string"),
-        ("none", "string"),
-        ("", "string"),
-        ("0", "number"),
-        ("-0", "number"),
-        ("7", "number"),
-        ("007", "string"),
-        ("1e2", "number"),
-        ("1.50", "number"),
-        ("1.", "string"),
-        (".5", "string"),
-        ("+1", "string"),
-        (" 1", "string"),
-        ("1 ", "string"),
-        ("NaN", "string"),
-        ("0x10", "string"),
-        ("[1]", "string"),
-    ];
-    for (word, kind) in rows {
-        assert!(rt; shape(&value_of(rt.alloc(), word)) == kind, "{word}");
+    for line in VALUES.lines() {
+        let (kind, word) = line.split_once('|').ok_or("a word is missing")?;
+        assert!(rt; shape(&value_of(rt.alloc(), word)) == kind, "{line}");
     }
     Ok(())
 }

@@ -1,9 +1,31 @@
 //! Each option with the field that it sets, and what stands where it isn't given.
+use super::shown::shown;
 use crate::{Ask, Command, read};
-use jtext::{Json, Text};
 use std::test::Fail;
 
-/// What one job is asked for by the words, which single spaces part.
+/// A command line a row, and what is asked of one job, or of all jobs of a batch.
+const LINES: &str = "\
+A B|A B - /usr/local/share/jupyter/kernels . 000001 60000 0
+A B -k toy|A B toy /usr/local/share/jupyter/kernels . 000001 60000 0
+--kernel toy A B|A B toy /usr/local/share/jupyter/kernels . 000001 60000 0
+A --kernel-path d B|A B - d . 000001 60000 0
+A B --cwd e|A B - /usr/local/share/jupyter/kernels e 000001 60000 0
+A B --kernel-path d --start-timeout 5|A B - d . 000001 5000 0
+A B --kernel-path d --execution-timeout 007|A B - d . 000001 60000 7000
+A B --kernel-path d --prepare-only|A B - d . 100001 60000 0
+A B --kernel-path d --report-mode|A B - d . 010001 60000 0
+A B --kernel-path d --merge-streams|A B - d . 001001 60000 0
+A B --kernel-path d --allow-errors|A B - d . 000101 60000 0
+A B --kernel-path d --interrupt|A B - d . 000011 60000 0
+A B --kernel-path d --no-heartbeat|A B - d . 000000 60000 0
+A B --kernel-path d --allow-error-name E --allow-error-name F --allow-error-name E|A B - d . 000001 60000 0 E F E
+A B --kernel-path d -p x 1 -r y 2 --parameters x 3|A B - d . 000001 60000 0 x=3 y='2'
+A B --kernel-path d --parameters_raw x 1 -p x None|A B - d . 000001 60000 0 x=null
+A B --kernel-path d -p x True -p y -p -p z 007|A B - d . 000001 60000 0 x=true y='-p' z='007'
+--kernel-path d -- -A --|-A -- - d . 000001 60000 0
+--jobs f --kernel-path d --merge-streams|  - d . 001001 60000 0";
+
+/// What the words, which single spaces part, ask for.
 fn ask_of(rt: &HostRuntime, line: &str) -> Result<Ask, Fail> {
     let mut words = Vec::new(rt.alloc());
     for word in line.split(' ') {
@@ -16,71 +38,13 @@ fn ask_of(rt: &HostRuntime, line: &str) -> Result<Ask, Fail> {
     }
 }
 
-fn is_text(text: Option<&Text>, expected: &str) -> bool {
-    match text {
-        Some(text) => text.as_str() == expected,
-        None => false,
-    }
-}
-
-fn is_parameter(ask: &Ask, i: usize, name: &str, number: bool, value: &str) -> bool {
-    match ask.params.get(i) {
-        Some((key, Json::Num(n))) => number && key.as_str() == name && n.as_str() == value,
-        Some((key, Json::Str(s))) => !number && key.as_str() == name && s.as_str() == value,
-        _ => false,
-    }
-}
-
-#[test]
-fn without_options_all_is_as_usual(rt: HostRuntime) -> Result<(), Fail> {
-    let ask = ask_of(&rt, "A B")?;
-    assert!(rt; ask.input.as_str() == "A" && ask.output.as_str() == "B");
-    assert!(rt; ask.kernel.is_none());
-    assert!(rt; ask.kernel_path.as_str() == "/usr/local/share/jupyter/kernels");
-    assert!(rt; ask.cwd.as_str() == ".");
-    assert!(rt; ask.params.len() == 0 && ask.names.len() == 0);
-    assert!(rt; !ask.prepare && !ask.report && !ask.merge);
-    assert!(rt; !ask.all_errors && !ask.interrupt && ask.heartbeat);
-    assert!(rt; ask.start_ms == 60_000 && ask.limit_ms.is_none());
-    Ok(())
-}
-
 #[test]
 fn each_option_sets_its_field(rt: HostRuntime) -> Result<(), Fail> {
-    let ask = ask_of(
-        &rt,
-        "-k toy --kernel-path d A --cwd e B --start-timeout 5 --execution-timeout 007",
-    )?;
-    assert!(rt; ask.input.as_str() == "A" && ask.output.as_str() == "B");
-    assert!(rt; is_text(ask.kernel.as_ref(), "toy"));
-    assert!(rt; ask.kernel_path.as_str() == "d" && ask.cwd.as_str() == "e");
-    assert!(rt; ask.start_ms == 5_000 && ask.limit_ms == Some(7_000));
-    assert!(rt; ask_of(&rt, "A B --prepare-only")?.prepare);
-    assert!(rt; ask_of(&rt, "A B --report-mode")?.report);
-    assert!(rt; ask_of(&rt, "A B --merge-streams")?.merge);
-    assert!(rt; ask_of(&rt, "A B --allow-errors")?.all_errors);
-    assert!(rt; ask_of(&rt, "A B --interrupt")?.interrupt);
-    assert!(rt; !ask_of(&rt, "A B --no-heartbeat")?.heartbeat);
-    Ok(())
-}
-
-#[test]
-fn what_repeats_keeps_its_order(rt: HostRuntime) -> Result<(), Fail> {
-    let ask = ask_of(
-        &rt,
-        "A B -p x 1 --allow-error-name E -r y 2 --parameters x 3 --allow-error-name F",
-    )?;
-    assert!(rt; ask.params.len() == 2);
-    assert!(rt; is_parameter(&ask, 0, "x", true, "3"));
-    assert!(rt; is_parameter(&ask, 1, "y", false, "2"));
-    assert!(rt; ask.names.len() == 2);
-    assert!(rt; is_text(ask.names.get(0), "E") && is_text(ask.names.get(1), "F"));
-    Ok(())
-}
-
-#[test]
-fn a_batch_has_no_paths(rt: HostRuntime) -> Result<(), Fail> {
-    let ask = ask_of(&rt, "--jobs f --merge-streams")?;
-    assert!(rt; ask.input.as_str() == "" && ask.output.as_str() == "" && ask.merge);
+    for line in LINES.lines() {
+        let (words, expected) = line.split_once('|').ok_or("what is asked is missing")?;
+        let ask = ask_of(&rt, words)?;
+        let found = shown(&rt, &ask)?;
+        assert!(rt; found.as_str() == expected, "{line}");
+    }
     Ok(())
 }

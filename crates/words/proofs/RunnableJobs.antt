@@ -1,0 +1,193 @@
+-- A jobs file asks for what a run can do.
+use Rattle.std.proofs.Common.{◌≡◌, ◌≤◌, ℕ, ◌+◌, Bool, true, false, cond, nat_eq, List, [], ◌∷◌, map, Option, Some, None, IfSome, refl, sym, ap, ◌∙◌, subst, rules, arith}
+use Rattle.std.specs.Prelude.{codes, option_map, unwrap_or}
+use Rattle.std.specs.List.{AllByRecursion, list_all}
+use Rattle.std.specs.Str.{bytes_eq}
+use Rattle.std.specs.Cmp.Lexicographic.{pointwise}
+use Rattle.std.proofs.lemmas.Slice.Eq.{bytes_eq-Decides}
+use Rattle.jtext.specs.declared.json.Json.{Json, out-Json, the_lemmas}
+use Rattle.jtext.specs.declared.json.Json.TheOpen.{Json-F}
+use Rattle.jtext.specs.declared.json.Json.TheVariants as json
+use Rattle.jtext.specs.Depth.{depth, highest, highest_of_pairs}
+use Rattle.jtext.specs.Find.{find, fields, fields_of, field}
+use Rattle.jtext.specs.Grammar as grammar
+use Rattle.jtext.specs.Grammar.{Spelled, Items, Pairs, Pair, Distinct}
+use Rattle.jtext.specs.Keyed as keyed
+use Rattle.jtext.specs.Keyed.{Keyed, AllKeyed, PairsKeyed}
+use Rattle.jtext.proofs.Depths.{depth-Arr, depth-Obj, highest-all, pairs-all}
+use Rattle.words.specs.declared.ask.Ask.{Ask}
+use Rattle.words.specs.Numbers.{is_name}
+use Rattle.words.specs.Look.{is_object, items, items_layer}
+use Rattle.words.specs.Members.{member_of, are_parameters}
+use Rattle.words.specs.JobsFile.{member_takes, is_member, is_job, are_jobs, there_and, items_of, jobs_of, IsJobsFile, IsTextOf}
+use Rattle.words.specs.JobsAsked.{ask_of_job, asks_of}
+use Rattle.words.specs.Runnable.{IsParameter, IsRunnable}
+use Rattle.words.proofs.Truths.{each}
+
+-- ---- what is read has no key twice
+
+mutual
+  keyed_of : (t : Json) (b : List ℕ) → Spelled t b → Keyed t
+  keyed_of _ _ (grammar.null b e) = keyed.null
+  keyed_of _ _ (grammar.yes b e) = keyed.boolean true
+  keyed_of _ _ (grammar.no b e) = keyed.boolean false
+  keyed_of _ _ (grammar.number b is) = keyed.number b
+  keyed_of _ _ (grammar.string text b q) = keyed.text text
+  keyed_of _ _ (grammar.no_items inner b s e) = keyed.array [] keyed.none
+  keyed_of _ _ (grammar.array xs inner b all e) = keyed.array xs (items_keyed xs inner all)
+  keyed_of _ _ (grammar.no_pairs inner b s e) = keyed.object [] keyed.no_pairs tt
+  keyed_of _ _ (grammar.object ps inner b all d e) = keyed.object ps (pairs_keyed ps inner all) d
+
+  items_keyed : (xs : List Json) (b : List ℕ) → Items xs b → AllKeyed xs
+  items_keyed _ _ (grammar.last_item x before inner after b s is t e) = keyed.more x [] (keyed_of x inner is) keyed.none
+  items_keyed _ _ (grammar.next_item x xs before inner after more b s is t all e) = keyed.more x xs (keyed_of x inner is) (items_keyed xs more all)
+
+  pairs_keyed : (ps : List (List ℕ × Json)) (b : List ℕ) → Pairs ps b → PairsKeyed ps
+  pairs_keyed _ _ (grammar.last_pair p before inner after b s is t e) = keyed.pair p.0 p.1 [] (pair_keyed p inner is) keyed.no_pairs
+  pairs_keyed _ _ (grammar.next_pair p ps before inner after more b s is t all e) = keyed.pair p.0 p.1 ps (pair_keyed p inner is) (pairs_keyed ps more all)
+
+  pair_keyed : (p : List ℕ × Json) (b : List ℕ) → Pair p b → Keyed p.1
+  pair_keyed _ _ (grammar.pair key value name before after inner b q s t is e) = keyed_of value inner is
+
+-- ---- looking into a tree
+
+all_items : (xs : List Json) → AllKeyed xs → AllByRecursion Keyed xs
+all_items _ keyed.none = tt
+all_items _ (keyed.more x xs k all) = (k, all_items xs all)
+
+all_values : (ps : List (List ℕ × Json)) → PairsKeyed ps → AllByRecursion (λ p. Keyed p.1) ps
+all_values _ keyed.no_pairs = tt
+all_values _ (keyed.pair key value ps k all) = (k, all_values ps all)
+
+open_Null : out-Json json.Null ≡ Json-F.Null
+open_Null = search (rules, the_lemmas)
+
+open_Bool : (b : Bool) → out-Json (json.Bool b) ≡ Json-F.Bool b
+open_Bool b = search (rules, the_lemmas)
+
+open_Num : (s : List ℕ) → out-Json (json.Num s) ≡ Json-F.Num s
+open_Num s = search (rules, the_lemmas)
+
+open_Str : (s : List ℕ) → out-Json (json.Str s) ≡ Json-F.Str s
+open_Str s = search (rules, the_lemmas)
+
+open_Arr : (xs : List Json) → out-Json (json.Arr xs) ≡ Json-F.Arr xs
+open_Arr xs = search (rules, the_lemmas)
+
+open_Obj : (ps : List (List ℕ × Json)) → out-Json (json.Obj ps) ≡ Json-F.Obj ps
+open_Obj ps = search (rules, the_lemmas)
+
+-- a tree without a key twice, nested at most 100 deep
+abbrev IsFine : Json → Type 0
+IsFine t = Keyed t × (depth t ≤ 100)
+
+within : (m n : ℕ) → n ≡ 1 + m → n ≤ 100 → m ≤ 100
+within m n e le = omega arith
+
+joined : (ps : List (List ℕ × Json)) → AllByRecursion (λ p. Keyed p.1) ps → AllByRecursion (λ p. depth p.1 ≤ 100) ps → AllByRecursion (λ p. IsFine p.1) ps
+joined [] k d = tt
+joined (p ∷ ps) k d = ((k.0, d.0), joined ps k.1 d.1)
+
+joined_items : (xs : List Json) → AllByRecursion Keyed xs → AllByRecursion (λ x. depth x ≤ 100) xs → AllByRecursion IsFine xs
+joined_items [] k d = tt
+joined_items (x ∷ xs) k d = ((k.0, d.0), joined_items xs k.1 d.1)
+
+abbrev FineFields : List (List ℕ × Json) → Type 0
+FineFields ps = AllByRecursion (λ p. IsFine p.1) ps × Distinct ps
+
+no_fields : (t : Json) (u : Json-F Json) → out-Json t ≡ u → fields_of u ≡ [] → FineFields (fields t)
+no_fields t u o e = subst FineFields (sym (ap fields_of o ∙ e)) (tt, tt)
+
+fine_fields : (t : Json) → Keyed t → depth t ≤ 100 → FineFields (fields t)
+fine_fields _ keyed.null le = no_fields json.Null Json-F.Null open_Null refl
+fine_fields _ (keyed.boolean b) le = no_fields (json.Bool b) (Json-F.Bool b) (open_Bool b) refl
+fine_fields _ (keyed.number s) le = no_fields (json.Num s) (Json-F.Num s) (open_Num s) refl
+fine_fields _ (keyed.text s) le = no_fields (json.Str s) (Json-F.Str s) (open_Str s) refl
+fine_fields _ (keyed.array xs all) le = no_fields (json.Arr xs) (Json-F.Arr xs) (open_Arr xs) refl
+fine_fields _ (keyed.object ps all d) le =
+    let deep = pairs-all 100 ps (within (highest_of_pairs (map (λ p. (p.0, depth p.1)) ps)) (depth (json.Obj ps)) (depth-Obj ps) le) in
+    subst FineFields (sym (ap fields_of (open_Obj ps))) (joined ps (all_values ps all) deep, d)
+
+no_items : (t : Json) (u : Json-F Json) → out-Json t ≡ u → items_layer u ≡ [] → AllByRecursion IsFine (items t)
+no_items t u o e = subst (AllByRecursion IsFine) (sym (ap items_layer o ∙ e)) tt
+
+fine_items : (t : Json) → Keyed t → depth t ≤ 100 → AllByRecursion IsFine (items t)
+fine_items _ keyed.null le = no_items json.Null Json-F.Null open_Null refl
+fine_items _ (keyed.boolean b) le = no_items (json.Bool b) (Json-F.Bool b) (open_Bool b) refl
+fine_items _ (keyed.number s) le = no_items (json.Num s) (Json-F.Num s) (open_Num s) refl
+fine_items _ (keyed.text s) le = no_items (json.Str s) (Json-F.Str s) (open_Str s) refl
+fine_items _ (keyed.array xs all) le =
+    let deep = highest-all 100 xs (within (highest (map depth xs)) (depth (json.Arr xs)) (depth-Arr xs) le) in
+    subst (AllByRecursion IsFine) (sym (ap items_layer (open_Arr xs))) (joined_items xs (all_items xs all) deep)
+fine_items _ (keyed.object ps all d) le = no_items (json.Obj ps) (Json-F.Obj ps) (open_Obj ps) refl
+
+-- what holds of each value holds of the one under a key
+found : (P : Json → Type 0) (key : List ℕ) (ps : List (List ℕ × Json)) → AllByRecursion (λ p. P p.1) ps → IfSome (find key ps) P
+found P key [] all = tt
+found P key (p ∷ ps) all = by_test (pointwise nat_eq p.0 key) (find key ps) all.0 (found P key ps all.1)
+  where
+    by_test : (b : Bool) (rest : Option Json) → P p.1 → IfSome rest P → IfSome (cond b (Some p.1) rest) P
+    by_test true rest here there = here
+    by_test false rest here there = there
+
+-- ---- the jobs
+
+items_of_fine : (o : Option Json) → IfSome o IsFine → AllByRecursion IsFine (items_of o)
+items_of_fine None h = tt
+items_of_fine (Some v) h = fine_items v h.0 h.1
+
+jobs_fine : (t : Json) → IsFine t → AllByRecursion IsFine (jobs_of t)
+jobs_fine t fine = items_of_fine (field t (codes "jobs")) (found IsFine (codes "jobs") (fields t) (fine_fields t fine.0 fine.1).0)
+
+jobs_are : (o : Option Json) → there_and are_jobs o ≡ true → list_all is_job (items_of o) ≡ true
+jobs_are None e = refl
+jobs_are (Some v) e = (each _ (list_all is_job (items v)) e).1
+
+-- ---- the parameters
+
+parameters_value : (name : List ℕ) (v : Json) → bytes_eq name (codes "parameters") ≡ true → is_member (name, v) ≡ true → are_parameters v ≡ true
+parameters_value name v e is = sym (ap (λ n. member_takes (member_of n) v) ((bytes_eq-Decides name (codes "parameters")).0 e)) ∙ is
+
+found_parameters : (ps : List (List ℕ × Json)) → list_all is_member ps ≡ true → IfSome (find (codes "parameters") ps) (λ v. are_parameters v ≡ true)
+found_parameters [] all = tt
+found_parameters (p ∷ ps) all =
+    let parts = each (is_member p) (list_all is_member ps) all in
+    by_test (bytes_eq p.0 (codes "parameters")) (find (codes "parameters") ps) (λ e. parameters_value p.0 p.1 e parts.0) (found_parameters ps parts.1)
+  where
+    by_test : (b : Bool) (rest : Option Json) → (b ≡ true → are_parameters p.1 ≡ true) → IfSome rest (λ v. are_parameters v ≡ true) → IfSome (cond b (Some p.1) rest) (λ v. are_parameters v ≡ true)
+    by_test true rest here there = here refl
+    by_test false rest here there = there
+
+named : (ps : List (List ℕ × Json)) → list_all (λ p. is_name p.0) ps ≡ true → AllByRecursion (λ p. IsFine p.1) ps → AllByRecursion IsParameter ps
+named [] all fine = tt
+named (p ∷ ps) all fine =
+    let parts = each (is_name p.0) (list_all (λ q. is_name q.0) ps) all in
+    (record { name = parts.0; keyed = fine.0.0; nests = fine.0.1 }, named ps parts.1 fine.1)
+
+abbrev AreParameters : List (List ℕ × Json) → Type 0
+AreParameters ps = Distinct ps × AllByRecursion IsParameter ps
+
+params_are : (common : List (List ℕ × Json)) (o : Option Json) → AreParameters common → IfSome o IsFine → IfSome o (λ v. are_parameters v ≡ true) → AreParameters (unwrap_or (option_map fields o) common)
+params_are common None are fine is = are
+params_are common (Some v) are fine is =
+    let inside = fine_fields v fine.0 fine.1 in
+    (inside.1, named (fields v) (each (is_object v) (list_all (λ p. is_name p.0) (fields v)) is).1 inside.0)
+
+job_runnable : (common : Ask) (job : Json) → IsRunnable common → IsFine job → is_job job ≡ true → IsRunnable (ask_of_job common job)
+job_runnable common job run fine is =
+    let members = (each _ (list_all is_member (fields job)) is).1 in
+    let inside = fine_fields job fine.0 fine.1 in
+    let are = params_are common.params (field job (codes "parameters")) (run.distinct, run.parameters) (found IsFine (codes "parameters") (fields job) inside.0) (found_parameters (fields job) members) in
+    record { distinct = are.0; parameters = are.1; start = run.start; limit = run.limit }
+
+all_runnable : (common : Ask) (jobs : List Json) → IsRunnable common → AllByRecursion IsFine jobs → list_all is_job jobs ≡ true → AllByRecursion IsRunnable (map (ask_of_job common) jobs)
+all_runnable common [] run fine is = tt
+all_runnable common (job ∷ jobs) run fine is =
+    let parts = each (is_job job) (list_all is_job jobs) is in
+    (job_runnable common job run fine.0 parts.0, all_runnable common jobs run fine.1 parts.1)
+
+pub asks_runnable : (file bytes : List ℕ) (common : Ask) (t : Json) → IsTextOf bytes t → IsJobsFile file t → IsRunnable common → AllByRecursion IsRunnable (asks_of common t)
+asks_runnable file bytes common t text valid run =
+    let fine : IsFine t = (keyed_of t text.spells.value text.spells.is_value, text.within) in
+    let shape = each _ (there_and are_jobs (field t (codes "jobs"))) valid.shape in
+    all_runnable common (jobs_of t) run (jobs_fine t fine) (jobs_are (field t (codes "jobs")) shape.1)

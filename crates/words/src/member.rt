@@ -1,0 +1,70 @@
+//! The members of a job in a jobs file.
+ghost use Rattle.std.specs.Prelude.{◌≡◌};
+ghost use Rattle.std.specs.List.{list_all};
+ghost use Rattle.words.specs.Members as spec;
+ghost use Rattle.words.specs.Numbers.{is_name};
+
+use crate::look::{is_filled_string, is_object, is_string, pairs};
+use crate::number::is_name;
+use jtext::{Json, Text};
+
+/// A member of a job.
+#[derive(Clone, Copy, Debug, Drop)]
+pub(crate) enum Member {
+    Input,
+    Output,
+    Kernel,
+    Cwd,
+    Parameters,
+}
+
+impl Member {
+    /// The member with this name.
+    pub(crate) fn of(name: &str) -> Option<Member>
+        ensures { result ≡ spec.member_of name.now }
+    {
+        match name {
+            "input" => Some(Member::Input),
+            "output" => Some(Member::Output),
+            "kernel" => Some(Member::Kernel),
+            "cwd" => Some(Member::Cwd),
+            "parameters" => Some(Member::Parameters),
+            _ => None,
+        }
+    }
+
+    pub(crate) fn name(self) -> &'static str
+        ensures { result.now ≡ spec.name_of self }
+    {
+        match self {
+            Member::Input => "input",
+            Member::Output => "output",
+            Member::Kernel => "kernel",
+            Member::Cwd => "cwd",
+            Member::Parameters => "parameters",
+        }
+    }
+
+    /// Whether the member takes this value.
+    pub(crate) fn takes(self, value: &Json) -> bool
+        ensures { result ≡ spec.takes_value self value.now }
+    {
+        match self {
+            Member::Input | Member::Output => is_filled_string(value),
+            Member::Kernel | Member::Cwd => is_string(value),
+            Member::Parameters => are_parameters(value),
+        }
+    }
+}
+
+fn are_parameters(value: &Json) -> bool
+    ensures { result ≡ spec.are_parameters value.now }
+{
+    is_object(value) && all_names(pairs(value))
+}
+
+fn all_names(pairs: &[(Text, Json)]) -> bool
+    ensures { result ≡ list_all (λ p. is_name p.0) pairs.now }
+{
+    pairs.iter().all(|pair| is_name(pair.0.bytes()))
+}
