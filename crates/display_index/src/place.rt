@@ -1,0 +1,25 @@
+//! The place of an output.
+ghost use Rattle.std.specs.Prelude.{◌≡◌, ◌==◌, filter, not};
+
+use jtext::List;
+
+/// The output at `at`, counted from 0, among the outputs of a cell.
+#[derive(Clone, Copy, Debug, Drop, PartialEq, Eq)]
+pub struct Place {
+    /// The cell, counted from 0 in the notebook.
+    pub cell: u32,
+    /// The output, counted from 0 in the cell.
+    pub at: u32,
+}
+
+/// Places in their order.
+pub type Places = List<Place>;
+
+/// The places that aren't in the cell. It takes no memory.
+pub(crate) fn outside_of(places: Places, cell: u32) -> Places
+    ensures { result ≡ filter (λ p. not (p.cell == cell)) places }
+{
+    let mut left = places.into_vec();
+    left.retain(|p| p.cell != cell);
+    Places::of_vec(left)
+}
