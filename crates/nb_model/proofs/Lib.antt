@@ -6,3 +6,4 @@ pub mod IdLemmas
 pub mod KeyOrders
 pub mod TreeLaws
 pub mod PreparedLaws
+pub mod DepthLaws

@@ -1,5 +1,5 @@
 -- A prepared notebook is valid where the notebook is.
-use Rattle.std.proofs.Common.{◌≡◌, ◌⊎◌, ℕ, suc, ◌+◌, ◌≤◌, max, Bool, true, false, cond, not, ◌&&◌, ◌||◌, List, [], ◌∷◌, ◌++◌, map, Option, Some, None, refl, sym, ap, ap₂, ◌∙◌, inl, inr, rules, arith}
+use Rattle.std.proofs.Common.{◌≡◌, ℕ, Bool, true, false, cond, not, ◌&&◌, ◌||◌, List, [], ◌∷◌, ◌++◌, map, Option, Some, None, refl, sym, ap, ap₂, ◌∙◌, inl, inr, rules}
 use Rattle.std.specs.Prelude.{codes, unwrap_or, option_and_then}
 use Rattle.std.specs.List.{list_any, list_all}
 use Rattle.std.specs.Str.{bytes_eq}
@@ -8,18 +8,18 @@ use Rattle.std.proofs.lemmas.Slice.Eq.{bytes_eq-Decides}
 use Rattle.jtext.specs.declared.json.Json.{Json, out-Json, the_lemmas}
 use Rattle.jtext.specs.declared.json.Json.TheOpen.{Json-F}
 use Rattle.jtext.specs.declared.json.Json.TheVariants as json
-use Rattle.jtext.specs.Find.{find, field, fields, fields_of}
+use Rattle.jtext.specs.Find.{find, field, fields}
 use Rattle.nb_model.specs.declared.kind.Kind.{Kind}
 use Rattle.nb_model.specs.declared.kind.Kind.TheVariants as kind
 use Rattle.nb_model.specs.declared.cell.Cell.{Cell}
 use Rattle.nb_model.specs.declared.notebook.Notebook.{Notebook}
-use Rattle.nb_model.specs.Look.{is_object, is_object_layer, is_list, is_list_layer, items, items_layer, string, string_layer, number, number_layer, is_null, is_null_layer, is_text, is_number, has, may_have, has_only, there_and, absent_or}
+use Rattle.nb_model.specs.Look.{is_object, is_list, items, string, number, number_layer, is_null, is_null_layer, is_text, is_number, has, may_have, has_only, there_and, absent_or}
 use Rattle.nb_model.specs.Values.{is_whole_text, is_count, is_multiline, is_strings, is_id_text}
 use Rattle.nb_model.specs.Valid as valid
-use Rattle.nb_model.specs.Reading.{value_at, cell_of, notebook_of}
+use Rattle.nb_model.specs.Reading.{value_at, kind_named, cell_of, notebook_of}
 use Rattle.nb_model.specs.Tree.{optional, count_tree, pairs_of_kind, outputs_of_kind, attachments_of_kind, cell_tree, notebook_tree}
-use Rattle.nb_model.specs.Injected.{set_pair, set_field, set_within, is_code}
-use Rattle.nb_model.specs.Prepared.{pending, cleared, prepared_cell, prepared}
+use Rattle.nb_model.specs.Injected.{set_pair, set_field, is_code}
+use Rattle.nb_model.specs.Prepared.{pending, prepared_cell, prepared}
 use Rattle.nb_model.proofs.Tautologies.{and_parts}
 
 and_eq : {a b x y : Bool} → a ≡ x → b ≡ y → (a && b) ≡ (x && y)
@@ -111,11 +111,11 @@ code_tree : (c : Cell) → valid.is_cell (json.Obj (pairs_with kind.Code c)) ≡
 code_tree c =
     let qs = pairs_with kind.Code c in
     let no_prose : valid.is_prose_cell (json.Obj qs) ≡ false =
-        and_eq (and_eq (and_eq (has_at (codes "cell_type") is_prose_name qs (json.Str (codes "code")) refl ∙ prose_name (codes "code")) refl) refl) refl in
+    and_eq (and_eq (and_eq (has_at (codes "cell_type") is_prose_name qs (json.Str (codes "code")) refl ∙ prose_name (codes "code")) refl) refl) refl in
     let is_code_cell : valid.is_code_cell (json.Obj qs) ≡ kind_fits kind.Code c =
-        and_eq (and_eq (and_eq (and_eq (has_at (codes "cell_type") (is_text (codes "code")) qs (json.Str (codes "code")) refl ∙ text_is (codes "code") (codes "code")) (only_at (codes "cell_type" ∷ codes "id" ∷ codes "metadata" ∷ codes "source" ∷ codes "outputs" ∷ codes "execution_count" ∷ []) qs refl))
-          (common_at qs c refl refl refl)) (has_at (codes "outputs") valid.are_outputs qs (json.Arr c.outputs) refl ∙ outputs_is c.outputs))
-        (has_at (codes "execution_count") is_count qs (count_tree c.count) refl ∙ count_is c.count) in
+    and_eq (and_eq (and_eq (and_eq (has_at (codes "cell_type") (is_text (codes "code")) qs (json.Str (codes "code")) refl ∙ text_is (codes "code") (codes "code")) (only_at (codes "cell_type" ∷ codes "id" ∷ codes "metadata" ∷ codes "source" ∷ codes "outputs" ∷ codes "execution_count" ∷ []) qs refl))
+    (common_at qs c refl refl refl)) (has_at (codes "outputs") valid.are_outputs qs (json.Arr c.outputs) refl ∙ outputs_is c.outputs))
+    (has_at (codes "execution_count") is_count qs (count_tree c.count) refl ∙ count_is c.count) in
     and_eq (object_Obj qs) (ap₂ (λ a b. a || b) no_prose is_code_cell)
 
 or_false : (a : Bool) → (a || false) ≡ a
@@ -131,19 +131,19 @@ prose_tree : (name : List ℕ) (c : Cell) (o : Option Json) → (bytes_eq name (
 prose_tree name c o named other =
     let qs = prose_pairs name c o in
     let type : find (codes "cell_type") qs ≡ Some (json.Str name) =
-        elim o as (λ q. find (codes "cell_type") (prose_pairs name c q) ≡ Some (json.Str name)) [ None ↦ refl | Some v ↦ refl ] in
+    elim o as (λ q. find (codes "cell_type") (prose_pairs name c q) ≡ Some (json.Str name)) [ None ↦ refl | Some v ↦ refl ] in
     let known : list_all (λ p. list_any (λ key. bytes_eq p.0 key) (codes "cell_type" ∷ codes "id" ∷ codes "metadata" ∷ codes "source" ∷ codes "attachments" ∷ [])) qs ≡ true =
-        elim o as (λ q. list_all (λ p. list_any (λ key. bytes_eq p.0 key) (codes "cell_type" ∷ codes "id" ∷ codes "metadata" ∷ codes "source" ∷ codes "attachments" ∷ [])) (prose_pairs name c q) ≡ true) [ None ↦ refl | Some v ↦ refl ] in
+    elim o as (λ q. list_all (λ p. list_any (λ key. bytes_eq p.0 key) (codes "cell_type" ∷ codes "id" ∷ codes "metadata" ∷ codes "source" ∷ codes "attachments" ∷ [])) (prose_pairs name c q) ≡ true) [ None ↦ refl | Some v ↦ refl ] in
     let attached : find (codes "attachments") qs ≡ o =
-        elim o as (λ q. find (codes "attachments") (prose_pairs name c q) ≡ q) [ None ↦ refl | Some v ↦ refl ] in
+    elim o as (λ q. find (codes "attachments") (prose_pairs name c q) ≡ q) [ None ↦ refl | Some v ↦ refl ] in
     let id : find (codes "id") qs ≡ Some (json.Str c.id) = elim o as (λ q. find (codes "id") (prose_pairs name c q) ≡ Some (json.Str c.id)) [ None ↦ refl | Some v ↦ refl ] in
     let metadata : find (codes "metadata") qs ≡ Some c.metadata = elim o as (λ q. find (codes "metadata") (prose_pairs name c q) ≡ Some c.metadata) [ None ↦ refl | Some v ↦ refl ] in
     let source : find (codes "source") qs ≡ Some c.source = elim o as (λ q. find (codes "source") (prose_pairs name c q) ≡ Some c.source) [ None ↦ refl | Some v ↦ refl ] in
     let is_prose_cell : valid.is_prose_cell (json.Obj qs) ≡ (common_fits c && absent_or valid.are_attachments o) =
-        and_eq (and_eq (and_eq (has_at (codes "cell_type") is_prose_name qs (json.Str name) type ∙ prose_name name ∙ named) (only_at (codes "cell_type" ∷ codes "id" ∷ codes "metadata" ∷ codes "source" ∷ codes "attachments" ∷ []) qs known)) (common_at qs c id metadata source))
-        (may_at (codes "attachments") valid.are_attachments qs o attached) in
+    and_eq (and_eq (and_eq (has_at (codes "cell_type") is_prose_name qs (json.Str name) type ∙ prose_name name ∙ named) (only_at (codes "cell_type" ∷ codes "id" ∷ codes "metadata" ∷ codes "source" ∷ codes "attachments" ∷ []) qs known)) (common_at qs c id metadata source))
+    (may_at (codes "attachments") valid.are_attachments qs o attached) in
     let no_code : valid.is_code_cell (json.Obj qs) ≡ false =
-        and_eq (and_eq (and_eq (and_eq (has_at (codes "cell_type") (is_text (codes "code")) qs (json.Str name) type ∙ text_is (codes "code") name ∙ other) refl) refl) refl) refl in
+    and_eq (and_eq (and_eq (and_eq (has_at (codes "cell_type") (is_text (codes "code")) qs (json.Str name) type ∙ text_is (codes "code") name ∙ other) refl) refl) refl) refl in
     and_eq (object_Obj qs) (ap₂ (λ a b. a || b) is_prose_cell no_code ∙ or_false (common_fits c && absent_or valid.are_attachments o))
 
 -- the tree of a cell is one exactly where its parts fit
@@ -205,9 +205,9 @@ pub notebook_tree-fits : (n : Notebook) → valid.is_notebook (notebook_tree n) 
 notebook_tree-fits n =
     let qs = top_pairs n in
     and_eq (and_eq (and_eq (and_eq (and_eq (object_Obj qs) (only_at (codes "metadata" ∷ codes "nbformat" ∷ codes "nbformat_minor" ∷ codes "cells" ∷ []) qs refl))
-      (has_at (codes "nbformat") (is_number (codes "4")) qs (json.Num (codes "4")) refl ∙ number_is (codes "4") (codes "4")))
-      (has_at (codes "nbformat_minor") (is_number (codes "5")) qs (json.Num (codes "5")) refl ∙ number_is (codes "5") (codes "5")))
-      (has_at (codes "metadata") valid.is_metadata qs n.metadata refl))
+    (has_at (codes "nbformat") (is_number (codes "4")) qs (json.Num (codes "4")) refl ∙ number_is (codes "4") (codes "4")))
+    (has_at (codes "nbformat_minor") (is_number (codes "5")) qs (json.Num (codes "5")) refl ∙ number_is (codes "5") (codes "5")))
+    (has_at (codes "metadata") valid.is_metadata qs n.metadata refl))
     (has_at (codes "cells") valid.are_cells qs (json.Arr (map cell_tree n.cells)) refl ∙ are_cells_is n.cells)
 
 -- ---- marks
@@ -295,3 +295,106 @@ prepared_fits n e =
 
 pub prepared_valid : (n : Notebook) → valid.is_notebook (notebook_tree n) ≡ true → valid.is_notebook (notebook_tree (prepared n)) ≡ true
 prepared_valid n e = notebook_tree-fits (prepared n) ∙ prepared_fits n (sym (notebook_tree-fits n) ∙ e)
+
+-- ---- the notebook that a tree is
+
+read_count : (v : Json) → is_count v ≡ true → count_fits (number v) ≡ true
+read_count v = layer (out-Json v)
+  where
+    layer : (l : Json-F Json) → (is_null_layer l || there_and is_whole_text (number_layer l)) ≡ true → count_fits (number_layer l) ≡ true
+    layer Json-F.Null e = refl
+    layer (Json-F.Bool b) e = cc
+    layer (Json-F.Num s) e = e
+    layer (Json-F.Str s) e = cc
+    layer (Json-F.Arr xs) e = cc
+    layer (Json-F.Obj ps) e = cc
+
+read_id : (c : Json) → has (codes "id") valid.is_id c ≡ true → is_id_text (valid.id_of c) ≡ true
+read_id c e =
+    elim (field c (codes "id")) as (λ o. there_and valid.is_id o ≡ true → is_id_text (unwrap_or (option_and_then string o) []) ≡ true) [
+      | None ↦ λ h. cc
+      | Some v ↦ λ h. elim (string v) as (λ q. there_and is_id_text q ≡ true → is_id_text (unwrap_or q []) ≡ true) [ None ↦ λ g. cc | Some s ↦ λ g. g ] h
+    ] e
+
+read_value : (key : List ℕ) (test : Json → Bool) (c : Json) → has key test c ≡ true → test (value_at key c) ≡ true
+read_value key test c e = elim (field c key) as (λ o. there_and test o ≡ true → test (unwrap_or o json.Null) ≡ true) [ None ↦ λ h. cc | Some v ↦ λ h. h ] e
+
+read_common : (c : Json) → valid.has_common c ≡ true → common_fits (cell_of c) ≡ true
+read_common c e =
+    let h = and_parts (has (codes "id") valid.is_id c && has (codes "metadata") valid.is_cell_metadata c) (has (codes "source") is_multiline c) e in
+    let g = and_parts (has (codes "id") valid.is_id c) (has (codes "metadata") valid.is_cell_metadata c) h.0 in
+    and_eq (and_eq (read_id c g.0) (read_value (codes "metadata") valid.is_cell_metadata c g.1)) (read_value (codes "source") is_multiline c h.1)
+
+text_of : (text : List ℕ) (v : Json) → is_text text v ≡ true → string v ≡ Some text
+text_of text v e = elim (string v) as (λ o. there_and (λ s. bytes_eq s text) o ≡ true → o ≡ Some text) [ None ↦ λ h. cc | Some s ↦ λ h. ap Some ((bytes_eq-Decides s text).0 h) ] e
+
+named_kind : (c : Json) (v : Json) (name : List ℕ) → field c (codes "cell_type") ≡ Some v → is_text name v ≡ true → (cell_of c).kind ≡ kind_named name
+named_kind c v name f e = ap (λ o. kind_named (unwrap_or (option_and_then string o) [])) f ∙ ap (λ o. kind_named (unwrap_or o [])) (text_of name v e)
+
+found_value : (key : List ℕ) (test : Json → Bool) (c : Json) → has key test c ≡ true → field c key ≡ Some (value_at key c)
+found_value key test c e = elim (field c key) as (λ o. there_and test o ≡ true → o ≡ Some (unwrap_or o json.Null)) [ None ↦ λ h. cc | Some v ↦ λ h. refl ] e
+
+read_code : (c : Json) → valid.is_code_cell c ≡ true → cell_fits (cell_of c) ≡ true
+read_code c e =
+    let K = has (codes "cell_type") (is_text (codes "code")) c in
+    let N = has_only (codes "cell_type" ∷ codes "id" ∷ codes "metadata" ∷ codes "source" ∷ codes "outputs" ∷ codes "execution_count" ∷ []) c in
+    let M = valid.has_common c in
+    let U = has (codes "outputs") valid.are_outputs c in
+    let h1 = and_parts (((K && N) && M) && U) (has (codes "execution_count") is_count c) e in
+    let h2 = and_parts ((K && N) && M) U h1.0 in
+    let h3 = and_parts (K && N) M h2.0 in
+    let h4 = and_parts K N h3.0 in
+    let outputs = read_value (codes "outputs") valid.are_outputs c h2.1 in
+    let n = value_at (codes "execution_count") c in
+    let count : count_fits (cell_of c).count ≡ true =
+    ap (λ o. count_fits (option_and_then number o)) (found_value (codes "execution_count") is_count c h1.1) ∙ read_count n (read_value (codes "execution_count") is_count c h1.1) in
+    ap (λ k. kind_fits k (cell_of c)) (named_kind c (value_at (codes "cell_type") c) (codes "code") (found_value (codes "cell_type") (is_text (codes "code")) c h4.0) (read_value (codes "cell_type") (is_text (codes "code")) c h4.0))
+    ∙ and_eq (and_eq (read_common c h3.1) (and_parts (is_list (value_at (codes "outputs") c)) (list_all valid.is_output (items (value_at (codes "outputs") c))) outputs).1) count
+
+read_prose : (c : Json) → valid.is_prose_cell c ≡ true → cell_fits (cell_of c) ≡ true
+read_prose c e =
+    let K = has (codes "cell_type") is_prose_name c in
+    let N = has_only (codes "cell_type" ∷ codes "id" ∷ codes "metadata" ∷ codes "source" ∷ codes "attachments" ∷ []) c in
+    let M = valid.has_common c in
+    let h1 = and_parts ((K && N) && M) (may_have (codes "attachments") valid.are_attachments c) e in
+    let h2 = and_parts (K && N) M h1.0 in
+    let h3 = and_parts K N h2.0 in
+    let v = value_at (codes "cell_type") c in
+    let type = found_value (codes "cell_type") is_prose_name c h3.0 in
+    let name = read_value (codes "cell_type") is_prose_name c h3.0 in
+    let fits : (common_fits (cell_of c) && absent_or valid.are_attachments (cell_of c).attachments) ≡ true = and_eq (read_common c h2.1) h1.1 in
+    elim (cases_Bool (is_text (codes "raw") v)) [
+      | inl r ↦ ap (λ k. kind_fits k (cell_of c)) (named_kind c v (codes "raw") type r) ∙ fits
+      | inr nr ↦ ap (λ k. kind_fits k (cell_of c)) (named_kind c v (codes "markdown") type (ap (λ b. b || is_text (codes "markdown") v) (sym nr) ∙ name)) ∙ fits
+    ]
+
+read_cell : (c : Json) → valid.is_cell c ≡ true → cell_fits (cell_of c) ≡ true
+read_cell c e =
+    let h = and_parts (is_object c) (valid.is_prose_cell c || valid.is_code_cell c) e in
+    elim (cases_Bool (valid.is_prose_cell c)) [
+      | inl p ↦ read_prose c p
+      | inr n ↦ read_code c (ap (λ b. b || valid.is_code_cell c) (sym n) ∙ h.1)
+    ]
+
+read_cells : (xs : List Json) → list_all valid.is_cell xs ≡ true → list_all cell_fits (map cell_of xs) ≡ true
+read_cells [] e = refl
+read_cells (x ∷ xs) e = let h = and_parts (valid.is_cell x) (list_all valid.is_cell xs) e in and_eq (read_cell x h.0) (read_cells xs h.1)
+
+read_ids : (xs : List Json) → map valid.id_of xs ≡ map (λ c. c.id) (map cell_of xs)
+read_ids [] = refl
+read_ids (x ∷ xs) = ap (λ is. valid.id_of x ∷ is) (read_ids xs)
+
+pub read_valid : (t : Json) → valid.is_notebook t ≡ true → valid.is_notebook (notebook_tree (notebook_of t)) ≡ true
+read_valid t e =
+    let O = is_object t in
+    let N = has_only (codes "metadata" ∷ codes "nbformat" ∷ codes "nbformat_minor" ∷ codes "cells" ∷ []) t in
+    let V = has (codes "nbformat") (is_number (codes "4")) t in
+    let W = has (codes "nbformat_minor") (is_number (codes "5")) t in
+    let M = has (codes "metadata") valid.is_metadata t in
+    let h1 = and_parts ((((O && N) && V) && W) && M) (has (codes "cells") valid.are_cells t) e in
+    let h2 = and_parts (((O && N) && V) && W) M h1.0 in
+    let v = value_at (codes "cells") t in
+    let cells = and_parts (is_list v && list_all valid.is_cell (items v)) (valid.ids_differ (items v)) (read_value (codes "cells") valid.are_cells t h1.1) in
+    let shaped = and_parts (is_list v) (list_all valid.is_cell (items v)) cells.0 in
+    notebook_tree-fits (notebook_of t)
+    ∙ and_eq (read_value (codes "metadata") valid.is_metadata t h2.1) (and_eq (read_cells (items v) shaped.1) (ap no_repeat (sym (read_ids (items v))) ∙ sym (ids_are (items v)) ∙ cells.1))

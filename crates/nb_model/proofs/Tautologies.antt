@@ -1,5 +1,5 @@
 -- Equations between tests that hold whatever their parts are, by going through all cases.
-use Rattle.std.proofs.Common.{◌≡◌, ℕ, zero, suc, Bool, true, false, not, ◌&&◌, refl, sym, ◌∙◌, ap}
+use Rattle.std.proofs.Common.{◌≡◌, ℕ, zero, suc, Bool, true, false, not, ◌&&◌, refl, sym}
 
 -- a test of so many parts
 abbrev pub Test : ℕ → Type 0

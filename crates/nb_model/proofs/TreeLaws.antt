@@ -1,6 +1,6 @@
 -- The tree of the notebook that a tree is, is that tree but for the order of keys.
-use Rattle.std.proofs.Common.{◌≡◌, ◌⊎◌, ℕ, Bool, true, false, not, ◌&&◌, ◌||◌, List, [], ◌∷◌, ◌++◌, map, Option, Some, None, refl, sym, ap, ap₂, ◌∙◌, inl, inr, subst, rules}
-use Rattle.std.specs.Prelude.{codes, unwrap_or, option_and_then, is_none}
+use Rattle.std.proofs.Common.{◌≡◌, ℕ, Bool, true, false, ◌&&◌, ◌||◌, List, [], ◌∷◌, ◌++◌, map, Option, Some, None, refl, sym, ap, ap₂, ◌∙◌, inl, inr, subst, rules}
+use Rattle.std.specs.Prelude.{codes, unwrap_or, option_and_then}
 use Rattle.std.specs.List.{list_any, list_all}
 use Rattle.std.specs.Str.{bytes_eq}
 use Rattle.std.proofs.lemmas.Bool.{cases_Bool, cond-true, cond-false}
@@ -25,7 +25,7 @@ use Rattle.nb_model.specs.Valid as valid
 use Rattle.nb_model.specs.Reading.{value_at, cell_of, notebook_of, kind_named}
 use Rattle.nb_model.specs.Tree.{optional, count_tree, pairs_of_kind, outputs_of_kind, attachments_of_kind, cell_tree, notebook_tree}
 use Rattle.nb_model.proofs.Tautologies.{always, same, from_same, and_parts}
-use Rattle.nb_model.proofs.KeyOrders.{chosen, up, by_key-chosen, by_key-again, AllFound, chosen-found}
+use Rattle.nb_model.proofs.KeyOrders.{chosen, by_key-chosen, by_key-again, chosen-found}
 
 -- ---- a value by its kind
 

@@ -1,15 +1,14 @@
 -- The fault of a tree that is no notebook of nbformat 4.5: its version, else where its shape fails, else the first id that an earlier cell has.
-use Rattle.std.specs.Prelude.{◌≡◌, ℕ, Bool, true, ◌&&◌, if◌then◌else◌, List, [], ◌∷◌, Option, Some, None, option_map, codes, Result, Ok, Err}
+use Rattle.std.specs.Prelude.{◌≡◌, ℕ, Bool, ◌&&◌, if◌then◌else◌, List, [], ◌∷◌, Option, Some, None, option_map, codes}
 use Rattle.std.specs.Option.{option_or}
 use Rattle.std.specs.List.{list_any}
 use Rattle.std.specs.Str.{bytes_eq}
 use Rattle.jtext.specs.declared.json.Json.{Json}
 use Rattle.nb_model.specs.declared.nb_fault.NbFault.{NbFault}
 use Rattle.nb_model.specs.declared.nb_fault.NbFault.TheVariants as fault
-use Rattle.nb_model.specs.declared.notebook.Notebook.{Notebook}
 use Rattle.nb_model.specs.Look.{is_object, is_number, items, has}
-use Rattle.nb_model.specs.Valid.{id_of, is_notebook}
-use Rattle.nb_model.specs.Reading.{value_at, notebook_of}
+use Rattle.nb_model.specs.Valid.{id_of}
+use Rattle.nb_model.specs.Reading.{value_at}
 use Rattle.nb_model.specs.Places.{of_notebook}
 
 -- `nbformat` and `nbformat_minor` are those of 4.5

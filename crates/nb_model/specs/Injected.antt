@@ -1,5 +1,5 @@
 -- A notebook with parameters injected, as Papermill does it: the new cell, the record of the parameters, and hidden sources for a report.
-use Rattle.std.specs.Prelude.{ℕ, zero, suc, ◌+◌, Bool, true, false, List, [], ◌∷◌, ◌++◌, map, take, drop, length, codes, ◌==◌, ◌&&◌, ◌||◌, if◌then◌else◌, Option, Some, None, unwrap_or, option_and_then, position}
+use Rattle.std.specs.Prelude.{ℕ, zero, suc, ◌+◌, Bool, true, false, List, [], ◌∷◌, ◌++◌, map, take, drop, length, codes, ◌||◌, if◌then◌else◌, Option, Some, None, unwrap_or, option_and_then, position}
 use Rattle.std.specs.List.{list_any}
 use Rattle.std.specs.Str.{bytes_eq}
 use Rattle.std.specs.Fmt.{decimal}
@@ -10,7 +10,7 @@ use Rattle.nb_model.specs.declared.kind.Kind.{Kind}
 use Rattle.nb_model.specs.declared.kind.Kind.TheVariants as kind
 use Rattle.nb_model.specs.declared.cell.Cell.{Cell}
 use Rattle.nb_model.specs.declared.notebook.Notebook.{Notebook}
-use Rattle.nb_model.specs.Look.{is_text, items, has, string, there_and}
+use Rattle.nb_model.specs.Look.{is_text, items, has, string}
 use Rattle.nb_model.specs.Lines.{lines_tree}
 use Rattle.nb_model.specs.Python.{python}
 

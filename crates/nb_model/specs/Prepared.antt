@@ -1,5 +1,5 @@
 -- A notebook before it is run, as Papermill prepares it: outputs and counts are cleared, and every cell is marked as pending.
-use Rattle.std.specs.Prelude.{Bool, List, [], ◌∷◌, map, codes, None, if◌then◌else◌}
+use Rattle.std.specs.Prelude.{[], ◌∷◌, map, codes, None, if◌then◌else◌}
 use Rattle.jtext.specs.declared.json.Json.{Json}
 use Rattle.jtext.specs.declared.json.Json.TheVariants as json
 use Rattle.nb_model.specs.declared.cell.Cell.{Cell}

@@ -1,9 +1,9 @@
 -- Which trees are notebooks: the schema of nbformat 4.5, and that no two cells have one id.
 -- Where the schema asks more, as of the form of tags, it isn't tested here and the value is kept.
-use Rattle.std.specs.Prelude.{◌≡◌, ◌≤◌, ℕ, Bool, true, List, [], ◌∷◌, ◌||◌, ◌&&◌, not, map, codes, unwrap_or}
+use Rattle.std.specs.Prelude.{◌≡◌, ◌≤◌, ℕ, Bool, true, List, [], ◌∷◌, ◌||◌, ◌&&◌, not, codes, unwrap_or}
 use Rattle.std.specs.List.{list_any, list_all}
 use Rattle.std.specs.Str.{bytes_eq}
-use Rattle.std.specs.Prelude.{Option, Some, None, option_and_then}
+use Rattle.std.specs.Prelude.{option_and_then}
 use Rattle.jtext.specs.declared.json.Json.{Json}
 use Rattle.jtext.specs.Find.{field, fields}
 use Rattle.jtext.specs.Depth.{depth}

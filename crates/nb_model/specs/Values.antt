@@ -1,6 +1,6 @@
 -- The values that recur in notebooks (nbformat 4.5 schema, `misc`).
-use Rattle.std.specs.Prelude.{ℕ, ◌-◌, ◌≤◌, Bool, true, false, List, [], ◌∷◌, ◌||◌, ◌&&◌, ◌==◌, not, nat_le, nat_lt, nat_eq, length, slice_index, codes, drop}
-use Rattle.std.specs.List.{list_any, list_all}
+use Rattle.std.specs.Prelude.{ℕ, ◌-◌, Bool, List, ◌||◌, ◌&&◌, ◌==◌, not, nat_le, length, slice_index, codes, drop}
+use Rattle.std.specs.List.{list_all}
 use Rattle.std.specs.Str.{bytes_eq}
 use Rattle.std.specs.Char.{is_ascii_digit}
 use Rattle.jtext.specs.declared.json.Json.{Json}

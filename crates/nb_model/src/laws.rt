@@ -3,7 +3,8 @@ ghost use Rattle.std.specs.Prelude.{◌≡◌, is_none, true};
 ghost use Rattle.jtext.specs.declared.json.Json as tree;
 ghost use Rattle.nb_model.specs.declared.notebook.Notebook as notebook;
 ghost use Rattle.nb_model.specs.Prepared.{prepared};
-ghost use Rattle.nb_model.specs.Valid.{is_notebook};
+ghost use Rattle.nb_model.specs.Valid.{is_notebook, Valid};
+ghost use Rattle.jtext.specs.Depth.{depth};
 ghost use Rattle.jtext.specs.Keyed.{Keyed};
 ghost use Rattle.jtext.specs.Sorting.{sorted};
 ghost use Rattle.jtext.specs.Indent.{print};
@@ -22,7 +23,13 @@ pub fn notebook_of_its_tree()
     ensures printed { (t : tree.Json) → is_notebook t ≡ true → Keyed t → print (notebook_tree (notebook_of t)) ≡ print t }
 {}
 
+/// The notebook that a valid tree is, is valid, and nested as deep as the tree.
+pub fn read_stays_valid()
+    ensures valid { (t : tree.Json) → is_notebook t ≡ true → is_notebook (notebook_tree (notebook_of t)) ≡ true }
+    ensures depth { (t : tree.Json) → is_notebook t ≡ true → Keyed t → depth (notebook_tree (notebook_of t)) ≡ depth t }
+{}
+
 /// A prepared notebook is valid where the notebook is.
 pub fn prepared_stays_valid()
-    ensures { (n : notebook.Notebook) → is_notebook (notebook_tree n) ≡ true → is_notebook (notebook_tree (prepared n)) ≡ true }
+    ensures { (n : notebook.Notebook) → Valid (notebook_tree n) → Valid (notebook_tree (prepared n)) }
 {}

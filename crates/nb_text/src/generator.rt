@@ -1,0 +1,94 @@
+//! Notebooks that are generated, for rehearsing a kernel of the toy language.
+ghost use Rattle.std.specs.Prelude.{◌≡◌, ◌≤◌, ◌++◌, ◌∷◌, [], IfOk, codes};
+ghost use Rattle.std.specs.Fmt.{decimal};
+ghost use Rattle.jtext.specs.declared.json.Json.TheVariants as json;
+ghost use Rattle.nb_text.specs.Generated as spec;
+
+use jtext::{Fields, Items, Json, NoMemory, Text};
+use nb_model::{Cell, Cells, Kind, Notebook};
+use std::alloc::Global;
+
+/// A notebook of `n` cells, at most 200, for the toy kernel: they print, show, update and give results in turn.
+pub fn generate(alloc: Global, n: u32) -> Result<Notebook, NoMemory>
+    requires { n ≤ 200 }
+    ensures { IfOk result (λ book. book ≡ spec.generated n) }
+{
+    Ok(Notebook {
+        metadata: kernel(alloc)?,
+        cells: cells(alloc, n)?,
+    })
+}
+
+fn cells(alloc: Global, n: u32) -> Result<Cells, NoMemory>
+    ensures { IfOk result (λ cells. cells ≡ spec.cells_from 0 n) }
+{
+    let mut cells = Cells::new(alloc);
+    for i in 0..n {
+        cells.push(cell(alloc, i)?)?;
+    }
+    Ok(cells)
+}
+
+/// The cell with this index.
+fn cell(alloc: Global, i: u32) -> Result<Cell, NoMemory>
+    ensures { IfOk result (λ c. c ≡ spec.generated_cell i) }
+{
+    Ok(Cell {
+        kind: Kind::Code,
+        id: numbered(alloc, "g", i)?,
+        metadata: Json::Obj(Fields::new(alloc)),
+        source: line(alloc, i)?,
+        attachments: None,
+        outputs: Items::new(alloc),
+        count: None,
+    })
+}
+
+fn line(alloc: Global, i: u32) -> Result<Json, NoMemory>
+    ensures { IfOk result (λ t. t ≡ json.Arr (json.Str (spec.verb i ++ decimal i) ∷ [])) }
+{
+    let mut lines = Items::new(alloc);
+    lines.push(Json::Str(numbered(alloc, verb(i), i)?))?;
+    Ok(Json::Arr(lines))
+}
+
+fn verb(i: u32) -> &'static str
+    ensures { result.now ≡ spec.verb i }
+{
+    if i % 4 == 0 {
+        "print "
+    } else if i % 4 == 1 {
+        "show d "
+    } else if i % 4 == 2 {
+        "update d "
+    } else {
+        "result "
+    }
+}
+
+fn numbered(alloc: Global, front: &str, i: u32) -> Result<Text, NoMemory>
+    ensures { IfOk result (λ text. text ≡ front.now ++ decimal i) }
+{
+    Ok(Text::of_string(format!(in alloc; "{front}{i}")?))
+}
+
+/// Metadata that name the toy kernel.
+fn kernel(alloc: Global) -> Result<Json, NoMemory>
+    ensures { IfOk result (λ t. t ≡ spec.kernel) }
+{
+    let mut metadata = Fields::new(alloc);
+    metadata.push((Text::of(alloc, "kernelspec")?, kernelspec(alloc)?))?;
+    Ok(Json::Obj(metadata))
+}
+
+fn kernelspec(alloc: Global) -> Result<Json, NoMemory>
+    ensures { IfOk result (λ t. t ≡ spec.kernelspec) }
+{
+    let mut fields = Fields::new(alloc);
+    fields.push((
+        Text::of(alloc, "display_name")?,
+        Json::Str(Text::of(alloc, "Toy")?),
+    ))?;
+    fields.push((Text::of(alloc, "name")?, Json::Str(Text::of(alloc, "toy")?)))?;
+    Ok(Json::Obj(fields))
+}
