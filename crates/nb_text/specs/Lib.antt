@@ -1,1 +1,4 @@
 pub mod Generated
+pub mod Lines
+pub mod Cells
+pub mod Notebooks

@@ -1,12 +1,13 @@
-//! The text of a notebook as it is saved, and notebooks that are generated.
-//! Texts and trees only; it reads and writes no file.
+//! The text of a notebook as Jupyter's own tools save it, and notebooks that are generated.
+//! Notebooks and bytes only; it reads and writes no file.
 #![tactic(auto)]
 
+mod cell_text;
 mod generator;
-mod print;
+mod lines;
+mod notebook_text;
 #[cfg(test)]
 mod tests;
-mod tree;
 
 pub use generator::generate;
-pub use print::text;
+pub use notebook_text::text;

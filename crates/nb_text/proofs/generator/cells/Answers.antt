@@ -1,5 +1,5 @@
-use Rattle.std.proofs.Common.{◌≡◌, ◌++◌, ◌∷◌, [], ap₂, ◌∙◌}
-use Rattle.nb_text.proofs.TreeLemmas.{one_more}
+use Rattle.std.proofs.Common.{◌++◌, ◌∷◌, [], ap₂, ◌∙◌}
+use Rattle.nb_text.proofs.GeneratedCells.{one_more}
 use Rattle.nb_text.proofs.generator.cells.Goals as goal
 
 pub loop-i-preserved : goal.loop-i-preserved

@@ -1,7 +1,7 @@
-use Rattle.std.proofs.Common.{◌≡◌, ◌∷◌, [], ap, ap₂, ◌∙◌}
+use Rattle.std.proofs.Common.{◌∷◌, [], ap, ap₂, ◌∙◌}
 use Rattle.std.specs.Prelude.{codes}
 use Rattle.jtext.specs.declared.json.Json.TheVariants as json
-use Rattle.nb_text.proofs.TreeLemmas.{two_put}
+use Rattle.nb_text.proofs.GeneratedCells.{two_put}
 use Rattle.nb_text.proofs.generator.kernelspec.Goals as goal
 
 pub returns : goal.returns

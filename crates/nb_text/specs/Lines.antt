@@ -1,0 +1,12 @@
+-- The lines of an object in indented JSON text.
+use Rattle.std.specs.Prelude.{ℕ, List}
+use Rattle.jtext.specs.declared.json.Json.{Json}
+use Rattle.jtext.specs.Indent.{on_line, named, indented}
+
+-- the line of a key whose value is written so
+abbrev pub named_line : List ℕ → List ℕ → List ℕ → List ℕ
+named_line margin key value = on_line margin (named (key, value))
+
+-- the line of a pair
+abbrev pub line : List ℕ → List ℕ × Json → List ℕ
+line margin p = named_line margin p.0 (indented p.1 margin)
