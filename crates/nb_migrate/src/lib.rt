@@ -1,0 +1,10 @@
+//! Notebooks of nbformat 4.0 to 4.4, read as notebooks of 4.5.
+//! Trees only; it reads and writes no file.
+#![tactic(auto)]
+
+mod migration;
+mod raising;
+#[cfg(test)]
+mod tests;
+
+pub use migration::of_any;
