@@ -1,0 +1,5 @@
+pub mod Escape
+pub mod Pairs
+pub mod Refused
+pub mod Language
+pub mod Placing

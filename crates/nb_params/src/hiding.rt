@@ -1,0 +1,36 @@
+//! Hidden sources, for a report.
+ghost use Rattle.std.specs.Prelude.{◌≡◌, IfOk, map};
+ghost use Rattle.nb_model.specs.Injected as spec;
+
+use jtext::{Json, NoMemory};
+use nb_model::{Cell, Cells, Kind, set_within};
+use std::alloc::Global;
+
+/// The cells with the source of each code cell hidden (`metadata.jupyter.source_hidden`).
+pub(crate) fn all_hidden(alloc: Global, cells: Cells) -> Result<Cells, NoMemory>
+    ensures { IfOk result (λ r. r ≡ map spec.hidden cells) }
+{
+    let mut out = Cells::new(alloc);
+    for cell in cells.into_vec() {
+        out.push(hidden(alloc, cell)?)?;
+    }
+    Ok(out)
+}
+
+fn hidden(alloc: Global, mut cell: Cell) -> Result<Cell, NoMemory>
+    ensures { IfOk result (λ r. r ≡ spec.hidden cell) }
+{
+    match cell.kind {
+        Kind::Code => {
+            cell.metadata = set_within(
+                alloc,
+                "jupyter",
+                "source_hidden",
+                Json::Bool(true),
+                cell.metadata,
+            )?;
+            Ok(cell)
+        }
+        Kind::Raw | Kind::Markdown => Ok(cell),
+    }
+}

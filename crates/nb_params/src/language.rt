@@ -1,0 +1,53 @@
+//! The language of a notebook's cells.
+ghost use Rattle.std.specs.Prelude.{◌≡◌, option_map};
+ghost use Rattle.nb_model.specs.Injected as spec;
+ghost use Rattle.nb_params.specs.Language.{string_at, told};
+
+use jtext::{Json, field};
+use nb_model::Notebook;
+
+/// The kernel's language, else the one that its kernel told, else Python.
+pub(crate) fn language(n: &Notebook) -> &str
+    ensures { result.now ≡ spec.language n.now }
+{
+    match string_within(&n.metadata, "kernelspec", "language") {
+        Some(language) => language,
+        None => language_told(n),
+    }
+}
+
+fn language_told(n: &Notebook) -> &str
+    ensures { result.now ≡ told n.now }
+{
+    match string_within(&n.metadata, "language_info", "name") {
+        Some(language) => language,
+        None => "python",
+    }
+}
+
+/// The string under a key of the object under another key.
+fn string_within<'a>(t: &'a Json, outer: &str, key: &str) -> Option<&'a str>
+    ensures { option_map (λ r. r.now) result ≡ spec.string_within outer.now key.now t.now }
+{
+    match field(t, outer) {
+        Some(inner) => string_at(inner, key),
+        None => None,
+    }
+}
+
+fn string_at<'a>(t: &'a Json, key: &str) -> Option<&'a str>
+    ensures { option_map (λ r. r.now) result ≡ string_at key.now t.now }
+{
+    match field(t, key) {
+        Some(Json::Str(text)) => Some(text.as_str()),
+        _ => None,
+    }
+}
+
+/// Whether parameters can be written in the language of the notebook's cells.
+pub(crate) fn has_translator(n: &Notebook) -> bool
+    ensures { result ≡ spec.has_translator n.now }
+{
+    let language = language(n);
+    language == "python" || language == "toy"
+}

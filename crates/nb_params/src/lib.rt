@@ -1,0 +1,18 @@
+//! Parameters of a notebook: as Python source, and injected as Papermill does it.
+//! Notebooks and trees only; it reads and writes no file.
+#![tactic(auto)]
+
+mod fault;
+mod fresh;
+mod hiding;
+mod injection;
+mod language;
+mod literal;
+mod new_cell;
+mod source;
+#[cfg(test)]
+mod tests;
+
+pub use fault::InjectFault;
+pub use injection::inject;
+pub use source::python;

@@ -1,0 +1,59 @@
+//! The cell that is injected.
+ghost use Rattle.std.specs.Prelude.{◌≡◌, ◌∷◌, [], IfOk, codes};
+ghost use Rattle.jtext.specs.declared.json.Json.TheVariants as json;
+ghost use Rattle.nb_model.specs.Injected as spec;
+
+use crate::source::python;
+use jtext::{Fields, Items, Json, NoMemory, Text};
+use nb_model::{Cell, Kind, split_lines};
+use std::alloc::Global;
+
+/// The code cell that sets the parameters, tagged `injected-parameters`.
+pub(crate) fn parameters_cell(alloc: Global, id: Text, params: &Fields) -> Result<Cell, NoMemory>
+    ensures { IfOk result (λ c. c ≡ spec.parameters_cell id params.now) }
+{
+    let text = python(alloc, params)?;
+    let source = split_lines(alloc, text.as_str())?;
+    let metadata = metadata(alloc)?;
+    Ok(Cell {
+        kind: Kind::Code,
+        id,
+        metadata,
+        source,
+        attachments: None,
+        outputs: Items::new(alloc),
+        count: None,
+    })
+}
+
+fn metadata(alloc: Global) -> Result<Json, NoMemory>
+    ensures { IfOk result (λ t. t ≡ json.Obj ((codes "tags", json.Arr (json.Str (codes "injected-parameters") ∷ [])) ∷ [])) }
+{
+    let tag = string(alloc, "injected-parameters")?;
+    let tags = list_of(alloc, tag)?;
+    let metadata = object_of(alloc, "tags", tags)?;
+    Ok(metadata)
+}
+
+fn string(alloc: Global, text: &str) -> Result<Json, NoMemory>
+    ensures { IfOk result (λ t. t ≡ json.Str text.now) }
+{
+    Ok(Json::Str(Text::of(alloc, text)?))
+}
+
+/// The list with this one item.
+fn list_of(alloc: Global, item: Json) -> Result<Json, NoMemory>
+    ensures { IfOk result (λ t. t ≡ json.Arr (item ∷ [])) }
+{
+    let items = vec![in alloc; item]?;
+    Ok(Json::Arr(Items::of_vec(items)))
+}
+
+/// The object with this one pair.
+fn object_of(alloc: Global, key: &str, value: Json) -> Result<Json, NoMemory>
+    ensures { IfOk result (λ t. t ≡ json.Obj ((key.now, value) ∷ [])) }
+{
+    let pair = (Text::of(alloc, key)?, value);
+    let pairs = vec![in alloc; pair]?;
+    Ok(Json::Obj(Fields::of_vec(pairs)))
+}
