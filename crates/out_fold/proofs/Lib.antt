@@ -1,0 +1,11 @@
+pub mod LiveLemmas
+pub mod ShownLemmas
+pub mod JoinedLemmas
+pub mod CellLemmas
+pub mod Answered
+pub mod FoldLemmas
+pub mod Objects
+pub mod ListTests
+pub mod PlanLemmas
+pub mod PlaceLemmas
+pub mod StandLemmas

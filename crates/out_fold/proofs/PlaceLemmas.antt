@@ -1,0 +1,124 @@
+-- What the index knows after a message.
+use Rattle.std.proofs.Common.{◌≡◌, ℕ, ◌==◌, Bool, true, false, cond, not, ◌&&◌, ◌||◌, List, [], ◌∷◌, ◌++◌, filter, Option, Some, None, is_some, refl, sym, ◌∙◌, ap, arith}
+use Rattle.std.specs.List.{list_any}
+use Rattle.std.specs.Option.{option_and_then}
+use Rattle.std.specs.Str.{bytes_eq}
+use Rattle.std.proofs.lemmas.Slice.Eq.{bytes_eq-Decides}
+use Rattle.jcontent.specs.declared.content.Content.{Content}
+use Rattle.jcontent.specs.declared.shown.Shown.{Shown}
+use Rattle.display_index.specs.declared.index.Index.{Index}
+use Rattle.display_index.specs.declared.place.Place.{Place}
+use Rattle.display_index.specs.Standing.{Call, standing}
+use Rattle.display_index.specs.Standing.Call.{added, cleared}
+use Rattle.display_index.specs.Listed.{outside}
+use Rattle.display_index.specs.Held as index
+use Rattle.display_index.proofs.StandingLemmas.{standing-added, standing-cleared}
+use Rattle.out_fold.specs.Live.{appends, clears_now}
+use Rattle.out_fold.specs.Shown.{shown_in, data_if, data_under, data_shown}
+use Rattle.out_fold.specs.Names.{name_of, has_id}
+use Rattle.out_fold.specs.Placing.{has_place, named_places, Grown, Placed, settled}
+use Rattle.out_fold.proofs.ListTests.{no, eqb-same, eqb-other, eqb-differs, any-append, any-snoc, or_left, or_right}
+
+-- ---- the display id of a message
+
+some_true : (b : Bool) (s : Shown) → is_some (data_if b s) ≡ true → b ≡ true
+some_true true s e = refl
+some_true false s e = cc
+
+some_same : (x y : List ℕ) → Some x ≡ Some y → x ≡ y
+some_same x y e = cc
+
+under_id : (s : Shown) (i : Option (List ℕ)) (id other : List ℕ) → i ≡ Some id → is_some (data_under other i s) ≡ true → other ≡ id
+under_id s None id other e h = cc
+under_id s (Some x) id other e h =
+    let same : x ≡ other = (bytes_eq-Decides x other).0 (some_true (bytes_eq x other) s h) in
+    sym same ∙ some_same x id e
+
+of_shown : (o : Option Shown) (id other : List ℕ) → option_and_then (λ (s : Shown). s.id) o ≡ Some id → is_some (data_shown other o) ≡ true → other ≡ id
+of_shown None id other e h = cc
+of_shown (Some s) id other e h = under_id s s.id id other e h
+
+-- a message shows something under its own id alone
+pub named : (c : Content) (id other : List ℕ) → name_of c ≡ Some id → has_id other c ≡ true → other ≡ id
+named c id other e h = of_shown (shown_in c) id other e h
+
+no_under : (s : Shown) (i : Option (List ℕ)) (other : List ℕ) → i ≡ None → is_some (data_under other i s) ≡ true → ⊥
+no_under s None other e h = cc
+no_under s (Some x) other e h = cc
+
+no_shown : (o : Option Shown) (other : List ℕ) → option_and_then (λ (s : Shown). s.id) o ≡ None → is_some (data_shown other o) ≡ true → ⊥
+no_shown None other e h = cc
+no_shown (Some s) other e h = no_under s s.id other e h
+
+pub unnamed : (c : Content) (other : List ℕ) → name_of c ≡ None → has_id other c ≡ true → ⊥
+unnamed c other e h = no_shown (shown_in c) other e h
+
+-- ---- a place for its output
+
+pub placed-unnamed : (calls : List Call) (x : Index) (c : Content) (cell : ℕ) → name_of c ≡ None → index.StandsFor x calls → Placed calls x c cell
+placed-unnamed calls x c cell e s = record { calls' = calls; told = s; more = λ id n h. h; here = λ a id h. absurd (unnamed c id e h) }
+
+pub placed-nothing : (calls : List Call) (x : Index) (c : Content) (cell : ℕ) → appends c ≡ false → index.StandsFor x calls → Placed calls x c cell
+placed-nothing calls x c cell e s = record { calls' = calls; told = s; more = λ id n h. h; here = λ a id h. no (sym e ∙ a) }
+
+pub placed-already : (calls : List Call) (x : Index) (c : Content) (cell : ℕ) (id : List ℕ) → name_of c ≡ Some id → list_any (λ p. p.cell == cell) (standing id calls) ≡ true
+    → index.StandsFor x calls → Placed calls x c cell
+placed-already calls x c cell id e h s = record {
+  calls' = calls;
+  told = s;
+  more = λ other n g. g;
+  here = λ a other g. ap (λ k. has_place calls k cell) (named c id other e g) ∙ h;
+}
+
+more_added : (calls : List Call) (id other : List ℕ) (p : Place) (n : ℕ) → has_place calls other n ≡ true → has_place (calls ++ added id p ∷ []) other n ≡ true
+more_added calls id other p n h =
+    ap (λ ps. list_any (λ (q : Place). q.cell == n) ps) (standing-added other calls id p)
+    ∙ any-append (λ (q : Place). q.cell == n) (standing other calls) (cond (bytes_eq id other) (p ∷ []) [])
+    ∙ or_left (has_place calls other n) (list_any (λ (q : Place). q.cell == n) (cond (bytes_eq id other) (p ∷ []) [])) h
+
+here_added : (calls : List Call) (id : List ℕ) (p : Place) → has_place (calls ++ added id p ∷ []) id p.cell ≡ true
+here_added calls id p =
+    ap (λ ps. list_any (λ (q : Place). q.cell == p.cell) ps) (standing-added id calls id p ∙ ap (λ b. standing id calls ++ cond b (p ∷ []) []) ((bytes_eq-Decides id id).1 refl))
+    ∙ any-snoc (λ (q : Place). q.cell == p.cell) (standing id calls) p
+    ∙ or_right (has_place calls id p.cell) (p.cell == p.cell) (eqb-same p.cell)
+
+pub placed-added : (calls : List Call) (x : Index) (c : Content) (id : List ℕ) (p : Place) → name_of c ≡ Some id
+    → index.StandsFor x (calls ++ added id p ∷ []) → Placed calls x c p.cell
+placed-added calls x c id p e s = record {
+  calls' = calls ++ added id p ∷ [];
+  told = s;
+  more = λ other n h. more_added calls id other p n h;
+  here = λ a other g. ap (λ k. has_place (calls ++ added id p ∷ []) k p.cell) (named c id other e g) ∙ here_added calls id p;
+}
+
+pub grown-same : (calls : List Call) (x : Index) → index.StandsFor x calls → Grown calls x
+grown-same calls x s = record { calls' = calls; told = s; more = λ id n h. h }
+
+-- ---- a clear
+
+elsewhere : (m cell n : ℕ) → (m == cell) ≡ true → (cell == n) ≡ false → (m == n) ≡ false
+elsewhere m cell n e f = grind (arith, e, f)
+
+outside_by : (cell n : ℕ) (p : Place) (ps : List Place) (b : Bool) → (p.cell == cell) ≡ b → (cell == n) ≡ false
+    → list_any (λ q. q.cell == n) (outside cell ps) ≡ list_any (λ q. q.cell == n) ps
+    → list_any (λ q. q.cell == n) (outside cell (p ∷ ps)) ≡ ((p.cell == n) || list_any (λ q. q.cell == n) ps)
+outside_by cell n p ps true e f h = rw (e, elsewhere p.cell cell n e f) h
+outside_by cell n p ps false e f h = rw e (ap (λ b. (p.cell == n) || b) h)
+
+any-outside : (cell n : ℕ) (ps : List Place) → (cell == n) ≡ false → list_any (λ p. p.cell == n) (outside cell ps) ≡ list_any (λ p. p.cell == n) ps
+any-outside cell n [] e = refl
+any-outside cell n (p ∷ ps) e = outside_by cell n p ps (p.cell == cell) refl e (any-outside cell n ps e)
+
+settled_by : (b : Bool) (cell : ℕ) (calls : List Call) (id : List ℕ) (n : ℕ) → (cell == n) ≡ false → has_place calls id n ≡ true
+    → has_place (cond b (calls ++ cleared cell ∷ []) calls) id n ≡ true
+settled_by true cell calls id n e h = ap (λ ps. list_any (λ (p : Place). p.cell == n) ps) (standing-cleared id calls cell) ∙ any-outside cell n (standing id calls) e ∙ h
+settled_by false cell calls id n e h = h
+
+-- another cell keeps its places
+pub settled-other : (c : Content) (cell : ℕ) (calls : List Call) (id : List ℕ) (n : ℕ) → (cell == n) ≡ false → has_place calls id n ≡ true
+    → has_place (settled c cell calls) id n ≡ true
+settled-other c cell calls id n e h = settled_by (clears_now c) cell calls id n e h
+
+-- and so does every one, where nothing is cleared
+pub settled-same : (c : Content) (cell : ℕ) (calls : List Call) → clears_now c ≡ false → settled c cell calls ≡ calls
+settled-same c cell calls e = ap (λ b. cond b (calls ++ cleared cell ∷ []) calls) e

@@ -1,0 +1,8 @@
+use Rattle.std.proofs.Common.{◌≡◌, ℕ, ap, ◌∙◌}
+use Rattle.out_fold.specs.declared.folded.Folded.{Folded}
+use Rattle.out_fold.proofs.FoldLemmas.{count-at}
+use Rattle.out_fold.proofs.folds.Folds.count.Goals as goal
+
+pub returns : goal.returns
+returns c = λ us s.
+    c.as_ref.ensures.value ∙ ap (λ (h : Folded). h.count) (c.held.ensures ∙ s.cells c.args.cell c.requires) ∙ count-at us c.args.cell

@@ -1,0 +1,10 @@
+use Rattle.std.proofs.Common.{◌≡◌, ◌∙◌, ap, codes}
+use Rattle.out_fold.proofs.Answered.{if_ok}
+use Rattle.out_fold.proofs.Objects.{keyed, of_3}
+use Rattle.out_fold.proofs.tree.display_tree.Goals as goal
+
+pub returns : goal.returns
+returns c =
+    if_ok c.object_of_3.result
+    (λ r e. of_3 e (keyed (codes "data") c.in_ok-shown.ensures c.in_ok-bundle.ensures) (keyed (codes "metadata") c.in_ok-about.ensures c.in_ok-metadata.ensures) c.in_ok-kind.ensures)
+    c.object_of_3.ensures

@@ -1,0 +1,14 @@
+use Rattle.std.proofs.Common.{◌≡◌, ◌∙◌, ap, codes}
+use Rattle.out_fold.proofs.Answered.{if_ok}
+use Rattle.out_fold.proofs.Objects.{keyed, of_4}
+use Rattle.out_fold.proofs.tree.result_tree.Goals as goal
+
+pub returns : goal.returns
+returns c =
+    if_ok c.object_of_4.result
+    (λ r e. of_4 e
+    (keyed (codes "data") c.in_ok-shown.ensures c.in_ok-bundle.ensures)
+    (keyed (codes "execution_count") c.in_ok-number.ensures c.in_ok-count.ensures)
+    (keyed (codes "metadata") c.in_ok-about.ensures c.in_ok-metadata.ensures)
+    c.in_ok-kind.ensures)
+    c.object_of_4.ensures

@@ -1,0 +1,10 @@
+pub mod Live
+pub mod Shown
+pub mod Joined
+pub mod Tree
+pub mod Cells
+pub mod Held
+pub mod Names
+pub mod Placing
+pub mod Plans
+pub mod Stands

@@ -1,0 +1,25 @@
+-- Cells in increasing order.
+use Rattle.std.specs.Prelude.{◌≡◌, ℕ, ◌==◌, ◌+◌, Bool, true, false, List, [], ◌∷◌, ◌&&◌, nat_lt, if◌then◌else◌}
+use Rattle.std.specs.List.{list_any, list_all}
+use Rattle.display_index.specs.declared.place.Place.{Place}
+
+-- the cell is one of these
+abbrev pub is_in : List ℕ → ℕ → Bool
+is_in cells cell = list_any (λ n. n == cell) cells
+
+-- each is below those after it
+abbrev pub increases : List ℕ → Bool
+increases [] = true
+increases (n ∷ ns) = list_all (nat_lt n) ns && increases ns
+
+-- the new list increases, and has the old one's cells, this cell and those of the places
+pub record Covers (old new : List ℕ) (cell : ℕ) (ps : List Place) : Type 0 where
+  pub sorted : increases new ≡ true
+  pub kept : (n : ℕ) → is_in new n ≡ false → is_in old n ≡ false
+  pub current : is_in new cell ≡ true
+  pub placed : (n : ℕ) → is_in new n ≡ false → list_any (λ p. p.cell == n) ps ≡ false
+
+-- how many of the cells at the beginning are below this one
+abbrev pub lead : List ℕ → ℕ → ℕ
+lead [] cell = 0
+lead (n ∷ ns) cell = if nat_lt n cell then lead ns cell + 1 else 0
