@@ -77,18 +77,30 @@ fn encodes_to_six_parts(rt: HostRuntime) -> Result<(), Fail> {
     Ok(())
 }
 
+/// What the parts are decoded to under the key `k`, encoded again.
+fn passed_on(alloc: Global, parts: &Parts) -> Result<Parts, Fail> {
+    let message = good(alloc, b"k", parts)?.ok_or("not decoded")?;
+    Ok(encode(alloc, b"k", &message)?)
+}
+
+fn same_lines(alloc: Global, a: &Parts, b: &Parts) -> Result<bool, NoMemory> {
+    let lines = lines_of(alloc, a)?;
+    Ok(lines.bytes() == lines_of(alloc, b)?.bytes())
+}
+
 #[test]
-fn what_was_encoded_is_decoded_under_its_key_alone(rt: HostRuntime) -> Result<(), Fail> {
+fn what_was_encoded_is_decoded_and_encoded_as_it_was(rt: HostRuntime) -> Result<(), Fail> {
     let alloc = rt.alloc();
     let parts = encode(alloc, b"k", &status(alloc)?)?;
-    let again = good(alloc, b"k", &parts)?.ok_or("not decoded")?;
-    let twice = encode(alloc, b"k", &again)?;
-    assert_eq!(rt;
-        lines_of(alloc, &twice)?.bytes(),
-        lines_of(alloc, &parts)?.bytes()
-    );
-    assert!(rt; again.parent_id.is_none());
-    assert!(rt; good(alloc, b"l", &parts)?.is_none());
+    assert!(rt; same_lines(alloc, &passed_on(alloc, &parts)?, &parts)?);
+    Ok(())
+}
+
+#[test]
+fn under_another_key_it_is_unsigned(rt: HostRuntime) -> Result<(), Fail> {
+    let alloc = rt.alloc();
+    let parts = encode(alloc, b"l", &status(alloc)?)?;
+    assert_eq!(rt; verdict(alloc, &parts)?, "unsigned");
     Ok(())
 }
 
