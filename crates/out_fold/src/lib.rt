@@ -13,6 +13,8 @@ mod parts;
 mod places;
 mod plans;
 mod render;
+#[cfg(test)]
+mod tests;
 mod tree;
 
 pub use fold::Fold;
