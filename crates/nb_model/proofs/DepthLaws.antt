@@ -37,7 +37,7 @@ highest-insert p (q ∷ qs) =
     exchange : (a b c : ℕ) → max a (max b c) ≡ max b (max a c)
     exchange a b c = omega arith
 
-highest-by_key : (ps : List (List ℕ × ℕ)) → highest_of_pairs (by_key ps) ≡ highest_of_pairs ps
+pub highest-by_key : (ps : List (List ℕ × ℕ)) → highest_of_pairs (by_key ps) ≡ highest_of_pairs ps
 highest-by_key [] = refl
 highest-by_key (p ∷ ps) = highest-insert p (by_key ps) ∙ ap (max p.1) (highest-by_key ps)
 
@@ -49,18 +49,25 @@ read_depth = notebook_same depth (λ bs. 1 + highest_of_pairs bs) (λ ns. 1 + hi
 
 -- ---- within a bound
 
-object_within : (m : ℕ) (ps : List (List ℕ × Json)) → AllByRecursion (λ p. depth p.1 ≤ m) ps → depth (json.Obj ps) ≤ suc m
+pub object_within : (m : ℕ) (ps : List (List ℕ × Json)) → AllByRecursion (λ p. depth p.1 ≤ m) ps → depth (json.Obj ps) ≤ suc m
 object_within m ps all = omega (arith, depth-Obj ps, pairs-le m ps all)
 
-values_within : (m : ℕ) (ps : List (List ℕ × Json)) → depth (json.Obj ps) ≤ suc m → AllByRecursion (λ p. depth p.1 ≤ m) ps
+pub values_within : (m : ℕ) (ps : List (List ℕ × Json)) → depth (json.Obj ps) ≤ suc m → AllByRecursion (λ p. depth p.1 ≤ m) ps
 values_within m ps h = let e = depth-Obj ps in pairs-all m ps (omega (arith, e, h))
 
-set_within_bound : (m : ℕ) (key : List ℕ) (v : Json) (ps : List (List ℕ × Json)) → depth v ≤ m → AllByRecursion (λ p. depth p.1 ≤ m) ps → AllByRecursion (λ p. depth p.1 ≤ m) (set_pair key v ps)
-set_within_bound m key v [] h all = (h, tt)
-set_within_bound m key v (p ∷ ps) h all =
-    elim (bytes_eq p.0 key) as (λ b. AllByRecursion (λ q. depth q.1 ≤ m) (cond b ((p.0, v) ∷ ps) (p ∷ set_pair key v ps))) [ true ↦ (h, all.1) | false ↦ (all.0, set_within_bound m key v ps h all.1) ]
+-- a value put under a key
+pub all-set_pair : (Q : Json → Type 0) (key : List ℕ) (v : Json) (ps : List (List ℕ × Json)) → Q v → AllByRecursion (λ p. Q p.1) ps → AllByRecursion (λ p. Q p.1) (set_pair key v ps)
+all-set_pair Q key v [] h all = (h, tt)
+all-set_pair Q key v (p ∷ ps) h all =
+    elim (bytes_eq p.0 key) as (λ b. AllByRecursion (λ q. Q q.1) (cond b ((p.0, v) ∷ ps) (p ∷ set_pair key v ps))) [ true ↦ (h, all.1) | false ↦ (all.0, all-set_pair Q key v ps h all.1) ]
 
-no_fields : (l : Json-F Json) → is_object_layer l ≡ false → fields_of l ≡ []
+-- the value under a key, or `null`
+pub all-found : (Q : Json → Type 0) (key : List ℕ) (ps : List (List ℕ × Json)) → Q json.Null → AllByRecursion (λ p. Q p.1) ps → Q (unwrap_or (find key ps) json.Null)
+all-found Q key [] null all = null
+all-found Q key (p ∷ ps) null all =
+    elim (bytes_eq p.0 key) as (λ b. Q (unwrap_or (cond b (Some p.1) (find key ps)) json.Null)) [ true ↦ all.0 | false ↦ all-found Q key ps null all.1 ]
+
+pub no_fields : (l : Json-F Json) → is_object_layer l ≡ false → fields_of l ≡ []
 no_fields Json-F.Null e = refl
 no_fields (Json-F.Bool b) e = refl
 no_fields (Json-F.Num s) e = refl
@@ -75,16 +82,16 @@ fields_within m t h =
       | inr no_object ↦ subst (λ ps. AllByRecursion (λ p. depth p.1 ≤ m) ps) (sym (no_fields (out-Json t) no_object)) tt
     ]
 
-field_set_within : (m : ℕ) (key : List ℕ) (v t : Json) → depth t ≤ suc m → depth v ≤ m → depth (set_field key v t) ≤ suc m
-field_set_within m key v t h d = object_within m (set_pair key v (fields t)) (set_within_bound m key v (fields t) d (fields_within m t h))
+pub field_set_within : (m : ℕ) (key : List ℕ) (v t : Json) → depth t ≤ suc m → depth v ≤ m → depth (set_field key v t) ≤ suc m
+field_set_within m key v t h d = object_within m (set_pair key v (fields t)) (all-set_pair (λ u. depth u ≤ m) key v (fields t) d (fields_within m t h))
 
-found_within : (m : ℕ) (key : List ℕ) (ps : List (List ℕ × Json)) → AllByRecursion (λ p. depth p.1 ≤ m) ps → depth (unwrap_or (find key ps) json.Null) ≤ m
-found_within m key [] all = let e = depth-Null in omega (arith, e)
-found_within m key (p ∷ ps) all =
-    elim (bytes_eq p.0 key) as (λ b. depth (unwrap_or (cond b (Some p.1) (find key ps)) json.Null) ≤ m) [ true ↦ all.0 | false ↦ found_within m key ps all.1 ]
-
-null_within : (m : ℕ) → depth json.Null ≤ m
+pub null_within : (m : ℕ) → depth json.Null ≤ m
 null_within m = let e = depth-Null in omega (arith, e)
+
+pub set_within_within : (m : ℕ) (outer key : List ℕ) (v t : Json) → depth t ≤ suc (suc m) → depth v ≤ m → depth (set_within outer key v t) ≤ suc (suc m)
+set_within_within m outer key v t h d =
+    let inner = all-found (λ u. depth u ≤ suc m) outer (fields t) (null_within (suc m)) (fields_within (suc m) t h) in
+    field_set_within (suc m) outer (set_field key v (unwrap_or (field t outer) json.Null)) t h (field_set_within m key v (unwrap_or (field t outer) json.Null) inner d)
 
 pending_within : depth pending ≤ 1
 pending_within =
@@ -132,17 +139,11 @@ cells_within (c ∷ cs) all = (cell_within c all.0, cells_within cs all.1)
 
 -- ---- a prepared notebook
 
-list_within : (xs : List Json) → depth (json.Arr xs) ≤ 127 → AllByRecursion (λ x. depth x ≤ 126) xs
+pub list_within : (xs : List Json) → depth (json.Arr xs) ≤ 127 → AllByRecursion (λ x. depth x ≤ 126) xs
 list_within xs h = let e = depth-Arr xs in highest-all 126 xs (omega (arith, e, h))
 
-within_list : (xs : List Json) → AllByRecursion (λ x. depth x ≤ 126) xs → depth (json.Arr xs) ≤ 127
+pub within_list : (xs : List Json) → AllByRecursion (λ x. depth x ≤ 126) xs → depth (json.Arr xs) ≤ 127
 within_list xs all = let e = depth-Arr xs in let h = highest-le 126 xs all in omega (arith, e, h)
-
-metadata_within : (m : Json) → depth m ≤ 127 → depth (set_within (codes "papermill") (codes "exception") json.Null m) ≤ 127
-metadata_within m h =
-    let inner = found_within 126 (codes "papermill") (fields m) (fields_within 126 m h) in
-    field_set_within 126 (codes "papermill") (set_field (codes "exception") json.Null (unwrap_or (field m (codes "papermill")) json.Null)) m h
-    (field_set_within 125 (codes "exception") json.Null (unwrap_or (field m (codes "papermill")) json.Null) inner (null_within 125))
 
 abbrev top_pairs : List Cell → Json → List (List ℕ × Json)
 top_pairs cs m = (codes "cells", json.Arr (map cell_tree cs)) ∷ (codes "metadata", m) ∷ (codes "nbformat", json.Num (codes "4")) ∷ (codes "nbformat_minor", json.Num (codes "5")) ∷ []
@@ -151,4 +152,4 @@ pub prepared_within : (n : Notebook) → depth (notebook_tree n) ≤ 128 → dep
 prepared_within n h =
     let all = values_within 127 (top_pairs n.cells n.metadata) h in
     object_within 127 (top_pairs (map prepared_cell n.cells) (set_within (codes "papermill") (codes "exception") json.Null n.metadata))
-    (within_list (map cell_tree (map prepared_cell n.cells)) (cells_within n.cells (list_within (map cell_tree n.cells) all.0)), (metadata_within n.metadata all.1.0, all.1.1))
+    (within_list (map cell_tree (map prepared_cell n.cells)) (cells_within n.cells (list_within (map cell_tree n.cells) all.0)), (set_within_within 125 (codes "papermill") (codes "exception") json.Null n.metadata all.1.0 (null_within 125), all.1.1))

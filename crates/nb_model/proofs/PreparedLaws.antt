@@ -22,21 +22,21 @@ use Rattle.nb_model.specs.Injected.{set_pair, set_field, is_code}
 use Rattle.nb_model.specs.Prepared.{pending, prepared_cell, prepared}
 use Rattle.nb_model.proofs.Tautologies.{and_parts}
 
-and_eq : {a b x y : Bool} → a ≡ x → b ≡ y → (a && b) ≡ (x && y)
+pub and_eq : {a b x y : Bool} → a ≡ x → b ≡ y → (a && b) ≡ (x && y)
 and_eq p q = ap₂ (λ u v. u && v) p q
 
 -- ---- tests of a built object
 
-fields_Obj : (ps : List (List ℕ × Json)) → fields (json.Obj ps) ≡ ps
+pub fields_Obj : (ps : List (List ℕ × Json)) → fields (json.Obj ps) ≡ ps
 fields_Obj ps = search (rules, the_lemmas)
 
-object_Obj : (ps : List (List ℕ × Json)) → is_object (json.Obj ps) ≡ true
+pub object_Obj : (ps : List (List ℕ × Json)) → is_object (json.Obj ps) ≡ true
 object_Obj ps = search (rules, the_lemmas)
 
-string_Str : (s : List ℕ) → string (json.Str s) ≡ Some s
+pub string_Str : (s : List ℕ) → string (json.Str s) ≡ Some s
 string_Str s = search (rules, the_lemmas)
 
-number_Num : (s : List ℕ) → number (json.Num s) ≡ Some s
+pub number_Num : (s : List ℕ) → number (json.Num s) ≡ Some s
 number_Num s = search (rules, the_lemmas)
 
 null_Num : (s : List ℕ) → is_null (json.Num s) ≡ false
@@ -45,10 +45,10 @@ null_Num s = search (rules, the_lemmas)
 null_Null : is_null json.Null ≡ true
 null_Null = search (rules, the_lemmas)
 
-list_Arr : (xs : List Json) → is_list (json.Arr xs) ≡ true
+pub list_Arr : (xs : List Json) → is_list (json.Arr xs) ≡ true
 list_Arr xs = search (rules, the_lemmas)
 
-items_Arr : (xs : List Json) → items (json.Arr xs) ≡ xs
+pub items_Arr : (xs : List Json) → items (json.Arr xs) ≡ xs
 items_Arr xs = search (rules, the_lemmas)
 
 has_at : (key : List ℕ) (test : Json → Bool) (qs : List (List ℕ × Json)) (v : Json) → find key qs ≡ Some v → has key test (json.Obj qs) ≡ test v
@@ -68,18 +68,18 @@ number_is text s = ap (there_and (λ x. bytes_eq x text)) (number_Num s)
 
 -- ---- what a cell needs
 
-abbrev count_fits : Option (List ℕ) → Bool
+abbrev pub count_fits : Option (List ℕ) → Bool
 count_fits o = absent_or is_whole_text o
 
-abbrev common_fits : Cell → Bool
+abbrev pub common_fits : Cell → Bool
 common_fits c = is_id_text c.id && valid.is_cell_metadata c.metadata && is_multiline c.source
 
-abbrev kind_fits : Kind → Cell → Bool
+abbrev pub kind_fits : Kind → Cell → Bool
 kind_fits kind.Raw c = common_fits c && absent_or valid.are_attachments c.attachments
 kind_fits kind.Markdown c = common_fits c && absent_or valid.are_attachments c.attachments
 kind_fits kind.Code c = common_fits c && list_all valid.is_output c.outputs && count_fits c.count
 
-abbrev cell_fits : Cell → Bool
+abbrev pub cell_fits : Cell → Bool
 cell_fits c = kind_fits c.kind c
 
 abbrev pairs_with : Kind → Cell → List (List ℕ × Json)
@@ -157,7 +157,7 @@ cell_tree-fits c =
 
 -- ---- ids
 
-abbrev no_repeat : List (List ℕ) → Bool
+abbrev pub no_repeat : List (List ℕ) → Bool
 no_repeat [] = true
 no_repeat (i ∷ is) = not (list_any (bytes_eq i) is) && no_repeat is
 
@@ -165,11 +165,11 @@ any-map : {X : Type 0} (test : List ℕ → Bool) (f : X → List ℕ) (xs : Lis
 any-map test f [] = refl
 any-map test f (x ∷ xs) = ap (λ b. test (f x) || b) (any-map test f xs)
 
-ids_are : (xs : List Json) → valid.ids_differ xs ≡ no_repeat (map valid.id_of xs)
+pub ids_are : (xs : List Json) → valid.ids_differ xs ≡ no_repeat (map valid.id_of xs)
 ids_are [] = refl
 ids_are (x ∷ xs) = ap₂ (λ a b. not a && b) (sym (any-map (bytes_eq (valid.id_of x)) valid.id_of xs)) (ids_are xs)
 
-tree_id : (c : Cell) → valid.id_of (cell_tree c) ≡ c.id
+pub tree_id : (c : Cell) → valid.id_of (cell_tree c) ≡ c.id
 tree_id c =
     ap (λ ps. unwrap_or (option_and_then string (find (codes "id") ps)) []) (fields_Obj (pairs_with c.kind c))
     ∙ ap (λ o. unwrap_or (option_and_then string o) []) (found c.kind c.attachments)
@@ -180,7 +180,7 @@ tree_id c =
     found kind.Markdown o = elim c.attachments as (λ q. find (codes "id") (prose_pairs (codes "markdown") c q) ≡ Some (json.Str c.id)) [ None ↦ refl | Some v ↦ refl ]
     found kind.Code o = refl
 
-tree_ids : (cs : List Cell) → map valid.id_of (map cell_tree cs) ≡ map (λ c. c.id) cs
+pub tree_ids : (cs : List Cell) → map valid.id_of (map cell_tree cs) ≡ map (λ c. c.id) cs
 tree_ids [] = refl
 tree_ids (c ∷ cs) = ap₂ (λ i is. i ∷ is) (tree_id c) (tree_ids cs)
 
@@ -225,15 +225,15 @@ find-set_other k key v (p ∷ ps) ne =
           ap (find k) (cond-false (bytes_eq p.0 key) ((p.0, v) ∷ ps) (p ∷ set_pair key v ps) f) ∙ ap (λ o. cond (bytes_eq p.0 k) (Some p.1) o) (find-set_other k key v ps ne)
     ]
 
-field-set_other : (k key : List ℕ) (v t : Json) → bytes_eq key k ≡ false → field (set_field key v t) k ≡ field t k
+pub field-set_other : (k key : List ℕ) (v t : Json) → bytes_eq key k ≡ false → field (set_field key v t) k ≡ field t k
 field-set_other k key v t ne = ap (find k) (fields_Obj (set_pair key v (fields t))) ∙ find-set_other k key v (fields t) ne
 
-cell_metadata_kept : (v m : Json) → valid.is_cell_metadata m ≡ true → valid.is_cell_metadata (set_field (codes "papermill") v m) ≡ true
-cell_metadata_kept v m e =
+pub cell_metadata_kept : (key : List ℕ) (v m : Json) → bytes_eq key (codes "tags") ≡ false → valid.is_cell_metadata m ≡ true → valid.is_cell_metadata (set_field key v m) ≡ true
+cell_metadata_kept key v m other e =
     let h = and_parts (is_object m) (may_have (codes "tags") is_strings m) e in
-    and_eq (object_Obj (set_pair (codes "papermill") v (fields m))) (ap (absent_or is_strings) (field-set_other (codes "tags") (codes "papermill") v m refl) ∙ h.1)
+    and_eq (object_Obj (set_pair key v (fields m))) (ap (absent_or is_strings) (field-set_other (codes "tags") key v m other) ∙ h.1)
 
-metadata_kept : (v m : Json) → valid.is_metadata m ≡ true → valid.is_metadata (set_field (codes "papermill") v m) ≡ true
+pub metadata_kept : (v m : Json) → valid.is_metadata m ≡ true → valid.is_metadata (set_field (codes "papermill") v m) ≡ true
 metadata_kept v m e =
     let h = and_parts (is_object m && may_have (codes "kernelspec") valid.is_kernelspec m) (may_have (codes "language_info") valid.is_language_info m) e in
     let g = and_parts (is_object m) (may_have (codes "kernelspec") valid.is_kernelspec m) h.0 in
@@ -245,13 +245,13 @@ metadata_kept v m e =
 abbrev prepared_with : Kind → Cell → Cell
 prepared_with k c = record (cond (is_code k) (record c { outputs = []; count = None }) c) { metadata = set_field (codes "papermill") pending c.metadata }
 
-common_kept : (c : Cell) (m : Json) → valid.is_cell_metadata m ≡ true → common_fits c ≡ true → (is_id_text c.id && valid.is_cell_metadata m && is_multiline c.source) ≡ true
+pub common_kept : (c : Cell) (m : Json) → valid.is_cell_metadata m ≡ true → common_fits c ≡ true → (is_id_text c.id && valid.is_cell_metadata m && is_multiline c.source) ≡ true
 common_kept c m is e =
     let h = and_parts (is_id_text c.id && valid.is_cell_metadata c.metadata) (is_multiline c.source) e in
     let g = and_parts (is_id_text c.id) (valid.is_cell_metadata c.metadata) h.0 in
     and_eq (and_eq g.0 is) h.1
 
-metadata_of : (c : Cell) → common_fits c ≡ true → valid.is_cell_metadata c.metadata ≡ true
+pub metadata_of : (c : Cell) → common_fits c ≡ true → valid.is_cell_metadata c.metadata ≡ true
 metadata_of c e =
     let h = and_parts (is_id_text c.id && valid.is_cell_metadata c.metadata) (is_multiline c.source) e in
     (and_parts (is_id_text c.id) (valid.is_cell_metadata c.metadata) h.0).1
@@ -259,14 +259,14 @@ metadata_of c e =
 kind_kept : (k : Kind) (c : Cell) → kind_fits k c ≡ true → kind_fits k (prepared_with k c) ≡ true
 kind_kept kind.Raw c e =
     let h = and_parts (common_fits c) (absent_or valid.are_attachments c.attachments) e in
-    and_eq (common_kept c (set_field (codes "papermill") pending c.metadata) (cell_metadata_kept pending c.metadata (metadata_of c h.0)) h.0) h.1
+    and_eq (common_kept c (set_field (codes "papermill") pending c.metadata) (cell_metadata_kept (codes "papermill") pending c.metadata refl (metadata_of c h.0)) h.0) h.1
 kind_kept kind.Markdown c e =
     let h = and_parts (common_fits c) (absent_or valid.are_attachments c.attachments) e in
-    and_eq (common_kept c (set_field (codes "papermill") pending c.metadata) (cell_metadata_kept pending c.metadata (metadata_of c h.0)) h.0) h.1
+    and_eq (common_kept c (set_field (codes "papermill") pending c.metadata) (cell_metadata_kept (codes "papermill") pending c.metadata refl (metadata_of c h.0)) h.0) h.1
 kind_kept kind.Code c e =
     let h = and_parts (common_fits c && list_all valid.is_output c.outputs) (count_fits c.count) e in
     let g = and_parts (common_fits c) (list_all valid.is_output c.outputs) h.0 in
-    and_eq (and_eq (common_kept c (set_field (codes "papermill") pending c.metadata) (cell_metadata_kept pending c.metadata (metadata_of c g.0)) g.0) refl) refl
+    and_eq (and_eq (common_kept c (set_field (codes "papermill") pending c.metadata) (cell_metadata_kept (codes "papermill") pending c.metadata refl (metadata_of c g.0)) g.0) refl) refl
 
 -- the kind and the id stay
 kind_stays : (c : Cell) → (prepared_cell c).kind ≡ c.kind

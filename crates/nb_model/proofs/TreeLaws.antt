@@ -48,7 +48,7 @@ list_layer (Json-F.Str s) e = cc
 list_layer (Json-F.Arr xs) e = rolls-Arr xs
 list_layer (Json-F.Obj ps) e = cc
 
-list_is : (t : Json) → is_list t ≡ true → t ≡ json.Arr (items t)
+pub list_is : (t : Json) → is_list t ≡ true → t ≡ json.Arr (items t)
 list_is t e = sym (roll-out-Json t) ∙ list_layer (out-Json t) e
 
 text_layer : (l : Json-F Json) (s : List ℕ) → string_layer l ≡ Some s → roll-Json l ≡ json.Str s
@@ -106,22 +106,22 @@ exact_id v e =
 
 -- ---- distinct keys
 
-open_Null : out-Json json.Null ≡ Json-F.Null
+pub open_Null : out-Json json.Null ≡ Json-F.Null
 open_Null = search (rules, the_lemmas)
 
-open_Bool : (b : Bool) → out-Json (json.Bool b) ≡ Json-F.Bool b
+pub open_Bool : (b : Bool) → out-Json (json.Bool b) ≡ Json-F.Bool b
 open_Bool b = search (rules, the_lemmas)
 
-open_Num : (s : List ℕ) → out-Json (json.Num s) ≡ Json-F.Num s
+pub open_Num : (s : List ℕ) → out-Json (json.Num s) ≡ Json-F.Num s
 open_Num s = search (rules, the_lemmas)
 
-open_Str : (s : List ℕ) → out-Json (json.Str s) ≡ Json-F.Str s
+pub open_Str : (s : List ℕ) → out-Json (json.Str s) ≡ Json-F.Str s
 open_Str s = search (rules, the_lemmas)
 
-open_Arr : (xs : List Json) → out-Json (json.Arr xs) ≡ Json-F.Arr xs
+pub open_Arr : (xs : List Json) → out-Json (json.Arr xs) ≡ Json-F.Arr xs
 open_Arr xs = search (rules, the_lemmas)
 
-open_Obj : (ps : List (List ℕ × Json)) → out-Json (json.Obj ps) ≡ Json-F.Obj ps
+pub open_Obj : (ps : List (List ℕ × Json)) → out-Json (json.Obj ps) ≡ Json-F.Obj ps
 open_Obj ps = search (rules, the_lemmas)
 
 as_array : (t : Json) (u : Json-F Json) (xs : List Json) → out-Json t ≡ u → t ≡ json.Arr xs → u ≡ Json-F.Arr xs
@@ -136,7 +136,7 @@ same_items xs ys e = cc
 same_pairs : (ps qs : List (List ℕ × Json)) → ◌≡◌ {A = Json-F Json} (Json-F.Obj ps) (Json-F.Obj qs) → ps ≡ qs
 same_pairs ps qs e = cc
 
-items_keyed : (t : Json) (xs : List Json) → Keyed t → t ≡ json.Arr xs → AllKeyed xs
+pub items_keyed : (t : Json) (xs : List Json) → Keyed t → t ≡ json.Arr xs → AllKeyed xs
 items_keyed _ xs keyed.null e = let h = as_array _ _ xs open_Null e in cc
 items_keyed _ xs (keyed.boolean b) e = let h = as_array _ _ xs (open_Bool b) e in cc
 items_keyed _ xs (keyed.number s) e = let h = as_array _ _ xs (open_Num s) e in cc
@@ -144,7 +144,7 @@ items_keyed _ xs (keyed.text s) e = let h = as_array _ _ xs (open_Str s) e in cc
 items_keyed _ xs (keyed.array ys all) e = subst AllKeyed (same_items ys xs (as_array _ _ xs (open_Arr ys) e)) all
 items_keyed _ xs (keyed.object ps all d) e = let h = as_array _ _ xs (open_Obj ps) e in cc
 
-pairs_keyed : (t : Json) (ps : List (List ℕ × Json)) → Keyed t → t ≡ json.Obj ps → PairsKeyed ps × Distinct ps
+pub pairs_keyed : (t : Json) (ps : List (List ℕ × Json)) → Keyed t → t ≡ json.Obj ps → PairsKeyed ps × Distinct ps
 pairs_keyed _ ps keyed.null e = let h = as_object _ _ ps open_Null e in cc
 pairs_keyed _ ps (keyed.boolean b) e = let h = as_object _ _ ps (open_Bool b) e in cc
 pairs_keyed _ ps (keyed.number s) e = let h = as_object _ _ ps (open_Num s) e in cc
@@ -152,13 +152,13 @@ pairs_keyed _ ps (keyed.text s) e = let h = as_object _ _ ps (open_Str s) e in c
 pairs_keyed _ ps (keyed.array ys all) e = let h = as_object _ _ ps (open_Arr ys) e in cc
 pairs_keyed _ ps (keyed.object qs all d) e = let same = same_pairs qs ps (as_object _ _ ps (open_Obj qs) e) in (subst PairsKeyed same all, subst Distinct same d)
 
-first_keyed : (x : Json) (xs : List Json) → AllKeyed (x ∷ xs) → Keyed x × AllKeyed xs
+pub first_keyed : (x : Json) (xs : List Json) → AllKeyed (x ∷ xs) → Keyed x × AllKeyed xs
 first_keyed _ _ (keyed.more x xs k all) = (k, all)
 
-pair_keyed : (p : List ℕ × Json) (ps : List (List ℕ × Json)) → PairsKeyed (p ∷ ps) → Keyed p.1 × PairsKeyed ps
+pub pair_keyed : (p : List ℕ × Json) (ps : List (List ℕ × Json)) → PairsKeyed (p ∷ ps) → Keyed p.1 × PairsKeyed ps
 pair_keyed _ _ (keyed.pair key value ps k all) = (k, all)
 
-found_keyed : (key : List ℕ) (ps : List (List ℕ × Json)) (v : Json) → PairsKeyed ps → find key ps ≡ Some v → Keyed v
+pub found_keyed : (key : List ℕ) (ps : List (List ℕ × Json)) (v : Json) → PairsKeyed ps → find key ps ≡ Some v → Keyed v
 found_keyed key [] v all e = cc
 found_keyed key (p ∷ ps) v all e =
     let h = pair_keyed p ps all in
@@ -198,7 +198,7 @@ top_order_known (p ∷ ps) e =
 
 -- ---- the pairs of a cell
 
-abbrev pairs_with : Kind → Cell → List (List ℕ × Json)
+abbrev pub pairs_with : Kind → Cell → List (List ℕ × Json)
 pairs_with k c = attachments_of_kind k c ++ (pairs_of_kind k c
     ++ ((codes "id", json.Str c.id) ∷ (codes "metadata", c.metadata) ∷ (outputs_of_kind k c ++ (codes "source", c.source) ∷ [])))
 
@@ -366,10 +366,10 @@ module _ {A : Type 0} (F : Json → A) (G : List (List ℕ × A) → A) (H : Lis
 
 -- ---- sorted trees and indented texts
 
-sorted-Arr : (xs : List Json) → sorted (json.Arr xs) ≡ json.Arr (map sorted xs)
+pub sorted-Arr : (xs : List Json) → sorted (json.Arr xs) ≡ json.Arr (map sorted xs)
 sorted-Arr xs = search (rules, the_lemmas)
 
-sorted-Obj : (ps : List (List ℕ × Json)) → sorted (json.Obj ps) ≡ json.Obj (by_key (map (λ p. (p.0, sorted p.1)) ps))
+pub sorted-Obj : (ps : List (List ℕ × Json)) → sorted (json.Obj ps) ≡ json.Obj (by_key (map (λ p. (p.0, sorted p.1)) ps))
 sorted-Obj ps = search (rules, the_lemmas)
 
 pub sorted_same : (t : Json) → valid.is_notebook t ≡ true → Keyed t → sorted (notebook_tree (notebook_of t)) ≡ sorted t

@@ -125,6 +125,34 @@ fn preparation_clears_and_marks(rt: HostRuntime) -> Result<(), Fail> {
     Ok(())
 }
 
+/// Two code cells without a mark, one of them with a count.
+const UNMARKED: &str =
+    r#"{"cells":[{"cell_type":"code","execution_count":null,"id":"a","metadata":{},"outputs":[],"source":"print 1"},{"cell_type":"code","execution_count":7,"id":"b","metadata":{},"outputs":[],"source":["result 2"]}],"metadata":{"kernelspec":{"display_name":"Toy","name":"toy"}},"nbformat":4,"nbformat_minor":5}"#;
+
+#[test]
+fn preparation_marks_what_has_no_mark(rt: HostRuntime) -> Result<(), Fail> {
+    let n = prepare(rt.alloc(), notebook(&rt, UNMARKED)?)?;
+    let metadata =
+        r#"{"kernelspec":{"display_name":"Toy","name":"toy"},"papermill":{"exception":null}}"#;
+    assert!(rt; is_text(&rt, &n.metadata, metadata)?);
+    assert_eq!(rt; n.cells.len(), 2);
+    for cell in n.cells.as_slice() {
+        let mark = r#"{"papermill":{"exception":null,"status":"pending"}}"#;
+        assert!(rt; is_text(&rt, &cell.metadata, mark)?);
+        assert!(rt; cell.kind == Kind::Code);
+        assert_eq!(rt; cell.outputs.len(), 0);
+        assert!(rt; cell.count.is_none());
+        assert!(rt; cell.attachments.is_none());
+        let source = if cell.id.as_str() == "a" {
+            r#""print 1""#
+        } else {
+            r#"["result 2"]"#
+        };
+        assert!(rt; is_text(&rt, &cell.source, source)?);
+    }
+    Ok(())
+}
+
 #[test]
 fn a_mark_that_is_no_object_becomes_one(rt: HostRuntime) -> Result<(), Fail> {
     let text = r#"{"cells":[],"metadata":{"papermill":"x"},"nbformat":4,"nbformat_minor":5}"#;

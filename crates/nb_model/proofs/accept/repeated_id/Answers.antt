@@ -1,4 +1,4 @@
-use Rattle.std.proofs.Common.{◌≡◌, ℕ, List, ◌∷◌, Some, sym, ap, ◌∙◌}
+use Rattle.std.proofs.Common.{◌∷◌, Some, sym, ap, ◌∙◌}
 use Rattle.std.specs.BTreeSet.{contains_text}
 use Rattle.nb_model.proofs.IdLemmas.{taken, free, more}
 use Rattle.nb_model.proofs.accept.repeated_id.Goals as goal

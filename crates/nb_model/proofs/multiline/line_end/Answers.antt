@@ -1,4 +1,4 @@
-use Rattle.std.proofs.Common.{◌≡◌, ◌==◌, ◌<◌, get_or, Some, arith}
+use Rattle.std.proofs.Common.{◌<◌, get_or, arith}
 use Rattle.std.proofs.lemmas.Str.{IsCharBoundary-after_ascii}
 use Rattle.nb_model.proofs.LinesLemmas.{IsLineEnd, lines_of-some, lines_of-none}
 use Rattle.nb_model.proofs.multiline.line_end.Goals as goal

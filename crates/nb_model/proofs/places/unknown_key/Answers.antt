@@ -1,4 +1,4 @@
-use Rattle.std.proofs.Common.{◌≡◌, not, Some, [], List, ℕ, find, option_and_then, IfOk, subst}
+use Rattle.std.proofs.Common.{◌≡◌, not, Some, [], find, option_and_then, IfOk, subst}
 use Rattle.std.specs.List.{list_any}
 use Rattle.std.specs.Str.{bytes_eq}
 use Rattle.nb_model.specs.Pointer as pointer

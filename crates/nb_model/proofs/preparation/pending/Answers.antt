@@ -1,4 +1,4 @@
-use Rattle.std.proofs.Common.{◌≡◌, ap}
+use Rattle.std.proofs.Common.{ap}
 use Rattle.std.specs.Prelude.{codes}
 use Rattle.jtext.specs.declared.json.Json.TheVariants as json
 use Rattle.nb_model.proofs.PairsLemmas.{two_pairs}
