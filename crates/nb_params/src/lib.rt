@@ -7,6 +7,7 @@ mod fresh;
 mod hiding;
 mod injection;
 mod language;
+pub mod laws;
 mod literal;
 mod new_cell;
 mod source;
