@@ -73,7 +73,7 @@ distinct-set_pair key v (p ∷ ps) d =
 
 -- ---- a value set in an object
 
-fields_keyed : (t : Json) → Keyed t → Values Keyed (fields t) × Distinct (fields t)
+pub fields_keyed : (t : Json) → Keyed t → Values Keyed (fields t) × Distinct (fields t)
 fields_keyed t k =
     elim (cases_Bool (is_object t)) [
       | inl is ↦ let h = pairs_keyed t (fields t) k (object_is t is) in (values_of (fields t) h.0, h.1)

@@ -6,3 +6,6 @@ pub mod Placements
 pub mod InjectedCells
 pub mod InjectedValid
 pub mod InjectedKeyed
+pub mod SortedTrees
+pub mod SortedValid
+pub mod SpelledKeyed

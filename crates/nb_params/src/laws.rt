@@ -1,15 +1,18 @@
-//! Laws of prepared and injected notebooks. The functions do nothing: their contracts are the laws.
+//! Laws of prepared, injected and saved notebooks. The functions do nothing: their contracts are the laws.
 ghost use Rattle.std.specs.Prelude.{◌≡◌, ◌≤◌, ◌<◌, ◌^◌, ℕ, Bool, List as Plain, length};
 ghost use Rattle.std.specs.List.{AllByRecursion};
 ghost use Rattle.jtext.specs.declared.json.Json as tree;
 ghost use Rattle.jtext.specs.Depth.{depth};
-ghost use Rattle.jtext.specs.Grammar.{Distinct};
+ghost use Rattle.jtext.specs.Grammar.{Distinct, Spells};
+ghost use Rattle.jtext.specs.Indent.{print};
 ghost use Rattle.jtext.specs.Keyed.{Keyed, PairsKeyed};
+ghost use Rattle.jtext.specs.Sorting.{sorted};
+ghost use Rattle.jtext.specs.Sound.{Sound};
 ghost use Rattle.nb_model.specs.declared.notebook.Notebook as notebook;
 ghost use Rattle.nb_model.specs.Injected.{injected};
 ghost use Rattle.nb_model.specs.Prepared.{prepared};
 ghost use Rattle.nb_model.specs.Tree.{notebook_tree};
-ghost use Rattle.nb_model.specs.Valid.{Valid};
+ghost use Rattle.nb_model.specs.Valid.{is_notebook, Valid};
 
 /// A valid notebook stays valid when parameters are injected whose values are nested at most 124
 /// deep. It has fewer than 10^44 cells: then the number in the id of the new cell has at most 44
@@ -29,4 +32,22 @@ pub fn injected_stays_keyed()
 /// Where no object of a notebook has a key twice, none has in the prepared notebook.
 pub fn prepared_stays_keyed()
     ensures { (n : notebook.Notebook) → Keyed (notebook_tree n) → Keyed (notebook_tree (prepared n)) }
+{}
+
+/// With the pairs of each object in the order of their keys, a tree in which no object has a key
+/// twice is a notebook exactly where it was one, and nested as deep.
+pub fn sorted_stays_valid()
+    ensures valid { (t : tree.Json) → Keyed t → is_notebook (sorted t) ≡ is_notebook t }
+    ensures depth { (t : tree.Json) → Keyed t → depth (sorted t) ≡ depth t }
+{}
+
+/// What is read of the indented text of a valid notebook in which no object has a key twice, is a
+/// valid notebook in which none has.
+pub fn saved_reads_valid()
+    ensures { (t u : tree.Json) → Sound t → Keyed t → Valid t → Spells u (print t) → Valid u × Keyed u }
+{}
+
+/// What is read of a text has no key twice in an object.
+pub fn spelled_is_keyed()
+    ensures { (t : tree.Json) (b : Plain ℕ) → Spells t b → Keyed t }
 {}

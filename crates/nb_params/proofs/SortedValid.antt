@@ -1,0 +1,150 @@
+-- A notebook stays valid when the pairs of each object are sorted by their keys.
+use Rattle.std.proofs.Common.{◌≡◌, ℕ, Bool, true, ◌||◌, List, [], ◌∷◌, map, Some, None, refl, sym, ap, ap₂, ◌∙◌, codes, subst, ◌≤◌}
+use Rattle.std.specs.Prelude.{unwrap_or, option_map, option_and_then}
+use Rattle.std.specs.Str.{bytes_eq}
+use Rattle.jtext.specs.declared.json.Json.{Json}
+use Rattle.jtext.specs.Find.{field}
+use Rattle.jtext.specs.Keyed.{Keyed, AllKeyed}
+use Rattle.jtext.specs.Grammar.{Spells}
+use Rattle.jtext.specs.Indent.{print}
+use Rattle.jtext.specs.Sorting.{sorted}
+use Rattle.jtext.specs.Sound.{Sound}
+use Rattle.jtext.proofs.IndentedSpells.{indented_text}
+use Rattle.jtext.proofs.Only.{one_tree}
+use Rattle.nb_model.specs.Look.{is_object, string, is_string, is_text, is_number, there_and}
+use Rattle.nb_model.specs.Values.{is_multiline, is_strings, is_whole_text, is_count, is_json_type, is_bundle, is_id_text}
+use Rattle.nb_model.specs.Valid as valid
+use Rattle.nb_model.specs.Valid.{Valid}
+use Rattle.nb_model.proofs.PreparedLaws.{and_eq, no_repeat, ids_are}
+use Rattle.nb_model.proofs.TreeLaws.{first_keyed}
+use Rattle.nb_params.proofs.SpelledKeyed.{spells_keyed}
+use Rattle.nb_params.proofs.SortedTrees.{Stays, object_sorted, list_sorted, string_sorted, number_sorted, null_sorted, field_sorted, has-stays, may_have-stays, has_only-stays, items-stay, items_of_sorted, values-stay, depth_stays}
+
+or_eq : {a b x y : Bool} → a ≡ x → b ≡ y → (a || b) ≡ (x || y)
+or_eq p q = ap₂ (λ u v. u || v) p q
+
+-- ---- values
+
+string-stays : Stays is_string
+string-stays t k = ap (there_and (λ s. true)) (string_sorted t)
+
+text-stays : (text : List ℕ) → Stays (is_text text)
+text-stays text t k = ap (there_and (λ s. bytes_eq s text)) (string_sorted t)
+
+number-stays : (text : List ℕ) → Stays (is_number text)
+number-stays text t k = ap (there_and (λ s. bytes_eq s text)) (number_sorted t)
+
+object-stays : Stays is_object
+object-stays t k = object_sorted t
+
+multiline-stays : Stays is_multiline
+multiline-stays t k = or_eq (string-stays t k) (and_eq (list_sorted t) (items-stay is_string string-stays t k))
+
+strings-stay : Stays is_strings
+strings-stay t k = and_eq (list_sorted t) (items-stay is_string string-stays t k)
+
+count-stays : Stays is_count
+count-stays t k = or_eq (null_sorted t) (ap (there_and is_whole_text) (number_sorted t))
+
+bundle-stays : Stays is_bundle
+bundle-stays t k = and_eq (object_sorted t) (values-stay (λ key v. is_json_type key || is_multiline v) (λ key v h. ap (λ b. is_json_type key || b) (multiline-stays v h)) t k)
+
+-- ---- outputs
+
+stream-stays : Stays valid.is_stream
+stream-stays t k =
+    and_eq (and_eq (and_eq (has-stays (codes "output_type") (is_text (codes "stream")) (text-stays (codes "stream")) t k) (has_only-stays (codes "output_type" ∷ codes "name" ∷ codes "text" ∷ []) t k))
+    (has-stays (codes "name") is_string string-stays t k)) (has-stays (codes "text") is_multiline multiline-stays t k)
+
+display-stays : Stays valid.is_display
+display-stays t k =
+    and_eq (and_eq (and_eq (has-stays (codes "output_type") (is_text (codes "display_data")) (text-stays (codes "display_data")) t k) (has_only-stays (codes "output_type" ∷ codes "data" ∷ codes "metadata" ∷ []) t k))
+    (has-stays (codes "data") is_bundle bundle-stays t k)) (has-stays (codes "metadata") is_object object-stays t k)
+
+result-stays : Stays valid.is_result
+result-stays t k =
+    and_eq (and_eq (and_eq (and_eq (has-stays (codes "output_type") (is_text (codes "execute_result")) (text-stays (codes "execute_result")) t k)
+    (has_only-stays (codes "output_type" ∷ codes "data" ∷ codes "metadata" ∷ codes "execution_count" ∷ []) t k)) (has-stays (codes "data") is_bundle bundle-stays t k))
+    (has-stays (codes "metadata") is_object object-stays t k)) (has-stays (codes "execution_count") is_count count-stays t k)
+
+error-stays : Stays valid.is_error
+error-stays t k =
+    and_eq (and_eq (and_eq (and_eq (has-stays (codes "output_type") (is_text (codes "error")) (text-stays (codes "error")) t k)
+    (has_only-stays (codes "output_type" ∷ codes "ename" ∷ codes "evalue" ∷ codes "traceback" ∷ []) t k)) (has-stays (codes "ename") is_string string-stays t k))
+    (has-stays (codes "evalue") is_string string-stays t k)) (has-stays (codes "traceback") is_strings strings-stay t k)
+
+output-stays : Stays valid.is_output
+output-stays t k = and_eq (object_sorted t) (or_eq (or_eq (or_eq (stream-stays t k) (display-stays t k)) (result-stays t k)) (error-stays t k))
+
+outputs-stay : Stays valid.are_outputs
+outputs-stay t k = and_eq (list_sorted t) (items-stay valid.is_output output-stays t k)
+
+-- ---- cells
+
+id-stays : Stays valid.is_id
+id-stays t k = ap (there_and is_id_text) (string_sorted t)
+
+cell_metadata-stays : Stays valid.is_cell_metadata
+cell_metadata-stays t k = and_eq (object_sorted t) (may_have-stays (codes "tags") is_strings strings-stay t k)
+
+common-stays : Stays valid.has_common
+common-stays t k =
+    and_eq (and_eq (has-stays (codes "id") valid.is_id id-stays t k) (has-stays (codes "metadata") valid.is_cell_metadata cell_metadata-stays t k)) (has-stays (codes "source") is_multiline multiline-stays t k)
+
+attachments-stay : Stays valid.are_attachments
+attachments-stay t k = and_eq (object_sorted t) (values-stay (λ key v. is_bundle v) (λ key. bundle-stays) t k)
+
+prose_cell-stays : Stays valid.is_prose_cell
+prose_cell-stays t k =
+    and_eq (and_eq (and_eq (has-stays (codes "cell_type") (λ v. is_text (codes "raw") v || is_text (codes "markdown") v) (λ v h. or_eq (text-stays (codes "raw") v h) (text-stays (codes "markdown") v h)) t k)
+    (has_only-stays (codes "cell_type" ∷ codes "id" ∷ codes "metadata" ∷ codes "source" ∷ codes "attachments" ∷ []) t k)) (common-stays t k)) (may_have-stays (codes "attachments") valid.are_attachments attachments-stay t k)
+
+code_cell-stays : Stays valid.is_code_cell
+code_cell-stays t k =
+    and_eq (and_eq (and_eq (and_eq (has-stays (codes "cell_type") (is_text (codes "code")) (text-stays (codes "code")) t k)
+    (has_only-stays (codes "cell_type" ∷ codes "id" ∷ codes "metadata" ∷ codes "source" ∷ codes "outputs" ∷ codes "execution_count" ∷ []) t k)) (common-stays t k))
+    (has-stays (codes "outputs") valid.are_outputs outputs-stay t k)) (has-stays (codes "execution_count") is_count count-stays t k)
+
+cell-stays : Stays valid.is_cell
+cell-stays t k = and_eq (object_sorted t) (or_eq (prose_cell-stays t k) (code_cell-stays t k))
+
+-- ---- ids
+
+id_sorted : (c : Json) → Keyed c → valid.id_of (sorted c) ≡ valid.id_of c
+id_sorted c k =
+    ap (λ o. unwrap_or (option_and_then string o) []) (field_sorted (codes "id") c k)
+    ∙ (elim (field c (codes "id")) as (λ o. unwrap_or (option_and_then string (option_map sorted o)) [] ≡ unwrap_or (option_and_then string o) []) [ None ↦ refl | Some v ↦ ap (λ s. unwrap_or s []) (string_sorted v) ])
+
+ids_sorted : (xs : List Json) → AllKeyed xs → map valid.id_of (map sorted xs) ≡ map valid.id_of xs
+ids_sorted [] k = refl
+ids_sorted (x ∷ xs) k = let h = first_keyed x xs k in ap₂ (λ i is. i ∷ is) (id_sorted x h.0) (ids_sorted xs h.1)
+
+differ_sorted : (xs : List Json) → AllKeyed xs → valid.ids_differ (map sorted xs) ≡ valid.ids_differ xs
+differ_sorted xs k = ids_are (map sorted xs) ∙ ap no_repeat (ids_sorted xs k) ∙ sym (ids_are xs)
+
+cells-stay : Stays valid.are_cells
+cells-stay t k = and_eq (and_eq (list_sorted t) (items-stay valid.is_cell cell-stays t k)) (items_of_sorted valid.ids_differ differ_sorted t k)
+
+-- ---- the notebook
+
+kernelspec-stays : Stays valid.is_kernelspec
+kernelspec-stays t k = and_eq (and_eq (object_sorted t) (has-stays (codes "name") is_string string-stays t k)) (has-stays (codes "display_name") is_string string-stays t k)
+
+language_info-stays : Stays valid.is_language_info
+language_info-stays t k = and_eq (object_sorted t) (has-stays (codes "name") is_string string-stays t k)
+
+metadata-stays : Stays valid.is_metadata
+metadata-stays t k =
+    and_eq (and_eq (object_sorted t) (may_have-stays (codes "kernelspec") valid.is_kernelspec kernelspec-stays t k)) (may_have-stays (codes "language_info") valid.is_language_info language_info-stays t k)
+
+pub notebook-stays : Stays valid.is_notebook
+notebook-stays t k =
+    and_eq (and_eq (and_eq (and_eq (and_eq (object_sorted t) (has_only-stays (codes "metadata" ∷ codes "nbformat" ∷ codes "nbformat_minor" ∷ codes "cells" ∷ []) t k))
+    (has-stays (codes "nbformat") (is_number (codes "4")) (number-stays (codes "4")) t k)) (has-stays (codes "nbformat_minor") (is_number (codes "5")) (number-stays (codes "5")) t k))
+    (has-stays (codes "metadata") valid.is_metadata metadata-stays t k)) (has-stays (codes "cells") valid.are_cells cells-stay t k)
+
+pub read_valid : (t u : Json) → Sound t → Keyed t → Valid t → Spells u (print t) → Valid u × Keyed u
+read_valid t u s k v is =
+    let same : sorted t ≡ u = one_tree (sorted t) u (print t) (indented_text t s k) is in
+    let again : Valid (sorted t) = record { notebook = notebook-stays t k ∙ v.notebook; within = subst (λ n. n ≤ 128) (sym (depth_stays t k)) v.within } in
+    (subst Valid same again, spells_keyed u (print t) is)
