@@ -2,6 +2,7 @@
 //! Trees only; it reads and writes no file.
 #![tactic(auto)]
 
+pub mod laws;
 mod migration;
 mod raising;
 #[cfg(test)]
