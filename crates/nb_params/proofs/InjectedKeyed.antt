@@ -101,7 +101,7 @@ distinct_cell kind.Raw c = distinct_prose (codes "raw") c c.attachments
 distinct_cell kind.Markdown c = distinct_prose (codes "markdown") c c.attachments
 distinct_cell kind.Code c = distinct_from (pairs_with kind.Code c) refl
 
-cell_keyed : (c : Cell) → Values Keyed (pairs_with c.kind c) → Keyed (cell_tree c)
+pub cell_keyed : (c : Cell) → Values Keyed (pairs_with c.kind c) → Keyed (cell_tree c)
 cell_keyed c all = keyed.object (pairs_with c.kind c) (pairs_of (pairs_with c.kind c) all) (distinct_cell c.kind c)
 
 values_keyed : (c : Cell) → Keyed (cell_tree c) → Values Keyed (pairs_with c.kind c)
@@ -144,7 +144,7 @@ prepared_cell_keyed c k =
 abbrev top_pairs : Notebook → List (List ℕ × Json)
 top_pairs n = (codes "cells", json.Arr (map cell_tree n.cells)) ∷ (codes "metadata", n.metadata) ∷ (codes "nbformat", json.Num (codes "4")) ∷ (codes "nbformat_minor", json.Num (codes "5")) ∷ []
 
-notebook_keyed : (n : Notebook) → AllByRecursion (λ c. Keyed (cell_tree c)) n.cells → Keyed n.metadata → Keyed (notebook_tree n)
+pub notebook_keyed : (n : Notebook) → AllByRecursion (λ c. Keyed (cell_tree c)) n.cells → Keyed n.metadata → Keyed (notebook_tree n)
 notebook_keyed n cells metadata =
     let list = keyed.array (map cell_tree n.cells) (items_of (map cell_tree n.cells) (all-map Keyed cell_tree n.cells cells)) in
     keyed.object (top_pairs n) (pairs_of (top_pairs n) (list, (metadata, (keyed.number (codes "4"), (keyed.number (codes "5"), tt))))) (distinct_from (top_pairs n) refl)

@@ -9,3 +9,4 @@ pub mod InjectedKeyed
 pub mod SortedTrees
 pub mod SortedValid
 pub mod SpelledKeyed
+pub mod ReadKeyed

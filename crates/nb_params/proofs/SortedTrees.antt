@@ -171,7 +171,7 @@ all-by_key test (p ∷ ps) = all-insert test p (by_key ps) ∙ ap (λ b. test p 
 abbrev pub Stays : (Json → Bool) → Type 0
 Stays test = (t : Json) → Keyed t → test (sorted t) ≡ test t
 
-keyed_value : (key : List ℕ) (t v : Json) → Keyed t → field t key ≡ Some v → Keyed v
+pub keyed_value : (key : List ℕ) (t v : Json) → Keyed t → field t key ≡ Some v → Keyed v
 keyed_value key t v k e = found_keyed key (fields t) v (pairs_of (fields t) (fields_keyed t k).0) e
 
 pub has-stays : (key : List ℕ) (test : Json → Bool) → Stays test → Stays (has key test)

@@ -11,6 +11,7 @@ ghost use Rattle.jtext.specs.Sound.{Sound};
 ghost use Rattle.nb_model.specs.declared.notebook.Notebook as notebook;
 ghost use Rattle.nb_model.specs.Injected.{injected};
 ghost use Rattle.nb_model.specs.Prepared.{prepared};
+ghost use Rattle.nb_model.specs.Reading.{notebook_of};
 ghost use Rattle.nb_model.specs.Tree.{notebook_tree};
 ghost use Rattle.nb_model.specs.Valid.{is_notebook, Valid};
 
@@ -32,6 +33,11 @@ pub fn injected_stays_keyed()
 /// Where no object of a notebook has a key twice, none has in the prepared notebook.
 pub fn prepared_stays_keyed()
     ensures { (n : notebook.Notebook) → Keyed (notebook_tree n) → Keyed (notebook_tree (prepared n)) }
+{}
+
+/// Where no object of a tree has a key twice, none has in the notebook that is read of it.
+pub fn read_stays_keyed()
+    ensures { (t : tree.Json) → Keyed t → Keyed (notebook_tree (notebook_of t)) }
 {}
 
 /// With the pairs of each object in the order of their keys, a tree in which no object has a key
