@@ -1,11 +1,11 @@
 -- What is held of a cell after one more message.
-use Rattle.std.proofs.Common.{◌≡◌, ℕ, ◌+◌, Bool, true, false, cond, ◌||◌, List, [], ◌∷◌, ◌++◌, map, flat_map, Option, Some, None, refl, sym, ◌∙◌, ap, append_assoc, append-nil}
+use Rattle.std.proofs.Common.{◌≡◌, ℕ, Bool, true, false, cond, List, [], ◌∷◌, ◌++◌, map, Option, None, refl, sym, ◌∙◌, ap, append_assoc, append-nil}
 use Rattle.std.specs.Option.{option_or}
 use Rattle.jcontent.specs.declared.content.Content.{Content}
 use Rattle.out_fold.specs.declared.folded.Folded.{Folded}
-use Rattle.out_fold.specs.Live.{appends, clears_now, clears_later, live}
+use Rattle.out_fold.specs.Live.{appends, clears_now, live}
 use Rattle.out_fold.specs.Cells.{Message, Used, with_message, with_reply, contents, all_contents, told, last_count, last_date, is_input, says_busy, says_idle}
-use Rattle.out_fold.specs.Held.{held, waits, ends_wait, folded, step}
+use Rattle.out_fold.specs.Held.{held, waits, folded, step}
 use Rattle.out_fold.proofs.LiveLemmas.{live-snoc, waits-snoc}
 
 map-snoc : {A B : Type 0} (f : A → B) (xs : List A) (x : A) → map f (xs ++ x ∷ []) ≡ map f xs ++ f x ∷ []

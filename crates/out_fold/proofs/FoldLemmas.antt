@@ -1,19 +1,16 @@
 -- Which lists a fold stands for after a call.
-use Rattle.std.proofs.Common.{◌≡◌, ◌≢◌, ◌==◌, ℕ, zero, suc, ◌+◌, ◌-◌, ◌<◌, ◌≤◌, Bool, true, false, cond, List, [], ◌∷◌, ◌++◌, length, get_or, set, Option, Some, None, Result, Ok, Err, refl, sym, ◌∙◌, ap, subst, arith, eqb-true, get_or-set_same, get_or-set_other, map, append-nil}
+use Rattle.std.proofs.Common.{◌≡◌, ◌≢◌, ◌==◌, ℕ, zero, suc, ◌+◌, ◌-◌, ◌<◌, ◌≤◌, Bool, true, false, cond, List, [], ◌∷◌, ◌++◌, length, get_or, set, Option, Some, None, Result, Ok, Err, refl, sym, ◌∙◌, ap, arith, eqb-true, get_or-set_same, get_or-set_other, map, append-nil}
 use Rattle.std.specs.Option.{option_or}
 use Rattle.std.specs.Result.{OnOk, OnErr}
-use Rattle.jtext.specs.declared.json.Json.{Json}
 use Rattle.jcontent.specs.declared.content.Content.{Content}
 use Rattle.out_fold.specs.declared.latest.Data.{Data}
-use Rattle.out_fold.specs.declared.latest.Latest.{Latest}
 use Rattle.out_fold.specs.declared.folded.Folded.{Folded}
 use Rattle.out_fold.specs.declared.folds.Folds.{Folds}
 use Rattle.out_fold.specs.Shown.{shows, latest, resolved, outputs}
-use Rattle.out_fold.specs.Joined.{joined}
 use Rattle.out_fold.specs.Tree.{output_tree}
 use Rattle.out_fold.specs.Cells.{Used, begun, with_message, with_reply, contents, all_contents, joined_where, outputs_of, count_of, dates_of, date_pairs}
-use Rattle.out_fold.specs.Held.{nothing, folded, folded_at, step, held_at, data_of, Ordered, Holds, Keeps, Learns, Took, Kept, IsSameShape}
-use Rattle.out_fold.proofs.ShownLemmas.{latest-snoc, latest-more, outputs-held}
+use Rattle.out_fold.specs.Held.{nothing, folded, folded_at, step, held_at, data_of, Ordered, Holds, Took, Kept, IsSameShape}
+use Rattle.out_fold.proofs.ShownLemmas.{latest-snoc, outputs-held}
 use Rattle.out_fold.proofs.JoinedLemmas.{joined-resolved}
 use Rattle.out_fold.proofs.CellLemmas.{folded-message, all-message, all-reply, all-snoc}
 
@@ -203,7 +200,7 @@ start-stands f f' us cell s le st = record {
 
 -- ---- what is answered
 
-latest-through : (id : List ℕ) (before : Option Data) (xs ys : List Content) → latest id before (xs ++ ys) ≡ latest id (latest id before xs) ys
+pub latest-through : (id : List ℕ) (before : Option Data) (xs ys : List Content) → latest id before (xs ++ ys) ≡ latest id (latest id before xs) ys
 latest-through id before [] ys = refl
 latest-through id before (x ∷ xs) ys = latest-through id (option_or (shows id x) before) xs ys
 

@@ -9,3 +9,4 @@ pub mod ListTests
 pub mod PlanLemmas
 pub mod PlaceLemmas
 pub mod StandLemmas
+pub mod PlainLemmas

@@ -1,5 +1,5 @@
 -- What the index knows after a message.
-use Rattle.std.proofs.Common.{◌≡◌, ℕ, ◌==◌, Bool, true, false, cond, not, ◌&&◌, ◌||◌, List, [], ◌∷◌, ◌++◌, filter, Option, Some, None, is_some, refl, sym, ◌∙◌, ap, arith}
+use Rattle.std.proofs.Common.{◌≡◌, ℕ, ◌==◌, Bool, true, false, cond, ◌||◌, List, [], ◌∷◌, ◌++◌, Option, Some, None, is_some, refl, sym, ◌∙◌, ap, arith}
 use Rattle.std.specs.List.{list_any}
 use Rattle.std.specs.Option.{option_and_then}
 use Rattle.std.specs.Str.{bytes_eq}
@@ -16,8 +16,8 @@ use Rattle.display_index.proofs.StandingLemmas.{standing-added, standing-cleared
 use Rattle.out_fold.specs.Live.{appends, clears_now}
 use Rattle.out_fold.specs.Shown.{shown_in, data_if, data_under, data_shown}
 use Rattle.out_fold.specs.Names.{name_of, has_id}
-use Rattle.out_fold.specs.Placing.{has_place, named_places, Grown, Placed, settled}
-use Rattle.out_fold.proofs.ListTests.{no, eqb-same, eqb-other, eqb-differs, any-append, any-snoc, or_left, or_right}
+use Rattle.out_fold.specs.Placing.{has_place, Grown, Placed, settled}
+use Rattle.out_fold.proofs.ListTests.{no, eqb-same, any-append, any-snoc, or_left, or_right}
 
 -- ---- the display id of a message
 

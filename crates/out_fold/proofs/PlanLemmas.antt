@@ -1,9 +1,9 @@
 -- Cells in increasing order, with one more.
-use Rattle.std.proofs.Common.{◌≡◌, ℕ, ◌==◌, ◌+◌, ◌<◌, Bool, true, false, cond, ◌&&◌, ◌||◌, nat_lt, List, [], ◌∷◌, ◌++◌, take, drop, refl, sym, ◌∙◌, ap, arith, add-one}
+use Rattle.std.proofs.Common.{◌≡◌, ℕ, ◌==◌, Bool, true, false, cond, ◌&&◌, ◌||◌, nat_lt, List, [], ◌∷◌, ◌++◌, refl, sym, ◌∙◌, ap, arith, add-one}
 use Rattle.std.specs.List.{list_any, list_all, insert}
 use Rattle.display_index.specs.declared.place.Place.{Place}
 use Rattle.out_fold.specs.Plans.{is_in, increases, lead, Covers}
-use Rattle.out_fold.proofs.ListTests.{no, and_parts, and_made, or_false, or_left, or_right, all-more, any-snoc, eqb-same}
+use Rattle.out_fold.proofs.ListTests.{no, and_parts, and_made, or_false, or_left, all-more, any-snoc, eqb-same}
 
 -- a cell in its place
 abbrev ins : ℕ → List ℕ → List ℕ

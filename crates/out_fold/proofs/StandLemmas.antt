@@ -1,7 +1,7 @@
 -- Which lists a fold stands for after a call, and which cells are as they were.
-use Rattle.std.proofs.Common.{◌≡◌, ◌≢◌, ℕ, ◌==◌, ◌+◌, ◌<◌, ◌≤◌, Bool, true, false, cond, ◌&&◌, ◌||◌, List, [], ◌∷◌, ◌++◌, map, Option, Some, None, is_some, refl, sym, ◌∙◌, ap, arith, append_assoc, append-nil, eqb-true}
+use Rattle.std.proofs.Common.{◌≡◌, ◌≢◌, ℕ, ◌==◌, ◌+◌, Bool, true, false, cond, ◌&&◌, ◌||◌, List, [], ◌∷◌, ◌++◌, map, Option, Some, None, is_some, refl, sym, ◌∙◌, ap, arith, append_assoc, append-nil, eqb-true}
 use Rattle.std.specs.List.{list_any}
-use Rattle.std.specs.Option.{option_or, option_and_then}
+use Rattle.std.specs.Option.{option_or}
 use Rattle.std.specs.Str.{bytes_eq}
 use Rattle.jtext.specs.declared.json.Json.{Json}
 use Rattle.jcontent.specs.declared.content.Content.{Content}
@@ -9,7 +9,7 @@ use Rattle.jcontent.specs.declared.content.Content.TheVariants as content
 use Rattle.jcontent.specs.declared.shown.Shown.{Shown}
 use Rattle.display_index.specs.declared.index.Index.{Index}
 use Rattle.display_index.specs.declared.place.Place.{Place}
-use Rattle.display_index.specs.Standing.{Call, standing}
+use Rattle.display_index.specs.Standing.{Call}
 use Rattle.display_index.specs.Held as index
 use Rattle.out_fold.specs.declared.latest.Data.{Data}
 use Rattle.out_fold.specs.declared.folds.Folds.{Folds}
@@ -22,8 +22,8 @@ use Rattle.out_fold.specs.Held.{Holds, Ordered, waits}
 use Rattle.out_fold.specs.Names.{name_of, has_id}
 use Rattle.out_fold.specs.Placing.{has_place, named_places, Grown, Placed, settled}
 use Rattle.out_fold.specs.Plans.{is_in, Covers}
-use Rattle.out_fold.specs.Stands.{has_output, StandsFor, SameCell, Rested, merge_of, touched_of}
-use Rattle.out_fold.proofs.ListTests.{no, eqb-same, eqb-other, eqb-differs, or_false, any-snoc}
+use Rattle.out_fold.specs.Stands.{has_output, StandsFor, SameCell, Rested, merge_of}
+use Rattle.out_fold.proofs.ListTests.{no, eqb-same, eqb-other, or_false, any-snoc}
 use Rattle.out_fold.proofs.LiveLemmas.{live-snoc}
 use Rattle.out_fold.proofs.ShownLemmas.{same_text, latest-snoc}
 use Rattle.out_fold.proofs.CellLemmas.{contents-snoc, all-message, all-reply, all-snoc}

@@ -1,5 +1,5 @@
 -- What is saved of the executed cells, by the messages that were used for their requests (Jupyter messaging 5.3; nbformat 4.5, `code_cell`; nbclient, `metadata.execution`).
-use Rattle.std.specs.Prelude.{ℕ, Bool, false, true, ◌==◌, ◌+◌, List, [], ◌∷◌, ◌++◌, map, flat_map, Option, Some, None, if◌then◌else◌, codes}
+use Rattle.std.specs.Prelude.{ℕ, Bool, false, true, ◌==◌, List, [], ◌∷◌, ◌++◌, map, flat_map, Option, Some, None, if◌then◌else◌, codes}
 use Rattle.std.specs.Option.{option_or}
 use Rattle.jtext.specs.declared.json.Json.{Json}
 use Rattle.jtext.specs.declared.json.Json.TheVariants as json
@@ -7,20 +7,11 @@ use Rattle.jcontent.specs.declared.content.Content.{Content}
 use Rattle.jcontent.specs.declared.content.Content.TheVariants as content
 use Rattle.jcontent.specs.declared.state.State.{State}
 use Rattle.jcontent.specs.declared.state.State.TheVariants as state
+pub use Rattle.out_fold.specs.declared.message.Message.{Message}
+pub use Rattle.out_fold.specs.declared.used.Used.{Used}
 use Rattle.out_fold.specs.Shown.{outputs}
 use Rattle.out_fold.specs.Joined.{joined}
 use Rattle.out_fold.specs.Tree.{output_tree}
-
--- a message, and the date of its header where it has one
-pub record Message : Type 0 where
-  pub content : Content
-  pub date : Option (List ℕ)
-
--- what was used for the request of a cell: its messages in order, and the date of its reply
-pub record Used : Type 0 where
-  pub cell : ℕ
-  pub own : List Message
-  pub reply : Option (List ℕ)
 
 -- a request for which nothing was used yet
 abbrev pub begun : ℕ → Used

@@ -1,5 +1,5 @@
 -- What a fold holds, and which lists of messages it stands for.
-use Rattle.std.specs.Prelude.{◌≡◌, ℕ, ◌+◌, ◌<◌, ◌≤◌, ◌==◌, Bool, true, false, List, [], ◌∷◌, ◌++◌, ◌&&◌, ◌||◌, not, map, length, slice_index_or, Option, Some, None, if◌then◌else◌}
+use Rattle.std.specs.Prelude.{◌≡◌, ℕ, ◌+◌, ◌<◌, ◌≤◌, ◌==◌, Bool, false, List, [], ◌∷◌, ◌++◌, ◌&&◌, ◌||◌, not, map, length, slice_index_or, Option, Some, None, if◌then◌else◌}
 use Rattle.std.specs.List.{list_any}
 use Rattle.std.specs.Option.{option_or}
 use Rattle.std.specs.BTreeMap.{get_by_text}
@@ -13,7 +13,7 @@ use Rattle.out_fold.specs.declared.folded.Folded.{Folded}
 use Rattle.out_fold.specs.declared.folds.Folds.{Folds}
 use Rattle.out_fold.specs.Live.{appends, clears_now, clears_later, live}
 use Rattle.out_fold.specs.Shown.{shows, latest}
-use Rattle.out_fold.specs.Cells.{Message, Used, begun, with_message, contents, all_contents, told, last_count, says_busy, says_idle, is_input, last_date}
+use Rattle.out_fold.specs.Cells.{Used, contents, all_contents, told, last_count, says_busy, says_idle, is_input, last_date}
 
 -- ---- an output
 

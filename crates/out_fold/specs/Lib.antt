@@ -8,3 +8,4 @@ pub mod Names
 pub mod Placing
 pub mod Plans
 pub mod Stands
+pub mod Plain

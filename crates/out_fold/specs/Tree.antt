@@ -1,5 +1,5 @@
 -- Outputs as nbformat 4.5 writes them (its schema, `output`), new text as lists of lines.
-use Rattle.std.specs.Prelude.{ℕ, Bool, List, [], ◌∷◌, map, ◌&&◌, ◌||◌, not, Option, Some, None, if◌then◌else◌, codes, nat_eq}
+use Rattle.std.specs.Prelude.{ℕ, Bool, List, [], ◌∷◌, map, ◌&&◌, ◌||◌, not, Option, if◌then◌else◌, codes, nat_eq}
 use Rattle.std.specs.Str.{bytes_eq}
 use Rattle.std.specs.List.{starts_with, ends_with}
 use Rattle.jtext.specs.declared.json.Json.{Json, out-Json}

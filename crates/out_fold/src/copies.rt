@@ -6,9 +6,65 @@ ghost use Rattle.out_fold.specs.Shown.{data_in};
 ghost use Rattle.out_fold.specs.Held.{without_data};
 
 use crate::latest::Data;
-use jcontent::Shown;
+use jcontent::{Content, ReplyIs, Shown};
 use jtext::{Fields, Json, NoMemory, NumText, Text, Texts, copy};
 use std::alloc::Global;
+
+pub(crate) fn content(alloc: Global, c: &Content) -> Result<Content, NoMemory>
+    ensures { IfOk result (λ r. r ≡ c.now) }
+{
+    match c {
+        Content::Status(state) => Ok(Content::Status(*state)),
+        Content::Input(told) => Ok(Content::Input(count(alloc, told)?)),
+        Content::Stream { name, text } => Ok(Content::Stream {
+            name: Text::of(alloc, name.as_str())?,
+            text: Text::of(alloc, text.as_str())?,
+        }),
+        Content::Display(shown) => Ok(Content::Display(whole(alloc, shown)?)),
+        Content::Update(shown) => Ok(Content::Update(whole(alloc, shown)?)),
+        Content::Outcome { shown, count: told } => Ok(Content::Outcome {
+            shown: whole(alloc, shown)?,
+            count: count(alloc, told)?,
+        }),
+        Content::Error {
+            ename,
+            evalue,
+            traceback,
+        } => Ok(Content::Error {
+            ename: Text::of(alloc, ename.as_str())?,
+            evalue: Text::of(alloc, evalue.as_str())?,
+            traceback: texts(alloc, traceback)?,
+        }),
+        Content::Clear { later } => Ok(Content::Clear { later: *later }),
+        Content::ExecReply(reply) => Ok(Content::ExecReply(reply_is(alloc, reply)?)),
+        Content::InfoReply => Ok(Content::InfoReply),
+        Content::Other => Ok(Content::Other),
+    }
+}
+
+fn reply_is(alloc: Global, reply: &ReplyIs) -> Result<ReplyIs, NoMemory>
+    ensures { IfOk result (λ r. r ≡ reply.now) }
+{
+    match reply {
+        ReplyIs::Error { ename } => Ok(ReplyIs::Error {
+            ename: Text::of(alloc, ename.as_str())?,
+        }),
+        ReplyIs::Fine => Ok(ReplyIs::Fine),
+    }
+}
+
+fn whole(alloc: Global, shown: &Shown) -> Result<Shown, NoMemory>
+    ensures { IfOk result (λ r. r ≡ shown.now) }
+{
+    let bundle = bundle(alloc, &shown.bundle)?;
+    let metadata = copy(alloc, &shown.metadata)?;
+    let id = date(alloc, shown.id.as_ref())?;
+    Ok(Shown {
+        bundle,
+        metadata,
+        id,
+    })
+}
 
 pub(crate) fn data(alloc: Global, shown: &Shown) -> Result<Data, NoMemory>
     ensures { IfOk result (λ r. r ≡ data_in shown.now) }
@@ -18,7 +74,7 @@ pub(crate) fn data(alloc: Global, shown: &Shown) -> Result<Data, NoMemory>
     Ok(Data { bundle, metadata })
 }
 
-fn bundle(alloc: Global, pairs: &Fields) -> Result<Fields, NoMemory>
+pub(crate) fn bundle(alloc: Global, pairs: &Fields) -> Result<Fields, NoMemory>
     ensures { IfOk result (λ r. r ≡ pairs.now) }
 {
     let mut copied = Fields::new(alloc);

@@ -8,13 +8,19 @@ mod fold;
 mod folded;
 mod folds;
 mod joining;
+mod kind;
 mod latest;
+mod message;
 mod parts;
 mod places;
+mod plain_fold;
 mod plans;
 mod render;
+mod standing;
 #[cfg(test)]
 mod tests;
 mod tree;
+mod used;
 
 pub use fold::Fold;
+pub use plain_fold::PlainFold;

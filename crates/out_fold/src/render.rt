@@ -4,7 +4,8 @@ ghost use Rattle.std.specs.Option.{option_copied, option_and_then};
 ghost use Rattle.out_fold.specs.Shown.{resolved, known_to};
 ghost use Rattle.out_fold.specs.Joined.{joined};
 ghost use Rattle.out_fold.specs.Tree as tree;
-ghost use Rattle.out_fold.specs.Cells.{joined_where, date_pairs, dated};
+ghost use Rattle.out_fold.specs.Cells as cells;
+ghost use Rattle.out_fold.specs.Cells.{joined_where, dated};
 ghost use Rattle.out_fold.specs.Held.{data_of};
 
 use crate::folded::Folded;
@@ -129,15 +130,29 @@ fn known<'a>(shown: &'a Shown, latest: &'a Latest) -> Option<&'a Data>
     }
 }
 
-/// The dates of a cell, those that there are.
+/// The dates that are held of a cell, those that there are.
 pub(crate) fn date_fields(alloc: Global, held: &Folded) -> Result<Fields, NoMemory>
-    ensures { IfOk result (λ r. r ≡ date_pairs held.now.input held.now.busy held.now.idle held.now.reply) }
+    ensures { IfOk result (λ r. r ≡ cells.date_pairs held.now.input held.now.busy held.now.idle held.now.reply) }
+{
+    let (input, busy) = (held.input.as_ref(), held.busy.as_ref());
+    date_pairs(alloc, input, busy, held.idle.as_ref(), held.reply.as_ref())
+}
+
+/// The dates of a cell by kind, those that there are.
+pub(crate) fn date_pairs(
+    alloc: Global,
+    input: Option<&Text>,
+    busy: Option<&Text>,
+    idle: Option<&Text>,
+    reply: Option<&Text>,
+) -> Result<Fields, NoMemory>
+    ensures { IfOk result (λ r. r ≡ cells.date_pairs (option_copied input.entry) (option_copied busy.entry) (option_copied idle.entry) (option_copied reply.entry)) }
 {
     let mut fields = Fields::new(alloc);
-    put_date(alloc, &mut fields, "iopub.execute_input", &held.input)?;
-    put_date(alloc, &mut fields, "iopub.status.busy", &held.busy)?;
-    put_date(alloc, &mut fields, "iopub.status.idle", &held.idle)?;
-    put_date(alloc, &mut fields, "shell.execute_reply", &held.reply)?;
+    put_date(alloc, &mut fields, "iopub.execute_input", input)?;
+    put_date(alloc, &mut fields, "iopub.status.busy", busy)?;
+    put_date(alloc, &mut fields, "iopub.status.idle", idle)?;
+    put_date(alloc, &mut fields, "shell.execute_reply", reply)?;
     Ok(fields)
 }
 
@@ -145,9 +160,9 @@ fn put_date(
     alloc: Global,
     fields: &mut Fields,
     key: &str,
-    date: &Option<Text>,
+    date: Option<&Text>,
 ) -> Result<(), NoMemory>
-    ensures { OnOk result (fields.new ≡ fields.old ++ dated key.now date.now) }
+    ensures { OnOk result (fields.new ≡ fields.old ++ dated key.now (option_copied date.entry)) }
 {
     match date {
         Some(text) => fields.push(text_pair(alloc, key, text.as_str())?),

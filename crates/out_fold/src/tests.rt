@@ -1,5 +1,5 @@
 //! Outputs, counts and dates after a few messages, written one a line.
-ghost use Rattle.std.specs.Prelude.{◌≡◌, ◌<◌};
+ghost use Rattle.std.specs.Prelude.{◌≡◌, ◌<◌, IfOk};
 ghost use Rattle.out_fold.specs.Stands.{cells_of, next_of};
 
 use crate::Fold;
@@ -59,7 +59,7 @@ fn give(alloc: Global, fold: &mut Fold, lines: &str) -> Result<(), NoMemory>
     ensures next { next_of fold.new ≡ next_of fold.old }
     ensures cells { cells_of fold.new ≡ cells_of fold.old }
 {
-    let date = Text::of(alloc, "D")?;
+    let date = Text::of(alloc, "2026-11-27T09:00:00.123456Z")?;
     for line in lines.split(';') {
         let content = content(alloc, line)?;
         fold.take(&content, Some(&date))?;
@@ -101,6 +101,10 @@ stream o a;clear now -> []
 clear now;clear later;stream o a -> [{"name":"o","output_type":"stream","text":["a"]}]
 stream o a;clear later;update x 1;status idle -> [{"name":"o","output_type":"stream","text":["a"]}]
 update x 1 -> []
+clear now -> []
+clear later -> []
+clear later;clear later;error E v;stream o a -> [{"ename":"E","evalue":"v","output_type":"error","traceback":["v"]},{"name":"o","output_type":"stream","text":["a"]}]
+update y 1;clear later;show x 2;update y 3 -> [{"data":{"text/plain":["2"]},"metadata":{},"output_type":"display_data"}]
 show x 0;update x 1 -> [{"data":{"text/plain":["1"]},"metadata":{},"output_type":"display_data"}]"#;
 
 const STORED: &str =
@@ -168,7 +172,8 @@ fn dates_are_those_of_the_last_messages(rt: HostRuntime) -> Result<(), Fail> {
     let date = Text::of(alloc, "R")?;
     fold.reply(Some(&date))?;
     let said = write_compact(alloc, &Json::Obj(fold.dates(0)?))?;
-    let dates = r#"{"iopub.execute_input":"D","iopub.status.idle":"D","shell.execute_reply":"R"}"#;
+    let dates =
+        r#"{"iopub.execute_input":"2026-11-27T09:00:00.123456Z","iopub.status.idle":"2026-11-27T09:00:00.123456Z","shell.execute_reply":"R"}"#;
     assert!(rt; said.bytes() == dates.as_bytes());
     Ok(())
 }
@@ -186,5 +191,52 @@ fn an_update_touches_the_cells_that_show_it(rt: HostRuntime) -> Result<(), Fail>
     fold.start(3);
     give(alloc, &mut fold, "update x 2")?;
     assert_eq!(rt; fold.touched().as_slice(), [0u32, 3].as_slice());
+    Ok(())
+}
+
+/// Whether the cell has that many outputs, and each is this one.
+fn all_are(
+    alloc: Global,
+    fold: &Fold,
+    cell: u32,
+    outputs: usize,
+    one: &str,
+) -> Result<bool, NoMemory>
+    requires { cell < cells_of fold.now }
+{
+    let items = fold.outputs(cell)?;
+    for item in items.as_slice() {
+        let said = write_compact(alloc, item)?;
+        if said.bytes() != one.as_bytes() {
+            return Ok(false);
+        }
+    }
+    Ok(items.len() == outputs)
+}
+
+/// A fold of two cells: many outputs of one display in the first, and one in the second, which updates it.
+fn updated(alloc: Global, outputs: u32) -> Result<Fold, NoMemory>
+    ensures { IfOk result (λ f. cells_of f ≡ 2) }
+{
+    let mut fold = Fold::new(alloc, 2, false)?;
+    let show = content(alloc, "show x 1")?;
+    fold.start(0);
+    for shown in 0..outputs {
+        fold.take(&show, None)?;
+    }
+    fold.start(1);
+    give(alloc, &mut fold, "show x 2;update y 3;update x 4")?;
+    Ok(fold)
+}
+
+const FOUR: &str = r#"{"data":{"text/plain":["4"]},"metadata":{},"output_type":"display_data"}"#;
+
+#[test]
+fn ten_thousand_outputs_of_one_display_show_its_last_update(rt: HostRuntime) -> Result<(), Fail> {
+    let fold = updated(rt.alloc(), 10_000)?;
+    let first = all_are(rt.alloc(), &fold, 0, 10_000, FOUR)?;
+    assert!(rt; first);
+    let second = all_are(rt.alloc(), &fold, 1, 1, FOUR)?;
+    assert!(rt; second);
     Ok(())
 }

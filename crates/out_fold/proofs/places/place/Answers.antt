@@ -1,4 +1,3 @@
-use Rattle.std.proofs.Common.{◌≡◌}
 use Rattle.out_fold.proofs.PlaceLemmas.{placed-unnamed}
 use Rattle.out_fold.proofs.places.place.Goals as goal
 

@@ -1,4 +1,3 @@
-use Rattle.std.proofs.Common.{◌≡◌}
 use Rattle.out_fold.proofs.PlaceLemmas.{placed-nothing}
 use Rattle.out_fold.proofs.places.place_named.Goals as goal
 

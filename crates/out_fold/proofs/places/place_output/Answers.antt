@@ -1,4 +1,4 @@
-use Rattle.std.proofs.Common.{◌≡◌, ◌∙◌, sym, ap, rules}
+use Rattle.std.proofs.Common.{rules}
 use Rattle.out_fold.proofs.Answered.{on_ok, on_err}
 use Rattle.out_fold.proofs.PlaceLemmas.{placed-already, placed-added, grown-same}
 use Rattle.out_fold.proofs.places.place_output.Goals as goal

@@ -1,7 +1,7 @@
-use Rattle.std.proofs.Common.{◌≡◌, ◌∙◌, ◌&&◌, true, sym, ap, refl}
+use Rattle.std.proofs.Common.{◌≡◌, ◌∙◌, ◌&&◌, true, sym, ap}
 use Rattle.std.specs.List.{list_all}
 use Rattle.out_fold.specs.Plans.{is_in}
-use Rattle.out_fold.proofs.PlanLemmas.{covers-all, covers-union}
+use Rattle.out_fold.proofs.PlanLemmas.{covers-all}
 use Rattle.out_fold.proofs.plans.cells_with.Goals as goal
 
 pub returns-then-has_all : goal.returns-then-has_all

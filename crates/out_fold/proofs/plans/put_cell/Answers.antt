@@ -1,4 +1,4 @@
-use Rattle.std.proofs.Common.{◌≡◌, ◌∙◌, false, sym, ap}
+use Rattle.std.proofs.Common.{◌≡◌, ◌∙◌, false, ap}
 use Rattle.std.specs.List.{insert}
 use Rattle.out_fold.specs.Plans.{is_in, lead}
 use Rattle.out_fold.proofs.Answered.{on_ok}

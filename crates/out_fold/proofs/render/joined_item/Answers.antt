@@ -1,4 +1,4 @@
-use Rattle.std.proofs.Common.{◌≡◌, ◌∙◌, ap}
+use Rattle.std.proofs.Common.{◌∙◌, ap}
 use Rattle.out_fold.specs.Shown.{resolved}
 use Rattle.out_fold.specs.Tree.{output_tree, stream_tree}
 use Rattle.out_fold.specs.Held.{data_of}

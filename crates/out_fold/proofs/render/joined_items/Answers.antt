@@ -1,4 +1,3 @@
-use Rattle.std.proofs.Common.{◌≡◌, ◌∙◌, ap, rules}
 use Rattle.out_fold.specs.Shown.{resolved}
 use Rattle.out_fold.specs.Tree.{output_tree}
 use Rattle.out_fold.specs.Held.{data_of}

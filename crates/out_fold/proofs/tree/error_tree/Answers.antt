@@ -1,4 +1,4 @@
-use Rattle.std.proofs.Common.{◌≡◌, ◌∙◌, ap, codes}
+use Rattle.std.proofs.Common.{ap, codes}
 use Rattle.jtext.specs.declared.json.Json.TheVariants as json
 use Rattle.out_fold.proofs.Answered.{if_ok}
 use Rattle.out_fold.proofs.Objects.{keyed, of_4}

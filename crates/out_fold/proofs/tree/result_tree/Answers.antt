@@ -1,4 +1,4 @@
-use Rattle.std.proofs.Common.{◌≡◌, ◌∙◌, ap, codes}
+use Rattle.std.proofs.Common.{codes}
 use Rattle.out_fold.proofs.Answered.{if_ok}
 use Rattle.out_fold.proofs.Objects.{keyed, of_4}
 use Rattle.out_fold.proofs.tree.result_tree.Goals as goal

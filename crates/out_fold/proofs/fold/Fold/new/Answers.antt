@@ -1,4 +1,4 @@
-use Rattle.std.proofs.Common.{◌≡◌, refl}
+use Rattle.std.proofs.Common.{refl}
 use Rattle.out_fold.proofs.StandLemmas.{new-stands-for}
 use Rattle.out_fold.proofs.fold.Fold.new.Goals as goal
 

@@ -1,4 +1,4 @@
-use Rattle.std.proofs.Common.{◌≡◌, ◌∙◌, refl, sym, ap, unwrap_or, List, []}
+use Rattle.std.proofs.Common.{refl, []}
 use Rattle.std.specs.Option.{option_copied}
 use Rattle.out_fold.proofs.Answered.{given_err}
 use Rattle.out_fold.proofs.StandLemmas.{last-cell, reply-stands-for, reply-rested}

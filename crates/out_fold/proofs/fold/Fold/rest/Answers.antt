@@ -1,4 +1,4 @@
-use Rattle.std.proofs.Common.{◌≡◌, refl}
+use Rattle.std.proofs.Common.{refl}
 use Rattle.out_fold.proofs.fold.Fold.rest.Goals as goal
 
 pub returns-clause-stands : goal.returns-clause-stands

@@ -1,4 +1,4 @@
-use Rattle.std.proofs.Common.{◌≡◌, refl}
+use Rattle.std.proofs.Common.{refl}
 use Rattle.out_fold.proofs.StandLemmas.{begun-stands-for, begun-rested}
 use Rattle.out_fold.proofs.fold.Fold.start.Goals as goal
 

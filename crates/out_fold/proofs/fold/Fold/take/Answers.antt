@@ -1,7 +1,4 @@
-use Rattle.std.proofs.Common.{◌≡◌, ◌∙◌, refl, sym, ap, unwrap_or, List}
 use Rattle.std.specs.Option.{option_copied}
-use Rattle.out_fold.specs.Placing.{named_places}
-use Rattle.out_fold.specs.Plans.{Covers}
 use Rattle.out_fold.proofs.Answered.{given_err}
 use Rattle.out_fold.proofs.StandLemmas.{last-cell, message-stands-for, message-rested, grown-stands-for, placed-stands-for}
 use Rattle.out_fold.proofs.fold.Fold.take.Goals as goal

@@ -1,4 +1,4 @@
-use Rattle.std.proofs.Common.{◌≡◌, ℕ, ap, ◌∙◌}
+use Rattle.std.proofs.Common.{ap, ◌∙◌}
 use Rattle.out_fold.specs.declared.folded.Folded.{Folded}
 use Rattle.out_fold.proofs.FoldLemmas.{count-at}
 use Rattle.out_fold.proofs.folds.Folds.count.Goals as goal

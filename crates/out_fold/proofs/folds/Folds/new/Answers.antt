@@ -1,4 +1,4 @@
-use Rattle.std.proofs.Common.{◌≡◌, ℕ, refl}
+use Rattle.std.proofs.Common.{refl}
 use Rattle.out_fold.proofs.FoldLemmas.{new-stands}
 use Rattle.out_fold.proofs.folds.Folds.new.Goals as goal
 

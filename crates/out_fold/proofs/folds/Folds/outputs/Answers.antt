@@ -1,4 +1,4 @@
-use Rattle.std.proofs.Common.{◌≡◌, ℕ, ap, ◌∙◌, map}
+use Rattle.std.proofs.Common.{ap, ◌∙◌, map}
 use Rattle.out_fold.specs.declared.folded.Folded.{Folded}
 use Rattle.out_fold.specs.Shown.{resolved}
 use Rattle.out_fold.specs.Tree.{output_tree}

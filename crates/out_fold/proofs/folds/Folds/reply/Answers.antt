@@ -1,4 +1,4 @@
-use Rattle.std.proofs.Common.{◌≡◌, ℕ, refl, ap}
+use Rattle.std.proofs.Common.{refl, ap}
 use Rattle.std.specs.Option.{option_copied}
 use Rattle.out_fold.proofs.FoldLemmas.{reply-stands}
 use Rattle.out_fold.proofs.folds.Folds.reply.Goals as goal

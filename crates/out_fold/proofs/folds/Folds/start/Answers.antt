@@ -1,5 +1,5 @@
-use Rattle.std.proofs.Common.{◌≡◌, ◌-◌, ℕ, refl, ap, ◌∙◌, set}
-use Rattle.out_fold.proofs.FoldLemmas.{Starts, start-stands}
+use Rattle.std.proofs.Common.{◌-◌, refl, ap, ◌∙◌, set}
+use Rattle.out_fold.proofs.FoldLemmas.{start-stands}
 use Rattle.out_fold.proofs.folds.Folds.start.Goals as goal
 
 pub returns-clause-stands : goal.returns-clause-stands

@@ -1,4 +1,3 @@
-use Rattle.std.proofs.Common.{◌≡◌, ℕ}
 use Rattle.std.specs.Option.{option_copied}
 use Rattle.out_fold.proofs.Answered.{on_ok, on_err}
 use Rattle.out_fold.proofs.FoldLemmas.{same-shape, took-stands, kept-stands}

@@ -1,4 +1,4 @@
-use Rattle.std.proofs.Common.{◌≡◌, ℕ, arith}
+use Rattle.std.proofs.Common.{arith}
 use Rattle.std.proofs.lemmas.Map.Text.{text_keys}
 use Rattle.out_fold.proofs.latest.Latest.put.Goals as goal
 
