@@ -3,9 +3,12 @@
 #![tactic(auto)]
 
 mod hmac;
+mod key_block;
 mod seen;
+mod signer;
 #[cfg(test)]
 mod tests;
 
 pub use hmac::{check, sign};
 pub use seen::Seen;
+pub use signer::Signer;

@@ -1,4 +1,4 @@
-use crate::{Seen, check, sign};
+use crate::{Seen, Signer, check, sign};
 use std::test::Fail;
 
 /// A key, four frames, and the signature that they have.
@@ -9,6 +9,15 @@ fn signs_as(case: &Case) -> bool {
     let [header, parent, metadata, content] = frames;
     let signature = sign(key, header, parent, metadata, content);
     signature.as_slice() == *expected && check(key, header, parent, metadata, content, expected)
+}
+
+/// The same by one signer, twice.
+fn signer_signs_as(case: &Case) -> bool {
+    let (key, frames, expected) = case;
+    let [header, parent, metadata, content] = frames;
+    let signer = Signer::new(key);
+    let signature = signer.sign(header, parent, metadata, content);
+    signature.as_slice() == *expected && signer.check(header, parent, metadata, content, expected)
 }
 
 /// RFC 4231, sections 4.2 to 4.8 without the truncated one, each message cut into four frames.
@@ -57,7 +66,7 @@ fn signs_the_cases_of_rfc_4231(rt: HostRuntime) -> Result<(), Fail> {
         ),
     ];
     for case in &cases {
-        assert!(rt; signs_as(case));
+        assert!(rt; signs_as(case) && signer_signs_as(case));
     }
     Ok(())
 }
@@ -83,7 +92,7 @@ fn hashes_keys_longer_than_a_block(rt: HostRuntime) -> Result<(), Fail> {
         ),
     ];
     for case in &cases {
-        assert!(rt; signs_as(case));
+        assert!(rt; signs_as(case) && signer_signs_as(case));
     }
     Ok(())
 }
