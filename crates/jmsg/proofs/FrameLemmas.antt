@@ -1,12 +1,11 @@
 -- Lemmas on the delimiter and the frames after it.
-use Rattle.std.proofs.Common.{◌≡◌, ℕ, ◌+◌, ◌-◌, ◌<◌, ◌≤◌, ◌≢◌, Bool, true, false, cond, not, List, [], ◌∷◌, ◌++◌, length, take, drop, get_or, Option, Some, None, IsTrue, Result, Ok, Err, refl, sym, ◌∙◌, ap, subst, arith, nat_lt, suc}
-use Rattle.std.specs.List.{AllByRecursion, position, position_or_len}
+use Rattle.std.proofs.Common.{◌≡◌, ℕ, ◌+◌, ◌<◌, ◌≤◌, ◌≢◌, Bool, true, false, cond, not, List, [], ◌∷◌, ◌++◌, length, drop, get_or, Option, Some, None, IsTrue, Result, Ok, Err, refl, sym, ◌∙◌, ap, subst, arith, nat_lt, suc}
+use Rattle.std.specs.List.{position, position_or_len}
 use Rattle.std.specs.Array.{IsWholeChunk}
 use Rattle.std.specs.Option.{IfSome}
 use Rattle.std.specs.Result.{result_ok, MatchResult}
 use Rattle.std.specs.Str.{bytes_eq}
 use Rattle.std.proofs.lemmas.Bool.{ltb-true, ltb-false}
-use Rattle.std.proofs.lemmas.List.{take_rest}
 use Rattle.std.proofs.lemmas.Slice.Eq.{bytes_eq-Decides}
 use Rattle.jmsg.specs.Signed.{delimiter, AreRouting, Follow, Frames}
 

@@ -1,5 +1,5 @@
 -- Lemmas on the dictionary of a header.
-use Rattle.std.proofs.Common.{◌≡◌, ◌≢◌, ℕ, ◌≤◌, ◌<◌, zero, suc, nat_lt, get_or, lit<, Bool, ◌&&◌, true, false, IsTrue, List, [], ◌∷◌, ◌++◌, codes, Option, Some, None, refl, sym, ◌∙◌, ap, subst, rules, arith}
+use Rattle.std.proofs.Common.{◌≡◌, ◌≢◌, ℕ, ◌≤◌, ◌<◌, zero, suc, nat_lt, get_or, lit<, Bool, ◌&&◌, true, false, List, [], ◌∷◌, codes, Option, Some, None, refl, ◌∙◌, ap, rules, arith}
 use Rattle.std.specs.List.{AllByRecursion, list_all}
 use Rattle.std.specs.Option.{IfSome, unwrap_or}
 use Rattle.std.specs.Str.{IsUtf8, bytes_eq}
@@ -9,7 +9,7 @@ use Rattle.std.proofs.lemmas.Str.{IsUtf8-from_ascii}
 use Rattle.jtext.specs.Depth.{depth}
 use Rattle.jtext.specs.Find.{find, fields_of}
 use Rattle.jtext.proofs.Depths.{depth-Obj, depth-Str, pairs-le}
-use Rattle.jtext.specs.Grammar.{Distinct, Lacks}
+use Rattle.jtext.specs.Grammar.{Distinct}
 use Rattle.jtext.specs.Keyed as keyed
 use Rattle.jtext.specs.Keyed.{Keyed, PairsKeyed}
 use Rattle.jtext.specs.Sound as sound
@@ -39,25 +39,31 @@ at ps key s found = ap (λ r. text_of (find key (fields_of r))) (out-Obj ps) ∙
 none_at : (ps : List (List ℕ × Json)) (key : List ℕ) → find key ps ≡ None → text_at (json.Obj ps) key ≡ None
 none_at ps key found = ap (λ r. text_of (find key (fields_of r))) (out-Obj ps) ∙ ap text_of found
 
-abbrev with_texts : List ℕ → List ℕ → Option (List ℕ) → Option (List ℕ) → Option (List ℕ) → Option (List ℕ) → Option Header
+abbrev pub with_texts : List ℕ → List ℕ → Option (List ℕ) → Option (List ℕ) → Option (List ℕ) → Option (List ℕ) → Option Header
 with_texts i t s u d v = Some (header i (unwrap_or s []) (unwrap_or u []) d t (unwrap_or v []))
 
-read_by : (j : Json) (i s u : List ℕ) (d : Option (List ℕ)) (t v : List ℕ) → text_at j (codes "msg_id") ≡ Some i → text_at j (codes "session") ≡ Some s → text_at j (codes "username") ≡ Some u
-    → text_at j (codes "date") ≡ d → text_at j (codes "msg_type") ≡ Some t → text_at j (codes "version") ≡ Some v → header_of j ≡ Some (header i s u d t v)
-read_by j i s u d t v ei es eu ed et ev =
+pub read_by : (j : Json) (i t : List ℕ) (s u d v : Option (List ℕ)) → text_at j (codes "msg_id") ≡ Some i → text_at j (codes "msg_type") ≡ Some t → text_at j (codes "session") ≡ s
+    → text_at j (codes "username") ≡ u → text_at j (codes "date") ≡ d → text_at j (codes "version") ≡ v → header_of j ≡ with_texts i t s u d v
+read_by j i t s u d v ei et es eu ed ev =
     ap (header_named j) ei ∙ ap (header_typed j i) et
     ∙ ap (λ x. with_texts i t x (text_at j (codes "username")) (text_at j (codes "date")) (text_at j (codes "version"))) es
-    ∙ ap (λ x. with_texts i t (Some s) x (text_at j (codes "date")) (text_at j (codes "version"))) eu
-    ∙ ap (λ x. with_texts i t (Some s) (Some u) x (text_at j (codes "version"))) ed
-    ∙ ap (λ x. with_texts i t (Some s) (Some u) d x) ev
+    ∙ ap (λ x. with_texts i t s x (text_at j (codes "date")) (text_at j (codes "version"))) eu
+    ∙ ap (λ x. with_texts i t s u x (text_at j (codes "version"))) ed
+    ∙ ap (λ x. with_texts i t s u d x) ev
+
+pub unnamed : (j : Json) → text_at j (codes "msg_id") ≡ None → header_of j ≡ None
+unnamed j e = ap (header_named j) e
+
+pub untyped : (j : Json) (i : List ℕ) → text_at j (codes "msg_id") ≡ Some i → text_at j (codes "msg_type") ≡ None → header_of j ≡ None
+untyped j i ei et = ap (header_named j) ei ∙ ap (header_typed j i) et
 
 read_again : (i s u : List ℕ) (d : Option (List ℕ)) (t v : List ℕ) → header_of (tree_of (header i s u d t v)) ≡ Some (header i s u d t v)
 read_again i s u None t v =
     let ps = pairs_of (header i s u None t v) in
-    read_by (json.Obj ps) i s u None t v (at ps _ i refl) (at ps _ s refl) (at ps _ u refl) (none_at ps _ refl) (at ps _ t refl) (at ps _ v refl)
+    read_by (json.Obj ps) i t (Some s) (Some u) None (Some v) (at ps _ i refl) (at ps _ t refl) (at ps _ s refl) (at ps _ u refl) (none_at ps _ refl) (at ps _ v refl)
 read_again i s u (Some d) t v =
     let ps = pairs_of (header i s u (Some d) t v) in
-    read_by (json.Obj ps) i s u (Some d) t v (at ps _ i refl) (at ps _ s refl) (at ps _ u refl) (at ps _ d refl) (at ps _ t refl) (at ps _ v refl)
+    read_by (json.Obj ps) i t (Some s) (Some u) (Some d) (Some v) (at ps _ i refl) (at ps _ t refl) (at ps _ s refl) (at ps _ u refl) (at ps _ d refl) (at ps _ v refl)
 
 pub header_again : (h : Header) → header_of (tree_of h) ≡ Some h
 header_again h = read_again h.msg_id h.session h.username h.date h.msg_type h.version

@@ -1,3 +1,4 @@
+pub mod PairsLemmas
 pub mod FrameLemmas
 pub mod VerdictLemmas
 pub mod MessageLemmas

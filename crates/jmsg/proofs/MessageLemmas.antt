@@ -11,7 +11,7 @@ use Rattle.jmsg.specs.declared.message.Message.{Message}
 use Rattle.jmsg.specs.Dictionary.{IsDictionary}
 use Rattle.jmsg.specs.Header.{tree_of}
 use Rattle.jmsg.specs.Encoded.{encoded, header_text, IsSendable, IsSendableTree}
-use Rattle.jmsg.specs.Signed.{Give, Signed}
+use Rattle.jmsg.specs.Signed.{Signed}
 use Rattle.jmsg.proofs.HeaderLemmas.{header_again, header_sendable}
 
 abbrev pub built : Header → Option (List ℕ) → Json → Json → Json → List (List ℕ) → Message

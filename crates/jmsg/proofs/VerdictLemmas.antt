@@ -1,5 +1,5 @@
 -- Only one verdict is true of parts.
-use Rattle.std.proofs.Common.{◌≡◌, ℕ, ◌<◌, ◌≤◌, List, [], ◌∷◌, length, refl, sym, ◌∙◌, ap, subst, arith}
+use Rattle.std.proofs.Common.{◌≡◌, ℕ, ◌<◌, List, ◌∷◌, length, refl, ap, arith}
 use Rattle.jsign.specs.Hmac as hmac
 use Rattle.jmsg.specs.declared.message.Message.{Message}
 use Rattle.jmsg.specs.declared.decoded.Decoded.{Decoded}

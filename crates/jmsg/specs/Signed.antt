@@ -1,5 +1,5 @@
 -- Signed messages (Jupyter messaging 5.3, "The wire protocol"): routing frames, the delimiter, the signature, header, parent header, metadata, content, and raw buffers.
-use Rattle.std.specs.Prelude.{◌≡◌, ◌≢◌, ℕ, ◌<◌, List, [], ◌∷◌, ◌++◌, length, Option, Some, codes}
+use Rattle.std.specs.Prelude.{◌≡◌, ◌≢◌, ℕ, ◌<◌, List, ◌∷◌, ◌++◌, length, Some, codes}
 use Rattle.std.specs.List.{AllByRecursion}
 use Rattle.jsign.specs.Hmac as hmac
 use Rattle.jtext.specs.declared.json.Json.{Json}

@@ -1,10 +1,11 @@
 //! From a message to parts.
-ghost use Rattle.std.specs.Prelude.{◌≡◌, IfOk};
+ghost use Rattle.std.specs.Prelude.{◌≡◌, ℕ, List, IfOk};
+ghost use Rattle.jsign.specs.Signer.{SignsUnder};
 ghost use Rattle.jmsg.specs.Encoded.{encoded};
 
 use crate::Message;
 use crate::frames::{DELIMITER, append_copies};
-use jsign::sign;
+use jsign::Signer;
 use jtext::{Bytes, NoMemory, write_compact};
 use std::alloc::Global;
 use zmtp_wire::Parts;
@@ -13,12 +14,18 @@ use zmtp_wire::Parts;
 pub fn encode(alloc: Global, key: &[u8], m: &Message) -> Result<Parts, NoMemory>
     ensures { IfOk result (λ parts. parts ≡ encoded key.now m.now) }
 {
+    encode_under(alloc, &Signer::new(key), m)
+}
+
+/// Encodes as `encode` does under the signer's key, which isn't hashed again.
+pub fn encode_under(alloc: Global, signer: &Signer, m: &Message) -> Result<Parts, NoMemory>
+    ensures { (key : List ℕ) → SignsUnder signer.now key → IfOk result (λ parts. parts ≡ encoded key m.now) }
+{
     let header = write_compact(alloc, &m.header.tree(alloc)?)?;
     let parent = write_compact(alloc, &m.parent)?;
     let metadata = write_compact(alloc, &m.metadata)?;
     let content = write_compact(alloc, &m.content)?;
-    let signature = sign(
-        key,
+    let signature = signer.sign(
         header.bytes(),
         parent.bytes(),
         metadata.bytes(),

@@ -1,10 +1,9 @@
 //! The header of a message.
 ghost use Rattle.std.specs.Prelude.{◌≡◌, [], ◌∷◌, ◌++◌, IfOk, OnOk};
 ghost use Rattle.std.specs.Option.{unwrap_or};
-ghost use Rattle.jmsg.specs.Dictionary.{text_at};
 ghost use Rattle.jmsg.specs.Header as spec;
 
-use crate::dictionary::text_at;
+use crate::dictionary::{pairs_of, take_text};
 use jtext::{Fields, Json, NoMemory, Text};
 use std::alloc::Global;
 
@@ -26,24 +25,25 @@ pub struct Header {
 }
 
 impl Header {
-    /// Of its dictionary; `None` where `msg_id` or `msg_type` is no string there.
-    pub(crate) fn of(alloc: Global, t: &Json) -> Result<Option<Header>, NoMemory>
-        ensures { IfOk result (λ r. r ≡ spec.header_of t.now) }
+    /// Of its dictionary, whose texts it takes; `None` where `msg_id` or `msg_type` is no string there.
+    pub(crate) fn of(alloc: Global, t: Json) -> Option<Header>
+        ensures { result ≡ spec.header_of t }
     {
-        let Some(msg_id) = text_at(alloc, t, "msg_id")? else {
-            return Ok(None);
-        };
-        let Some(msg_type) = text_at(alloc, t, "msg_type")? else {
-            return Ok(None);
-        };
-        Ok(Some(Header {
+        let mut pairs = pairs_of(alloc, t);
+        let msg_id = take_text(&mut pairs, "msg_id")?;
+        let msg_type = take_text(&mut pairs, "msg_type")?;
+        let session = take_text(&mut pairs, "session");
+        let username = take_text(&mut pairs, "username");
+        let date = take_text(&mut pairs, "date");
+        let version = take_text(&mut pairs, "version");
+        Some(Header {
             msg_id,
-            session: text_or_empty(alloc, t, "session")?,
-            username: text_or_empty(alloc, t, "username")?,
-            date: text_at(alloc, t, "date")?,
+            session: or_empty(alloc, session),
+            username: or_empty(alloc, username),
+            date,
             msg_type,
-            version: text_or_empty(alloc, t, "version")?,
-        }))
+            version: or_empty(alloc, version),
+        })
     }
 
     /// Its dictionary, with no `date` where there is none.
@@ -63,13 +63,12 @@ impl Header {
     }
 }
 
-/// A copy of the string at the key, empty where there is no string.
-fn text_or_empty(alloc: Global, t: &Json, key: &str) -> Result<Text, NoMemory>
-    ensures { IfOk result (λ r. r ≡ unwrap_or (text_at t.now key.now) []) }
+fn or_empty(alloc: Global, text: Option<Text>) -> Text
+    ensures { result ≡ unwrap_or text [] }
 {
-    match text_at(alloc, t, key)? {
-        Some(text) => Ok(text),
-        None => Ok(Text::new(alloc)),
+    match text {
+        Some(text) => text,
+        None => Text::new(alloc),
     }
 }
 

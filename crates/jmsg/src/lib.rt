@@ -16,8 +16,8 @@ mod tests;
 
 pub use date::date_text;
 pub use decoded::Decoded;
-pub use encoder::encode;
+pub use encoder::{encode, encode_under};
 pub use frames::signature;
 pub use header::Header;
 pub use message::Message;
-pub use reader::decode;
+pub use reader::{decode, decode_under};

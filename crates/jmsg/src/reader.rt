@@ -1,5 +1,6 @@
 //! From parts to a message.
 ghost use Rattle.std.specs.Prelude.{◌≡◌, ℕ, List, IfOk, IfSome, Some};
+ghost use Rattle.jsign.specs.Signer.{SignsUnder};
 ghost use Rattle.jmsg.specs.declared.decoded.Decoded as verdict;
 ghost use Rattle.jmsg.specs.declared.message.Message as spec;
 ghost use Rattle.jmsg.specs.Signed.{Decodes, Give};
@@ -7,7 +8,7 @@ ghost use Rattle.jmsg.specs.Signed.{Decodes, Give};
 use crate::dictionary::{dictionary, text_at};
 use crate::frames::{after_delimiter, append_copies};
 use crate::{Decoded, Header, Message};
-use jsign::check;
+use jsign::Signer;
 use jtext::{Bytes, NoMemory};
 use std::alloc::Global;
 use zmtp_wire::Parts;
@@ -21,6 +22,14 @@ pub fn decode(alloc: Global, key: &[u8], parts: &Parts) -> Result<Decoded, NoMem
     // and nothing else is true of these parts.
     ensures only { (decoded : verdict.Decoded) → Decodes key.now parts.now decoded → IfOk result (λ r. r ≡ decoded) }
 {
+    decode_under(alloc, &Signer::new(key), parts)
+}
+
+/// Decodes as `decode` does under the signer's key, which isn't hashed again.
+pub fn decode_under(alloc: Global, signer: &Signer, parts: &Parts) -> Result<Decoded, NoMemory>
+    ensures is { (key : List ℕ) → SignsUnder signer.now key → IfOk result (λ decoded. Decodes key parts.now decoded) }
+    ensures only { (key : List ℕ) → SignsUnder signer.now key → (decoded : verdict.Decoded) → Decodes key parts.now decoded → IfOk result (λ r. r ≡ decoded) }
+{
     let Some(after) = after_delimiter(parts.as_slice()) else {
         return Ok(Decoded::NoDelimiter);
     };
@@ -29,7 +38,7 @@ pub fn decode(alloc: Global, key: &[u8], parts: &Parts) -> Result<Decoded, NoMem
     };
     let (header, parent) = (header.bytes(), parent.bytes());
     let (metadata, content) = (metadata.bytes(), content.bytes());
-    let signed = check(key, header, parent, metadata, content, signature.bytes());
+    let signed = signer.check(header, parent, metadata, content, signature.bytes());
     if !signed {
         return Ok(Decoded::Unsigned);
     }
@@ -55,7 +64,7 @@ fn message(
     let Some(named) = dictionary(alloc, header)? else {
         return Ok(None);
     };
-    let Some(header) = Header::of(alloc, &named)? else {
+    let Some(header) = Header::of(alloc, named) else {
         return Ok(None);
     };
     let Some(parent) = dictionary(alloc, parent)? else {

@@ -1,7 +1,7 @@
 use Rattle.std.proofs.Common.{◌≡◌, ◌∙◌, ◌+ℤ◌, ◌*ℤ◌, ◌*◌, ap, pos, w64, arith}
 use Rattle.std.proofs.lemmas.Int.{to_z_pos}
 use Rattle.jiff.proofs.SpanFacts.{signed_arith}
-use Rattle.jmsg.specs.Date.{text_of, IsDateText}
+use Rattle.jmsg.specs.Date.{IsDateText}
 use Rattle.jmsg.proofs.date.date_text.Goals as goal
 
 pub returns : goal.returns

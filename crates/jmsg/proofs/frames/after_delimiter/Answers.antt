@@ -1,4 +1,4 @@
-use Rattle.std.proofs.Common.{◌+◌, sym, ◌∙◌}
+use Rattle.std.proofs.Common.{sym, ◌∙◌}
 use Rattle.std.proofs.lemmas.List.{take_rest}
 use Rattle.jmsg.proofs.FrameLemmas.{follow_place, routing_alone}
 use Rattle.jmsg.proofs.frames.after_delimiter.Goals as goal
