@@ -1,7 +1,7 @@
 //! Decoding signed messages.
 use anyhow::{Result, bail};
-use jmsg::{Decoded, decode};
-use jsign::sign;
+use jmsg::{Decoded, decode, decode_under};
+use jsign::{Signer, check, sign};
 use jtext::{Bytes, NoMemory};
 use std::alloc::Global;
 use std::time::Instant;
@@ -14,13 +14,14 @@ const HEADER: &[u8] =
 
 const PARENT: &[u8] = b"{\"msg_id\":\"1_1\",\"msg_type\":\"execute_request\"}";
 
-/// Decodes one stream message `count` times, whose text has `size` octets.
+/// Decodes one stream message `count` times, whose text has `size` octets: under the key, then under
+/// a signer that was made of it once; then signs its frames as often.
 pub fn measure(rt: &HostRuntime, count: u32, size: u32) -> Result<()> {
     let Ok(parts) = message(rt.alloc(), size) else {
         bail!("no memory");
     };
-    let start = Instant::now(rt)?;
     let mut good = 0u32;
+    let start = Instant::now(rt)?;
     for _ in 0..count {
         if let Ok(Decoded::Good(_)) = decode(rt.alloc(), KEY, &parts) {
             good = good.saturating_add(1);
@@ -28,7 +29,36 @@ pub fn measure(rt: &HostRuntime, count: u32, size: u32) -> Result<()> {
     }
     let decoded = start.elapsed(rt)?.as_millis();
     println!(rt; "decode {decoded}")?;
+    let signer = Signer::new(KEY);
+    let start = Instant::now(rt)?;
+    for _ in 0..count {
+        if let Ok(Decoded::Good(_)) = decode_under(rt.alloc(), &signer, &parts) {
+            good = good.saturating_add(1);
+        }
+    }
+    let decoded = start.elapsed(rt)?.as_millis();
+    println!(rt; "decode_under {decoded}")?;
     println!(rt; "good {good}")?;
+    signatures(rt, count, &parts)
+}
+
+// The part of decoding that is the signature.
+fn signatures(rt: &HostRuntime, count: u32, parts: &Parts) -> Result<()> {
+    let [_, expected, header, parent, metadata, content] = parts.as_slice() else {
+        bail!("no memory");
+    };
+    let (header, parent) = (header.bytes(), parent.bytes());
+    let (metadata, content) = (metadata.bytes(), content.bytes());
+    let mut right = 0u32;
+    let start = Instant::now(rt)?;
+    for _ in 0..count {
+        if check(KEY, header, parent, metadata, content, expected.bytes()) {
+            right = right.saturating_add(1);
+        }
+    }
+    let checked = start.elapsed(rt)?.as_millis();
+    println!(rt; "check {checked}")?;
+    println!(rt; "right {right}")?;
     Ok(())
 }
 
