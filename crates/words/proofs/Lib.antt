@@ -9,3 +9,4 @@ pub mod JobsLaws
 pub mod PutLemmas
 pub mod RunnableWords
 pub mod RunnableJobs
+pub mod JobPaths
