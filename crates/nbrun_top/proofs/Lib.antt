@@ -1,7 +1,6 @@
-pub mod Digits
-pub mod Pairs
-pub mod Empties
-pub mod Refusals
 pub mod Rests
+pub mod Saves
+pub mod Spared
+pub mod Heard
+pub mod Ends
 pub mod Runs
-pub mod Promises

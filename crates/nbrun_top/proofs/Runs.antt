@@ -1,80 +1,129 @@
 -- From the steps of a run to what it asked of the world.
-use Rattle.std.proofs.Common.{◌≡◌, ◌≢◌, ◌⊎◌, inl, inr, ℕ, ◌+◌, ◌-◌, ◌<◌, ◌≤◌, Bool, true, false, not, List, [], ◌∷◌, ◌++◌, length, take, drop, Option, Some, None, Result, Ok, Err, refl, sym, ◌∙◌, ap, subst, arith}
-use Rattle.jtext.specs.Number.{IsNumber}
+use Rattle.std.proofs.Common.{◌≡◌, ◌⊎◌, inl, inr, ℕ, ◌≤◌, true, List, [], length, Some, None, Ok, Err, refl, sym, ◌∙◌, ap, subst, arith}
+use Rattle.std.proofs.lemmas.Grind.{common_steps}
+use Rattle.std.proofs.lemmas.List.{nil_from_length}
+use Rattle.std.specs.Prelude.{◌==◌}
+use Rattle.nb_model.specs.declared.notebook.Notebook.{Notebook}
+use Rattle.nb_model.specs.Injected.{language}
+use Rattle.nb_params.specs.Refused.{is_refused}
+use Rattle.nb_params.specs.declared.fault.InjectFault.{InjectFault}
+use Rattle.nb_params.specs.declared.fault.InjectFault.TheVariants as inject_fault
+use Rattle.words.specs.declared.ask.Ask.{Ask}
+use Rattle.words.specs.declared.command.Command.{Command}
+use Rattle.words.specs.declared.command.Command.TheVariants as command
+use Rattle.words.specs.declared.usage.Usage.{Usage}
+use Rattle.words.specs.declared.usage.Usage.TheVariants as usage_fault
+use Rattle.words.specs.Asked.{asked}
+use Rattle.words.specs.Refusals.{refusal}
+use Rattle.world.specs.Counts.{Rose}
 use Rattle.world.specs.declared.entry.Entry.{Entry}
-use Rattle.world.specs.declared.entry.Entry.TheVariants.{Read, Created, Wrote, Synced}
-use Rattle.world.specs.declared.entry.Did.TheVariants as did
 use Rattle.world.specs.declared.entry.ReadFile.{ReadFile}
 use Rattle.world.specs.declared.entry.ReadFile.TheVariants as found
-use Rattle.nbrun_top.specs.declared.status.Status.{Status}
-use Rattle.nbrun_top.specs.declared.status.Status.TheVariants as status
-use Rattle.nbrun_top.specs.declared.plain.SaveFault.{SaveFault}
-use Rattle.nbrun_top.specs.Ask.{IsAsked, is_form, word, input, output, name, value}
+use Rattle.nbrun_top.specs.declared.end.End.{End}
+use Rattle.nbrun_top.specs.declared.end.End.TheVariants as end
+use Rattle.nbrun_top.specs.declared.plain.SaveFault.TheVariants as fault
+use Rattle.nbrun_top.specs.Asked.{IsJob, IsNotBuilt, is_not_built}
+use Rattle.nbrun_top.specs.Codes.{code_of}
+use Rattle.nbrun_top.specs.Ended.{Answers, Ended}
+use Rattle.nbrun_top.specs.Lines.{said}
+use Rattle.nbrun_top.specs.Said.{Says, said_of}
+use Rattle.nbrun_top.specs.Loaded.{IsNotebook, HasNoTranslator, Accepts, Refuses}
 use Rattle.nbrun_top.specs.Plain.{SaveOf}
-use Rattle.nbrun_top.specs.Prepared.{IsBuilt, IsTextFor, Refused}
-use Rattle.nbrun_top.specs.Beyond.{text_for}
-use Rattle.nbrun_top.specs.Ran.{Ran, read_of, not_asked, cannot_read, too_large, no_tree, not_built, not_valid, not_saved, done, no_memory, no_memory_later}
+use Rattle.nbrun_top.specs.Ran.{SavesAs, Prepares, Ran, read_of, text_of}
+use Rattle.nbrun_top.specs.Ran as ran
 
-true_is_false : {A : Type 0} → true ≡ false → A
-true_is_false e = cc
+-- ---- a save
 
--- ---- what was asked
+module _ (output text : List ℕ) (n : Notebook) (is : text ≡ text_of n) (before after : List Entry) where
+  pub saves_done : {U : Type 0} (u : U) (count : ℕ) → count ≡ length n.cells → SaveOf output text (Ok u) before after → SavesAs output n before (end.Done count) after
+  saves_done u count counted saved =
+      subst (λ k. SavesAs output n before (end.Done k) after) (sym counted) (ran.done after (subst (λ t. SaveOf {U = Unit {0}} output t (Ok tt) before after) is saved))
 
-pub asked_is : (words : List (List ℕ)) (b : Bool) (t : List ℕ) → b ≡ is_form words → b ≡ true → t ≡ word 5 words → IsNumber t → IsAsked words
-asked_is words b t form shaped is number = record { form = sym form ∙ shaped; number = subst IsNumber is number }
+  pub saves_not_written : (U : Type 0) → SaveOf {U = U} output text (Err fault.Write) before after → SavesAs output n before (end.NotSaved fault.Write) after
+  saves_not_written U saved = ran.not_saved fault.Write after (subst (λ t. SaveOf {U = Unit {0}} output t (Err fault.Write) before after) is saved)
 
-pub no_form : (words : List (List ℕ)) (b : Bool) → b ≡ is_form words → b ≡ false → IsAsked words → ⊥
-no_form words b form shut asked = true_is_false (sym asked.form ∙ sym form ∙ shut)
+  pub saves_not_synced : (U : Type 0) → SaveOf {U = U} output text (Err fault.Sync) before after → SavesAs output n before (end.NotSaved fault.Sync) after
+  saves_not_synced U saved = ran.not_saved fault.Sync after (subst (λ t. SaveOf {U = Unit {0}} output t (Err fault.Sync) before after) is saved)
 
-pub no_number : (words : List (List ℕ)) (t : List ℕ) → t ≡ word 5 words → (IsNumber t → ⊥) → IsAsked words → ⊥
-no_number words t is none asked = none (subst IsNumber (sym is) asked.number)
+pub not_made_at : (output : List ℕ) (n : Notebook) (e : End) → e ≡ end.NoMemory → (before : List Entry) → SavesAs output n before e before
+not_made_at output n e is before = subst (λ x. SavesAs output n before x before) (sym is) ran.not_made
+
+-- ---- the bytes of the input
+
+pub no_translator : (a : Ask) (n : Notebook) (f : InjectFault) (l : List ℕ) → f ≡ inject_fault.NoTranslator l
+    → (f ≡ inject_fault.NoMemory) ⊎ ((is_refused n a.params ≡ true) × (f ≡ inject_fault.NoTranslator (language n))) → (bytes : List ℕ) → IsNotebook bytes n → HasNoTranslator a bytes l
+no_translator a n f l is (inl memory) bytes read = cc
+no_translator a n f l is (inr why) bytes read = record { notebook = n; read = read; refused = why.0; named = same_language (sym is ∙ why.1) }
+  where
+    same_language : {k m : List ℕ} → inject_fault.NoTranslator k ≡ inject_fault.NoTranslator m → k ≡ m
+    same_language e = cc
 
 -- ---- by what the read answered
 
-module _ (words : List (List ℕ)) (path : List ℕ) (asked : IsAsked words) (is_input : path ≡ input words) where
-  at_input : (answer : ReadFile) (s : Status) (past : List Entry) → Ran words past s (read_of words answer past) → Ran words past s (Read path 33554432 answer ∷ past)
-  at_input answer s past ran = subst (λ p. Ran words past s (Read p 33554432 answer ∷ past)) (sym is_input) ran
+pub refused_at : (a : Ask) (answer : ReadFile) (e given : End) → (given ≡ e) ⊎ (given ≡ end.NoMemory) → (past : List Entry) → Prepares a past e (read_of a answer past) → Prepares a past given (read_of a answer past)
+refused_at a answer e given (inl same) past it = subst (λ x. Prepares a past x (read_of a answer past)) (sym same) it
+refused_at a answer e given (inr memory) past it = subst (λ x. Prepares a past x (read_of a answer past)) (sym memory) (ran.no_memory_later answer)
 
-  pub failed : (past : List Entry) → Ran words past status.ReadFault (Read path 33554432 found.Failed ∷ past)
-  failed past = at_input found.Failed status.ReadFault past (cannot_read asked)
+pub not_accepted_at : (a : Ask) (bytes seen : List ℕ) (e given : End) → seen ≡ bytes → Refuses a seen e → (given ≡ e) ⊎ (given ≡ end.NoMemory) → (past : List Entry) → Prepares a past given (read_of a (found.Whole bytes) past)
+not_accepted_at a bytes seen e given same why is past = refused_at a (found.Whole bytes) e given is past (ran.not_accepted bytes e (subst (λ b. Refuses a b e) same why))
 
-  pub big : (past : List Entry) → Ran words past status.BadNotebook (Read path 33554432 found.Big ∷ past)
-  big past = at_input found.Big status.BadNotebook past (too_large asked)
+pub saved_at : (a : Ask) (bytes seen : List ℕ) (n : Notebook) (e : End) → seen ≡ bytes → Accepts a seen n → (past read after : List Entry) → read ≡ read_of a (found.Whole bytes) past → SavesAs a.output n read e after → Prepares a past e after
+saved_at a bytes seen n e same accepted past read after is saved = ran.saves bytes n e after (subst (λ b. Accepts a b n) same accepted) (subst (λ r. SavesAs a.output n r e after) is saved)
 
-  pub refused_memory : (past : List Entry) → Ran words past status.NoMemory (Read path 33554432 found.NoMemory ∷ past)
-  refused_memory past = at_input found.NoMemory status.NoMemory past (no_memory_later found.NoMemory asked)
+-- ---- what is said
 
-  refused_at : (bytes : List ℕ) (s : Status) (past : List Entry) → Refused bytes s → Ran words past s (read_of words (found.Whole bytes) past)
-  refused_at bytes status.NotBuilt past r = not_built bytes r.0 asked r.1.gives r.1.beyond
-  refused_at bytes status.BadNotebook past (inl none) = no_tree bytes asked none
-  refused_at bytes status.BadNotebook past (inr r) = not_valid bytes r.0 asked r.1.gives r.1.within r.1.invalid
-  refused_at bytes status.NoMemory past r = no_memory_later (found.Whole bytes) asked
-  refused_at bytes status.Done past r = absurd r
-  refused_at bytes status.ReadFault past r = absurd r
-  refused_at bytes status.SaveFault past r = absurd r
+-- a count that rose above a later value rose above an earlier one
+pub rose_from : (a b c : ℕ) → a ≤ b → Rose b c → Rose a c
+rose_from a b c low rose = grind (arith, common_steps)
 
-  pub refused_notebook : (bytes seen : List ℕ) (s : Status) (past : List Entry) → seen ≡ bytes → Refused seen s → Ran words past s (Read path 33554432 (found.Whole bytes) ∷ past)
-  refused_notebook bytes seen s past same r = at_input (found.Whole bytes) s past (refused_at bytes s past (subst (λ b. Refused b s) same r))
+pub no_rest : (xs : List ℕ) → true ≡ (length xs == 0) → xs ≡ []
+no_rest xs e = nil_from_length xs (grind (arith, common_steps))
 
-  -- ---- and then a save
+-- ---- by what the words are
 
-  module _ (bytes seen out n v text t : List ℕ) (same : seen ≡ bytes) (is_output : out ≡ output words) (is_name : n ≡ name words) (is_value : v ≡ value words)
-      (is_text : t ≡ text) (ready : IsTextFor seen n v text) where
-    ready_here : IsTextFor bytes (name words) (value words) text
-    ready_here = subst (λ b. IsTextFor b (name words) (value words) text) same (subst (λ w. IsTextFor seen (name words) w text) is_value (subst (λ w. IsTextFor seen w v text) is_name ready))
+pub asks_for : (words : List (List ℕ)) (c : Command) (a : Ask) → c ≡ asked words → c ≡ command.One a → refusal words ≡ None → a.prepare ≡ true → IsJob words a
+asks_for words c a is one taken prepares = record { taken = taken; asks = sym is ∙ one; prepares = prepares }
 
-    text_here : t ≡ text_for words ready_here.tree
-    text_here = is_text ∙ ready_here.printed
+pub asks_other : (words : List (List ℕ)) (c d : Command) → c ≡ asked words → c ≡ d → refusal words ≡ None → is_not_built d ≡ true → IsNotBuilt words
+asks_other words c d is also taken other = record { taken = taken; other = ap is_not_built (sym is ∙ also) ∙ other }
 
-    saved_here : {U : Type 0} (result : Result U SaveFault) (past after : List Entry) → SaveOf out t result (Read path 33554432 (found.Whole bytes) ∷ past) after
-        → SaveOf (output words) (text_for words ready_here.tree) result (read_of words (found.Whole bytes) past) after
-    saved_here result past after s =
-        subst (λ p. SaveOf (output words) (text_for words ready_here.tree) result (Read p 33554432 (found.Whole bytes) ∷ past) after) is_input
-        (subst (λ x. SaveOf (output words) x result (Read path 33554432 (found.Whole bytes) ∷ past) after) text_here
-        (subst (λ o. SaveOf o t result (Read path 33554432 (found.Whole bytes) ∷ past) after) is_output s))
+pub not_built_at : (words : List (List ℕ)) (given : End) → (given ≡ end.NotBuilt) ⊎ (given ≡ end.NoMemory) → IsNotBuilt words → (before : List Entry) → Ran words before given before
+not_built_at words given (inl same) is before = subst (λ e. Ran words before e before) (sym same) (ran.not_built is)
+not_built_at words given (inr memory) is before = subst (λ e. Ran words before e before) (sym memory) ran.no_memory
 
-    pub saved_well : {U : Type 0} (u : U) (past after : List Entry) → SaveOf out t (Ok u) (Read path 33554432 (found.Whole bytes) ∷ past) after → Ran words past status.Done after
-    saved_well u past after s = done bytes ready_here.tree after asked ready_here.built.gives ready_here.built.within ready_here.built.valid (saved_here (Ok u) past after s)
+no_memory_at : (words : List (List ℕ)) (given : End) → given ≡ end.NoMemory → (before : List Entry) → Ran words before given before
+no_memory_at words given memory before = subst (λ e. Ran words before e before) (sym memory) ran.no_memory
 
-    pub saved_badly : (U : Type 0) (e : SaveFault) (past after : List Entry) → SaveOf {U = U} out t (Err e) (Read path 33554432 (found.Whole bytes) ∷ past) after → Ran words past status.SaveFault after
-    saved_badly U e past after s = not_saved bytes ready_here.tree e after asked ready_here.built.gives ready_here.built.within ready_here.built.valid (saved_here {U = U} (Err e) past after s)
+pub usage_at : (words : List (List ℕ)) (u : Usage) (given : End) → (given ≡ end.Refused u) ⊎ (given ≡ end.NoMemory) → (u ≡ usage_fault.NoMemory → given ≡ end.NoMemory)
+    → (u ≡ usage_fault.NoMemory) ⊎ (refusal words ≡ Some u) → (before : List Entry) → Ran words before given before
+usage_at words u given is memory (inl none) before = no_memory_at words given (memory none) before
+usage_at words u given (inr none) memory why before = no_memory_at words given none before
+usage_at words u given (inl same) memory (inr why) before = subst (λ e. Ran words before e before) (sym same) (ran.refused u why)
+
+-- ---- the whole run
+
+pub said_text : (words : List (List ℕ)) (e : End) (text result : List ℕ) → (e ≡ end.NoMemory) ⊎ (text ≡ said_of words e) → (e ≡ end.NoMemory → result ≡ said [] [] end.NoMemory)
+    → ((e ≡ end.NoMemory → ⊥) → result ≡ text) → result ≡ said_of words e
+said_text words e text result (inl memory) m t = m memory ∙ ap (said_of words) (sym memory)
+said_text words end.NoMemory text result (inr is) m t = m refl
+said_text words (end.Done cells) text result (inr is) m t = t (λ x. cc) ∙ is
+said_text words (end.Refused u) text result (inr is) m t = t (λ x. cc) ∙ is
+said_text words end.NotRead text result (inr is) m t = t (λ x. cc) ∙ is
+said_text words end.TooLarge text result (inr is) m t = t (λ x. cc) ∙ is
+said_text words (end.NotJson f) text result (inr is) m t = t (λ x. cc) ∙ is
+said_text words (end.NotNotebook f) text result (inr is) m t = t (λ x. cc) ∙ is
+said_text words (end.NoTranslator language) text result (inr is) m t = t (λ x. cc) ∙ is
+said_text words (end.NotSaved f) text result (inr is) m t = t (λ x. cc) ∙ is
+said_text words end.NotBuilt text result (inr is) m t = t (λ x. cc) ∙ is
+
+pub ended_at : (words : List (List ℕ)) (e : End) (text : List ℕ) (code given faults old now : ℕ) → text ≡ said_of words e → code ≡ code_of e → faults ≡ old → Answers (Rose faults now) code given
+    → (before on_disk after : List Entry) → Ran words before e on_disk → Says text (Rose faults now) on_disk after → Ended words given (Rose old now) before after
+ended_at words e text code given faults old now is coded same answers before on_disk after ran_ says =
+    subst (λ k. Ended words given (Rose k now) before after) same
+    (record {
+      end = e;
+      on_disk = on_disk;
+      ran = ran_;
+      answers = subst (λ c. Answers (Rose faults now) c given) coded answers;
+      says = subst (λ t. Says t (Rose faults now) on_disk after) is says;
+    })

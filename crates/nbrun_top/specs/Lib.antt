@@ -1,7 +1,8 @@
 pub mod Codes
-pub mod Ask
+pub mod Lines
 pub mod Plain
-pub mod Beyond
-pub mod Empty
+pub mod Asked
+pub mod Loaded
 pub mod Ran
-pub mod Prepared
+pub mod Said
+pub mod Ended

@@ -1,8 +1,11 @@
--- What a run answers and what it asks of the world, cause by cause. A journal has its newest entry first.
-use Rattle.std.specs.Prelude.{◌≡◌, ℕ, ◌≤◌, true, false, List, [], ◌∷◌, ◌++◌, length, Ok, Err}
-use Rattle.jtext.specs.declared.json.Json.{Json}
-use Rattle.jtext.specs.Grammar.{Spells}
-use Rattle.jtext.specs.Depth.{depth}
+-- What a run asks of the disk before it ends, cause by cause. A journal has its newest entry first.
+use Rattle.std.specs.Prelude.{◌≡◌, ℕ, ◌≤◌, List, [], ◌∷◌, ◌++◌, length, Some, Ok, Err}
+use Rattle.jtext.specs.Indent.{print}
+use Rattle.nb_model.specs.declared.notebook.Notebook.{Notebook}
+use Rattle.nb_model.specs.Tree.{notebook_tree}
+use Rattle.words.specs.declared.ask.Ask.{Ask}
+use Rattle.words.specs.declared.usage.Usage.{Usage}
+use Rattle.words.specs.Refusals.{refusal}
 use Rattle.world.specs.declared.entry.Entry.{Entry}
 use Rattle.world.specs.declared.entry.Entry.TheVariants.{Read}
 use Rattle.world.specs.declared.entry.ReadFile.{ReadFile}
@@ -10,57 +13,60 @@ use Rattle.world.specs.declared.entry.ReadFile.TheVariants as found
 use Rattle.world.specs.declared.left.Left.TheVariants as left
 use Rattle.world.specs.Disk.{leaves}
 use Rattle.world.specs.Moments.{upto}
-use Rattle.nb_model.specs.Valid.{is_notebook, Valid}
-use Rattle.nbrun_top.specs.declared.status.Status.{Status}
-use Rattle.nbrun_top.specs.declared.status.Status.TheVariants as status
-use Rattle.nbrun_top.specs.Codes.{code_of}
+use Rattle.nbrun_top.specs.declared.end.End.{End}
+use Rattle.nbrun_top.specs.declared.end.End.TheVariants as end
 use Rattle.nbrun_top.specs.declared.plain.SaveFault.{SaveFault}
-use Rattle.nbrun_top.specs.Ask.{IsAsked, input, output}
-use Rattle.nbrun_top.specs.Beyond.{is_beyond, text_for}
+use Rattle.nbrun_top.specs.Asked.{IsJob, IsNotBuilt}
+use Rattle.nbrun_top.specs.Loaded.{Accepts, Refuses}
 use Rattle.nbrun_top.specs.Plain.{SaveOf}
 
--- the journal after the read of the input, which has at most 32 MiB
-abbrev pub read_of : List (List ℕ) → ReadFile → List Entry → List Entry
-read_of words answer before = Read (input words) 33554432 answer ∷ before
+-- the journal after the read of the input, of which at most 32 MiB are read
+abbrev pub read_of : Ask → ReadFile → List Entry → List Entry
+read_of a answer before = Read a.input 33554432 answer ∷ before
 
--- the bytes spell this tree, nested at most 128 deep
-pub record Gives (bytes : List ℕ) (t : Json) : Type 0 where
-  pub spells : Spells t bytes
-  pub within : depth t ≤ 128
+-- the text that is saved of a notebook
+abbrev pub text_of : Notebook → List ℕ
+text_of n = print (notebook_tree n)
 
--- each status with its cause, and with all that was asked of the world
-pub data Ran (words : List (List ℕ)) (before : List Entry) : Status → List Entry → Type 0 where
-  not_asked : (IsAsked words → ⊥) → Ran words before status.NotBuilt before
-  cannot_read : IsAsked words → Ran words before status.ReadFault (read_of words found.Failed before)
-  too_large : IsAsked words → Ran words before status.BadNotebook (read_of words found.Big before)
-  no_tree : (bytes : List ℕ) → IsAsked words → ((t : Json) → Gives bytes t → ⊥) → Ran words before status.BadNotebook (read_of words (found.Whole bytes) before)
-  not_built : (bytes : List ℕ) (t : Json) → IsAsked words → Gives bytes t → is_beyond t ≡ true → Ran words before status.NotBuilt (read_of words (found.Whole bytes) before)
-  not_valid : (bytes : List ℕ) (t : Json) → IsAsked words → Gives bytes t → is_beyond t ≡ false → is_notebook t ≡ false
-      → Ran words before status.BadNotebook (read_of words (found.Whole bytes) before)
-  not_saved : (bytes : List ℕ) (t : Json) (why : SaveFault) (after : List Entry) → IsAsked words → Gives bytes t → is_beyond t ≡ false → is_notebook t ≡ true
-      → SaveOf {U = Unit {0}} (output words) (text_for words t) (Err why) (read_of words (found.Whole bytes) before) after → Ran words before status.SaveFault after
-  done : (bytes : List ℕ) (t : Json) (after : List Entry) → IsAsked words → Gives bytes t → is_beyond t ≡ false → is_notebook t ≡ true
-      → SaveOf {U = Unit {0}} (output words) (text_for words t) (Ok tt) (read_of words (found.Whole bytes) before) after → Ran words before status.Done after
+-- a save of the notebook: the run ends so, and asks that of the disk
+pub data SavesAs (output : List ℕ) (n : Notebook) (before : List Entry) : End → List Entry → Type 0 where
+  not_saved : (why : SaveFault) (after : List Entry) → SaveOf {U = Unit {0}} output (text_of n) (Err why) before after → SavesAs output n before (end.NotSaved why) after
+  done : (after : List Entry) → SaveOf {U = Unit {0}} output (text_of n) (Ok tt) before after → SavesAs output n before (end.Done (length n.cells)) after
   -- memory was refused before anything was written
-  no_memory : Ran words before status.NoMemory before
-  no_memory_later : (answer : ReadFile) → IsAsked words → Ran words before status.NoMemory (read_of words answer before)
+  not_made : SavesAs output n before end.NoMemory before
 
--- the same by the number that the process answers
-pub record RanWith (words : List (List ℕ)) (code : ℕ) (before after : List Entry) : Type 0 where
-  pub status : Status
-  pub answers : code ≡ code_of status
-  pub ran : Ran words before status after
+-- a job that prepares its notebook: it ends so, and asks that of the disk
+pub data Prepares (a : Ask) (before : List Entry) : End → List Entry → Type 0 where
+  cannot_read : Prepares a before end.NotRead (read_of a found.Failed before)
+  too_large : Prepares a before end.TooLarge (read_of a found.Big before)
+  not_accepted : (bytes : List ℕ) (e : End) → Refuses a bytes e → Prepares a before e (read_of a (found.Whole bytes) before)
+  saves : (bytes : List ℕ) (n : Notebook) (e : End) (after : List Entry) → Accepts a bytes n → SavesAs a.output n (read_of a (found.Whole bytes) before) e after
+      → Prepares a before e after
+  -- memory was refused before anything was written
+  no_memory_later : (answer : ReadFile) → Prepares a before end.NoMemory (read_of a answer before)
 
--- the input was read as bytes that spell a notebook, and a crash leaves at the output that notebook with the parameter, printed, and nothing else
+-- a run: where the words are refused, and where they ask for what isn't built, nothing is asked of the disk
+pub data Ran (words : List (List ℕ)) (before : List Entry) : End → List Entry → Type 0 where
+  refused : (u : Usage) → refusal words ≡ Some u → Ran words before (end.Refused u) before
+  not_built : IsNotBuilt words → Ran words before end.NotBuilt before
+  job : (a : Ask) (e : End) (after : List Entry) → IsJob words a → Prepares a before e after → Ran words before e after
+  no_memory : Ran words before end.NoMemory before
+
+-- the input was read as bytes that give a notebook, and a crash leaves at the output that notebook with its parameters, printed, and nothing else
 pub record IsDelivered (words : List (List ℕ)) (journal : List Entry) : Type 0 where
+  pub ask : Ask
+  pub job : IsJob words ask
   pub bytes : List ℕ
-  pub tree : Json
+  pub notebook : Notebook
   pub later : List Entry
-  pub was_read : journal ≡ later ++ read_of words (found.Whole bytes) []
-  pub gives : Gives bytes tree
-  pub valid : Valid tree
-  pub leaves_text : leaves journal (output words) ≡ left.Whole (text_for words tree) ∷ []
+  pub was_read : journal ≡ later ++ read_of ask (found.Whole bytes) []
+  pub accepted : Accepts ask bytes notebook
+  pub leaves_text : leaves journal ask.output ≡ left.Whole (text_of notebook) ∷ []
 
--- at every moment a crash leaves the input as it was
+-- at every moment a crash leaves the path as it was
 abbrev pub IsUntouched : List ℕ → List Entry → Type 0
 IsUntouched path journal = (t : ℕ) → t ≤ length journal → leaves (upto t journal) path ≡ left.Old ∷ []
+
+-- no job that the words ask for writes to this path
+abbrev pub IsOther : List (List ℕ) → List ℕ → Type 0
+IsOther words path = (a : Ask) → IsJob words a → a.output ≡ path → ⊥

@@ -1,17 +1,20 @@
 //! The whole program over a world that is handed in: from the words of the command line to the exit status.
-//! Its contract is the promise that nbrun makes; `nbrun` calls it with the real disk.
+//! Its contract is the promise that nbrun makes; `nbrun` calls it with the real disk and the standard output.
 #![tactic(auto)]
 
-mod ask;
-mod empty;
+mod answer;
+mod end;
+mod job;
 mod limits;
+mod lines;
+mod loading;
 mod main_call;
 mod plain;
-mod prepare;
-mod status;
+mod reports;
 #[cfg(test)]
 mod tests;
+mod voice;
+mod why;
 
 pub use limits::Limits;
 pub use main_call::run;
-pub use status::Status;

@@ -1,69 +1,130 @@
 //! The top call.
-ghost use Rattle.std.specs.Prelude.{◌≡◌, ◌⊎◌, [], map, string_bytes};
-ghost use Rattle.world.specs.Counts.{Rose};
+ghost use Rattle.std.specs.Prelude.{◌≡◌, ◌⊎◌, ◌<◌, ◌≤◌, [], None, Some, true, map, string_bytes, List as Plain, ℕ};
+ghost use Rattle.words.specs.declared.ask.Ask as asks;
+ghost use Rattle.words.specs.declared.usage.Usage as usages;
+ghost use Rattle.words.specs.declared.usage.Usage.TheVariants as usage_fault;
+ghost use Rattle.words.specs.Asked.{asked};
+ghost use Rattle.words.specs.Refusals.{refusal};
+ghost use Rattle.world.specs.Counts.{Rose, DiskCause};
 ghost use Rattle.world.specs.Moments.{Told};
-ghost use Rattle.nbrun_top.specs.Ask.{IsAsked, input};
-ghost use Rattle.nbrun_top.specs.Codes.{code_of};
-ghost use Rattle.nbrun_top.specs.Ran.{Ran, RanWith, IsDelivered, IsUntouched};
+ghost use Rattle.nbrun_top.specs.declared.end.End.TheVariants as ending;
+ghost use Rattle.nbrun_top.specs.declared.plain.SaveFault as fault;
+ghost use Rattle.nbrun_top.specs.Asked.{IsJob, IsNotBuilt, is_not_built};
+ghost use Rattle.nbrun_top.specs.Ended.{Answers, Ended, IsHeard};
+ghost use Rattle.nbrun_top.specs.Ran.{Ran, IsDelivered, IsOther, IsUntouched};
+ghost use Rattle.nbrun_top.specs.Said.{Speaks, SpeaksOf};
 
-use crate::ask::{is_form, word};
-use crate::plain::save;
-use crate::prepare::prepared;
-use crate::{Limits, Status};
-use jtext::{NumFault, NumText, Text};
+use crate::Limits;
+use crate::answer::Answer;
+use crate::end::End;
+use crate::job::prepare;
+use crate::voice::{has_risen, say};
 use std::alloc::Global;
-use world::{Disk, ReadFile};
+use words::{Command, Usage, read};
+use world::{Disk, Say};
 
-const MOST: u64 = 33_554_432;
+/// The status where all was done and not all could be said.
+const NOT_SAID: u8 = 11;
 
-/// Does what the words ask for, and answers the exit status.
+/// Does what the words ask for, says how it ended, and answers the exit status.
 /// The words are the arguments without the program's name.
-pub fn run<W: Disk>(alloc: Global, words: &[String], _limits: &Limits, w: &mut W) -> u8
-    // Each status has its cause, and all that was asked of the world is named.
-    ensures causes { Told (W.journal w.old) (W.journal w.new) (RanWith (map string_bytes words.now) result) }
-    // After status 0 a crash leaves the injected notebook at the output, and nothing else.
-    ensures delivered { Told (W.journal w.old) (W.journal w.new) (λ before after. before ≡ [] → result ≡ 0 → IsDelivered (map string_bytes words.now) after) }
-    // At every moment a crash leaves the input as it was.
-    ensures untouched { Told (W.journal w.old) (W.journal w.new) (λ before after. before ≡ [] → IsAsked (map string_bytes words.now) → IsUntouched (input (map string_bytes words.now)) after) }
+pub fn run<W: Disk + Say>(alloc: Global, words: &[String], _limits: &Limits, w: &mut W) -> u8
+    // Each status has its cause; all that was asked of the world is named; and what is said are the lines of how the run ended.
+    ensures causes { Told (W.journal w.old) (W.journal w.new) (Ended (map string_bytes words.now) result (Rose (W.counts w.old).say (W.counts w.new).say)) }
+    // After status 0, and after 11, a crash leaves at the output the notebook with its parameters, and nothing else.
+    ensures delivered { Told (W.journal w.old) (W.journal w.new) (λ before after. before ≡ [] → (result ≡ 0) ⊎ (result ≡ 11) → IsDelivered (map string_bytes words.now) after) }
+    // At every moment a crash leaves every other file as it was, the input among them.
+    ensures untouched { Told (W.journal w.old) (W.journal w.new) (λ before after. before ≡ [] → (path : Plain ℕ) → IsOther (map string_bytes words.now) path → IsUntouched path after) }
+    ensures input { Told (W.journal w.old) (W.journal w.new) (λ before after. before ≡ [] → (a : asks.Ask) → IsJob (map string_bytes words.now) a → IsUntouched a.input after) }
+    // What is said are the lines of how the run ended, or a front of them where saying failed.
+    ensures said { Told (W.journal w.old) (W.journal w.new) (λ before after. before ≡ [] → IsHeard (map string_bytes words.now) (Rose (W.counts w.old).say (W.counts w.new).say) after) }
 
     // What no journal is needed for.
-    ensures not_asked { (IsAsked (map string_bytes words.now) → ⊥) → (result ≡ 70) ⊎ (result ≡ 12) }
+    ensures usage { (u : usages.Usage) → refusal (map string_bytes words.now) ≡ Some u → (result ≡ 2) ⊎ (result ≡ 12) }
+    ensures refused { result ≡ 2 → refusal (map string_bytes words.now) ≡ None → ⊥ }
+    ensures not_built { IsNotBuilt (map string_bytes words.now) → (result ≡ 70) ⊎ (result ≡ 12) }
+    ensures built { result ≡ 70 → IsNotBuilt (map string_bytes words.now) }
     ensures read_fault { result ≡ 3 → Rose (W.counts w.old).disk (W.counts w.new).disk }
     ensures save_fault { result ≡ 10 → Rose (W.counts w.old).disk (W.counts w.new).disk }
+    ensures say_fault { result ≡ 11 → Rose (W.counts w.old).say (W.counts w.new).say }
+    ensures heard { result ≡ 0 → Rose (W.counts w.old).say (W.counts w.new).say → ⊥ }
 {
-    attempt(alloc, words, w).code()
+    status(alloc, words, w)
 }
 
-fn attempt<W: Disk>(alloc: Global, words: &[String], w: &mut W) -> Status
-    ensures ran { Told (W.journal w.old) (W.journal w.new) (λ before after. Ran (map string_bytes words.now) before result after) }
-    ensures not_asked { (IsAsked (map string_bytes words.now) → ⊥) → (result ≡ Status.NotBuilt) ⊎ (result ≡ Status.NoMemory) }
-    ensures read_fault { result ≡ Status.ReadFault → Rose (W.counts w.old).disk (W.counts w.new).disk }
-    ensures save_fault { result ≡ Status.SaveFault → Rose (W.counts w.old).disk (W.counts w.new).disk }
+// The status, once all is done and said.
+fn status<W: Disk + Say>(alloc: Global, words: &[String], w: &mut W) -> u8
+    ensures causes { Told (W.journal w.old) (W.journal w.new) (Ended (map string_bytes words.now) result (Rose (W.counts w.old).say (W.counts w.new).say)) }
+    ensures usage { (u : usages.Usage) → refusal (map string_bytes words.now) ≡ Some u → (result ≡ 2) ⊎ (result ≡ 12) }
+    ensures refused { result ≡ 2 → refusal (map string_bytes words.now) ≡ None → ⊥ }
+    ensures not_built { IsNotBuilt (map string_bytes words.now) → (result ≡ 70) ⊎ (result ≡ 12) }
+    ensures built { result ≡ 70 → IsNotBuilt (map string_bytes words.now) }
+    ensures read_fault { result ≡ 3 → Rose (W.counts w.old).disk (W.counts w.new).disk }
+    ensures save_fault { result ≡ 10 → Rose (W.counts w.old).disk (W.counts w.new).disk }
+    ensures say_fault { result ≡ 11 → Rose (W.counts w.old).say (W.counts w.new).say }
+    ensures heard { result ≡ 0 → Rose (W.counts w.old).say (W.counts w.new).say → ⊥ }
 {
-    if !is_form(words) {
-        return Status::NotBuilt;
+    let faults = w.say_faults();
+    let answer = answered(alloc, words, w);
+    say(w, faults, answer.said());
+    let code = answer.end.code();
+    unless_not_said(w, faults, code)
+}
+
+// The status, or that all was done and not all could be said.
+fn unless_not_said<W: Say>(w: &W, faults: u64, code: u8) -> u8
+    requires { faults ≤ (W.counts w.now).say }
+    ensures answers { Answers (Rose faults (W.counts w.now).say) code result }
+    ensures other { 0 < code → result ≡ code }
+    ensures not_said { result ≡ 11 → (code ≡ 11) ⊎ (code ≡ 0) × Rose faults (W.counts w.now).say }
+    ensures heard { result ≡ 0 → Rose faults (W.counts w.now).say → ⊥ }
+{
+    if code == 0 && has_risen(w, faults) {
+        return NOT_SAID;
     }
-    let value = match NumText::of(alloc, word(words, 5)) {
-        Ok(value) => value,
-        Err(NumFault::NotNumber) => return Status::NotBuilt,
-        Err(NumFault::NoMemory) => return Status::NoMemory,
-    };
-    let Ok(input) = Text::of(alloc, word(words, 0)) else {
-        return Status::NoMemory;
-    };
-    let Ok(output) = Text::of(alloc, word(words, 1)) else {
-        return Status::NoMemory;
-    };
-    match w.read_file(alloc, &input, MOST) {
-        ReadFile::Failed => Status::ReadFault,
-        ReadFile::Big => Status::BadNotebook,
-        ReadFile::NoMemory => Status::NoMemory,
-        ReadFile::Whole(bytes) => match prepared(alloc, bytes.bytes(), word(words, 4), value) {
-            Ok(text) => match save(w, &output, text.bytes()) {
-                Ok(()) => Status::Done,
-                Err(_) => Status::SaveFault,
-            },
-            Err(status) => status,
-        },
+    code
+}
+
+// All but the saying.
+fn answered<W: Disk>(alloc: Global, words: &[String], w: &mut W) -> Answer
+    ensures ran { Told (W.journal w.old) (W.journal w.new) (λ before after. Ran (map string_bytes words.now) before result.end after) }
+    ensures text { SpeaksOf (map string_bytes words.now) result }
+    ensures counts { DiskCause (W.counts w.old) (W.counts w.new) ⊥ }
+    ensures usage { (u : usages.Usage) → refusal (map string_bytes words.now) ≡ Some u → (result.end ≡ ending.Refused u) ⊎ (result.end ≡ ending.NoMemory) }
+    ensures refused { (u : usages.Usage) → result.end ≡ ending.Refused u → refusal (map string_bytes words.now) ≡ Some u }
+    ensures not_built { IsNotBuilt (map string_bytes words.now) → (result.end ≡ ending.NotBuilt) ⊎ (result.end ≡ ending.NoMemory) }
+    ensures built { result.end ≡ ending.NotBuilt → IsNotBuilt (map string_bytes words.now) }
+    ensures read_fault { result.end ≡ ending.NotRead → Rose (W.counts w.old).disk (W.counts w.new).disk }
+    ensures save_fault { (f : fault.SaveFault) → result.end ≡ ending.NotSaved f → Rose (W.counts w.old).disk (W.counts w.new).disk }
+{
+    match read(alloc, words) {
+        Ok(Command::One(ask)) => {
+            if ask.prepare {
+                prepare(alloc, &ask, w)
+            } else {
+                not_built(alloc)
+            }
+        }
+        Ok(Command::Many { .. }) => not_built(alloc),
+        Ok(Command::Exercise(_)) => not_built(alloc),
+        Err(usage) => refused(alloc, usage),
+    }
+}
+
+fn not_built(alloc: Global) -> Answer
+    ensures end { (result.end ≡ ending.NotBuilt) ⊎ (result.end ≡ ending.NoMemory) }
+    ensures text { (input output : Plain ℕ) → Speaks input output result }
+{
+    Answer::refused(alloc, "", "", End::NotBuilt)
+}
+
+fn refused(alloc: Global, usage: Usage) -> Answer
+    ensures end { (result.end ≡ ending.Refused usage) ⊎ (result.end ≡ ending.NoMemory) }
+    ensures memory { usage ≡ usage_fault.NoMemory → result.end ≡ ending.NoMemory }
+    ensures text { (input output : Plain ℕ) → Speaks input output result }
+{
+    match usage {
+        Usage::NoMemory => Answer::no_memory(alloc),
+        other => Answer::refused(alloc, "", "", End::Refused(other)),
     }
 }

@@ -1,10 +1,23 @@
-use Rattle.std.proofs.Common.{map, string_bytes, sym, ◌∙◌}
+use Rattle.std.proofs.Common.{map, string_bytes}
 use Rattle.world.specs.Moments.{told_as}
-use Rattle.nbrun_top.proofs.Promises.{delivered, untouched_input}
+use Rattle.world.specs.Counts.{Rose}
+use Rattle.nbrun_top.proofs.Ends.{delivered}
+use Rattle.nbrun_top.proofs.Heard.{heard_lines}
+use Rattle.nbrun_top.proofs.Spared.{untouched_paths, untouched_input}
 use Rattle.nbrun_top.proofs.main_call.run.Goals as goal
 
 pub returns-clause-delivered : goal.returns-clause-delivered
-returns-clause-delivered g c = told_as c.attempt.ensures.ran (λ x y ran new zero_. delivered (map string_bytes c.args.words.now) c.attempt.result x y ran new (sym c.code.ensures ∙ zero_))
+returns-clause-delivered g c = told_as c.status.ensures.causes (λ x y ended. delivered (map string_bytes c.args.words.now) c.status.result
+    (Rose (g.W.Journal.counts c.args.w.now).say (g.W.Journal.counts c.status.new.w).say) x y ended)
 
 pub returns-clause-untouched : goal.returns-clause-untouched
-returns-clause-untouched g c = told_as c.attempt.ensures.ran (λ x y ran new asked. untouched_input (map string_bytes c.args.words.now) c.attempt.result x y ran new asked)
+returns-clause-untouched g c = told_as c.status.ensures.causes (λ x y ended. untouched_paths (map string_bytes c.args.words.now) c.status.result
+    (Rose (g.W.Journal.counts c.args.w.now).say (g.W.Journal.counts c.status.new.w).say) x y ended)
+
+pub returns-clause-input : goal.returns-clause-input
+returns-clause-input g c = told_as c.status.ensures.causes (λ x y ended. untouched_input (map string_bytes c.args.words.now) c.status.result
+    (Rose (g.W.Journal.counts c.args.w.now).say (g.W.Journal.counts c.status.new.w).say) x y ended)
+
+pub returns-clause-said : goal.returns-clause-said
+returns-clause-said g c = told_as c.status.ensures.causes (λ x y ended. heard_lines (map string_bytes c.args.words.now) c.status.result
+    (Rose (g.W.Journal.counts c.args.w.now).say (g.W.Journal.counts c.status.new.w).say) x y ended)

@@ -1,0 +1,38 @@
+//! What `--help` and `--version` print.
+
+/// The program's name and version.
+pub(crate) const VERSION: &str = "nbrun 0.1.0\n";
+
+/// The words that the program takes.
+pub(crate) const HELP: &str = "\
+nbrun executes Jupyter notebooks with nobody at the screen.
+
+  nbrun IN OUT [options]          reads the notebook IN and writes OUT
+  nbrun --jobs FILE [options]     runs the jobs of a file, at most 16
+  nbrun --exercise N              runs N generated cells, at most 200
+  nbrun --help | --version        prints this, or the version
+
+  -p, --parameters NAME VALUE     a parameter: a number of JSON, True, False,
+                                  None, or else a text
+  -r, --parameters_raw NAME VALUE a parameter whose value is the text itself
+  -k, --kernel NAME               the kernel; default: the notebook's own
+  --kernel-path DIR               where kernels are described;
+                                  default: /usr/local/share/jupyter/kernels
+  --cwd DIR                       the kernel's folder; default: .
+  --start-timeout S               seconds for the kernel's start; default: 60
+  --execution-timeout S           seconds for each cell; default: no limit
+  --prepare-only                  injects the parameters and executes nothing
+  --report-mode                   hides the sources of all code cells
+  --merge-streams                 joins neighbouring outputs of one stream
+  --allow-errors                  goes on after a cell that raises an error
+  --allow-error-name NAME         goes on after an error of this name
+  --interrupt                     interrupts a cell at its limit
+  --no-heartbeat                  doesn't ping the kernel
+
+After -- each word is a path. Switches are off by default. Built so far is
+--prepare-only; all else ends with status 70.
+
+Status: 0 done, 2 wrong words, 3 input not read, 4 no notebook, 5 no translator
+for parameters, 10 output not saved, 11 done but not said, 12 no memory,
+20 arguments or folder not read, 70 not built.
+";

@@ -1,0 +1,114 @@
+//! Runs over real files, in the empty folder that a test begins in.
+use crate::printed;
+use crate::real_world::RealWorld;
+use jtext::Text;
+use nbrun_top::{Limits, run};
+use std::fs;
+use std::test::Fail;
+
+const EMPTY: &str = r#"{"cells":[],"metadata":{},"nbformat":4,"nbformat_minor":5}"#;
+
+const EMPTY_SAVED: &str = r#"{
+ "cells": [],
+ "metadata": {},
+ "nbformat": 4,
+ "nbformat_minor": 5
+}
+"#;
+
+const DEFAULTS: &str =
+    r#"{"cells":[{"cell_type":"code","execution_count":null,"id":"a","metadata":{"tags":["parameters"]},"outputs":[],"source":["a = 0"]}],"metadata":{},"nbformat":4,"nbformat_minor":5}"#;
+
+/// What follows the source of the injected cell.
+const DEFAULTS_END: &str = r##"
+   "source": [
+    "# Parameters\n",
+    "a = 1e2\n",
+    "b = \"007\"\n",
+    "c = True\n"
+   ]
+  }
+ ],
+ "metadata": {
+  "papermill": {
+   "parameters": {
+    "a": 1e2,
+    "b": "007",
+    "c": true
+   }
+  }
+ },
+ "nbformat": 4,
+ "nbformat_minor": 5
+}
+"##;
+
+/// The words, which have spaces between them.
+fn given(rt: &HostRuntime, words: &str) -> Result<Vec<String>, Fail> {
+    let mut given = Vec::new(rt.alloc());
+    for word in words.split(' ') {
+        given.push(String::from_str(rt.alloc(), word)?)?;
+    }
+    Ok(given)
+}
+
+/// What `run` answers to these words over real files.
+fn status(rt: HostRuntime, words: &str) -> Result<u8, Fail> {
+    let words = given(&rt, words)?;
+    let limits = Limits::usual(Text::of(rt.alloc(), "/")?);
+    let mut world = RealWorld::new(rt);
+    Ok(run(rt.alloc(), words.as_slice(), &limits, &mut world))
+}
+
+#[test]
+fn an_empty_notebook_is_saved_and_its_input_stays(rt: HostRuntime) -> Result<(), Fail> {
+    fs::write(&rt, "in", EMPTY)?;
+    fs::write(
+        &rt,
+        "out",
+        "a longer text that was there before, which the save replaces whole",
+    )?;
+    assert_eq!(rt; status(rt, "in out --prepare-only")?, 0);
+    assert!(rt; fs::read_to_string(&rt, "out")?.as_str() == EMPTY_SAVED);
+    assert!(rt; fs::read_to_string(&rt, "in")?.as_str() == EMPTY);
+    Ok(())
+}
+
+#[test]
+fn parameters_reach_the_file(rt: HostRuntime) -> Result<(), Fail> {
+    fs::write(&rt, "in", DEFAULTS)?;
+    assert_eq!(rt;
+        status(rt, "in out --prepare-only -p a 1e2 -r b 007 -p c True")?,
+        0
+    );
+    let saved = fs::read_to_string(&rt, "out")?;
+    assert!(rt; saved.as_str().ends_with(DEFAULTS_END));
+    Ok(())
+}
+
+#[test]
+fn what_is_refused_leaves_no_output(rt: HostRuntime) -> Result<(), Fail> {
+    fs::write(&rt, "in", "{\"a\":1,\"a\":2}")?;
+    assert_eq!(rt; status(rt, "in out --prepare-only")?, 4);
+    assert_eq!(rt; status(rt, "absent out --prepare-only")?, 3);
+    assert_eq!(rt; status(rt, "in in --prepare-only")?, 2);
+    assert!(rt; fs::read(&rt, "out").is_err());
+    assert_eq!(rt; status(rt, "in absent/out --prepare-only")?, 4);
+    fs::write(&rt, "in", EMPTY)?;
+    assert_eq!(rt; status(rt, "in absent/out --prepare-only")?, 10);
+    Ok(())
+}
+
+#[test]
+fn help_and_version_are_printed_where_they_stand_alone(rt: HostRuntime) -> Result<(), Fail> {
+    let rows = [
+        ("--help", true),
+        ("--version", true),
+        ("--help --help", false),
+        ("in", false),
+    ];
+    for (words, shown) in rows {
+        assert_eq!(rt; printed(given(&rt, words)?.as_slice()).is_some(), shown);
+    }
+    Ok(())
+}

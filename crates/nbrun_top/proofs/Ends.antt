@@ -1,0 +1,125 @@
+-- What a run that ended well has left.
+use Rattle.std.proofs.Common.{◌≡◌, ◌⊎◌, inl, inr, ℕ, List, [], ◌∷◌, refl, sym, ◌∙◌, ap, subst}
+use Rattle.words.specs.declared.ask.Ask.{Ask}
+use Rattle.world.specs.declared.entry.Entry.{Entry}
+use Rattle.world.specs.declared.entry.Entry.TheVariants.{Read, Created, Synced}
+use Rattle.world.specs.declared.entry.Did.TheVariants.{Done}
+use Rattle.world.specs.declared.entry.ReadFile.TheVariants as found
+use Rattle.world.specs.declared.left.Left.TheVariants as left
+use Rattle.world.specs.Disk.{leaves}
+use Rattle.world.specs.Moments.{Since, start, more as later}
+use Rattle.world.specs.Parts.{OnDisk, OnSay, IsOf, place_since}
+use Rattle.nb_model.specs.declared.notebook.Notebook.{Notebook}
+use Rattle.nbrun_top.specs.declared.end.End.{End}
+use Rattle.nbrun_top.specs.declared.end.End.TheVariants as end
+use Rattle.nbrun_top.specs.Asked.{IsJob}
+use Rattle.nbrun_top.specs.Codes.{code_of}
+use Rattle.nbrun_top.specs.Loaded.{Accepts, Refuses}
+use Rattle.nbrun_top.specs.Ran.{SavesAs, Prepares, Ran, IsDelivered, read_of, text_of}
+use Rattle.nbrun_top.specs.Ran as ran
+use Rattle.nbrun_top.specs.Said.{Speech, Says}
+use Rattle.nbrun_top.specs.Said as said
+use Rattle.nbrun_top.specs.Ended.{Answers, Ended, plain, not_said}
+use Rattle.nbrun_top.proofs.Saves.{EndsWith, ends_later, ends_writes, leaves_text}
+
+-- ---- what is said changes no file
+
+speech_since : {text : List ℕ} {before : List Entry} {rest : List ℕ} {after : List Entry} → Speech text before rest after → Since (IsOf OnSay) before after
+speech_since said.none = start
+speech_since (said.more n before) = later (speech_since before) refl
+
+says_since : {text : List ℕ} {failed : Type 0} {before after : List Entry} → Says text failed before after → Since (IsOf OnSay) before after
+says_since (said.whole speech) = speech_since speech
+says_since (said.cut f speech) = speech_since speech
+says_since (said.refused f speech) = later (speech_since speech) refl
+
+ends_since : {part : Rattle.world.specs.Parts.Part} {entry : Entry} {before after : List Entry} → EndsWith entry before → Since (IsOf part) before after → EndsWith entry after
+ends_since e start = e
+ends_since e (later {past} {entry} since is) = ends_later entry (ends_since e since)
+
+-- ---- the status
+
+-- no end has this number
+no_eleven : (e : End) → code_of e ≡ 11 → ⊥
+no_eleven (end.Done cells) is = cc
+no_eleven (end.Refused usage) is = cc
+no_eleven end.NotRead is = cc
+no_eleven end.TooLarge is = cc
+no_eleven (end.NotJson f) is = cc
+no_eleven (end.NotNotebook f) is = cc
+no_eleven (end.NoTranslator language) is = cc
+no_eleven (end.NotSaved f) is = cc
+no_eleven end.NoMemory is = cc
+no_eleven end.NotBuilt is = cc
+
+done_code : (failed : Type 0) (e : End) (c code : ℕ) → c ≡ code_of e → Answers failed c code → (code ≡ 0) ⊎ (code ≡ 11) → code_of e ≡ 0
+done_code failed e c code is (plain heard) (inl zero_) = sym is ∙ zero_
+done_code failed e c code is (plain heard) (inr eleven) = absurd (no_eleven e (sym is ∙ eleven))
+done_code failed e c code is (not_said f) well = sym is
+
+-- ---- the save
+
+-- a save that went well, after a read that began the run
+record IsSaved (a : Ask) (journal : List Entry) : Type 0 where
+  bytes : List ℕ
+  notebook : Notebook
+  accepted : Accepts a bytes notebook
+  was_read : EndsWith (Read a.input 33554432 (found.Whole bytes)) journal
+  leaves : leaves journal a.output ≡ left.Whole (text_of notebook) ∷ []
+
+saved_well : (a : Ask) (bytes : List ℕ) (n : Notebook) (e : End) (before after : List Entry) → code_of e ≡ 0 → Accepts a bytes n → EndsWith (Read a.input 33554432 (found.Whole bytes)) before → SavesAs a.output n before e after → IsSaved a after
+saved_well a bytes n e before after zero_ accepted read (ran.not_saved why after_ saved) = cc
+saved_well a bytes n e before after zero_ accepted read ran.not_made = cc
+saved_well a bytes n e before after zero_ accepted read (ran.done after_ saved) =
+    record {
+      bytes = bytes;
+      notebook = n;
+      accepted = accepted;
+      was_read = subst (EndsWith (Read a.input 33554432 (found.Whole bytes))) (sym saved.ends) (ends_later (Synced a.output Done) (ends_writes (ends_later (Created a.output Done) read) saved.writes));
+      leaves = ap (λ j. leaves j a.output) saved.ends ∙ leaves_text a.output (text_of n) before saved.past saved.writes;
+    }
+
+refuses_no_end : (a : Ask) (bytes : List ℕ) (e : End) → Refuses a bytes e → code_of e ≡ 0 → ⊥
+refuses_no_end a bytes (end.Done cells) r z = r
+refuses_no_end a bytes (end.Refused usage) r z = cc
+refuses_no_end a bytes end.NotRead r z = cc
+refuses_no_end a bytes end.TooLarge r z = cc
+refuses_no_end a bytes (end.NotJson f) r z = cc
+refuses_no_end a bytes (end.NotNotebook f) r z = cc
+refuses_no_end a bytes (end.NoTranslator language) r z = cc
+refuses_no_end a bytes (end.NotSaved f) r z = cc
+refuses_no_end a bytes end.NoMemory r z = cc
+refuses_no_end a bytes end.NotBuilt r z = cc
+
+prepared_well : (a : Ask) (e : End) (before after : List Entry) → before ≡ [] → code_of e ≡ 0 → Prepares a before e after → IsSaved a after
+prepared_well a e before after new zero_ ran.cannot_read = cc
+prepared_well a e before after new zero_ ran.too_large = cc
+prepared_well a e before after new zero_ (ran.not_accepted bytes e_ why) = absurd (refuses_no_end a bytes e why zero_)
+prepared_well a e before after new zero_ (ran.no_memory_later answer) = cc
+prepared_well a e before after new zero_ (ran.saves bytes n e_ after_ accepted saved) =
+    saved_well a bytes n e (read_of a (found.Whole bytes) before) after zero_ accepted
+    (record { later_entries = []; split = ap (λ x. Read a.input 33554432 (found.Whole bytes) ∷ x) new }) saved
+
+delivered_after : (words : List (List ℕ)) (a : Ask) (on_disk after : List Entry) → IsJob words a → IsSaved a on_disk → Since (IsOf OnSay) on_disk after → IsDelivered words after
+delivered_after words a on_disk after is s since =
+    let ends = ends_since s.was_read since in
+    record {
+      ask = a;
+      job = is;
+      bytes = s.bytes;
+      notebook = s.notebook;
+      later = ends.later_entries;
+      was_read = ends.split;
+      accepted = s.accepted;
+      leaves_text = ap (λ p. (p a.output).options) (place_since (λ e. cc) since) ∙ s.leaves;
+    }
+
+ran_well : (words : List (List ℕ)) (e : End) (before on_disk after : List Entry) → before ≡ [] → code_of e ≡ 0 → Ran words before e on_disk → Since (IsOf OnSay) on_disk after → IsDelivered words after
+ran_well words e before on_disk after new zero_ (ran.refused u is) since = cc
+ran_well words e before on_disk after new zero_ (ran.not_built is) since = cc
+ran_well words e before on_disk after new zero_ ran.no_memory since = cc
+ran_well words e before on_disk after new zero_ (ran.job a e_ after_ is prepares) since = delivered_after words a on_disk after is (prepared_well a e before on_disk new zero_ prepares) since
+
+pub delivered : (words : List (List ℕ)) (code : ℕ) (failed : Type 0) (before after : List Entry) → Ended words code failed before after → before ≡ [] → (code ≡ 0) ⊎ (code ≡ 11) → IsDelivered words after
+delivered words code failed before after ended new well =
+    ran_well words ended.end before ended.on_disk after new (done_code failed ended.end (code_of ended.end) code refl ended.answers well) ended.ran (says_since ended.says)

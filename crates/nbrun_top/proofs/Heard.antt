@@ -1,0 +1,66 @@
+-- What is heard of a run.
+use Rattle.std.proofs.Common.{◌≡◌, ◌⊎◌, inl, inr, ℕ, List, [], ◌++◌, take, drop, Result, Ok, Err, refl, sym, ◌∙◌, ap, subst, append_assoc}
+use Rattle.std.proofs.lemmas.List.{take-append-drop, append-nil}
+use Rattle.words.specs.declared.ask.Ask.{Ask}
+use Rattle.world.specs.declared.entry.Entry.{Entry}
+use Rattle.nb_model.specs.declared.notebook.Notebook.{Notebook}
+use Rattle.nbrun_top.specs.declared.end.End.{End}
+use Rattle.nbrun_top.specs.declared.plain.SaveFault.{SaveFault}
+use Rattle.nbrun_top.specs.declared.plain.SaveFault.TheVariants as fault
+use Rattle.nbrun_top.specs.Plain.{Writes, none, more, SaveOf}
+use Rattle.nbrun_top.specs.Ran.{SavesAs, Prepares, Ran, text_of}
+use Rattle.nbrun_top.specs.Ran as ran
+use Rattle.nbrun_top.specs.Said.{Speech, Says, heard, said_of}
+use Rattle.nbrun_top.specs.Said as said
+use Rattle.nbrun_top.specs.Ended.{Ended, IsHeard}
+
+-- ---- the disk says nothing
+
+writes_silent : {path text : List ℕ} {begin : List Entry} {rest : List ℕ} {past : List Entry} → Writes path text begin rest past → heard past ≡ heard begin
+writes_silent none = refl
+writes_silent (more n before) = writes_silent before
+
+save_silent : {U : Type 0} (path text : List ℕ) (result : Result U SaveFault) (before after : List Entry) → SaveOf path text result before after → heard after ≡ heard before
+save_silent path text (Ok u) before after saved = ap heard saved.ends ∙ writes_silent saved.writes
+save_silent path text (Err fault.Sync) before after saved = ap heard saved.ends ∙ writes_silent saved.writes
+save_silent path text (Err fault.Write) before after (inl e) = ap heard e
+save_silent path text (Err fault.Write) before after (inr f) = ap heard f.fails ∙ writes_silent f.writes
+
+saves_silent : (path : List ℕ) (n : Notebook) (e : End) (before after : List Entry) → SavesAs path n before e after → heard after ≡ heard before
+saves_silent path n e before after (ran.not_saved why after_ saved) = save_silent {U = Unit {0}} path (text_of n) (Err why) before after saved
+saves_silent path n e before after (ran.done after_ saved) = save_silent {U = Unit {0}} path (text_of n) (Ok tt) before after saved
+saves_silent path n e before after ran.not_made = refl
+
+prepares_silent : (a : Ask) (e : End) (before after : List Entry) → Prepares a before e after → heard after ≡ heard before
+prepares_silent a e before after ran.cannot_read = refl
+prepares_silent a e before after ran.too_large = refl
+prepares_silent a e before after (ran.not_accepted bytes e_ why) = refl
+prepares_silent a e before after (ran.saves bytes n e_ after_ accepted saved) = saves_silent a.output n e _ after saved
+prepares_silent a e before after (ran.no_memory_later answer) = refl
+
+ran_silent : (words : List (List ℕ)) (e : End) (before after : List Entry) → Ran words before e after → heard after ≡ heard before
+ran_silent words e before after (ran.refused u is) = refl
+ran_silent words e before after (ran.not_built is) = refl
+ran_silent words e before after (ran.job a e_ after_ is prepares) = prepares_silent a e before after prepares
+ran_silent words e before after ran.no_memory = refl
+
+-- ---- and then the text
+
+-- what was said and what is left are the text
+speech_heard : {text : List ℕ} {before : List Entry} {rest : List ℕ} {after : List Entry} → Speech text before rest after → heard after ++ rest ≡ heard before ++ text
+speech_heard said.none = refl
+speech_heard (said.more {rest} {past} n before) = append_assoc (heard past) (take n rest) (drop n rest) ∙ ap (λ xs. heard past ++ xs) (take-append-drop n rest) ∙ speech_heard before
+
+heard_text : {text : List ℕ} {failed : Type 0} {before after : List Entry} → heard before ≡ [] → Says text failed before after → (heard after ≡ text) ⊎ (failed × said.IsFront (heard after) text)
+heard_text {text} {after = after} silent (said.whole speech) = inl (sym (append-nil (heard after)) ∙ speech_heard speech ∙ ap (λ h. h ++ text) silent)
+heard_text {text} silent (said.cut {rest} f speech) = inr (f, record { rest = rest; whole = speech_heard speech ∙ ap (λ h. h ++ text) silent })
+heard_text {text} silent (said.refused {rest} f speech) = inr (f, record { rest = rest; whole = speech_heard speech ∙ ap (λ h. h ++ text) silent })
+
+pub heard_lines : (words : List (List ℕ)) (code : ℕ) (failed : Type 0) (before after : List Entry) → Ended words code failed before after → before ≡ [] → IsHeard words failed after
+heard_lines words code failed before after ended new =
+    record {
+      end = ended.end;
+      on_disk = ended.on_disk;
+      ran = subst (λ b. Ran words b ended.end ended.on_disk) new ended.ran;
+      lines = heard_text (ran_silent words ended.end before ended.on_disk ended.ran ∙ ap heard new) ended.says;
+    }

@@ -1,0 +1,114 @@
+-- Which paths a run doesn't touch.
+use Rattle.std.proofs.Common.{◌≡◌, inl, inr, ℕ, zero, suc, ◌-◌, true, false, not, List, [], length, drop, Result, Ok, Err, refl, sym, ◌∙◌, ap, subst, arith}
+use Rattle.std.proofs.lemmas.Slice.Eq.{bytes_eq-Decides}
+use Rattle.std.proofs.lemmas.Bool.{false_from_ne_true}
+use Rattle.std.proofs.Math.Seq.{drop-length}
+use Rattle.std.specs.Prelude.{◌||◌}
+use Rattle.std.specs.Str.{bytes_eq}
+use Rattle.words.specs.declared.ask.Ask.{Ask}
+use Rattle.words.specs.declared.command.Command.TheVariants as command
+use Rattle.words.specs.Paths.{are_apart, temporary_of, connection_of}
+use Rattle.words.proofs.JobPaths.{job_apart}
+use Rattle.world.specs.declared.entry.Entry.{Entry}
+use Rattle.world.specs.Disk.{Place, place, leaves, untouched}
+use Rattle.world.specs.Moments.{Since, start, more as later, since_at}
+use Rattle.world.specs.Own.{same_bytes}
+use Rattle.world.specs.Touched.{Spares, untouched_after, untouched_since}
+use Rattle.nbrun_top.specs.declared.end.End.{End}
+use Rattle.nbrun_top.specs.declared.plain.SaveFault.{SaveFault}
+use Rattle.nbrun_top.specs.declared.plain.SaveFault.TheVariants as fault
+use Rattle.nb_model.specs.declared.notebook.Notebook.{Notebook}
+use Rattle.nbrun_top.specs.Asked.{IsJob}
+use Rattle.nbrun_top.specs.Plain.{Writes, none, more, WriteFails, SaveOf}
+use Rattle.nbrun_top.specs.Ran.{SavesAs, Prepares, Ran, IsOther, IsUntouched, text_of}
+use Rattle.nbrun_top.specs.Ran as ran
+use Rattle.nbrun_top.specs.Said.{Speech, Says}
+use Rattle.nbrun_top.specs.Said as said
+use Rattle.nbrun_top.specs.Ended.{Ended}
+
+-- ---- what a run doesn't write to
+
+module _ (path output : List ℕ) (apart : bytes_eq output path ≡ false) where
+  writes_spare : {text : List ℕ} {x begin : List Entry} {rest : List ℕ} {past : List Entry} → Since (Spares path) x begin → Writes output text begin rest past → Since (Spares path) x past
+  writes_spare s none = s
+  writes_spare s (more n before) = later (writes_spare s before) apart
+
+  fails_spare : {text : List ℕ} {x begin after : List Entry} → Since (Spares path) x begin → WriteFails output text begin after → Since (Spares path) x after
+  fails_spare {x = x} s f = subst (Since (Spares path) x) (sym f.fails) (later (writes_spare s f.writes) apart)
+
+  save_spares : {U : Type 0} (text : List ℕ) (result : Result U SaveFault) {x begin after : List Entry} → Since (Spares path) x begin → SaveOf output text result begin after → Since (Spares path) x after
+  save_spares text (Ok u) {x} s saved = subst (Since (Spares path) x) (sym saved.ends) (later (writes_spare (later s apart) saved.writes) apart)
+  save_spares text (Err fault.Sync) {x} s saved = subst (Since (Spares path) x) (sym saved.ends) (later (writes_spare (later s apart) saved.writes) apart)
+  save_spares text (Err fault.Write) {x} s (inl e) = subst (Since (Spares path) x) (sym e) (later s apart)
+  save_spares text (Err fault.Write) {x} s (inr f) = fails_spare (later s apart) f
+
+  saves_spare : {n : Notebook} {e : End} {x begin after : List Entry} → Since (Spares path) x begin → SavesAs output n begin e after → Since (Spares path) x after
+  saves_spare {n} s (ran.not_saved why after saved) = save_spares {U = Unit {0}} (text_of n) (Err why) s saved
+  saves_spare {n} s (ran.done after saved) = save_spares {U = Unit {0}} (text_of n) (Ok tt) s saved
+  saves_spare s ran.not_made = s
+
+apart_from : (x y : List ℕ) → (x ≡ y → ⊥) → bytes_eq x y ≡ false
+apart_from x y differ = false_from_ne_true (bytes_eq x y) (λ e. absurd (differ ((bytes_eq-Decides x y).0 e)))
+
+prepares_spare : (path : List ℕ) (a : Ask) → bytes_eq a.output path ≡ false → {e : End} {before after : List Entry} → Prepares a before e after → Since (Spares path) before after
+prepares_spare path a apart ran.cannot_read = later start refl
+prepares_spare path a apart ran.too_large = later start refl
+prepares_spare path a apart (ran.not_accepted bytes e why) = later start refl
+prepares_spare path a apart (ran.saves bytes n e after accepted saved) = saves_spare path a.output apart (later start refl) saved
+prepares_spare path a apart (ran.no_memory_later answer) = later start refl
+
+ran_spares : (words : List (List ℕ)) (path : List ℕ) → IsOther words path → {e : End} {before after : List Entry} → Ran words before e after → Since (Spares path) before after
+ran_spares words path other (ran.refused u is) = start
+ran_spares words path other (ran.not_built is) = start
+ran_spares words path other (ran.job a e after is prepares) = prepares_spare path a (apart_from a.output path (other a is)) prepares
+ran_spares words path other ran.no_memory = start
+
+speech_spares : (path : List ℕ) {text : List ℕ} {x before after : List Entry} {rest : List ℕ} → Since (Spares path) x before → Speech text before rest after → Since (Spares path) x after
+speech_spares path s said.none = s
+speech_spares path s (said.more n before) = later (speech_spares path s before) refl
+
+says_spare : (path : List ℕ) {text : List ℕ} {failed : Type 0} {x before after : List Entry} → Since (Spares path) x before → Says text failed before after → Since (Spares path) x after
+says_spare path s (said.whole speech) = speech_spares path s speech
+says_spare path s (said.cut f speech) = speech_spares path s speech
+says_spare path s (said.refused f speech) = later (speech_spares path s speech) refl
+
+-- ---- at every moment
+
+spared_moments : {path : List ℕ} {x y : List Entry} → place x path ≡ untouched → Since (Spares path) x y → Since (λ now. place now path ≡ untouched) x y
+spared_moments e start = start
+spared_moments {path} e (later {past} {entry} since spares) = later (spared_moments e since) (untouched_after path entry (place past) spares (untouched_since since e))
+
+at_moment : (path : List ℕ) (journal : List Entry) → Since (λ now. place now path ≡ untouched) [] journal → IsUntouched path journal
+at_moment path journal since zero high =
+    let whole : length journal - 0 ≡ length journal = omega arith in
+    ap (λ n. leaves (drop n journal) path) whole ∙ ap (λ j. leaves j path) (drop-length journal)
+at_moment path journal since (suc t) high = ap (λ p. Place.options p) (since_at since (suc t) (omega arith) high)
+
+pub untouched_paths : (words : List (List ℕ)) (code : ℕ) (failed : Type 0) (before after : List Entry) → Ended words code failed before after → before ≡ [] → (path : List ℕ) → IsOther words path → IsUntouched path after
+untouched_paths words code failed before after ended new path other =
+    at_moment path after (subst (λ b. Since (λ now. place now path ≡ untouched) b after) new
+    (spared_moments (ap (λ b. place b path) new) (says_spare path (ran_spares words path other ended.ran) ended.says)))
+
+-- ---- the input
+
+clash : {A : Type 0} → true ≡ false → A
+clash e = cc
+
+-- a path isn't apart from itself
+same_not_apart : (x : List ℕ) → are_apart x x ≡ false
+same_not_apart x = ap (λ b. not (b || bytes_eq x (temporary_of x) || bytes_eq x (connection_of x))) (same_bytes x)
+
+apart_paths : (x y : List ℕ) → are_apart x y ≡ true → y ≡ x → ⊥
+apart_paths x y apart same = clash (sym apart ∙ ap (are_apart x) same ∙ same_not_apart x)
+
+one_ask : {a b : Ask} → command.One a ≡ command.One b → a ≡ b
+one_ask e = cc
+
+input_is_other : (words : List (List ℕ)) (a : Ask) → IsJob words a → IsOther words a.input
+input_is_other words a is b also same =
+    let one : b ≡ a = one_ask (sym also.asks ∙ is.asks) in
+    let apart : are_apart a.input a.output ≡ true = job_apart words a is.taken is.asks in
+    apart_paths a.input a.output apart (ap (λ x. Ask.output x) (sym one) ∙ same)
+
+pub untouched_input : (words : List (List ℕ)) (code : ℕ) (failed : Type 0) (before after : List Entry) → Ended words code failed before after → before ≡ [] → (a : Ask) → IsJob words a → IsUntouched a.input after
+untouched_input words code failed before after ended new a is = untouched_paths words code failed before after ended new a.input (input_is_other words a is)

@@ -1,6 +1,0 @@
-use Rattle.std.proofs.Common.{◌≡◌, ◌∷◌, [], ◌∙◌, ap, codes}
-use Rattle.jtext.specs.declared.json.Json.TheVariants as json
-use Rattle.nbrun_top.proofs.empty.tags.Goals as goal
-
-pub returns : goal.returns
-returns c = c.in_ok-metadata.ensures ∙ ap (λ v. json.Obj ((codes "tags", v) ∷ [])) (c.in_ok-tags.ensures ∙ ap (λ v. json.Arr (v ∷ [])) c.in_ok-tag.ensures)

@@ -1,0 +1,13 @@
+use Rattle.std.proofs.Common.{map, string_bytes}
+use Rattle.world.specs.Moments.{told_then}
+use Rattle.nbrun_top.proofs.Runs.{said_text, ended_at}
+use Rattle.nbrun_top.proofs.main_call.status.Goals as goal
+
+pub returns-clause-causes : goal.returns-clause-causes
+returns-clause-causes g c =
+    let words = map string_bytes c.args.words.now in
+    let a = c.answered-answer in
+    told_then a.ensures.ran c.say.ensures.tells (λ x y z ran says.
+    ended_at words a.result.end c.said.result.now c.code-code.result c.unless_not_said.result c.say_faults-faults.result (g.W.Journal.counts c.args.w.now).say (g.W.Journal.counts c.say.new.w).say
+    (said_text words a.result.end a.result.text c.said.result.now a.ensures.text c.said.ensures.memory c.said.ensures.text)
+    c.code-code.ensures c.say_faults-faults.ensures c.unless_not_said.ensures.answers x y z ran says)

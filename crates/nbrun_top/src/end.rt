@@ -1,0 +1,61 @@
+//! `End`, how a run ends.
+ghost use Rattle.std.specs.Prelude.{◌≡◌};
+ghost use Rattle.nbrun_top.specs.Codes.{code_of};
+
+use crate::plain::SaveFault;
+use jtext::{JsonFault, NoMemory, Text};
+use nb_model::NbFault;
+use words::Usage;
+
+/// How a run ends, with what its last line names.
+#[derive(Debug, Drop)]
+pub(crate) enum End {
+    /// The notebook with so many cells was saved.
+    Done { cells: usize },
+    /// The words are refused.
+    Refused(Usage),
+    /// The input can't be read.
+    NotRead,
+    /// The input has more bytes than are read.
+    TooLarge,
+    /// The input is no JSON text.
+    NotJson(JsonFault),
+    /// The input is no notebook.
+    NotNotebook(NbFault),
+    /// Parameters can't be written in the language of the notebook's cells.
+    NoTranslator { language: Text },
+    /// The output can't be written.
+    NotSaved(SaveFault),
+    /// Memory was refused.
+    NoMemory,
+    /// The words ask for what isn't built yet.
+    NotBuilt,
+}
+
+impl End {
+    /// The exit status, where all that was to be said was said.
+    pub(crate) fn code(&self) -> u8
+        ensures { result ≡ code_of self.now }
+    {
+        match self {
+            End::Done { .. } => 0,
+            End::Refused(_) => 2,
+            End::NotRead => 3,
+            End::TooLarge | End::NotJson(_) | End::NotNotebook(_) => 4,
+            End::NoTranslator { .. } => 5,
+            End::NotSaved(_) => 10,
+            End::NoMemory => 12,
+            End::NotBuilt => 70,
+        }
+    }
+}
+
+impl From<NoMemory> for End {
+    ghost use Rattle.nbrun_top.specs.declared.end.End.TheVariants as end;
+
+    ghost from_gives = { λ _ e. e ≡ end.NoMemory };
+
+    fn from(_: NoMemory) -> End {
+        End::NoMemory
+    }
+}

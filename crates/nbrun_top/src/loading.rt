@@ -1,0 +1,61 @@
+//! From the bytes of the input to the notebook with its parameters.
+ghost use Rattle.std.specs.Prelude.{◌≡◌, ℕ, List as Plain, IfOk, IfErr};
+ghost use Rattle.words.specs.declared.ask.Ask as asks;
+ghost use Rattle.nbrun_top.specs.Loaded.{Gives, IsNotebook, Accepts, Refuses};
+
+use crate::end::End;
+use jtext::{Json, JsonFault, read};
+use nb_migrate::of_any;
+use nb_model::{NbFault, Notebook};
+use nb_params::{InjectFault, inject};
+use std::alloc::Global;
+use words::Ask;
+
+/// How deep lists and objects may nest.
+const DEEP: u32 = 128;
+
+/// The notebook that the bytes give, with the parameters that are asked for.
+pub(crate) fn loaded(alloc: Global, bytes: &[u8], ask: &Ask) -> Result<Notebook, End>
+    ensures ok { IfOk result (Accepts ask.now bytes.now) }
+    ensures err { IfErr result (Refuses ask.now bytes.now) }
+{
+    let tree = parsed(alloc, bytes)?;
+    let notebook = accepted(alloc, tree)?;
+    injected(alloc, notebook, ask)
+}
+
+// The tree that the bytes spell.
+fn parsed(alloc: Global, bytes: &[u8]) -> Result<Json, End>
+    ensures ok { IfOk result (Gives bytes.now) }
+    ensures err { IfErr result (λ e. (ask : asks.Ask) → Refuses ask bytes.now e) }
+{
+    match read(alloc, bytes, DEEP) {
+        Ok(tree) => Ok(tree),
+        Err(JsonFault::NoMemory) => Err(End::NoMemory),
+        Err(fault) => Err(End::NotJson(fault)),
+    }
+}
+
+// The notebook that the tree of the bytes is.
+fn accepted(alloc: Global, tree: Json) -> Result<Notebook, End>
+    ensures ok { IfOk result (λ n. (bytes : Plain ℕ) → Gives bytes tree → IsNotebook bytes n) }
+    ensures err { IfErr result (λ e. (ask : asks.Ask) (bytes : Plain ℕ) → Gives bytes tree → Refuses ask bytes e) }
+{
+    match of_any(alloc, tree) {
+        Ok(notebook) => Ok(notebook),
+        Err(NbFault::NoMemory) => Err(End::NoMemory),
+        Err(fault) => Err(End::NotNotebook(fault)),
+    }
+}
+
+// The notebook with the parameters.
+fn injected(alloc: Global, notebook: Notebook, ask: &Ask) -> Result<Notebook, End>
+    ensures ok { IfOk result (λ n. (bytes : Plain ℕ) → IsNotebook bytes notebook → Accepts ask.now bytes n) }
+    ensures err { IfErr result (λ e. (bytes : Plain ℕ) → IsNotebook bytes notebook → Refuses ask.now bytes e) }
+{
+    match inject(alloc, notebook, &ask.params, ask.report) {
+        Ok(notebook) => Ok(notebook),
+        Err(InjectFault::NoTranslator { language }) => Err(End::NoTranslator { language }),
+        Err(InjectFault::NoMemory) => Err(End::NoMemory),
+    }
+}

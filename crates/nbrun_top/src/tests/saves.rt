@@ -1,0 +1,148 @@
+//! Runs that save a notebook, and saves and lines that fail.
+use super::notebooks::{
+    DEFAULTS, DEFAULTS_SAVED, INJECTED, INJECTED_SAVED, LAB, LAB_SAVED, OLD, OLD_REPORT,
+};
+use super::{disk, gives};
+use std::test::Fail;
+
+const EMPTY: &str = r#"{"cells":[],"metadata":{},"nbformat":4,"nbformat_minor":5}"#;
+
+const EMPTY_SAVED: &str = r#"{
+ "cells": [],
+ "metadata": {},
+ "nbformat": 4,
+ "nbformat_minor": 5
+}
+"#;
+
+/// Whether the run of these words on this input says these lines and saves this text.
+fn saves(
+    rt: &HostRuntime,
+    words: &str,
+    input: &str,
+    said: &str,
+    saved: &str,
+) -> Result<bool, Fail> {
+    let mut disk = disk(rt, input.as_bytes(), None)?;
+    gives(rt, words, &mut disk, 0, said, Some(saved))
+}
+
+#[test]
+fn an_empty_notebook_is_saved_as_it_is(rt: HostRuntime) -> Result<(), Fail> {
+    assert!(rt;
+        saves(
+            &rt,
+            "in out --prepare-only",
+            EMPTY,
+            "saved 0/0 out\nout: done\n",
+            EMPTY_SAVED
+        )?
+    );
+    Ok(())
+}
+
+#[test]
+fn a_notebook_of_jupyterlab_keeps_its_tree(rt: HostRuntime) -> Result<(), Fail> {
+    assert!(rt;
+        saves(
+            &rt,
+            "in out --prepare-only",
+            LAB,
+            "saved 0/2 out\nout: done\n",
+            LAB_SAVED
+        )?
+    );
+    Ok(())
+}
+
+#[test]
+fn parameters_stand_after_the_cell_of_defaults(rt: HostRuntime) -> Result<(), Fail> {
+    let words = "in out --prepare-only -p a 1e2 -r b 007 -p c True";
+    assert!(rt;
+        saves(
+            &rt,
+            words,
+            DEFAULTS,
+            "saved 0/2 out\nout: done\n",
+            DEFAULTS_SAVED
+        )?
+    );
+    Ok(())
+}
+
+#[test]
+fn an_earlier_injection_is_replaced_under_a_free_id(rt: HostRuntime) -> Result<(), Fail> {
+    let words = "in out --prepare-only -p a 1";
+    assert!(rt;
+        saves(
+            &rt,
+            words,
+            INJECTED,
+            "saved 0/3 out\nout: done\n",
+            INJECTED_SAVED
+        )?
+    );
+    Ok(())
+}
+
+#[test]
+fn an_older_notebook_is_raised_and_its_sources_hidden(rt: HostRuntime) -> Result<(), Fail> {
+    let words = "--report-mode in out --prepare-only";
+    assert!(rt; saves(&rt, words, OLD, "saved 0/2 out\nout: done\n", OLD_REPORT)?);
+    Ok(())
+}
+
+/// The number of the call that fails, the status, whether the output is there whole, and what is said.
+/// The calls are the read, the create, the one write, the sync, and the one line that is said; one more isn't made.
+const FAILING: &str = "\
+0 3 no out: cannot read in
+1 10 no out: cannot save: write
+2 10 empty out: cannot save: write
+3 10 whole out: cannot save: sync
+4 11 whole -
+5 0 whole saved 0/0 out+out: done";
+
+#[test]
+fn each_failed_call_has_its_status_and_its_line(rt: HostRuntime) -> Result<(), Fail> {
+    let mut number = 0;
+    for row in FAILING.lines() {
+        let row = row.split_once(' ').ok_or("no number")?.1;
+        let (code, row) = row.split_once(' ').ok_or("no status")?;
+        let (output, said) = row.split_once(' ').ok_or("no output")?;
+        assert!(rt;
+            fails(
+                &rt,
+                number,
+                code.parse::<u8>().map_err(|_| "no number")?,
+                output,
+                said
+            )?
+        );
+        number += 1;
+    }
+    Ok(())
+}
+
+fn fails(rt: &HostRuntime, number: u64, code: u8, output: &str, said: &str) -> Result<bool, Fail> {
+    let mut said = match said {
+        "-" => String::new(rt.alloc()),
+        _ => said.replace(rt.alloc(), "+", "\n")?,
+    };
+    if !said.is_empty() {
+        said.push('\n')?;
+    }
+    let output = match output {
+        "no" => None,
+        "empty" => Some(""),
+        _ => Some(EMPTY_SAVED),
+    };
+    let mut disk = disk(rt, EMPTY.as_bytes(), Some(number))?;
+    gives(
+        rt,
+        "in out --prepare-only",
+        &mut disk,
+        code,
+        said.as_str(),
+        output,
+    )
+}

@@ -1,0 +1,88 @@
+//! What a line says of a refusal, after what it speaks of.
+ghost use Rattle.std.specs.Prelude.{◌≡◌, ◌++◌, codes, string_bytes, IfOk};
+ghost use Rattle.std.specs.Fmt.{decimal};
+ghost use Rattle.nbrun_top.specs.Lines as spec;
+
+use crate::plain::SaveFault;
+use jtext::{JsonFault, NoMemory};
+use nb_model::NbFault;
+use std::alloc::Global;
+use words::Usage;
+
+/// Why words are refused, and at which word.
+pub(crate) fn usage(alloc: Global, usage: &Usage) -> Result<String, NoMemory>
+    ensures { IfOk result (λ s. string_bytes s ≡ spec.usage usage.now) }
+{
+    match usage {
+        Usage::Missing => owned(alloc, "missing"),
+        Usage::Unknown { i } => placed(alloc, "unknown", *i as u64),
+        Usage::NoValue { i } => placed(alloc, "no value", *i as u64),
+        Usage::BadNumber { i } => placed(alloc, "bad number", *i as u64),
+        Usage::Twice { i } => placed(alloc, "twice", *i as u64),
+        Usage::Extra { i } => placed(alloc, "extra", *i as u64),
+        Usage::SamePath { i } => placed(alloc, "same path", *i as u64),
+        Usage::BadName { i } => placed(alloc, "bad name", *i as u64),
+        Usage::BadJobs { pointer } => joined(alloc, "bad jobs at ", pointer.as_str()),
+        Usage::NoMemory => owned(alloc, ""),
+    }
+}
+
+/// What is wrong with a text, and at which byte.
+pub(crate) fn json(alloc: Global, fault: &JsonFault) -> Result<String, NoMemory>
+    ensures { IfOk result (λ s. string_bytes s ≡ spec.json fault.now) }
+{
+    match fault {
+        JsonFault::NotUtf8 { at } => placed(alloc, "not JSON: utf8", *at),
+        JsonFault::Bad { at } => placed(alloc, "not JSON: syntax", *at),
+        JsonFault::Deep { at } => placed(alloc, "not JSON: depth", *at),
+        JsonFault::Repeated { at } => placed(alloc, "not JSON: repeated key", *at),
+        JsonFault::Lone { at } => placed(alloc, "not JSON: lone surrogate", *at),
+        JsonFault::NoMemory => owned(alloc, ""),
+    }
+}
+
+/// What is wrong with a tree, and at which value.
+pub(crate) fn notebook(alloc: Global, fault: &NbFault) -> Result<String, NoMemory>
+    ensures { IfOk result (λ s. string_bytes s ≡ spec.notebook fault.now) }
+{
+    match fault {
+        NbFault::Version => owned(alloc, "not nbformat 4.5: version"),
+        NbFault::Shape { pointer } => {
+            joined(alloc, "not nbformat 4.5: shape at ", pointer.as_str())
+        }
+        NbFault::SameId { id } => joined(alloc, "not nbformat 4.5: same id ", id.as_str()),
+        NbFault::NoMemory => owned(alloc, ""),
+    }
+}
+
+/// Which step of a save failed.
+pub(crate) fn save(fault: SaveFault) -> &'static str
+    ensures { result.now ≡ spec.save fault }
+{
+    match fault {
+        SaveFault::Write => "cannot save: write",
+        SaveFault::Sync => "cannot save: sync",
+    }
+}
+
+fn owned(alloc: Global, text: &str) -> Result<String, NoMemory>
+    ensures { IfOk result (λ s. string_bytes s ≡ text.now) }
+{
+    Ok(String::from_str(alloc, text)?)
+}
+
+/// One text after another.
+pub(crate) fn joined(alloc: Global, first: &str, second: &str) -> Result<String, NoMemory>
+    ensures { IfOk result (λ s. string_bytes s ≡ first.now ++ second.now) }
+{
+    let mut text = String::from_str(alloc, first)?;
+    text.push_str(second)?;
+    Ok(text)
+}
+
+// The text and a place.
+fn placed(alloc: Global, text: &str, at: u64) -> Result<String, NoMemory>
+    ensures { IfOk result (λ s. string_bytes s ≡ text.now ++ codes " at " ++ decimal at) }
+{
+    Ok(format!(in alloc; "{text} at {at}")?)
+}
