@@ -64,11 +64,11 @@ pub refused_at : (a : Ask) (answer : ReadFile) (e given : End) → (given ≡ e)
 refused_at a answer e given (inl same) past it = subst (λ x. Prepares a past x (read_of a answer past)) (sym same) it
 refused_at a answer e given (inr memory) past it = subst (λ x. Prepares a past x (read_of a answer past)) (sym memory) (ran.no_memory_later answer)
 
-pub not_accepted_at : (a : Ask) (bytes seen : List ℕ) (e given : End) → seen ≡ bytes → Refuses a seen e → (given ≡ e) ⊎ (given ≡ end.NoMemory) → (past : List Entry) → Prepares a past given (read_of a (found.Whole bytes) past)
-not_accepted_at a bytes seen e given same why is past = refused_at a (found.Whole bytes) e given is past (ran.not_accepted bytes e (subst (λ b. Refuses a b e) same why))
+pub not_accepted_at : (a : Ask) (bytes : List ℕ) (e given : End) → Refuses a bytes e → (given ≡ e) ⊎ (given ≡ end.NoMemory) → (past : List Entry) → Prepares a past given (read_of a (found.Whole bytes) past)
+not_accepted_at a bytes e given why is past = refused_at a (found.Whole bytes) e given is past (ran.not_accepted bytes e why)
 
-pub saved_at : (a : Ask) (bytes seen : List ℕ) (n : Notebook) (e : End) → seen ≡ bytes → Accepts a seen n → (past read after : List Entry) → read ≡ read_of a (found.Whole bytes) past → SavesAs a.output n read e after → Prepares a past e after
-saved_at a bytes seen n e same accepted past read after is saved = ran.saves bytes n e after (subst (λ b. Accepts a b n) same accepted) (subst (λ r. SavesAs a.output n r e after) is saved)
+pub saved_at : (a : Ask) (bytes : List ℕ) (n : Notebook) (e : End) → Accepts a bytes n → (past read after : List Entry) → read ≡ read_of a (found.Whole bytes) past → SavesAs a.output n read e after → Prepares a past e after
+saved_at a bytes n e accepted past read after is saved = ran.saves bytes n e after accepted (subst (λ r. SavesAs a.output n r e after) is saved)
 
 -- ---- what is said
 

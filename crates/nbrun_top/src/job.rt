@@ -35,7 +35,7 @@ pub(crate) fn prepare<W: Disk>(alloc: Global, ask: &Ask, w: &mut W) -> Answer
     ensures counts { DiskCause (W.counts w.old) (W.counts w.new) ⊥ }
 {
     match w.read_file(alloc, &ask.input, MOST) {
-        ReadFile::Whole(bytes) => match loaded(alloc, bytes.bytes(), ask) {
+        ReadFile::Whole(bytes) => match loaded(alloc, bytes, ask) {
             Ok(notebook) => save_of(alloc, ask, &notebook, w),
             Err(end) => refused(alloc, ask, end),
         },

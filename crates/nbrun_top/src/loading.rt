@@ -4,7 +4,7 @@ ghost use Rattle.words.specs.declared.ask.Ask as asks;
 ghost use Rattle.nbrun_top.specs.Loaded.{Gives, IsNotebook, Accepts, Refuses};
 
 use crate::end::End;
-use jtext::{Json, JsonFault, read};
+use jtext::{Bytes, Json, JsonFault, read};
 use nb_migrate::of_any;
 use nb_model::{NbFault, Notebook};
 use nb_params::{InjectFault, inject};
@@ -14,8 +14,15 @@ use words::Ask;
 /// How deep lists and objects may nest.
 const DEEP: u32 = 128;
 
-/// The notebook that the bytes give, with the parameters that are asked for.
-pub(crate) fn loaded(alloc: Global, bytes: &[u8], ask: &Ask) -> Result<Notebook, End>
+/// The notebook that the bytes give, with the parameters that are asked for. The bytes are let go before it is saved.
+pub(crate) fn loaded(alloc: Global, bytes: Bytes, ask: &Ask) -> Result<Notebook, End>
+    ensures ok { IfOk result (Accepts ask.now bytes) }
+    ensures err { IfErr result (Refuses ask.now bytes) }
+{
+    notebook_of(alloc, bytes.bytes(), ask)
+}
+
+fn notebook_of(alloc: Global, bytes: &[u8], ask: &Ask) -> Result<Notebook, End>
     ensures ok { IfOk result (Accepts ask.now bytes.now) }
     ensures err { IfErr result (Refuses ask.now bytes.now) }
 {

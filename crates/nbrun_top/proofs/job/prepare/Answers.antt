@@ -8,11 +8,11 @@ use Rattle.nbrun_top.proofs.job.prepare.Goals as goal
 
 pub returns-in-Ok-clause-entries : goal.returns-in-Ok-clause-entries
 returns-in-Ok-clause-entries g c = told_then c.in-Whole.ensures.tells c.save_of.ensures.entries (λ x y z read saved.
-    saved_at c.args.ask.now c.in-Whole.bytes c.bytes-in-Whole.result.now c.in-Ok.notebook c.save_of.result.end c.bytes-in-Whole.ensures c.in-Ok.ensures.ok x y z read saved)
+    saved_at c.args.ask.now c.in-Whole.bytes c.in-Ok.notebook c.save_of.result.end c.in-Ok.ensures.ok x y z read saved)
 
-pub returns-in-Whole-clause-entries : goal.returns-in-Whole-clause-entries
-returns-in-Whole-clause-entries g c = tells_as c.in-Whole.ensures.tells
-    (not_accepted_at c.args.ask.now c.in-Whole.bytes c.bytes-in-Whole.result.now c.in-Err.end c.refused.result.end c.bytes-in-Whole.ensures c.in-Err.ensures.err c.refused.ensures.end)
+pub returns-in-Err-clause-entries : goal.returns-in-Err-clause-entries
+returns-in-Err-clause-entries g c = tells_as c.in-Whole.ensures.tells
+    (not_accepted_at c.args.ask.now c.in-Whole.bytes c.in-Err.end c.refused.result.end c.in-Err.ensures.err c.refused.ensures.end)
 
 pub returns-in-Big-clause-entries : goal.returns-in-Big-clause-entries
 returns-in-Big-clause-entries g c = tells_as c.in-Big.ensures.tells (λ past. refused_at c.args.ask.now found.Big end.TooLarge c.refused-in-Big.result.end c.refused-in-Big.ensures.end past too_large)
@@ -20,6 +20,6 @@ returns-in-Big-clause-entries g c = tells_as c.in-Big.ensures.tells (λ past. re
 pub returns-in-Failed-clause-entries : goal.returns-in-Failed-clause-entries
 returns-in-Failed-clause-entries g c = tells_as c.in-Failed.ensures.tells (λ past. refused_at c.args.ask.now found.Failed end.NotRead c.refused-in-Failed.result.end c.refused-in-Failed.ensures.end past cannot_read)
 
-pub returns-clause-entries : goal.returns-clause-entries
-returns-clause-entries g c = tells_as c.in-NoMemory.ensures.tells (λ past.
+pub returns-in-NoMemory-clause-entries : goal.returns-in-NoMemory-clause-entries
+returns-in-NoMemory-clause-entries g c = tells_as c.in-NoMemory.ensures.tells (λ past.
     subst (λ e. Prepares c.args.ask.now past e (read_of c.args.ask.now found.NoMemory past)) (sym c.no_memory.ensures) (no_memory_later found.NoMemory))
