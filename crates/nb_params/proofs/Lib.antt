@@ -10,3 +10,4 @@ pub mod SortedTrees
 pub mod SortedValid
 pub mod SpelledKeyed
 pub mod ReadKeyed
+pub mod SoundNotebooks

@@ -1,19 +1,25 @@
-//! Laws of prepared, injected and saved notebooks. The functions do nothing: their contracts are the laws.
+//! Laws of prepared, injected and saved notebooks. The functions change nothing: their contracts are the laws.
 ghost use Rattle.std.specs.Prelude.{◌≡◌, ◌≤◌, ◌<◌, ◌^◌, ℕ, Bool, List as Plain, length};
 ghost use Rattle.std.specs.List.{AllByRecursion};
+ghost use Rattle.std.specs.Option.{IfSome};
+ghost use Rattle.std.specs.Str.{IsUtf8};
+ghost use Rattle.jtext.specs.Number.{IsNumber};
 ghost use Rattle.jtext.specs.declared.json.Json as tree;
 ghost use Rattle.jtext.specs.Depth.{depth};
 ghost use Rattle.jtext.specs.Grammar.{Distinct, Spells};
 ghost use Rattle.jtext.specs.Indent.{print};
 ghost use Rattle.jtext.specs.Keyed.{Keyed, PairsKeyed};
 ghost use Rattle.jtext.specs.Sorting.{sorted};
-ghost use Rattle.jtext.specs.Sound.{Sound};
+ghost use Rattle.jtext.specs.Sound.{Sound, AllSound};
 ghost use Rattle.nb_model.specs.declared.notebook.Notebook as notebook;
 ghost use Rattle.nb_model.specs.Injected.{injected};
 ghost use Rattle.nb_model.specs.Prepared.{prepared};
 ghost use Rattle.nb_model.specs.Reading.{notebook_of};
-ghost use Rattle.nb_model.specs.Tree.{notebook_tree};
+ghost use Rattle.nb_model.specs.Tree.{cell_tree, notebook_tree};
 ghost use Rattle.nb_model.specs.Valid.{is_notebook, Valid};
+
+use jtext::{Items, Json, NumText, Text};
+use nb_model::{Cell, Notebook};
 
 /// A valid notebook stays valid when parameters are injected whose values are nested at most 124
 /// deep. It has fewer than 10^44 cells: then the number in the id of the new cell has at most 44
@@ -57,3 +63,60 @@ pub fn saved_reads_valid()
 pub fn spelled_is_keyed()
     ensures { (t : tree.Json) (b : Plain ℕ) → Spells t b → Keyed t }
 {}
+
+/// The numbers of a notebook's tree are numbers, and its texts are UTF-8.
+pub fn sound(n: &Notebook)
+    ensures { Sound (notebook_tree n.now) }
+{
+    jtext::laws::sound(&n.metadata);
+    sound_cells(n.cells.as_slice());
+}
+
+fn sound_cells(cells: &[Cell])
+    ensures { AllByRecursion (λ c. Sound (cell_tree c)) cells.now }
+{
+    for cell in cells {
+        sound_cell(cell);
+    }
+}
+
+fn sound_cell(cell: &Cell)
+    ensures { Sound (cell_tree cell.now) }
+{
+    sound_id(&cell.id);
+    jtext::laws::sound(&cell.metadata);
+    jtext::laws::sound(&cell.source);
+    sound_attachments(&cell.attachments);
+    sound_outputs(&cell.outputs);
+    sound_count(&cell.count);
+}
+
+fn sound_id(id: &Text)
+    ensures { IsUtf8 id.now }
+{
+    let _ = id.as_str().as_bytes();
+}
+
+fn sound_attachments(attachments: &Option<Json>)
+    ensures { IfSome attachments.now (λ v. Sound v) }
+{
+    if let Some(v) = attachments {
+        jtext::laws::sound(v);
+    }
+}
+
+fn sound_outputs(outputs: &Items)
+    ensures { AllSound outputs.now }
+{
+    for output in outputs.as_slice() {
+        jtext::laws::sound(output);
+    }
+}
+
+fn sound_count(count: &Option<NumText>)
+    ensures { IfSome count.now (λ s. IsNumber s) }
+{
+    if let Some(n) = count {
+        let _ = n.as_str();
+    }
+}
