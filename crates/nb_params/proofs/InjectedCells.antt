@@ -7,7 +7,7 @@ use Rattle.nb_model.specs.declared.kind.Kind.{Kind}
 use Rattle.nb_model.specs.declared.kind.Kind.TheVariants as kind
 use Rattle.nb_model.specs.declared.cell.Cell.{Cell}
 use Rattle.nb_model.specs.declared.notebook.Notebook.{Notebook}
-use Rattle.nb_model.specs.Tree.{optional}
+use Rattle.nb_model.specs.Tree.{optional, cell_tree}
 use Rattle.nb_model.specs.Injected.{set_within, is_code, hidden, with_parameters, parameters_cell, fresh_id, ids, recorded, parametrised, injected}
 use Rattle.nb_model.proofs.TreeLaws.{pairs_with}
 use Rattle.nb_params.proofs.Placements.{placed, all-rest, all-between, length-ids_rest}
@@ -15,6 +15,10 @@ use Rattle.nb_params.proofs.Placements.{placed, all-rest, all-between, length-id
 -- the pairs of a cell of text, but for its attachments
 abbrev pub prose_pairs : List ℕ → Cell → Json → List (List ℕ × Json)
 prose_pairs name c m = (codes "cell_type", json.Str name) ∷ (codes "id", json.Str c.id) ∷ (codes "metadata", m) ∷ (codes "source", c.source) ∷ []
+
+-- the pairs of a notebook
+abbrev pub top_pairs : Notebook → List (List ℕ × Json)
+top_pairs n = (codes "cells", json.Arr (map cell_tree n.cells)) ∷ (codes "metadata", n.metadata) ∷ (codes "nbformat", json.Num (codes "4")) ∷ (codes "nbformat_minor", json.Num (codes "5")) ∷ []
 
 abbrev attached : Cell → List (List ℕ × Json)
 attached c = optional (codes "attachments") c.attachments

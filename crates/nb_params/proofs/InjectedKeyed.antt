@@ -26,7 +26,7 @@ use Rattle.nb_model.proofs.PreparedLaws.{no_repeat}
 use Rattle.nb_model.proofs.DepthLaws.{all-set_pair, all-found, no_fields}
 use Rattle.nb_model.proofs.TreeLaws.{object_is, items_keyed, pairs_keyed, first_keyed, pair_keyed, pairs_with}
 use Rattle.nb_params.proofs.Placements.{not_or}
-use Rattle.nb_params.proofs.InjectedCells.{Values, prose_pairs, with_metadata, metadata_in, emptied, hidden_values, all_injected, metadata_injected, all-map, all-unmap}
+use Rattle.nb_params.proofs.InjectedCells.{Values, prose_pairs, with_metadata, metadata_in, emptied, hidden_values, all_injected, metadata_injected, all-map, all-unmap, top_pairs}
 
 -- ---- lists
 
@@ -140,9 +140,6 @@ prepared_cell_keyed c k =
     cell_keyed (prepared_cell c) (with_metadata Keyed (cleared c).kind (cleared c) (set_field (codes "papermill") pending c.metadata) (keyed-set_field (codes "papermill") pending c.metadata pending_keyed (metadata_in Keyed c.kind c all)) empty)
 
 -- ---- notebooks
-
-abbrev top_pairs : Notebook → List (List ℕ × Json)
-top_pairs n = (codes "cells", json.Arr (map cell_tree n.cells)) ∷ (codes "metadata", n.metadata) ∷ (codes "nbformat", json.Num (codes "4")) ∷ (codes "nbformat_minor", json.Num (codes "5")) ∷ []
 
 pub notebook_keyed : (n : Notebook) → AllByRecursion (λ c. Keyed (cell_tree c)) n.cells → Keyed n.metadata → Keyed (notebook_tree n)
 notebook_keyed n cells metadata =

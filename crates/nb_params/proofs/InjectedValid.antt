@@ -24,7 +24,7 @@ use Rattle.nb_model.proofs.DepthLaws.{object_within, values_within, null_within,
 use Rattle.nb_model.proofs.TreeLaws.{pairs_with}
 use Rattle.nb_params.proofs.FreshIds.{fresh_id-is_id}
 use Rattle.nb_params.proofs.Placements.{no_repeat-placed}
-use Rattle.nb_params.proofs.InjectedCells.{hidden_values, all_injected, metadata_injected, all-map, all-unmap}
+use Rattle.nb_params.proofs.InjectedCells.{hidden_values, all_injected, metadata_injected, all-map, all-unmap, top_pairs}
 
 -- ---- the new cell
 
@@ -139,9 +139,6 @@ hiding_within m h = let e = depth-Bool true in set_within_within 123 (codes "jup
 
 hidden_within : (c : Cell) → depth (cell_tree c) ≤ 126 → depth (cell_tree (hidden c)) ≤ 126
 hidden_within c h = object_within 125 (pairs_with (hidden c).kind (hidden c)) (hidden_values Within hiding_within c (values_within 125 (pairs_with c.kind c) h))
-
-abbrev top_pairs : Notebook → List (List ℕ × Json)
-top_pairs n = (codes "cells", json.Arr (map cell_tree n.cells)) ∷ (codes "metadata", n.metadata) ∷ (codes "nbformat", json.Num (codes "4")) ∷ (codes "nbformat_minor", json.Num (codes "5")) ∷ []
 
 injected_within : (n : Notebook) (ps : List (List ℕ × Json)) (report : Bool) → AllByRecursion (λ p. depth p.1 ≤ 124) ps → depth (notebook_tree n) ≤ 128 → depth (notebook_tree (injected n ps report)) ≤ 128
 injected_within n ps report values h =

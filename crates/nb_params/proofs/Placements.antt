@@ -4,6 +4,7 @@ use Rattle.std.proofs.lemmas.List.{take-append-drop, map-append, length-map}
 use Rattle.std.specs.List.{AllByRecursion, list_any, position}
 use Rattle.std.specs.Str.{bytes_eq}
 use Rattle.jtext.specs.declared.json.Json.{Json}
+use Rattle.jtext.proofs.Keys.{or_false}
 use Rattle.nb_model.specs.declared.cell.Cell.{Cell}
 use Rattle.nb_model.specs.Injected.{is_tagged, with_parameters, placed_at, placed_after, parameters_cell, fresh_id, ids}
 use Rattle.nb_model.proofs.PreparedLaws.{no_repeat}
@@ -104,15 +105,11 @@ any-between : (q : List ℕ) (xs : List (List ℕ)) (y : List ℕ) (ys : List (L
 any-between q [] y ys f = ap (λ b. b || list_any (bytes_eq q) ys) f
 any-between q (x ∷ xs) y ys f = ap (λ b. bytes_eq q x || b) (any-between q xs y ys f)
 
-or_parts : (a b : Bool) → (a || b) ≡ false → (a ≡ false) × (b ≡ false)
-or_parts false b e = (refl, e)
-or_parts true b e = cc
-
 pub no_repeat-between : (xs : List (List ℕ)) (y : List ℕ) (ys : List (List ℕ)) → no_repeat (xs ++ ys) ≡ true → list_any (bytes_eq y) (xs ++ ys) ≡ false → no_repeat (xs ++ y ∷ ys) ≡ true
 no_repeat-between [] y ys e f = ap₂ (λ a b. not a && b) f e
 no_repeat-between (x ∷ xs) y ys e f =
     let h = and_parts (not (list_any (bytes_eq x) (xs ++ ys))) (no_repeat (xs ++ ys)) e in
-    let g = or_parts (bytes_eq y x) (list_any (bytes_eq y) (xs ++ ys)) f in
+    let g = or_false (bytes_eq y x) (list_any (bytes_eq y) (xs ++ ys)) f in
     ap₂ (λ a b. not a && b) (any-between x xs y ys (turned x y ∙ g.0)) (no_repeat-between xs y ys h.1 g.1) ∙ ap (λ b. b && true) h.0
 
 ids-left_out : (i : ℕ) (cs : List Cell) → ids (take i cs ++ drop (suc i) cs) ≡ take i (ids cs) ++ drop (suc i) (ids cs)

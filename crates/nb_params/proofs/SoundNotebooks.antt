@@ -7,7 +7,6 @@ use Rattle.std.specs.Str.{IsUtf8}
 use Rattle.std.proofs.lemmas.Bool.{leb-true}
 use Rattle.std.proofs.lemmas.List.{take_more}
 use Rattle.jtext.specs.declared.json.Json.{Json}
-use Rattle.jtext.specs.declared.json.Json.TheVariants as json
 use Rattle.jtext.specs.Number.{IsNumber}
 use Rattle.jtext.specs.Sound as sound
 use Rattle.jtext.specs.Sound.{Sound, AllSound, PairsSound}
@@ -20,7 +19,7 @@ use Rattle.nb_model.specs.declared.notebook.Notebook.{Notebook}
 use Rattle.nb_model.specs.Tree.{optional, count_tree, cell_tree, notebook_tree}
 use Rattle.nb_model.proofs.Tautologies.{and_parts}
 use Rattle.nb_model.proofs.TreeLaws.{pairs_with}
-use Rattle.nb_params.proofs.InjectedCells.{Values, prose_pairs}
+use Rattle.nb_params.proofs.InjectedCells.{Values, prose_pairs, top_pairs}
 
 -- ---- keys
 
@@ -79,9 +78,6 @@ all_sound (c ∷ cs) all = sound.more (cell_tree c) (map cell_tree cs) all.0 (al
 
 digit : (d : ℕ) → 49 ≤ d → d ≤ 57 → IsNumber (d ∷ [])
 digit d low high = record { minus = []; whole = d ∷ []; fraction = []; exponent = []; is_minus = inl refl; is_whole = inr (d, [], low, high, tt, refl); is_fraction = inl refl; is_exponent = inl refl; text = refl }
-
-abbrev top_pairs : Notebook → List (List ℕ × Json)
-top_pairs n = (codes "cells", json.Arr (map cell_tree n.cells)) ∷ (codes "metadata", n.metadata) ∷ (codes "nbformat", json.Num (codes "4")) ∷ (codes "nbformat_minor", json.Num (codes "5")) ∷ []
 
 pub notebook_sound : (n : Notebook) → Sound n.metadata → AllByRecursion (λ c. Sound (cell_tree c)) n.cells → Sound (notebook_tree n)
 notebook_sound n m cells =
