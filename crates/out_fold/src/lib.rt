@@ -15,6 +15,8 @@ mod parts;
 mod places;
 mod plain_fold;
 mod plans;
+#[cfg(test)]
+mod random_tests;
 mod render;
 mod standing;
 #[cfg(test)]
