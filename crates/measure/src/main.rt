@@ -1,7 +1,9 @@
-//! Times the layers of nbrun on inputs that bench/ makes: `measure json FILE`, `measure frames SIZE PIECE COUNT` and
-//! `measure messages COUNT SIZE`. Each line that it prints is a name and milliseconds.
+//! Times the layers of nbrun on inputs that bench/ makes: `measure json FILE`, `measure frames SIZE PIECE COUNT`,
+//! `measure messages COUNT SIZE`, `measure fold COUNT CELLS` and `measure takes OUTPUTS COUNT`. Each line that it prints
+//! is a name and milliseconds, of `fold` and `takes` microseconds.
 #![tactic(auto)]
 
+mod fold;
 mod frames;
 mod messages;
 mod texts;
@@ -9,7 +11,8 @@ mod texts;
 use anyhow::{Result, bail};
 use std::env;
 
-const USAGE: &str = "measure json FILE | frames SIZE PIECE COUNT | messages COUNT SIZE";
+const USAGE: &str =
+    "measure json FILE | frames SIZE PIECE COUNT | messages COUNT SIZE | fold COUNT CELLS | takes OUTPUTS COUNT";
 
 fn main(rt: HostRuntime) -> Result<()> {
     let mut args = env::args(&rt)?;
@@ -28,6 +31,12 @@ fn main(rt: HostRuntime) -> Result<()> {
         }
         [kind, count, size] if kind.as_str() == "messages" => {
             messages::measure(&rt, number(count.as_str())?, number(size.as_str())?)?
+        }
+        [kind, count, cells] if kind.as_str() == "fold" => {
+            fold::measure(&rt, number(count.as_str())?, number(cells.as_str())?)?
+        }
+        [kind, outputs, count] if kind.as_str() == "takes" => {
+            fold::measure_takes(&rt, number(outputs.as_str())?, number(count.as_str())?)?
         }
         _ => bail!("{USAGE}"),
     }
