@@ -104,21 +104,13 @@ const FAILING: &str = "\
 
 #[test]
 fn each_failed_call_has_its_status_and_its_line(rt: HostRuntime) -> Result<(), Fail> {
-    let mut number = 0;
     for row in FAILING.lines() {
-        let row = row.split_once(' ').ok_or("no number")?.1;
+        let (number, row) = row.split_once(' ').ok_or("no number")?;
         let (code, row) = row.split_once(' ').ok_or("no status")?;
         let (output, said) = row.split_once(' ').ok_or("no output")?;
-        assert!(rt;
-            fails(
-                &rt,
-                number,
-                code.parse::<u8>().map_err(|_| "no number")?,
-                output,
-                said
-            )?
-        );
-        number += 1;
+        let number = number.parse::<u64>().map_err(|_| "no number")?;
+        let code = code.parse::<u8>().map_err(|_| "no status")?;
+        assert!(rt; fails(&rt, number, code, output, said)?);
     }
     Ok(())
 }
