@@ -1,4 +1,4 @@
-//! Runs over real files, in the empty folder that a test begins in.
+//! Runs over real files, each test with files of its own.
 use crate::printed;
 use crate::real_world::RealWorld;
 use jtext::Text;
@@ -62,40 +62,43 @@ fn status(rt: HostRuntime, words: &str) -> Result<u8, Fail> {
 
 #[test]
 fn an_empty_notebook_is_saved_and_its_input_stays(rt: HostRuntime) -> Result<(), Fail> {
-    fs::write(&rt, "in", EMPTY)?;
+    fs::write(&rt, "empty", EMPTY)?;
     fs::write(
         &rt,
-        "out",
+        "empty-saved",
         "a longer text that was there before, which the save replaces whole",
     )?;
-    assert_eq!(rt; status(rt, "in out --prepare-only")?, 0);
-    assert!(rt; fs::read_to_string(&rt, "out")?.as_str() == EMPTY_SAVED);
-    assert!(rt; fs::read_to_string(&rt, "in")?.as_str() == EMPTY);
+    assert_eq!(rt; status(rt, "empty empty-saved --prepare-only")?, 0);
+    assert!(rt; fs::read_to_string(&rt, "empty-saved")?.as_str() == EMPTY_SAVED);
+    assert!(rt; fs::read_to_string(&rt, "empty")?.as_str() == EMPTY);
     Ok(())
 }
 
 #[test]
 fn parameters_reach_the_file(rt: HostRuntime) -> Result<(), Fail> {
-    fs::write(&rt, "in", DEFAULTS)?;
+    fs::write(&rt, "defaults", DEFAULTS)?;
     assert_eq!(rt;
-        status(rt, "in out --prepare-only -p a 1e2 -r b 007 -p c True")?,
+        status(
+            rt,
+            "defaults defaults-saved --prepare-only -p a 1e2 -r b 007 -p c True"
+        )?,
         0
     );
-    let saved = fs::read_to_string(&rt, "out")?;
+    let saved = fs::read_to_string(&rt, "defaults-saved")?;
     assert!(rt; saved.as_str().ends_with(DEFAULTS_END));
     Ok(())
 }
 
 #[test]
 fn what_is_refused_leaves_no_output(rt: HostRuntime) -> Result<(), Fail> {
-    fs::write(&rt, "in", "{\"a\":1,\"a\":2}")?;
-    assert_eq!(rt; status(rt, "in out --prepare-only")?, 4);
-    assert_eq!(rt; status(rt, "absent out --prepare-only")?, 3);
-    assert_eq!(rt; status(rt, "in in --prepare-only")?, 2);
-    assert!(rt; fs::read(&rt, "out").is_err());
-    assert_eq!(rt; status(rt, "in absent/out --prepare-only")?, 4);
-    fs::write(&rt, "in", EMPTY)?;
-    assert_eq!(rt; status(rt, "in absent/out --prepare-only")?, 10);
+    fs::write(&rt, "refused", "{\"a\":1,\"a\":2}")?;
+    assert_eq!(rt; status(rt, "refused never --prepare-only")?, 4);
+    assert_eq!(rt; status(rt, "absent never --prepare-only")?, 3);
+    assert_eq!(rt; status(rt, "refused refused --prepare-only")?, 2);
+    assert!(rt; fs::read(&rt, "never").is_err());
+    assert_eq!(rt; status(rt, "refused absent/out --prepare-only")?, 4);
+    fs::write(&rt, "refused", EMPTY)?;
+    assert_eq!(rt; status(rt, "refused absent/out --prepare-only")?, 10);
     Ok(())
 }
 
