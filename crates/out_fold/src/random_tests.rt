@@ -33,15 +33,11 @@ impl Random {
         (self.state >> 33) as u32 % n
     }
 
-    /// One of these words, which a blank parts.
+    /// One of these words, of which there are at most eight with a blank between.
     fn word<'a>(&mut self, words: &'a str) -> &'a str {
-        let mut found = "";
-        for (i, word) in words.split(' ').enumerate() {
-            if self.below((i % 8) as u32 + 1) == 0 {
-                found = word;
-            }
-        }
-        found
+        let count = words.split(' ').count().clamp(1, 8) as u32;
+        let place = self.below(count) as usize;
+        words.split(' ').nth(place).unwrap_or("")
     }
 }
 
