@@ -3,12 +3,12 @@ use Rattle.std.specs.Prelude.{ℕ, ◌-◌, Bool, List, Option, Some, None, if�
 use Rattle.std.specs.List.{list_all}
 use Rattle.std.specs.Str.{bytes_eq}
 use Rattle.jtext.specs.declared.json.Json.{Json}
-use Rattle.jtext.specs.Find.{field}
-use Rattle.jcontent.specs.Look.{object, is_string, are_strings, there_and}
+use Rattle.jtext.specs.Find.{field, fields}
+use Rattle.jtext.specs.Look.{is_object, is_string, is_strings}
 
 -- a string, or a list of strings that are joined
 abbrev pub is_multiline : Json → Bool
-is_multiline v = is_string v || are_strings v
+is_multiline v = is_string v || is_strings v
 
 -- the text ends so
 abbrev pub ends_with : List ℕ → List ℕ → Bool
@@ -20,11 +20,15 @@ is_json_type key = bytes_eq key (codes "application/json") || ends_with key (cod
 
 -- an object whose values are multiline strings, but under a MIME type of JSON's
 abbrev pub is_bundle : Json → Bool
-is_bundle v = there_and (list_all (λ p. is_json_type p.0 || is_multiline p.1)) (object v)
+is_bundle v = is_object v && list_all (λ p. is_json_type p.0 || is_multiline p.1) (fields v)
+
+-- the pairs of an object
+abbrev pub pairs : Json → Option (List (List ℕ × Json))
+pairs v = if is_object v then Some (fields v) else None
 
 -- the pairs of a bundle
 abbrev pub bundle : Json → Option (List (List ℕ × Json))
-bundle v = if is_bundle v then object v else None
+bundle v = if is_bundle v then pairs v else None
 
 -- the bundle under `data`
 abbrev pub bundle_at : Json → Option (List (List ℕ × Json))

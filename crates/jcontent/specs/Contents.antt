@@ -1,5 +1,5 @@
 -- What messages say (Jupyter messaging 5.3, "Messages on the IOPub (PUB/SUB) channel", "Execution results", "Kernel info").
-use Rattle.std.specs.Prelude.{ℕ, Bool, true, false, List, [], Option, Some, None, is_some, if◌then◌else◌, codes}
+use Rattle.std.specs.Prelude.{ℕ, List, [], Option, Some, None, is_some, if◌then◌else◌, codes}
 use Rattle.std.specs.Str.{bytes_eq}
 use Rattle.jtext.specs.declared.json.Json.{Json}
 use Rattle.jtext.specs.declared.json.Json.TheVariants as json
@@ -10,7 +10,8 @@ use Rattle.jcontent.specs.declared.state.State.{State}
 use Rattle.jcontent.specs.declared.state.State.TheVariants as state
 use Rattle.jcontent.specs.declared.reply.ReplyIs.TheVariants as reply
 use Rattle.jcontent.specs.declared.shown.Shown.{Shown}
-use Rattle.jcontent.specs.Look.{is_object, is_true_at, string, text_at, texts_at, count}
+use Rattle.jtext.specs.Look.{is_object, string, string_at}
+use Rattle.jcontent.specs.Texts.{is_true_at, texts_at, count}
 use Rattle.jcontent.specs.Bundle.{bundle_at}
 
 -- the execution state of that name
@@ -23,7 +24,7 @@ status_of (Some name) = content.Status (state_named name)
 
 -- `status`: the string `execution_state`
 abbrev pub status : Json → Content
-status t = status_of (text_at t (codes "execution_state"))
+status t = status_of (string_at t (codes "execution_state"))
 
 abbrev pub stream_of : Option (List ℕ) → Option (List ℕ) → Content
 stream_of None text = content.Other
@@ -32,7 +33,7 @@ stream_of (Some name) (Some text) = content.Stream name text
 
 -- `stream`: the strings `name` and `text`
 abbrev pub stream : Json → Content
-stream t = stream_of (text_at t (codes "name")) (text_at t (codes "text"))
+stream t = stream_of (string_at t (codes "name")) (string_at t (codes "text"))
 
 -- a value that is an object
 abbrev pub object : Json → Option Json
@@ -48,7 +49,7 @@ metadata t = object_or_empty (field t (codes "metadata"))
 
 abbrev pub display_id_in : Option Json → Option (List ℕ)
 display_id_in None = None
-display_id_in (Some transient) = text_at transient (codes "display_id")
+display_id_in (Some transient) = string_at transient (codes "display_id")
 
 -- the display id: the string `display_id` of `transient`
 abbrev pub display_id : Json → Option (List ℕ)
@@ -95,7 +96,7 @@ error_of (Some ename) (Some evalue) (Some traceback) = content.Error ename evalu
 
 -- `error`: the strings `ename` and `evalue`, and `traceback`, a list of strings
 abbrev pub error : Json → Content
-error t = error_of (text_at t (codes "ename")) (text_at t (codes "evalue")) (texts_at t (codes "traceback"))
+error t = error_of (string_at t (codes "ename")) (string_at t (codes "evalue")) (texts_at t (codes "traceback"))
 
 abbrev pub named_by : Option (List ℕ) → Content
 named_by None = content.Other
@@ -115,7 +116,7 @@ reply_of t (Some status) = if bytes_eq status (codes "error") then raised t else
 
 -- `execute_reply`: the string `status`
 abbrev pub execute_reply : Json → Content
-execute_reply t = reply_of t (text_at t (codes "status"))
+execute_reply t = reply_of t (string_at t (codes "status"))
 
 -- the content of a message that makes or changes an output
 abbrev pub output : List ℕ → Json → Content

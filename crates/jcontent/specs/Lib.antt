@@ -1,4 +1,4 @@
-pub mod Look
+pub mod Texts
 pub mod Bundle
 pub mod Contents
 pub mod Requests

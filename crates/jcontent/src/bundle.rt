@@ -1,7 +1,7 @@
 //! Bundles: data by MIME type.
 ghost use Rattle.std.specs.Prelude.{◌≡◌, ◌||◌, IfOk};
 ghost use Rattle.std.specs.List.{list_all};
-ghost use Rattle.jcontent.specs.Look as look;
+ghost use Rattle.jtext.specs.Look as look;
 ghost use Rattle.jcontent.specs.Bundle as spec;
 
 use crate::look::{all_strings, is_string};
@@ -29,7 +29,7 @@ fn bundle(alloc: Global, v: &Json) -> Result<Option<Fields>, NoMemory>
 }
 
 fn object(t: Json) -> Option<Fields>
-    ensures { result ≡ look.object t }
+    ensures { result ≡ spec.pairs t }
 {
     match t {
         Json::Obj(fields) => Some(fields),
@@ -67,7 +67,7 @@ fn is_multiline(v: &Json) -> bool
 }
 
 fn are_strings(v: &Json) -> bool
-    ensures { result ≡ look.are_strings v.now }
+    ensures { result ≡ look.is_strings v.now }
 {
     match v {
         Json::Arr(items) => all_strings(items.as_slice()),

@@ -2,19 +2,20 @@
 ghost use Rattle.std.specs.Prelude.{◌≡◌, IfOk, option_map, map};
 ghost use Rattle.std.specs.List.{list_all};
 ghost use Rattle.std.specs.Char.{is_ascii_digit};
-ghost use Rattle.jcontent.specs.Look as spec;
+ghost use Rattle.jtext.specs.Look as look;
+ghost use Rattle.jcontent.specs.Texts as spec;
 
 use jtext::{Json, NoMemory, NumText, Text, Texts, field};
 use std::alloc::Global;
 
 pub(crate) fn is_object(v: &Json) -> bool
-    ensures { result ≡ spec.is_object v.now }
+    ensures { result ≡ look.is_object v.now }
 {
     matches!(v, Json::Obj(_))
 }
 
 pub(crate) fn is_string(v: &Json) -> bool
-    ensures { result ≡ spec.is_string v.now }
+    ensures { result ≡ look.is_string v.now }
 {
     matches!(v, Json::Str(_))
 }
@@ -37,7 +38,7 @@ fn is_true(v: &Json) -> bool
 
 /// The string at the key, lent.
 pub(crate) fn found_text<'a>(t: &'a Json, key: &str) -> Option<&'a Text>
-    ensures { option_map (λ r. r.now) result ≡ spec.text_at t.now key.now }
+    ensures { option_map (λ r. r.now) result ≡ look.string_at t.now key.now }
 {
     match field(t, key) {
         Some(Json::Str(text)) => Some(text),
@@ -47,7 +48,7 @@ pub(crate) fn found_text<'a>(t: &'a Json, key: &str) -> Option<&'a Text>
 
 /// A copy of the string at the key; `None` where there is no string.
 pub(crate) fn text_at(alloc: Global, t: &Json, key: &str) -> Result<Option<Text>, NoMemory>
-    ensures { IfOk result (λ r. r ≡ spec.text_at t.now key.now) }
+    ensures { IfOk result (λ r. r ≡ look.string_at t.now key.now) }
 {
     match found_text(t, key) {
         Some(text) => Ok(Some(Text::of(alloc, text.as_str())?)),
@@ -81,7 +82,7 @@ fn texts(alloc: Global, v: &Json) -> Result<Option<Texts>, NoMemory>
 }
 
 pub(crate) fn all_strings(items: &[Json]) -> bool
-    ensures { result ≡ list_all spec.is_string items.now }
+    ensures { result ≡ list_all look.is_string items.now }
 {
     items.iter().all(|item| is_string(item))
 }
@@ -122,7 +123,7 @@ pub(crate) fn count(alloc: Global, t: &Json) -> Result<Option<NumText>, NoMemory
 }
 
 fn found_number<'a>(t: &'a Json, key: &str) -> Option<&'a NumText>
-    ensures { option_map (λ r. r.now) result ≡ spec.number_at t.now key.now }
+    ensures { option_map (λ r. r.now) result ≡ look.number_at t.now key.now }
 {
     match field(t, key) {
         Some(Json::Num(text)) => Some(text),
@@ -131,7 +132,7 @@ fn found_number<'a>(t: &'a Json, key: &str) -> Option<&'a NumText>
 }
 
 fn is_whole(text: &[u8]) -> bool
-    ensures { result ≡ spec.is_whole_text text.now }
+    ensures { result ≡ look.is_whole_text text.now }
 {
     1 <= text.len() && all_digits(text) && (text[0] != b'0' || text.len() == 1)
 }

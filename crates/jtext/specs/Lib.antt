@@ -8,6 +8,7 @@ pub mod Strings
 pub mod Reading
 pub mod Gives
 pub mod Find
+pub mod Look
 pub mod Sound
 pub mod Keyed
 pub mod Loose

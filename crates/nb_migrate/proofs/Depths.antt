@@ -7,8 +7,8 @@ use Rattle.jtext.specs.declared.json.Json.{Json}
 use Rattle.jtext.specs.declared.json.Json.TheVariants as json
 use Rattle.jtext.specs.Depth.{depth}
 use Rattle.jtext.specs.Find.{fields}
+use Rattle.jtext.specs.Look.{is_object, is_list, items}
 use Rattle.jtext.proofs.Depths.{depth-Arr, depth-Obj, depth-Num, depth-Str, highest-le, highest-all}
-use Rattle.nb_model.specs.Look.{is_object, is_list, items}
 use Rattle.nb_model.specs.Injected.{set_field}
 use Rattle.nb_model.proofs.DepthLaws.{object_within, values_within, field_set_within}
 use Rattle.nb_model.proofs.TreeLaws.{object_is, list_is}

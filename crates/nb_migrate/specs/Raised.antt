@@ -5,7 +5,8 @@ use Rattle.std.specs.Fmt.{decimal}
 use Rattle.jtext.specs.declared.json.Json.{Json}
 use Rattle.jtext.specs.declared.json.Json.TheVariants as json
 use Rattle.jtext.specs.Find.{fields}
-use Rattle.nb_model.specs.Look.{has, is_number, is_object, is_list, items}
+use Rattle.jtext.specs.Look.{is_object, is_list, items}
+use Rattle.nb_model.specs.Keys.{has, is_number}
 use Rattle.nb_model.specs.Injected.{set_field}
 
 -- a minor version below 5

@@ -1,7 +1,7 @@
 //! A tree of an older format, raised to nbformat 4.5.
 ghost use Rattle.std.specs.Prelude.{◌≡◌, IfOk, map, codes};
 ghost use Rattle.jtext.specs.declared.json.Json.TheVariants as json;
-ghost use Rattle.nb_model.specs.Look as look;
+ghost use Rattle.nb_model.specs.Keys as keys;
 ghost use Rattle.nb_migrate.specs.Raised as spec;
 
 use jtext::{Fields, Items, Json, NoMemory, NumText, Text, field};
@@ -37,7 +37,7 @@ fn is_older_minor(v: &Json) -> bool
 }
 
 fn is_number(v: &Json, text: &str) -> bool
-    ensures { result ≡ look.is_number text.now v.now }
+    ensures { result ≡ keys.is_number text.now v.now }
 {
     match v {
         Json::Num(own) => own.as_str() == text,

@@ -11,12 +11,12 @@ use Rattle.jtext.specs.declared.json.Json.TheOpen.{Json-F}
 use Rattle.jtext.specs.Find.{find, field, fields, fields_of}
 use Rattle.jtext.specs.Keyed.{Keyed}
 use Rattle.jtext.specs.Sorting.{byte_order, insert_sorted, by_key}
+use Rattle.jtext.specs.Look.{is_object, is_object_layer}
 use Rattle.jtext.proofs.Depths.{depth-Arr, depth-Obj, depth-Null, depth-Str, highest-le, highest-all, pairs-le, pairs-all}
 use Rattle.nb_model.specs.declared.kind.Kind.{Kind}
 use Rattle.nb_model.specs.declared.kind.Kind.TheVariants as kind
 use Rattle.nb_model.specs.declared.cell.Cell.{Cell}
 use Rattle.nb_model.specs.declared.notebook.Notebook.{Notebook}
-use Rattle.nb_model.specs.Look.{is_object, is_object_layer}
 use Rattle.nb_model.specs.Valid.{is_notebook}
 use Rattle.nb_model.specs.Reading.{notebook_of}
 use Rattle.nb_model.specs.Tree.{optional, pairs_of_kind, outputs_of_kind, attachments_of_kind, cell_tree, notebook_tree}

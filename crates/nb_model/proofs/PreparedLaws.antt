@@ -9,12 +9,13 @@ use Rattle.jtext.specs.declared.json.Json.{Json, out-Json, the_lemmas}
 use Rattle.jtext.specs.declared.json.Json.TheOpen.{Json-F}
 use Rattle.jtext.specs.declared.json.Json.TheVariants as json
 use Rattle.jtext.specs.Find.{find, field, fields}
+use Rattle.jtext.specs.Look.{is_object, is_list, items, string, number, number_layer, is_null, is_null_layer, there_and, absent_or, is_whole_text, is_strings}
 use Rattle.nb_model.specs.declared.kind.Kind.{Kind}
 use Rattle.nb_model.specs.declared.kind.Kind.TheVariants as kind
 use Rattle.nb_model.specs.declared.cell.Cell.{Cell}
 use Rattle.nb_model.specs.declared.notebook.Notebook.{Notebook}
-use Rattle.nb_model.specs.Look.{is_object, is_list, items, string, number, number_layer, is_null, is_null_layer, is_text, is_number, has, may_have, has_only, there_and, absent_or}
-use Rattle.nb_model.specs.Values.{is_whole_text, is_count, is_multiline, is_strings, is_id_text}
+use Rattle.nb_model.specs.Keys.{is_text, is_number, has, may_have, has_only}
+use Rattle.nb_model.specs.Values.{is_count, is_multiline, is_id_text}
 use Rattle.nb_model.specs.Valid as valid
 use Rattle.nb_model.specs.Reading.{value_at, kind_named, cell_of, notebook_of}
 use Rattle.nb_model.specs.Tree.{optional, count_tree, pairs_of_kind, outputs_of_kind, attachments_of_kind, cell_tree, notebook_tree}

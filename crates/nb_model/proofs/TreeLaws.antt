@@ -15,12 +15,13 @@ use Rattle.jtext.specs.Keyed as keyed
 use Rattle.jtext.specs.Keyed.{Keyed, AllKeyed, PairsKeyed}
 use Rattle.jtext.specs.Sorting.{byte_order, by_key, sorted}
 use Rattle.jtext.specs.Indent.{bracketed, named, further, indented, print}
+use Rattle.jtext.specs.Look.{is_object, is_object_layer, is_list, is_list_layer, items, items_layer, string, string_layer, number, number_layer, is_null_layer, there_and, is_whole_text}
 use Rattle.jtext.proofs.Sorts.{sort_by-map}
 use Rattle.nb_model.specs.declared.kind.Kind.{Kind}
 use Rattle.nb_model.specs.declared.kind.Kind.TheVariants as kind
 use Rattle.nb_model.specs.declared.cell.Cell.{Cell}
-use Rattle.nb_model.specs.Look.{is_object, is_object_layer, is_list, is_list_layer, items, items_layer, string, string_layer, number, number_layer, is_null_layer, is_text, is_number, has, there_and}
-use Rattle.nb_model.specs.Values.{is_whole_text, is_count, is_multiline}
+use Rattle.nb_model.specs.Keys.{is_text, is_number, has}
+use Rattle.nb_model.specs.Values.{is_count, is_multiline}
 use Rattle.nb_model.specs.Valid as valid
 use Rattle.nb_model.specs.Reading.{value_at, cell_of, notebook_of, kind_named}
 use Rattle.nb_model.specs.Tree.{optional, count_tree, pairs_of_kind, outputs_of_kind, attachments_of_kind, cell_tree, notebook_tree}

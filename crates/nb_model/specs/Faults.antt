@@ -4,9 +4,10 @@ use Rattle.std.specs.Option.{option_or}
 use Rattle.std.specs.List.{list_any}
 use Rattle.std.specs.Str.{bytes_eq}
 use Rattle.jtext.specs.declared.json.Json.{Json}
+use Rattle.jtext.specs.Look.{is_object, items}
 use Rattle.nb_model.specs.declared.nb_fault.NbFault.{NbFault}
 use Rattle.nb_model.specs.declared.nb_fault.NbFault.TheVariants as fault
-use Rattle.nb_model.specs.Look.{is_object, is_number, items, has}
+use Rattle.nb_model.specs.Keys.{is_number, has}
 use Rattle.nb_model.specs.Valid.{id_of}
 use Rattle.nb_model.specs.Reading.{value_at}
 use Rattle.nb_model.specs.Places.{of_notebook}

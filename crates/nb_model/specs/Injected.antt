@@ -6,11 +6,12 @@ use Rattle.std.specs.Fmt.{decimal}
 use Rattle.jtext.specs.declared.json.Json.{Json}
 use Rattle.jtext.specs.declared.json.Json.TheVariants as json
 use Rattle.jtext.specs.Find.{field, fields}
+use Rattle.jtext.specs.Look.{items, string}
 use Rattle.nb_model.specs.declared.kind.Kind.{Kind}
 use Rattle.nb_model.specs.declared.kind.Kind.TheVariants as kind
 use Rattle.nb_model.specs.declared.cell.Cell.{Cell}
 use Rattle.nb_model.specs.declared.notebook.Notebook.{Notebook}
-use Rattle.nb_model.specs.Look.{is_text, items, has, string}
+use Rattle.nb_model.specs.Keys.{is_text, has}
 use Rattle.nb_model.specs.Lines.{lines_tree}
 use Rattle.nb_model.specs.Python.{python}
 

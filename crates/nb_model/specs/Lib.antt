@@ -1,4 +1,4 @@
-pub mod Look
+pub mod Keys
 pub mod Values
 pub mod Valid
 pub mod Tree

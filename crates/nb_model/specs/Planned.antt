@@ -5,9 +5,9 @@ use Rattle.std.specs.List.{list_all}
 use Rattle.std.specs.Str.{chars}
 use Rattle.unicode.specs.Binary.{is_white_space}
 use Rattle.jtext.specs.declared.json.Json.{Json}
+use Rattle.jtext.specs.Look.{items, string}
 use Rattle.nb_model.specs.declared.cell.Cell.{Cell}
 use Rattle.nb_model.specs.declared.notebook.Notebook.{Notebook}
-use Rattle.nb_model.specs.Look.{items, string}
 use Rattle.nb_model.specs.Injected.{is_tagged, is_code}
 
 -- the text of a string, and the empty text of another value

@@ -3,12 +3,12 @@
 use Rattle.std.specs.Prelude.{◌≡◌, ◌≤◌, ℕ, Bool, true, List, [], ◌∷◌, ◌||◌, ◌&&◌, not, codes, unwrap_or}
 use Rattle.std.specs.List.{list_any, list_all}
 use Rattle.std.specs.Str.{bytes_eq}
-use Rattle.std.specs.Prelude.{option_and_then}
 use Rattle.jtext.specs.declared.json.Json.{Json}
-use Rattle.jtext.specs.Find.{field, fields}
+use Rattle.jtext.specs.Find.{fields}
 use Rattle.jtext.specs.Depth.{depth}
-use Rattle.nb_model.specs.Look.{is_object, is_list, items, string, is_string, is_text, is_number, has, may_have, has_only, there_and}
-use Rattle.nb_model.specs.Values.{is_multiline, is_strings, is_count, is_bundle, is_id_text}
+use Rattle.jtext.specs.Look.{is_object, is_list, items, string, is_string, is_strings, there_and, string_at}
+use Rattle.nb_model.specs.Keys.{is_text, is_number, has, may_have, has_only}
+use Rattle.nb_model.specs.Values.{is_multiline, is_count, is_bundle, is_id_text}
 
 -- ---- outputs
 
@@ -76,7 +76,7 @@ is_cell c = is_object c && (is_prose_cell c || is_code_cell c)
 
 -- the id of a cell, and the empty text where there is none
 abbrev pub id_of : Json → List ℕ
-id_of c = unwrap_or (option_and_then string (field c (codes "id"))) []
+id_of c = unwrap_or (string_at c (codes "id")) []
 
 -- no two of the cells have one id
 abbrev pub ids_differ : List Json → Bool

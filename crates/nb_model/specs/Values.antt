@@ -1,23 +1,15 @@
 -- The values that recur in notebooks (nbformat 4.5 schema, `misc`).
-use Rattle.std.specs.Prelude.{ℕ, ◌-◌, Bool, List, ◌||◌, ◌&&◌, ◌==◌, not, nat_le, length, slice_index, codes, drop}
+use Rattle.std.specs.Prelude.{ℕ, ◌-◌, Bool, List, ◌||◌, ◌&&◌, ◌==◌, nat_le, length, codes, drop}
 use Rattle.std.specs.List.{list_all}
 use Rattle.std.specs.Str.{bytes_eq}
 use Rattle.std.specs.Char.{is_ascii_digit}
 use Rattle.jtext.specs.declared.json.Json.{Json}
 use Rattle.jtext.specs.Find.{fields}
-use Rattle.nb_model.specs.Look.{is_object, is_list, is_null, is_string, items, number, there_and}
+use Rattle.jtext.specs.Look.{is_object, is_null, is_string, is_strings, is_whole_text, number, there_and}
 
 -- `multiline_string`: a string, or a list of strings that are joined
 abbrev pub is_multiline : Json → Bool
-is_multiline v = is_string v || (is_list v && list_all is_string (items v))
-
--- a list of strings
-abbrev pub is_strings : Json → Bool
-is_strings v = is_list v && list_all is_string (items v)
-
--- the text of a whole number that isn't negative: `0`, or digits that begin with another one
-abbrev pub is_whole_text : List ℕ → Bool
-is_whole_text s = nat_le 1 (length s) && list_all is_ascii_digit s && (not (slice_index s 0 == 48) || (length s == 1))
+is_multiline v = is_string v || is_strings v
 
 -- `execution_count`: `null`, or a whole number that isn't negative
 abbrev pub is_count : Json → Bool

@@ -2,7 +2,7 @@
 ghost use Rattle.std.specs.Prelude.{◌≡◌, ℕ, not, cond, true, None, IfOk, IfErr, OnOk, [], List as Plain, codes};
 ghost use Rattle.std.specs.Str.{bytes_eq};
 ghost use Rattle.std.specs.BTreeSet.{contains_text};
-ghost use Rattle.nb_model.specs.Look as look;
+ghost use Rattle.jtext.specs.Look as look;
 ghost use Rattle.nb_model.specs.Valid.{is_notebook};
 ghost use Rattle.nb_model.specs.Reading as reading;
 ghost use Rattle.nb_model.specs.Faults as spec;

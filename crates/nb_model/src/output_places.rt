@@ -1,6 +1,5 @@
 //! Where outputs fail the schema of nbformat 4.5.
 ghost use Rattle.std.specs.Prelude.{◌≡◌, not, option_map, option_and_then, position, slice_get, IfOk, ◌∷◌, [], codes};
-ghost use Rattle.nb_model.specs.Look as look;
 ghost use Rattle.nb_model.specs.Values as values;
 ghost use Rattle.nb_model.specs.Valid as valid;
 ghost use Rattle.nb_model.specs.Pointer as pointer;

@@ -3,7 +3,7 @@ ghost use Rattle.std.specs.Prelude.{◌≡◌, ◌<◌, length, map, IfOk, IfSom
 ghost use Rattle.std.specs.Str.{bytes_eq};
 ghost use Rattle.jtext.specs.Find.{find, fields};
 ghost use Rattle.jtext.specs.declared.json.Json.TheVariants as json;
-ghost use Rattle.nb_model.specs.Look as look;
+ghost use Rattle.jtext.specs.Look as look;
 ghost use Rattle.nb_model.specs.Pairs.{without};
 ghost use Rattle.nb_model.specs.Reading as spec;
 

@@ -5,7 +5,7 @@ ghost use Rattle.std.specs.Option.{option_or};
 ghost use Rattle.std.specs.List.{list_any, list_all};
 ghost use Rattle.std.specs.Str.{bytes_eq};
 ghost use Rattle.jtext.specs.Find.{field, fields};
-ghost use Rattle.nb_model.specs.Look as look;
+ghost use Rattle.jtext.specs.Look as look;
 ghost use Rattle.nb_model.specs.Pointer as pointer;
 ghost use Rattle.nb_model.specs.Places as spec;
 

@@ -3,7 +3,8 @@ ghost use Rattle.std.specs.Prelude.{◌≡◌, ◌++◌, IfOk, OnOk, flat_map, s
 ghost use Rattle.std.specs.List.{list_all, list_any};
 ghost use Rattle.std.specs.Str.{chars};
 ghost use Rattle.unicode.specs.Binary.{is_white_space};
-ghost use Rattle.nb_model.specs.Look as look;
+ghost use Rattle.jtext.specs.Look as look;
+ghost use Rattle.nb_model.specs.Keys as keys;
 ghost use Rattle.nb_model.specs.Injected as injected;
 ghost use Rattle.nb_model.specs.Planned as spec;
 
@@ -55,7 +56,7 @@ fn is_blank(text: &str) -> bool
 }
 
 fn has_item(v: &Json, text: &str) -> bool
-    ensures { result ≡ list_any (look.is_text text.now) (look.items v.now) }
+    ensures { result ≡ list_any (keys.is_text text.now) (look.items v.now) }
 {
     match v {
         Json::Arr(items) => any_text(items.as_slice(), text),
@@ -64,7 +65,7 @@ fn has_item(v: &Json, text: &str) -> bool
 }
 
 fn any_text(items: &[Json], text: &str) -> bool
-    ensures { result ≡ list_any (look.is_text text.now) items.now }
+    ensures { result ≡ list_any (keys.is_text text.now) items.now }
 {
     items.iter().any(|x| is_text(x, text))
 }

@@ -4,7 +4,8 @@ ghost use Rattle.std.specs.List.{list_any, list_all};
 ghost use Rattle.std.specs.Str.{bytes_eq};
 ghost use Rattle.std.specs.Char.{is_ascii_digit};
 ghost use Rattle.jtext.specs.Find.{fields};
-ghost use Rattle.nb_model.specs.Look as look;
+ghost use Rattle.jtext.specs.Look as look;
+ghost use Rattle.nb_model.specs.Keys as keys;
 ghost use Rattle.nb_model.specs.Values as values;
 ghost use Rattle.nb_model.specs.Valid as valid;
 
@@ -23,13 +24,13 @@ pub fn is_valid(t: &Json) -> bool
 }
 
 fn has_notebook_keys(t: &Json) -> bool
-    ensures { result ≡ look.has_only (codes "metadata" ∷ codes "nbformat" ∷ codes "nbformat_minor" ∷ codes "cells" ∷ []) t.now }
+    ensures { result ≡ keys.has_only (codes "metadata" ∷ codes "nbformat" ∷ codes "nbformat_minor" ∷ codes "cells" ∷ []) t.now }
 {
     has_only(t, &["metadata", "nbformat", "nbformat_minor", "cells"])
 }
 
 pub(crate) fn has_format(t: &Json) -> bool
-    ensures { result ≡ (look.has (codes "nbformat") (look.is_number (codes "4")) t.now && look.has (codes "nbformat_minor") (look.is_number (codes "5")) t.now) }
+    ensures { result ≡ (keys.has (codes "nbformat") (keys.is_number (codes "4")) t.now && keys.has (codes "nbformat_minor") (keys.is_number (codes "5")) t.now) }
 {
     field(t, "nbformat").is_some_and(|v| is_number(v, "4"))
         && field(t, "nbformat_minor").is_some_and(|v| is_number(v, "5"))
@@ -88,7 +89,7 @@ pub(crate) fn is_prose_cell(c: &Json) -> bool
 }
 
 fn has_prose_keys(c: &Json) -> bool
-    ensures { result ≡ look.has_only (codes "cell_type" ∷ codes "id" ∷ codes "metadata" ∷ codes "source" ∷ codes "attachments" ∷ []) c.now }
+    ensures { result ≡ keys.has_only (codes "cell_type" ∷ codes "id" ∷ codes "metadata" ∷ codes "source" ∷ codes "attachments" ∷ []) c.now }
 {
     has_only(c, &["cell_type", "id", "metadata", "source", "attachments"])
 }
@@ -104,7 +105,7 @@ pub(crate) fn is_code_cell(c: &Json) -> bool
 }
 
 fn has_code_keys(c: &Json) -> bool
-    ensures { result ≡ look.has_only (codes "cell_type" ∷ codes "id" ∷ codes "metadata" ∷ codes "source" ∷ codes "outputs" ∷ codes "execution_count" ∷ []) c.now }
+    ensures { result ≡ keys.has_only (codes "cell_type" ∷ codes "id" ∷ codes "metadata" ∷ codes "source" ∷ codes "outputs" ∷ codes "execution_count" ∷ []) c.now }
 {
     has_only(
         c,
@@ -201,7 +202,7 @@ pub(crate) fn is_output(o: &Json) -> bool
 }
 
 pub(crate) fn has_type(o: &Json, name: &str) -> bool
-    ensures { result ≡ look.has (codes "output_type") (look.is_text name.now) o.now }
+    ensures { result ≡ keys.has (codes "output_type") (keys.is_text name.now) o.now }
 {
     field(o, "output_type").is_some_and(|v| is_text(v, name))
 }
@@ -222,7 +223,7 @@ pub(crate) fn is_display(o: &Json) -> bool
 }
 
 fn has_data(o: &Json) -> bool
-    ensures { result ≡ (look.has (codes "data") values.is_bundle o.now && look.has (codes "metadata") look.is_object o.now) }
+    ensures { result ≡ (keys.has (codes "data") values.is_bundle o.now && keys.has (codes "metadata") look.is_object o.now) }
 {
     field(o, "data").is_some_and(|v| is_bundle(v))
         && field(o, "metadata").is_some_and(|v| is_object(v))
@@ -262,7 +263,7 @@ pub(crate) fn is_string(v: &Json) -> bool
 }
 
 pub(crate) fn is_text(v: &Json, text: &str) -> bool
-    ensures { result ≡ look.is_text text.now v.now }
+    ensures { result ≡ keys.is_text text.now v.now }
 {
     match v {
         Json::Str(s) => s.as_str() == text,
@@ -271,7 +272,7 @@ pub(crate) fn is_text(v: &Json, text: &str) -> bool
 }
 
 pub(crate) fn is_number(v: &Json, text: &str) -> bool
-    ensures { result ≡ look.is_number text.now v.now }
+    ensures { result ≡ keys.is_number text.now v.now }
 {
     match v {
         Json::Num(s) => s.as_str() == text,
@@ -280,7 +281,7 @@ pub(crate) fn is_number(v: &Json, text: &str) -> bool
 }
 
 fn has_string(t: &Json, key: &str) -> bool
-    ensures { result ≡ look.has key.now look.is_string t.now }
+    ensures { result ≡ keys.has key.now look.is_string t.now }
 {
     field(t, key).is_some_and(is_string)
 }
@@ -307,7 +308,7 @@ fn all_among(pairs: &[(Text, Json)], keys: &[&str]) -> bool
 }
 
 pub(crate) fn are_strings(v: &Json) -> bool
-    ensures { result ≡ values.is_strings v.now }
+    ensures { result ≡ look.is_strings v.now }
 {
     match v {
         Json::Arr(items) => all_strings(items.as_slice()),
@@ -338,7 +339,7 @@ pub(crate) fn is_count(v: &Json) -> bool
 }
 
 pub(crate) fn is_whole(text: &[u8]) -> bool
-    ensures { result ≡ values.is_whole_text text.now }
+    ensures { result ≡ look.is_whole_text text.now }
 {
     1 <= text.len() && all_digits(text) && (text[0] != b'0' || text.len() == 1)
 }

@@ -1,7 +1,7 @@
 //! Where values that recur in notebooks fail the schema of nbformat 4.5.
 ghost use Rattle.std.specs.Prelude.{◌≡◌, not, ◌||◌, option_map, option_and_then, find, position, IfOk, length, [], codes, Some};
 ghost use Rattle.jtext.specs.Find.{fields};
-ghost use Rattle.nb_model.specs.Look as look;
+ghost use Rattle.jtext.specs.Look as look;
 ghost use Rattle.nb_model.specs.Values as values;
 ghost use Rattle.nb_model.specs.Pointer as pointer;
 ghost use Rattle.nb_model.specs.Places as spec;

@@ -15,7 +15,7 @@ use Rattle.nb_model.specs.declared.kind.Kind.{Kind}
 use Rattle.nb_model.specs.declared.kind.Kind.TheVariants as kind
 use Rattle.nb_model.specs.declared.cell.Cell.{Cell}
 use Rattle.nb_model.specs.declared.notebook.Notebook.{Notebook}
-use Rattle.nb_model.specs.Look.{is_object}
+use Rattle.jtext.specs.Look.{is_object}
 use Rattle.nb_model.specs.Lines.{lines_of}
 use Rattle.nb_model.specs.Python.{python}
 use Rattle.nb_model.specs.Tree.{optional, cell_tree, notebook_tree}

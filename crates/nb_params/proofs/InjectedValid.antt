@@ -10,12 +10,11 @@ use Rattle.nb_model.specs.declared.kind.Kind.TheVariants as kind
 use Rattle.nb_model.specs.declared.cell.Cell.{Cell}
 use Rattle.nb_model.specs.declared.notebook.Notebook.{Notebook}
 use Rattle.nb_model.specs.Lines.{lines_of, lines_tree}
-use Rattle.nb_model.specs.Look.{is_string, is_list, items}
+use Rattle.jtext.specs.Look.{is_string, is_list, items, absent_or}
 use Rattle.nb_model.specs.Values.{is_multiline}
 use Rattle.nb_model.specs.Valid.{is_output, is_cell_metadata, are_attachments, is_metadata, Valid}
 use Rattle.nb_model.specs.Python.{python}
 use Rattle.nb_model.specs.Tree.{cell_tree, notebook_tree}
-use Rattle.nb_model.specs.Look.{absent_or}
 use Rattle.nb_model.specs.Reading.{value_at}
 use Rattle.nb_model.specs.Injected.{set_field, set_within, is_code, hidden, parameters_cell, fresh_id, ids, parametrised, injected}
 use Rattle.nb_model.proofs.Tautologies.{and_parts}

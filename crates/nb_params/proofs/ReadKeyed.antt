@@ -7,7 +7,7 @@ use Rattle.jtext.specs.Keyed as keyed
 use Rattle.jtext.specs.Keyed.{Keyed, AllKeyed}
 use Rattle.nb_model.specs.declared.kind.Kind.{Kind}
 use Rattle.nb_model.specs.declared.kind.Kind.TheVariants as kind
-use Rattle.nb_model.specs.Look.{items}
+use Rattle.jtext.specs.Look.{items}
 use Rattle.nb_model.specs.Reading.{value_at, cell_of, notebook_of}
 use Rattle.nb_model.specs.Tree.{optional, count_tree, cell_tree, notebook_tree}
 use Rattle.nb_model.proofs.DepthLaws.{all-found}

@@ -19,7 +19,8 @@ use Rattle.jtext.specs.Sorting.{byte_order, insert_sorted, by_key, sorted}
 use Rattle.jtext.proofs.Depths.{depth-Arr, depth-Obj}
 use Rattle.jtext.proofs.Keys.{not_equal}
 use Rattle.jtext.proofs.Sorts.{all-sort_by, sort_by-map}
-use Rattle.nb_model.specs.Look.{is_object, is_object_layer, is_list, is_list_layer, items, items_layer, string, string_layer, number, number_layer, is_null, is_null_layer, has, may_have, has_only, there_and, absent_or}
+use Rattle.jtext.specs.Look.{is_object, is_object_layer, is_list, is_list_layer, items, items_layer, string, string_layer, number, number_layer, is_null, is_null_layer, there_and, absent_or}
+use Rattle.nb_model.specs.Keys.{has, may_have, has_only}
 use Rattle.nb_model.proofs.DepthLaws.{highest-by_key}
 use Rattle.nb_model.proofs.PreparedLaws.{and_eq}
 use Rattle.nb_model.proofs.TreeLaws.{list_is, items_keyed, first_keyed, pair_keyed, found_keyed, open_Null, open_Bool, open_Num, open_Str, open_Arr, open_Obj, sorted-Arr, sorted-Obj}

@@ -1,6 +1,6 @@
 -- A notebook stays valid when the pairs of each object are sorted by their keys.
 use Rattle.std.proofs.Common.{◌≡◌, ℕ, Bool, true, ◌||◌, List, [], ◌∷◌, map, Some, None, refl, sym, ap, ap₂, ◌∙◌, codes, subst, ◌≤◌}
-use Rattle.std.specs.Prelude.{unwrap_or, option_map, option_and_then}
+use Rattle.std.specs.Prelude.{is_some, unwrap_or, option_map, option_and_then}
 use Rattle.std.specs.Str.{bytes_eq}
 use Rattle.jtext.specs.declared.json.Json.{Json}
 use Rattle.jtext.specs.Find.{field}
@@ -11,8 +11,9 @@ use Rattle.jtext.specs.Sorting.{sorted}
 use Rattle.jtext.specs.Sound.{Sound}
 use Rattle.jtext.proofs.IndentedSpells.{indented_text}
 use Rattle.jtext.proofs.Only.{one_tree}
-use Rattle.nb_model.specs.Look.{is_object, string, is_string, is_text, is_number, there_and}
-use Rattle.nb_model.specs.Values.{is_multiline, is_strings, is_whole_text, is_count, is_json_type, is_bundle, is_id_text}
+use Rattle.jtext.specs.Look.{is_object, string, is_string, there_and, is_strings, is_whole_text}
+use Rattle.nb_model.specs.Keys.{is_text, is_number}
+use Rattle.nb_model.specs.Values.{is_multiline, is_count, is_json_type, is_bundle, is_id_text}
 use Rattle.nb_model.specs.Valid as valid
 use Rattle.nb_model.specs.Valid.{Valid}
 use Rattle.nb_model.proofs.PreparedLaws.{and_eq, no_repeat, ids_are}
@@ -26,7 +27,7 @@ or_eq p q = ap₂ (λ u v. u || v) p q
 -- ---- values
 
 string-stays : Stays is_string
-string-stays t k = ap (there_and (λ s. true)) (string_sorted t)
+string-stays t k = ap is_some (string_sorted t)
 
 text-stays : (text : List ℕ) → Stays (is_text text)
 text-stays text t k = ap (there_and (λ s. bytes_eq s text)) (string_sorted t)

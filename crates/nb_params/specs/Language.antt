@@ -2,8 +2,8 @@
 use Rattle.std.specs.Prelude.{ℕ, List, Option, option_and_then, unwrap_or, codes}
 use Rattle.jtext.specs.declared.json.Json.{Json}
 use Rattle.jtext.specs.Find.{field}
+use Rattle.jtext.specs.Look.{string}
 use Rattle.nb_model.specs.declared.notebook.Notebook.{Notebook}
-use Rattle.nb_model.specs.Look.{string}
 use Rattle.nb_model.specs.Injected.{string_within}
 
 -- the string under a key

@@ -6,12 +6,12 @@ use Rattle.std.specs.Str.{bytes_eq}
 use Rattle.std.specs.Cmp.Lexicographic.{nat_list_eq_equiv}
 use Rattle.jtext.specs.declared.json.Json.{Json}
 use Rattle.jtext.specs.Find.{field, fields}
+use Rattle.jtext.specs.Look.{is_object, is_list, items, there_and}
 use Rattle.words.specs.declared.member.Member.{Member}
 use Rattle.words.specs.declared.place.Place.TheVariants as place
 use Rattle.words.specs.declared.used_path.UsedPath.{UsedPath}
-use Rattle.words.specs.Look.{is_object, is_list, items, has_key}
-use Rattle.words.specs.Members.{member_of, takes_value}
-use Rattle.words.specs.JobsFile.{member_takes, is_member, is_job, is_count, are_jobs, there_and, is_batch, jobs_of, paths_of, is_equal, IsJobsFile}
+use Rattle.words.specs.Members.{has_key, member_of, takes_value}
+use Rattle.words.specs.JobsFile.{member_takes, is_member, is_job, is_count, are_jobs, is_batch, jobs_of, paths_of, is_equal, IsJobsFile}
 use Rattle.words.specs.JobsFaults.{value_fault_of, value_fault, first_value_fault, has_job_keys, job_fault, first_job_fault, list_fault, list_fault_of, shape_fault, first_equal, fault}
 use Rattle.words.proofs.Truths.{not_true, no_some, if_none, else_none, or_none, none_or, both, each, negated, unnegated}
 use Rattle.words.proofs.ApartLemmas.{no_earlier, no_earlier_apart}

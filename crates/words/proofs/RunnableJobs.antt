@@ -17,9 +17,9 @@ use Rattle.jtext.specs.Keyed.{Keyed, AllKeyed, PairsKeyed}
 use Rattle.jtext.proofs.Depths.{depth-Arr, depth-Obj, highest-all, pairs-all}
 use Rattle.words.specs.declared.ask.Ask.{Ask}
 use Rattle.words.specs.Numbers.{is_name}
-use Rattle.words.specs.Look.{is_object, items, items_layer}
+use Rattle.jtext.specs.Look.{is_object, items, items_layer, there_and}
 use Rattle.words.specs.Members.{member_of, are_parameters}
-use Rattle.words.specs.JobsFile.{member_takes, is_member, is_job, are_jobs, there_and, items_of, jobs_of, IsJobsFile, IsTextOf}
+use Rattle.words.specs.JobsFile.{member_takes, is_member, is_job, are_jobs, items_of, jobs_of, IsJobsFile, IsTextOf}
 use Rattle.words.specs.JobsAsked.{ask_of_job, asks_of}
 use Rattle.words.specs.Runnable.{IsParameter, IsRunnable}
 use Rattle.words.proofs.Truths.{each}

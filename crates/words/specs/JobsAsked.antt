@@ -3,16 +3,16 @@ use Rattle.std.specs.Prelude.{ℕ, List, Option, codes, map, unwrap_or, option_m
 use Rattle.std.specs.Option.{option_or}
 use Rattle.jtext.specs.declared.json.Json.{Json}
 use Rattle.jtext.specs.Find.{field, fields}
+use Rattle.jtext.specs.Look.{string_at}
 use Rattle.words.specs.declared.ask.Ask.{Ask}
-use Rattle.words.specs.Look.{string_at}
 use Rattle.words.specs.JobsFile.{jobs_of, path_at}
 
 -- what the job gives, or else what all have in common
 abbrev pub kernel_of : Ask → Json → Option (List ℕ)
-kernel_of common job = option_or (string_at (codes "kernel") job) common.kernel
+kernel_of common job = option_or (string_at job (codes "kernel")) common.kernel
 
 abbrev pub cwd_of : Ask → Json → List ℕ
-cwd_of common job = unwrap_or (string_at (codes "cwd") job) common.cwd
+cwd_of common job = unwrap_or (string_at job (codes "cwd")) common.cwd
 
 abbrev pub params_of : Ask → Json → List (List ℕ × Json)
 params_of common job = unwrap_or (option_map fields (field job (codes "parameters"))) common.params

@@ -5,14 +5,14 @@ use Rattle.std.specs.Option.{option_or}
 use Rattle.std.specs.Str.{bytes_eq}
 use Rattle.jtext.specs.declared.json.Json.{Json}
 use Rattle.jtext.specs.Find.{field, fields}
+use Rattle.jtext.specs.Look.{is_object, is_list, items}
 use Rattle.words.specs.declared.member.Member.{Member}
 use Rattle.words.specs.declared.place.Place.{Place}
 use Rattle.words.specs.declared.place.Place.TheVariants as place
 use Rattle.words.specs.declared.usage.Usage.{Usage}
 use Rattle.words.specs.declared.usage.Usage.TheVariants as usage
 use Rattle.words.specs.declared.used_path.UsedPath.{UsedPath}
-use Rattle.words.specs.Look.{is_object, is_list, items, has_key}
-use Rattle.words.specs.Members.{member_of, takes_value}
+use Rattle.words.specs.Members.{has_key, member_of, takes_value}
 use Rattle.words.specs.Places.{pointer}
 use Rattle.words.specs.JobsFile.{is_count, is_equal, jobs_of, paths_of, IsTextOf, IsNoText}
 

@@ -6,14 +6,14 @@ use Rattle.jtext.specs.declared.json.Json.{Json}
 use Rattle.jtext.specs.Find.{field, fields}
 use Rattle.jtext.specs.Grammar.{Spells}
 use Rattle.jtext.specs.Depth.{depth}
+use Rattle.jtext.specs.Look.{is_object, is_list, items, there_and, string_at}
 use Rattle.words.specs.declared.member.Member.{Member}
 use Rattle.words.specs.declared.member.Member.TheVariants as member
 use Rattle.words.specs.declared.place.Place.{Place}
 use Rattle.words.specs.declared.place.Place.TheVariants as place
 use Rattle.words.specs.declared.used_path.UsedPath.{UsedPath}
 use Rattle.words.specs.Apart.{apart}
-use Rattle.words.specs.Look.{is_object, is_list, items, string_at, has_key}
-use Rattle.words.specs.Members.{member_of, takes_value}
+use Rattle.words.specs.Members.{has_key, member_of, takes_value}
 use Rattle.words.specs.Paths.{temporary_of, connection_of}
 
 -- ---- the shape
@@ -37,10 +37,6 @@ is_count n = nat_le 1 n && nat_le n 16
 abbrev pub are_jobs : Json → Bool
 are_jobs v = is_list v && is_count (length (items v)) && list_all is_job (items v)
 
-abbrev pub there_and : (Json → Bool) → Option Json → Bool
-there_and test None = false
-there_and test (Some v) = test v
-
 -- an object with the one key `jobs`, whose value is a list of jobs
 abbrev pub is_batch : Json → Bool
 is_batch t = is_object t && list_all (λ p. bytes_eq p.0 (codes "jobs")) (fields t) && there_and are_jobs (field t (codes "jobs"))
@@ -56,7 +52,7 @@ abbrev pub jobs_of : Json → List Json
 jobs_of t = items_of (field t (codes "jobs"))
 
 abbrev pub path_at : List ℕ → Json → List ℕ
-path_at key t = unwrap_or (string_at key t) []
+path_at key t = unwrap_or (string_at t key) []
 
 -- the path, as this value of the file gives it
 abbrev pub used : List ℕ → Place → UsedPath

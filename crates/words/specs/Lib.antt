@@ -10,7 +10,6 @@ pub mod Parameters
 pub mod Asked
 pub mod Grammar
 pub mod Runnable
-pub mod Look
 pub mod Members
 pub mod Places
 pub mod JobsFile

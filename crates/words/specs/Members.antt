@@ -1,13 +1,13 @@
 -- The members of a job in a jobs file: their names, and the values that they take.
-use Rattle.std.specs.Prelude.{ℕ, Bool, List, Option, Some, None, if◌then◌else◌, ◌&&◌, codes}
+use Rattle.std.specs.Prelude.{ℕ, Bool, List, Option, Some, None, if◌then◌else◌, ◌&&◌, nat_lt, length, is_some, codes}
 use Rattle.std.specs.List.{list_all}
 use Rattle.std.specs.Str.{bytes_eq}
 use Rattle.jtext.specs.declared.json.Json.{Json}
-use Rattle.jtext.specs.Find.{fields}
+use Rattle.jtext.specs.Find.{field, fields}
+use Rattle.jtext.specs.Look.{is_object, is_string, string, there_and}
 use Rattle.words.specs.declared.member.Member.{Member}
 use Rattle.words.specs.declared.member.Member.TheVariants.{Input, Output, Kernel, Cwd, Parameters}
 use Rattle.words.specs.Numbers.{is_name}
-use Rattle.words.specs.Look.{is_object, is_string, is_filled_string}
 
 -- the member with this name
 abbrev pub member_of : List ℕ → Option Member
@@ -24,6 +24,14 @@ name_of Output = codes "output"
 name_of Kernel = codes "kernel"
 name_of Cwd = codes "cwd"
 name_of Parameters = codes "parameters"
+
+-- the object has this key
+abbrev pub has_key : List ℕ → Json → Bool
+has_key key t = is_some (field t key)
+
+-- the value is a string that isn't empty
+abbrev pub is_filled_string : Json → Bool
+is_filled_string v = there_and (λ text. nat_lt 0 (length text)) (string v)
 
 -- an object whose keys are names of parameters
 abbrev pub are_parameters : Json → Bool

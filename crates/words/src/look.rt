@@ -1,7 +1,8 @@
 //! Looking into a JSON value: its kind, and what stands in it.
 ghost use Rattle.std.specs.Prelude.{◌≡◌, option_map};
 ghost use Rattle.jtext.specs.Find.{fields};
-ghost use Rattle.words.specs.Look as spec;
+ghost use Rattle.jtext.specs.Look as spec;
+ghost use Rattle.words.specs.Members.{is_filled_string};
 
 use jtext::{Json, Text, field};
 
@@ -25,7 +26,7 @@ pub(crate) fn is_string(t: &Json) -> bool
 
 /// Whether it is a string that isn't empty.
 pub(crate) fn is_filled_string(t: &Json) -> bool
-    ensures { result ≡ spec.is_filled_string t.now }
+    ensures { result ≡ is_filled_string t.now }
 {
     match t {
         Json::Str(text) => 0 < text.bytes().len(),
@@ -55,7 +56,7 @@ pub(crate) fn pairs(t: &Json) -> &[(Text, Json)]
 
 /// The string under a key.
 pub(crate) fn string_at<'a>(t: &'a Json, key: &str) -> Option<&'a str>
-    ensures { option_map (λ r. r.now) result ≡ spec.string_at key.now t.now }
+    ensures { option_map (λ r. r.now) result ≡ spec.string_at t.now key.now }
 {
     match field(t, key) {
         Some(Json::Str(text)) => Some(text.as_str()),

@@ -4,8 +4,7 @@ ghost use Rattle.std.specs.List.{list_all};
 ghost use Rattle.std.specs.Str.{bytes_eq};
 ghost use Rattle.words.specs.JobsFaults as spec;
 ghost use Rattle.words.specs.JobsFile.{is_count, jobs_of};
-ghost use Rattle.words.specs.Look.{has_key};
-ghost use Rattle.words.specs.Members.{member_of};
+ghost use Rattle.words.specs.Members.{has_key, member_of};
 
 use crate::look::{is_list, is_object, items, pairs};
 use crate::member::Member;

@@ -1,5 +1,5 @@
 use Rattle.std.proofs.Common.{◌≡◌, take, map}
-use Rattle.jcontent.specs.Look.{text_of}
+use Rattle.jcontent.specs.Texts.{text_of}
 use Rattle.jcontent.proofs.look.copies.Given as goal
 
 abbrev pub invariant-loop-item : goal.invariant-loop-item

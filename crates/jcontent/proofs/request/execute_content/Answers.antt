@@ -1,4 +1,4 @@
-use Rattle.std.proofs.Common.{◌≡◌, ◌∙◌, ap, codes}
+use Rattle.std.proofs.Common.{◌∙◌, ap, codes}
 use Rattle.jtext.specs.declared.json.Json.TheVariants as json
 use Rattle.jcontent.proofs.Pairs.{keyed, six_pairs}
 use Rattle.jcontent.proofs.request.execute_content.Goals as goal

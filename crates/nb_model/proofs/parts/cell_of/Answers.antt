@@ -2,7 +2,7 @@ use Rattle.std.proofs.Common.{◌≡◌, [], ◌∷◌, ap, ◌∙◌, refl}
 use Rattle.std.specs.Prelude.{codes, unwrap_or, option_and_then}
 use Rattle.jtext.specs.declared.json.Json.TheVariants as json
 use Rattle.jtext.specs.Find.{find, field}
-use Rattle.nb_model.specs.Look.{items, string, number}
+use Rattle.jtext.specs.Look.{items, string, number}
 use Rattle.nb_model.specs.Pairs.{without}
 use Rattle.nb_model.specs.Reading.{kind_named}
 use Rattle.nb_model.proofs.PairsLemmas.{without_all, find-without_all, same_cell}

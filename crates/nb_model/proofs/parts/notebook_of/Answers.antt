@@ -2,7 +2,7 @@ use Rattle.std.proofs.Common.{◌≡◌, [], ◌∷◌, ap, ◌∙◌, refl, map
 use Rattle.std.specs.Prelude.{codes, unwrap_or}
 use Rattle.jtext.specs.declared.json.Json.TheVariants as json
 use Rattle.jtext.specs.Find.{find, field}
-use Rattle.nb_model.specs.Look.{items}
+use Rattle.jtext.specs.Look.{items}
 use Rattle.nb_model.specs.Reading.{cell_of}
 use Rattle.nb_model.proofs.PairsLemmas.{find-without_all, same_notebook}
 use Rattle.nb_model.proofs.parts.notebook_of.Goals as goal

@@ -1,10 +1,12 @@
--- Looking into a tree of JSON: what kind a value is, and what stands under a key.
-use Rattle.std.specs.Prelude.{ℕ, Bool, true, false, List, [], Option, Some, None}
-use Rattle.std.specs.List.{list_any, list_all}
-use Rattle.std.specs.Str.{bytes_eq}
+-- Looking into a JSON value (RFC 8259, section 3: an object, an array, a number, a string, or one of three names): its kind, and what stands in it.
+use Rattle.std.specs.Prelude.{ℕ, Bool, true, false, List, [], Option, Some, None, ◌&&◌, ◌||◌, ◌==◌, not, nat_le, length, slice_index, is_some, option_and_then}
+use Rattle.std.specs.List.{list_all}
+use Rattle.std.specs.Char.{is_ascii_digit}
 use Rattle.jtext.specs.declared.json.Json.{Json, out-Json}
 use Rattle.jtext.specs.declared.json.Json.TheOpen.{Json-F}
-use Rattle.jtext.specs.Find.{fields, field}
+use Rattle.jtext.specs.Find.{field}
+
+-- ---- kinds
 
 abbrev pub is_object_layer : Json-F Json → Bool
 is_object_layer Json-F.Null = false
@@ -26,9 +28,23 @@ is_list_layer (Json-F.Str s) = false
 is_list_layer (Json-F.Arr xs) = true
 is_list_layer (Json-F.Obj ps) = false
 
--- the value is a list
+-- the value is a list, which the standard calls an array
 abbrev pub is_list : Json → Bool
 is_list t = is_list_layer (out-Json t)
+
+abbrev pub is_null_layer : Json-F Json → Bool
+is_null_layer Json-F.Null = true
+is_null_layer (Json-F.Bool b) = false
+is_null_layer (Json-F.Num s) = false
+is_null_layer (Json-F.Str s) = false
+is_null_layer (Json-F.Arr xs) = false
+is_null_layer (Json-F.Obj ps) = false
+
+-- the value is `null`
+abbrev pub is_null : Json → Bool
+is_null t = is_null_layer (out-Json t)
+
+-- ---- what stands in a value
 
 abbrev pub items_layer : Json-F Json → List Json
 items_layer Json-F.Null = []
@@ -66,17 +82,19 @@ number_layer (Json-F.Obj ps) = None
 abbrev pub number : Json → Option (List ℕ)
 number t = number_layer (out-Json t)
 
-abbrev pub is_null_layer : Json-F Json → Bool
-is_null_layer Json-F.Null = true
-is_null_layer (Json-F.Bool b) = false
-is_null_layer (Json-F.Num s) = false
-is_null_layer (Json-F.Str s) = false
-is_null_layer (Json-F.Arr xs) = false
-is_null_layer (Json-F.Obj ps) = false
+-- the value is a string
+abbrev pub is_string : Json → Bool
+is_string t = is_some (string t)
 
--- the value is `null`
-abbrev pub is_null : Json → Bool
-is_null t = is_null_layer (out-Json t)
+-- the value is a list of strings
+abbrev pub is_strings : Json → Bool
+is_strings t = is_list t && list_all is_string (items t)
+
+-- the text of a whole number that isn't negative: `0`, or digits that begin with another one
+abbrev pub is_whole_text : List ℕ → Bool
+is_whole_text s = nat_le 1 (length s) && list_all is_ascii_digit s && (not (slice_index s 0 == 48) || (length s == 1))
+
+-- ---- what may be absent
 
 -- there is a value, and the test holds of it
 abbrev pub there_and : {A : Type 0} → (A → Bool) → Option A → Bool
@@ -88,26 +106,10 @@ abbrev pub absent_or : {A : Type 0} → (A → Bool) → Option A → Bool
 absent_or test None = true
 absent_or test (Some v) = test v
 
--- the value is a string
-abbrev pub is_string : Json → Bool
-is_string t = there_and (λ s. true) (string t)
+-- the string under the key
+abbrev pub string_at : Json → List ℕ → Option (List ℕ)
+string_at t key = option_and_then string (field t key)
 
--- the value is this string
-abbrev pub is_text : List ℕ → Json → Bool
-is_text text t = there_and (λ s. bytes_eq s text) (string t)
-
--- the value is a number of this text
-abbrev pub is_number : List ℕ → Json → Bool
-is_number text t = there_and (λ s. bytes_eq s text) (number t)
-
--- the object has this key, and the test holds of its value
-abbrev pub has : List ℕ → (Json → Bool) → Json → Bool
-has key test t = there_and test (field t key)
-
--- where the object has this key, the test holds of its value
-abbrev pub may_have : List ℕ → (Json → Bool) → Json → Bool
-may_have key test t = absent_or test (field t key)
-
--- each key of the object is one of these
-abbrev pub has_only : List (List ℕ) → Json → Bool
-has_only keys t = list_all (λ p. list_any (λ key. bytes_eq p.0 key) keys) (fields t)
+-- the number under the key
+abbrev pub number_at : Json → List ℕ → Option (List ℕ)
+number_at t key = option_and_then number (field t key)

@@ -1,0 +1,43 @@
+-- Texts, flags and counts in the content of a message (Jupyter messaging 5.3).
+use Rattle.std.specs.Prelude.{ℕ, Bool, false, List, [], map, Option, Some, None, if◌then◌else◌, codes, unwrap_or, option_and_then}
+use Rattle.jtext.specs.declared.json.Json.{Json, out-Json}
+use Rattle.jtext.specs.declared.json.Json.TheOpen.{Json-F}
+use Rattle.jtext.specs.Find.{field}
+use Rattle.jtext.specs.Look.{string, items, is_strings, is_whole_text, there_and, number_at}
+
+abbrev pub is_true_layer : Json-F Json → Bool
+is_true_layer Json-F.Null = false
+is_true_layer (Json-F.Bool b) = b
+is_true_layer (Json-F.Num s) = false
+is_true_layer (Json-F.Str s) = false
+is_true_layer (Json-F.Arr xs) = false
+is_true_layer (Json-F.Obj ps) = false
+
+-- the value is `true`
+abbrev pub is_true : Json → Bool
+is_true t = is_true_layer (out-Json t)
+
+-- `true` stands under the key
+abbrev pub is_true_at : Json → List ℕ → Bool
+is_true_at t key = there_and is_true (field t key)
+
+-- the text of a string, empty for another value
+abbrev pub text_of : Json → List ℕ
+text_of v = unwrap_or (string v) []
+
+-- the texts of a list of strings
+abbrev pub texts : Json → Option (List (List ℕ))
+texts v = if is_strings v then Some (map text_of (items v)) else None
+
+-- the list of strings under the key
+abbrev pub texts_at : Json → List ℕ → Option (List (List ℕ))
+texts_at t key = option_and_then texts (field t key)
+
+-- the number, where it is whole and isn't negative
+abbrev pub whole : Option (List ℕ) → Option (List ℕ)
+whole None = None
+whole (Some s) = if is_whole_text s then Some s else None
+
+-- the execution count: none where `execution_count` is absent, no number, or a number that counts nothing
+abbrev pub count : Json → Option (List ℕ)
+count t = whole (number_at t (codes "execution_count"))
