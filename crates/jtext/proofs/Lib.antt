@@ -36,3 +36,4 @@ pub mod LooseSplits
 pub mod Refusals
 pub mod PlainRuns
 pub mod Vectors
+pub mod SpelledKeyed

@@ -70,3 +70,8 @@ pub fn spells_one()
 pub fn spelled_is_text()
     ensures { (t : tree.Json) (b : Plain ℕ) → Spells t b → IsText b }
 {}
+
+/// What a text spells has no key twice in an object.
+pub fn spelled_is_keyed()
+    ensures { (t : tree.Json) (b : Plain ℕ) → Spells t b → Keyed t }
+{}

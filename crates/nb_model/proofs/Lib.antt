@@ -7,3 +7,10 @@ pub mod KeyOrders
 pub mod TreeLaws
 pub mod PreparedLaws
 pub mod DepthLaws
+pub mod CellValues
+pub mod KeyedLemmas
+pub mod PreparedKeyed
+pub mod ReadKeyed
+pub mod SortedTrees
+pub mod SortedValid
+pub mod SoundNotebooks

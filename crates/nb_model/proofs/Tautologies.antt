@@ -1,5 +1,5 @@
 -- Equations between tests that hold whatever their parts are, by going through all cases.
-use Rattle.std.proofs.Common.{◌≡◌, ℕ, zero, suc, Bool, true, false, not, ◌&&◌, refl, sym}
+use Rattle.std.proofs.Common.{◌≡◌, ℕ, zero, suc, Bool, true, false, not, ◌&&◌, ◌||◌, refl, sym}
 
 -- a test of so many parts
 abbrev pub Test : ℕ → Type 0
@@ -18,6 +18,10 @@ Holds (suc n) f = (b : Bool) → Holds n (f b)
 pub and_parts : (a b : Bool) → (a && b) ≡ true → (a ≡ true) × (b ≡ true)
 and_parts true b e = (refl, e)
 and_parts false b e = cc
+
+pub not_or : (a b : Bool) → not (a || b) ≡ true → (a ≡ false) × (not b ≡ true)
+not_or false b n = (refl, n)
+not_or true b n = cc
 
 pub always : (n : ℕ) (f : Test n) → passes n f ≡ true → Holds n f
 always zero b e = e

@@ -4,13 +4,13 @@ use Rattle.std.specs.List.{AllByRecursion, list_all}
 use Rattle.jtext.specs.declared.json.Json.{Json, the_lemmas}
 use Rattle.jtext.specs.declared.json.Json.TheVariants as json
 use Rattle.jtext.specs.Depth.{depth}
+use Rattle.jtext.specs.Look.{is_string, is_list, items, absent_or}
 use Rattle.jtext.proofs.Depths.{depth-Arr, depth-Str, depth-Bool, highest-le}
 use Rattle.nb_model.specs.declared.kind.Kind.{Kind}
 use Rattle.nb_model.specs.declared.kind.Kind.TheVariants as kind
 use Rattle.nb_model.specs.declared.cell.Cell.{Cell}
 use Rattle.nb_model.specs.declared.notebook.Notebook.{Notebook}
 use Rattle.nb_model.specs.Lines.{lines_of, lines_tree}
-use Rattle.jtext.specs.Look.{is_string, is_list, items, absent_or}
 use Rattle.nb_model.specs.Values.{is_multiline}
 use Rattle.nb_model.specs.Valid.{is_output, is_cell_metadata, are_attachments, is_metadata, Valid}
 use Rattle.nb_model.specs.Python.{python}
@@ -23,7 +23,8 @@ use Rattle.nb_model.proofs.DepthLaws.{object_within, values_within, null_within,
 use Rattle.nb_model.proofs.TreeLaws.{pairs_with}
 use Rattle.nb_params.proofs.FreshIds.{fresh_id-is_id}
 use Rattle.nb_params.proofs.Placements.{no_repeat-placed}
-use Rattle.nb_params.proofs.InjectedCells.{hidden_values, all_injected, metadata_injected, all-map, all-unmap, top_pairs}
+use Rattle.nb_model.proofs.CellValues.{all-map, all-unmap, top_pairs}
+use Rattle.nb_params.proofs.InjectedCells.{hidden_values, all_injected, metadata_injected}
 
 -- ---- the new cell
 

@@ -6,8 +6,3 @@ pub mod Placements
 pub mod InjectedCells
 pub mod InjectedValid
 pub mod InjectedKeyed
-pub mod SortedTrees
-pub mod SortedValid
-pub mod SpelledKeyed
-pub mod ReadKeyed
-pub mod SoundNotebooks

@@ -1,5 +1,5 @@
 -- Where the new cell stands, and what holds of all cells then.
-use Rattle.std.proofs.Common.{◌≡◌, ◌⊎◌, ℕ, zero, suc, ◌+◌, ◌<◌, ◌≤◌, ◌^◌, Bool, true, false, not, ◌&&◌, ◌||◌, List, [], ◌∷◌, ◌++◌, length, take, drop, refl, sym, ap, ap₂, ◌∙◌, inl, inr, arith, subst, codes, Option, Some, None}
+use Rattle.std.proofs.Common.{◌≡◌, ◌⊎◌, ℕ, zero, suc, ◌+◌, ◌<◌, ◌≤◌, ◌^◌, true, false, not, ◌&&◌, ◌||◌, List, [], ◌∷◌, ◌++◌, length, take, drop, refl, sym, ap, ap₂, ◌∙◌, inl, inr, arith, subst, codes, Option, Some, None}
 use Rattle.std.proofs.lemmas.List.{take-append-drop, map-append, length-map}
 use Rattle.std.specs.List.{AllByRecursion, list_any, position}
 use Rattle.std.specs.Str.{bytes_eq}
@@ -8,7 +8,7 @@ use Rattle.jtext.proofs.Keys.{or_false}
 use Rattle.nb_model.specs.declared.cell.Cell.{Cell}
 use Rattle.nb_model.specs.Injected.{is_tagged, with_parameters, placed_at, placed_after, parameters_cell, fresh_id, ids}
 use Rattle.nb_model.proofs.PreparedLaws.{no_repeat}
-use Rattle.nb_model.proofs.Tautologies.{and_parts}
+use Rattle.nb_model.proofs.Tautologies.{and_parts, not_or}
 use Rattle.nb_params.proofs.Ids.{turned}
 use Rattle.nb_params.proofs.FreshIds.{fresh_id-free}
 
@@ -80,10 +80,6 @@ pub length-ids_rest : (cells rest : List Cell) → Rest cells rest → length (i
 length-ids_rest cells rest r = let fewer = length-rest cells rest r in let same = length-map rest (λ c. c.id) in omega arith
 
 -- ---- ids
-
-pub not_or : (a b : Bool) → not (a || b) ≡ true → (a ≡ false) × (not b ≡ true)
-not_or false b n = (refl, n)
-not_or true b n = cc
 
 pub no_repeat-left_out : (i : ℕ) (is : List (List ℕ)) → no_repeat is ≡ true → no_repeat (take i is ++ drop (suc i) is) ≡ true
 no_repeat-left_out zero [] e = refl

@@ -1,25 +1,14 @@
-//! Laws of prepared, injected and saved notebooks. The functions change nothing: their contracts are the laws.
-ghost use Rattle.std.specs.Prelude.{◌≡◌, ◌≤◌, ◌<◌, ◌^◌, ℕ, Bool, List as Plain, length};
+//! Laws of injected notebooks. The functions do nothing: their contracts are the laws.
+ghost use Rattle.std.specs.Prelude.{◌≤◌, ◌<◌, ◌^◌, ℕ, Bool, List as Plain, length};
 ghost use Rattle.std.specs.List.{AllByRecursion};
-ghost use Rattle.std.specs.Option.{IfSome};
-ghost use Rattle.std.specs.Str.{IsUtf8};
-ghost use Rattle.jtext.specs.Number.{IsNumber};
 ghost use Rattle.jtext.specs.declared.json.Json as tree;
 ghost use Rattle.jtext.specs.Depth.{depth};
-ghost use Rattle.jtext.specs.Grammar.{Distinct, Spells};
-ghost use Rattle.jtext.specs.Indent.{print};
+ghost use Rattle.jtext.specs.Grammar.{Distinct};
 ghost use Rattle.jtext.specs.Keyed.{Keyed, PairsKeyed};
-ghost use Rattle.jtext.specs.Sorting.{sorted};
-ghost use Rattle.jtext.specs.Sound.{Sound, AllSound};
 ghost use Rattle.nb_model.specs.declared.notebook.Notebook as notebook;
 ghost use Rattle.nb_model.specs.Injected.{injected};
-ghost use Rattle.nb_model.specs.Prepared.{prepared};
-ghost use Rattle.nb_model.specs.Reading.{notebook_of};
-ghost use Rattle.nb_model.specs.Tree.{cell_tree, notebook_tree};
-ghost use Rattle.nb_model.specs.Valid.{is_notebook, Valid};
-
-use jtext::{Items, Json, NumText, Text};
-use nb_model::{Cell, Notebook};
+ghost use Rattle.nb_model.specs.Tree.{notebook_tree};
+ghost use Rattle.nb_model.specs.Valid.{Valid};
 
 /// A valid notebook stays valid when parameters are injected whose values are nested at most 124
 /// deep. It has fewer than 10^44 cells: then the number in the id of the new cell has at most 44
@@ -35,88 +24,3 @@ pub fn injected_stays_keyed()
     ensures { (n : notebook.Notebook) (ps : Plain (Plain ℕ × tree.Json)) (report : Bool) → PairsKeyed ps → Distinct ps
         → Keyed (notebook_tree n) → Keyed (notebook_tree (injected n ps report)) }
 {}
-
-/// Where no object of a notebook has a key twice, none has in the prepared notebook.
-pub fn prepared_stays_keyed()
-    ensures { (n : notebook.Notebook) → Keyed (notebook_tree n) → Keyed (notebook_tree (prepared n)) }
-{}
-
-/// Where no object of a tree has a key twice, none has in the notebook that is read of it.
-pub fn read_stays_keyed()
-    ensures { (t : tree.Json) → Keyed t → Keyed (notebook_tree (notebook_of t)) }
-{}
-
-/// With the pairs of each object in the order of their keys, a tree in which no object has a key
-/// twice is a notebook exactly where it was one, and nested as deep.
-pub fn sorted_stays_valid()
-    ensures valid { (t : tree.Json) → Keyed t → is_notebook (sorted t) ≡ is_notebook t }
-    ensures depth { (t : tree.Json) → Keyed t → depth (sorted t) ≡ depth t }
-{}
-
-/// What is read of the indented text of a valid notebook in which no object has a key twice, is a
-/// valid notebook in which none has.
-pub fn saved_reads_valid()
-    ensures { (t u : tree.Json) → Sound t → Keyed t → Valid t → Spells u (print t) → Valid u × Keyed u }
-{}
-
-/// What is read of a text has no key twice in an object.
-pub fn spelled_is_keyed()
-    ensures { (t : tree.Json) (b : Plain ℕ) → Spells t b → Keyed t }
-{}
-
-/// The numbers of a notebook's tree are numbers, and its texts are UTF-8.
-pub fn sound(n: &Notebook)
-    ensures { Sound (notebook_tree n.now) }
-{
-    jtext::laws::sound(&n.metadata);
-    sound_cells(n.cells.as_slice());
-}
-
-fn sound_cells(cells: &[Cell])
-    ensures { AllByRecursion (λ c. Sound (cell_tree c)) cells.now }
-{
-    for cell in cells {
-        sound_cell(cell);
-    }
-}
-
-fn sound_cell(cell: &Cell)
-    ensures { Sound (cell_tree cell.now) }
-{
-    sound_id(&cell.id);
-    jtext::laws::sound(&cell.metadata);
-    jtext::laws::sound(&cell.source);
-    sound_attachments(&cell.attachments);
-    sound_outputs(&cell.outputs);
-    sound_count(&cell.count);
-}
-
-fn sound_id(id: &Text)
-    ensures { IsUtf8 id.now }
-{
-    let _ = id.as_str().as_bytes();
-}
-
-fn sound_attachments(attachments: &Option<Json>)
-    ensures { IfSome attachments.now (λ v. Sound v) }
-{
-    if let Some(v) = attachments {
-        jtext::laws::sound(v);
-    }
-}
-
-fn sound_outputs(outputs: &Items)
-    ensures { AllSound outputs.now }
-{
-    for output in outputs.as_slice() {
-        jtext::laws::sound(output);
-    }
-}
-
-fn sound_count(count: &Option<NumText>)
-    ensures { IfSome count.now (λ s. IsNumber s) }
-{
-    if let Some(n) = count {
-        let _ = n.as_str();
-    }
-}

@@ -10,44 +10,19 @@ use Rattle.jtext.specs.declared.json.Json.TheOpen.{Json-F}
 use Rattle.jtext.specs.declared.json.Json.TheVariants as json
 use Rattle.jtext.specs.Depth.{depth, highest, highest_of_pairs}
 use Rattle.jtext.specs.Find.{find, fields, fields_of, field}
-use Rattle.jtext.specs.Grammar as grammar
-use Rattle.jtext.specs.Grammar.{Spelled, Items, Pairs, Pair, Distinct}
+use Rattle.jtext.specs.Grammar.{Distinct}
 use Rattle.jtext.specs.Keyed as keyed
 use Rattle.jtext.specs.Keyed.{Keyed, AllKeyed, PairsKeyed}
+use Rattle.jtext.specs.Look.{is_object, items, items_layer, there_and}
+use Rattle.jtext.proofs.SpelledKeyed.{spelled_keyed}
 use Rattle.jtext.proofs.Depths.{depth-Arr, depth-Obj, highest-all, pairs-all}
 use Rattle.words.specs.declared.ask.Ask.{Ask}
 use Rattle.words.specs.Numbers.{is_name}
-use Rattle.jtext.specs.Look.{is_object, items, items_layer, there_and}
 use Rattle.words.specs.Members.{member_of, are_parameters}
 use Rattle.words.specs.JobsFile.{member_takes, is_member, is_job, are_jobs, items_of, jobs_of, IsJobsFile, IsTextOf}
 use Rattle.words.specs.JobsAsked.{ask_of_job, asks_of}
 use Rattle.words.specs.Runnable.{IsParameter, IsRunnable}
 use Rattle.words.proofs.Truths.{each}
-
--- ---- what is read has no key twice
-
-mutual
-  keyed_of : (t : Json) (b : List ℕ) → Spelled t b → Keyed t
-  keyed_of _ _ (grammar.null b e) = keyed.null
-  keyed_of _ _ (grammar.yes b e) = keyed.boolean true
-  keyed_of _ _ (grammar.no b e) = keyed.boolean false
-  keyed_of _ _ (grammar.number b is) = keyed.number b
-  keyed_of _ _ (grammar.string text b q) = keyed.text text
-  keyed_of _ _ (grammar.no_items inner b s e) = keyed.array [] keyed.none
-  keyed_of _ _ (grammar.array xs inner b all e) = keyed.array xs (items_keyed xs inner all)
-  keyed_of _ _ (grammar.no_pairs inner b s e) = keyed.object [] keyed.no_pairs tt
-  keyed_of _ _ (grammar.object ps inner b all d e) = keyed.object ps (pairs_keyed ps inner all) d
-
-  items_keyed : (xs : List Json) (b : List ℕ) → Items xs b → AllKeyed xs
-  items_keyed _ _ (grammar.last_item x before inner after b s is t e) = keyed.more x [] (keyed_of x inner is) keyed.none
-  items_keyed _ _ (grammar.next_item x xs before inner after more b s is t all e) = keyed.more x xs (keyed_of x inner is) (items_keyed xs more all)
-
-  pairs_keyed : (ps : List (List ℕ × Json)) (b : List ℕ) → Pairs ps b → PairsKeyed ps
-  pairs_keyed _ _ (grammar.last_pair p before inner after b s is t e) = keyed.pair p.0 p.1 [] (pair_keyed p inner is) keyed.no_pairs
-  pairs_keyed _ _ (grammar.next_pair p ps before inner after more b s is t all e) = keyed.pair p.0 p.1 ps (pair_keyed p inner is) (pairs_keyed ps more all)
-
-  pair_keyed : (p : List ℕ × Json) (b : List ℕ) → Pair p b → Keyed p.1
-  pair_keyed _ _ (grammar.pair key value name before after inner b q s t is e) = keyed_of value inner is
 
 -- ---- looking into a tree
 
@@ -188,6 +163,6 @@ all_runnable common (job ∷ jobs) run fine is =
 
 pub asks_runnable : (file bytes : List ℕ) (common : Ask) (t : Json) → IsTextOf bytes t → IsJobsFile file t → IsRunnable common → AllByRecursion IsRunnable (asks_of common t)
 asks_runnable file bytes common t text valid run =
-    let fine : IsFine t = (keyed_of t text.spells.value text.spells.is_value, text.within) in
+    let fine : IsFine t = (spelled_keyed t text.spells.value text.spells.is_value, text.within) in
     let shape = each _ (there_and are_jobs (field t (codes "jobs"))) valid.shape in
     all_runnable common (jobs_of t) run (jobs_fine t fine) (jobs_are (field t (codes "jobs")) shape.1)

@@ -7,7 +7,7 @@ use Rattle.jtext.specs.Keyed as keyed
 use Rattle.jtext.specs.Keyed.{Keyed, AllKeyed, PairsKeyed}
 
 mutual
-  spelled_keyed : (t : Json) (b : List ℕ) → Spelled t b → Keyed t
+  pub spelled_keyed : (t : Json) (b : List ℕ) → Spelled t b → Keyed t
   spelled_keyed _ _ (grammar.null b e) = keyed.null
   spelled_keyed _ _ (grammar.yes b e) = keyed.boolean true
   spelled_keyed _ _ (grammar.no b e) = keyed.boolean false

@@ -1,5 +1,5 @@
 -- A notebook stays valid when the pairs of each object are sorted by their keys.
-use Rattle.std.proofs.Common.{◌≡◌, ℕ, Bool, true, ◌||◌, List, [], ◌∷◌, map, Some, None, refl, sym, ap, ap₂, ◌∙◌, codes, subst, ◌≤◌}
+use Rattle.std.proofs.Common.{◌≡◌, ℕ, Bool, ◌||◌, List, [], ◌∷◌, map, Some, None, refl, sym, ap, ap₂, ◌∙◌, codes, subst, ◌≤◌}
 use Rattle.std.specs.Prelude.{is_some, unwrap_or, option_map, option_and_then}
 use Rattle.std.specs.Str.{bytes_eq}
 use Rattle.jtext.specs.declared.json.Json.{Json}
@@ -9,17 +9,17 @@ use Rattle.jtext.specs.Grammar.{Spells}
 use Rattle.jtext.specs.Indent.{print}
 use Rattle.jtext.specs.Sorting.{sorted}
 use Rattle.jtext.specs.Sound.{Sound}
+use Rattle.jtext.specs.Look.{is_object, string, is_string, there_and, is_strings, is_whole_text}
 use Rattle.jtext.proofs.IndentedSpells.{indented_text}
 use Rattle.jtext.proofs.Only.{one_tree}
-use Rattle.jtext.specs.Look.{is_object, string, is_string, there_and, is_strings, is_whole_text}
 use Rattle.nb_model.specs.Keys.{is_text, is_number}
 use Rattle.nb_model.specs.Values.{is_multiline, is_count, is_json_type, is_bundle, is_id_text}
 use Rattle.nb_model.specs.Valid as valid
 use Rattle.nb_model.specs.Valid.{Valid}
 use Rattle.nb_model.proofs.PreparedLaws.{and_eq, no_repeat, ids_are}
 use Rattle.nb_model.proofs.TreeLaws.{first_keyed}
-use Rattle.nb_params.proofs.SpelledKeyed.{spells_keyed}
-use Rattle.nb_params.proofs.SortedTrees.{Stays, object_sorted, list_sorted, string_sorted, number_sorted, null_sorted, field_sorted, has-stays, may_have-stays, has_only-stays, items-stay, items_of_sorted, values-stay, depth_stays}
+use Rattle.jtext.proofs.SpelledKeyed.{spells_keyed}
+use Rattle.nb_model.proofs.SortedTrees.{Stays, object_sorted, list_sorted, string_sorted, number_sorted, null_sorted, field_sorted, has-stays, may_have-stays, has_only-stays, items-stay, items_of_sorted, values-stay, depth_stays}
 
 or_eq : {a b x y : Bool} → a ≡ x → b ≡ y → (a || b) ≡ (x || y)
 or_eq p q = ap₂ (λ u v. u || v) p q

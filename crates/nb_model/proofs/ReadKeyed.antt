@@ -5,16 +5,15 @@ use Rattle.jtext.specs.declared.json.Json.{Json}
 use Rattle.jtext.specs.Find.{field, fields}
 use Rattle.jtext.specs.Keyed as keyed
 use Rattle.jtext.specs.Keyed.{Keyed, AllKeyed}
+use Rattle.jtext.specs.Look.{items}
 use Rattle.nb_model.specs.declared.kind.Kind.{Kind}
 use Rattle.nb_model.specs.declared.kind.Kind.TheVariants as kind
-use Rattle.jtext.specs.Look.{items}
 use Rattle.nb_model.specs.Reading.{value_at, cell_of, notebook_of}
 use Rattle.nb_model.specs.Tree.{optional, count_tree, cell_tree, notebook_tree}
 use Rattle.nb_model.proofs.DepthLaws.{all-found}
 use Rattle.nb_model.proofs.TreeLaws.{first_keyed, pairs_with}
-use Rattle.nb_params.proofs.InjectedCells.{Values, prose_pairs}
-use Rattle.nb_params.proofs.InjectedKeyed.{fields_keyed, cell_keyed, notebook_keyed}
-use Rattle.nb_params.proofs.SortedTrees.{keyed_items, keyed_value}
+use Rattle.nb_model.proofs.CellValues.{Values, prose_pairs}
+use Rattle.nb_model.proofs.KeyedLemmas.{fields_keyed, keyed_items, keyed_value, cell_keyed, notebook_keyed}
 
 value_keyed : (key : List ℕ) (t : Json) → Keyed t → Keyed (value_at key t)
 value_keyed key t k = all-found Keyed key (fields t) keyed.null (fields_keyed t k).0

@@ -1,6 +1,6 @@
-use Rattle.nb_params.proofs.SortedTrees.{depth_stays}
-use Rattle.nb_params.proofs.SortedValid.{notebook-stays}
-use Rattle.nb_params.proofs.laws.sorted_stays_valid.Goals as goal
+use Rattle.nb_model.proofs.SortedTrees.{depth_stays}
+use Rattle.nb_model.proofs.SortedValid.{notebook-stays}
+use Rattle.nb_model.proofs.laws.sorted_stays_valid.Goals as goal
 
 pub returns-clause-valid : goal.returns-clause-valid
 returns-clause-valid c t k = notebook-stays t k

@@ -1,7 +1,7 @@
 use Rattle.std.proofs.Common.{arith}
 use Rattle.jtext.specs.Sound.{none}
 use Rattle.jtext.proofs.Sounds.{sound_more}
-use Rattle.nb_params.proofs.laws.sound_outputs.Goals as goal
+use Rattle.nb_model.proofs.laws.sound_outputs.Goals as goal
 
 pub loop-output-init : goal.loop-output-init
 loop-output-init c = (none, c.as_slice-output-items.ensures)

@@ -16,15 +16,15 @@ use Rattle.jtext.specs.Grammar.{Lacks, Distinct}
 use Rattle.jtext.specs.Keyed as keyed
 use Rattle.jtext.specs.Keyed.{Keyed, AllKeyed, PairsKeyed}
 use Rattle.jtext.specs.Sorting.{byte_order, insert_sorted, by_key, sorted}
+use Rattle.jtext.specs.Look.{is_object, is_object_layer, is_list, is_list_layer, items, items_layer, string, string_layer, number, number_layer, is_null, is_null_layer, there_and, absent_or}
 use Rattle.jtext.proofs.Depths.{depth-Arr, depth-Obj}
 use Rattle.jtext.proofs.Keys.{not_equal}
 use Rattle.jtext.proofs.Sorts.{all-sort_by, sort_by-map}
-use Rattle.jtext.specs.Look.{is_object, is_object_layer, is_list, is_list_layer, items, items_layer, string, string_layer, number, number_layer, is_null, is_null_layer, there_and, absent_or}
 use Rattle.nb_model.specs.Keys.{has, may_have, has_only}
 use Rattle.nb_model.proofs.DepthLaws.{highest-by_key}
 use Rattle.nb_model.proofs.PreparedLaws.{and_eq}
-use Rattle.nb_model.proofs.TreeLaws.{list_is, items_keyed, first_keyed, pair_keyed, found_keyed, open_Null, open_Bool, open_Num, open_Str, open_Arr, open_Obj, sorted-Arr, sorted-Obj}
-use Rattle.nb_params.proofs.InjectedKeyed.{fields_keyed, pairs_of}
+use Rattle.nb_model.proofs.TreeLaws.{first_keyed, pair_keyed, open_Null, open_Bool, open_Num, open_Str, open_Arr, open_Obj, sorted-Arr, sorted-Obj}
+use Rattle.nb_model.proofs.KeyedLemmas.{fields_keyed, pairs_of, keyed_value, keyed_items}
 
 abbrev with_sorted : List ℕ × Json → List ℕ × Json
 with_sorted p = (p.0, sorted p.1)
@@ -172,9 +172,6 @@ all-by_key test (p ∷ ps) = all-insert test p (by_key ps) ∙ ap (λ b. test p 
 abbrev pub Stays : (Json → Bool) → Type 0
 Stays test = (t : Json) → Keyed t → test (sorted t) ≡ test t
 
-pub keyed_value : (key : List ℕ) (t v : Json) → Keyed t → field t key ≡ Some v → Keyed v
-keyed_value key t v k e = found_keyed key (fields t) v (pairs_of (fields t) (fields_keyed t k).0) e
-
 pub has-stays : (key : List ℕ) (test : Json → Bool) → Stays test → Stays (has key test)
 has-stays key test same t k = ap (there_and test) (field_sorted key t k) ∙ inside (field t key) refl
   where
@@ -198,21 +195,6 @@ has_only-stays keys t k =
 pub all_sorted : (test : Json → Bool) → Stays test → (xs : List Json) → AllKeyed xs → list_all test (map sorted xs) ≡ list_all test xs
 all_sorted test same [] k = refl
 all_sorted test same (x ∷ xs) k = let h = first_keyed x xs k in and_eq (same x h.0) (all_sorted test same xs h.1)
-
-no_items : (l : Json-F Json) → is_list_layer l ≡ false → items_layer l ≡ []
-no_items Json-F.Null e = refl
-no_items (Json-F.Bool b) e = refl
-no_items (Json-F.Num s) e = refl
-no_items (Json-F.Str s) e = refl
-no_items (Json-F.Arr xs) e = cc
-no_items (Json-F.Obj ps) e = refl
-
-pub keyed_items : (t : Json) → Keyed t → AllKeyed (items t)
-keyed_items t k =
-    elim (cases_Bool (is_list t)) [
-      | inl is ↦ items_keyed t (items t) k (list_is t is)
-      | inr no_list ↦ rw (no_items (out-Json t) no_list) keyed.none
-    ]
 
 pub items-stay : (test : Json → Bool) → Stays test → Stays (λ t. list_all test (items t))
 items-stay test same t k = ap (list_all test) (items_sorted t) ∙ all_sorted test same (items t) (keyed_items t k)

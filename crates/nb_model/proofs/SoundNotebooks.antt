@@ -19,7 +19,7 @@ use Rattle.nb_model.specs.declared.notebook.Notebook.{Notebook}
 use Rattle.nb_model.specs.Tree.{optional, count_tree, cell_tree, notebook_tree}
 use Rattle.nb_model.proofs.Tautologies.{and_parts}
 use Rattle.nb_model.proofs.TreeLaws.{pairs_with}
-use Rattle.nb_params.proofs.InjectedCells.{Values, prose_pairs, top_pairs}
+use Rattle.nb_model.proofs.CellValues.{Values, prose_pairs, top_pairs}
 
 -- ---- keys
 

@@ -1,5 +1,0 @@
-use Rattle.nb_params.proofs.SpelledKeyed.{spells_keyed}
-use Rattle.nb_params.proofs.laws.spelled_is_keyed.Goals as goal
-
-pub returns : goal.returns
-returns c t b s = spells_keyed t b s
