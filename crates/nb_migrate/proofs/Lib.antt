@@ -1,3 +1,4 @@
 pub mod Digits
 pub mod Raises
 pub mod Depths
+pub mod RaisedKeyed
