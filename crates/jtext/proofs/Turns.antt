@@ -1,5 +1,5 @@
 -- The turns of the reading on lists.
-use Rattle.std.proofs.Common.{◌≡◌, ℕ, zero, suc, ◌-◌, ◌<◌, ◌≤◌, ◌≢◌, Bool, true, false, cond, not, ◌||◌, List, [], ◌∷◌, ◌++◌, length, Option, Some, None, Ok, Err, refl, sym, ap, ap₂, ◌∙◌, subst, ne_eqb, arith}
+use Rattle.std.proofs.Common.{◌≡◌, ℕ, zero, suc, ◌-◌, ◌<◌, ◌≤◌, ◌≢◌, Bool, true, false, cond, ◌||◌, List, [], ◌∷◌, ◌++◌, length, Option, Some, None, Ok, Err, refl, sym, ap, ap₂, ◌∙◌, subst, ne_eqb, arith}
 use Rattle.std.specs.Prelude.{codes}
 use Rattle.std.specs.Str.{bytes_eq}
 use Rattle.jtext.specs.declared.json.Json.{Json}
@@ -137,24 +137,16 @@ module _ {A : Type 0} (close : List ℕ) (item : List A → List ℕ → Reading
 
 -- ---- pairs
 
-same_test : (f g : List ℕ → Bool) (n : ℕ) → ((q : List ℕ) → f q ≡ g q) → (r : Reading (List ℕ))
-    → (r >>= (λ p. cond (f p.0) (Err (Repeated n)) (after_key p.0 p.1))) ≡ (r >>= (λ p. cond (g p.0) (Err (Repeated n)) (after_key p.0 p.1)))
-same_test f g n same (Ok p) = ap (λ b. cond b (Err (Repeated n)) (after_key p.0 p.1)) (same p.0)
-same_test f g n same (Err e) = refl
+module _ (value : List ℕ → Reading Json) (found : List (List ℕ × Json)) (s : List ℕ) where
+  pub field_key_fails : (f : Fault) → Fails f (key_at (has_key found) s) → Fails f (field_at value found s)
+  field_key_fails f = fails_on f (key_at (has_key found) s) (field_at value found s) (λ e. ap (λ r. r >>= (λ k. value k.1 >>= (λ v. Ok ((k.0, v.0), v.1)))) e)
 
-pub key_same : (f g : List ℕ → Bool) (s : List ℕ) → ((q : List ℕ) → f q ≡ g q) → key_at f s ≡ key_at g s
-key_same f g s same = same_test f g (length s) same (string_at s)
-
-module _ (value : List ℕ → Reading Json) (found : List (List ℕ × Json)) (taken : List ℕ → Bool) (s : List ℕ) (same : (q : List ℕ) → taken q ≡ has_key found q) where
-  pub field_key_fails : (f : Fault) → Fails f (key_at taken s) → Fails f (field_at value found s)
-  field_key_fails f = fails_on f (key_at taken s) (field_at value found s) (λ e. ap (λ r. r >>= (λ k. value k.1 >>= (λ v. Ok ((k.0, v.0), v.1)))) (sym (key_same taken (has_key found) s same) ∙ e))
-
-  pub field_value_fails : (key after : List ℕ) (f : Fault) → key_at taken s ≡ Ok (key, after) → Fails f (value after) → Fails f (field_at value found s)
+  pub field_value_fails : (key after : List ℕ) (f : Fault) → key_at (has_key found) s ≡ Ok (key, after) → Fails f (value after) → Fails f (field_at value found s)
   field_value_fails key after f is = fails_on f (value after) (field_at value found s)
-      (λ e. ap (λ r. r >>= (λ k. value k.1 >>= (λ v. Ok ((k.0, v.0), v.1)))) (sym (key_same taken (has_key found) s same) ∙ is) ∙ ap (λ r. r >>= (λ v. Ok ((key, v.0), v.1))) e)
+      (λ e. ap (λ r. r >>= (λ k. value k.1 >>= (λ v. Ok ((k.0, v.0), v.1)))) is ∙ ap (λ r. r >>= (λ v. Ok ((key, v.0), v.1))) e)
 
-  pub field_read : (key after rest : List ℕ) (x : Json) → key_at taken s ≡ Ok (key, after) → value after ≡ Ok (x, rest) → field_at value found s ≡ Ok ((key, x), rest)
-  field_read key after rest x is e = ap (λ r. r >>= (λ k. value k.1 >>= (λ v. Ok ((k.0, v.0), v.1)))) (sym (key_same taken (has_key found) s same) ∙ is) ∙ ap (λ r. r >>= (λ v. Ok ((key, v.0), v.1))) e
+  pub field_read : (key after rest : List ℕ) (x : Json) → key_at (has_key found) s ≡ Ok (key, after) → value after ≡ Ok (x, rest) → field_at value found s ≡ Ok ((key, x), rest)
+  field_read key after rest x is e = ap (λ r. r >>= (λ k. value k.1 >>= (λ v. Ok ((k.0, v.0), v.1)))) is ∙ ap (λ r. r >>= (λ v. Ok ((key, v.0), v.1))) e
 
 pub key_taken : (taken : List ℕ → Bool) (s key after : List ℕ) → string_at s ≡ Ok (key, after) → taken key ≡ true → key_at taken s ≡ Err (Repeated (length s))
 key_taken taken s key after e is = ap (λ r. r >>= (λ p. cond (taken p.0) (Err (Repeated (length s))) (after_key p.0 p.1))) e ∙ ap (λ b. cond b (Err (Repeated (length s))) (after_key key after)) is
@@ -164,14 +156,6 @@ pub key_free : (taken : List ℕ → Bool) (s key after next : List ℕ) (o : Op
 key_free taken s key after next o e is n k =
     ap (λ r. r >>= (λ p. cond (taken p.0) (Err (Repeated (length s))) (after_key p.0 p.1))) e ∙ ap (λ b. cond b (Err (Repeated (length s))) (after_key key after)) is
     ∙ ap (λ x. colon_at key x (strip_word (codes ":") x)) (sym n) ∙ ap (colon_at key next) k
-
-pub new_true : (b f : Bool) → f ≡ not b → f ≡ false → b ≡ true
-new_true true f e is = refl
-new_true false f e is = sym is ∙ e
-
-pub new_false : (b f : Bool) → f ≡ not b → f ≡ true → b ≡ false
-new_false false f e is = refl
-new_false true f e is = sym is ∙ e
 
 pub has_key-push : (ps : List (List ℕ × Json)) (p : List ℕ × Json) (q : List ℕ) → has_key (ps ++ p ∷ []) q ≡ cond (bytes_eq p.0 q) true (has_key ps q)
 has_key-push [] p q = last (bytes_eq p.0 q)

@@ -7,6 +7,7 @@ use Rattle.jtext.specs.declared.fault.Fault.{Fault}
 use Rattle.jtext.specs.declared.fault.Fault.TheVariants.{Bad, Deep, Repeated}
 use Rattle.jtext.specs.Faults.{Reading, ◌>>=◌, strip_word}
 use Rattle.jtext.specs.Strings.{string_at}
+use Rattle.std.specs.List.{list_any}
 use Rattle.std.specs.Str.{bytes_eq}
 
 -- ---- fronts
@@ -96,8 +97,7 @@ list_at close item s = begun_at close item (skip_spaces s) (strip_word close (sk
 
 -- a pair has that key
 abbrev pub has_key : List (List ℕ × Json) → List ℕ → Bool
-has_key [] key = false
-has_key (p ∷ ps) key = bytes_eq p.0 key || has_key ps key
+has_key ps key = list_any (λ p. bytes_eq p.0 key) ps
 
 abbrev pub colon_at : List ℕ → List ℕ → Option (List ℕ) → Reading (List ℕ)
 colon_at key s None = Err (Bad (length s))

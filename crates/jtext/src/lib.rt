@@ -8,6 +8,7 @@ mod escape;
 mod fault;
 mod indent;
 mod json;
+mod key_set;
 pub mod laws;
 mod list;
 mod lookup;

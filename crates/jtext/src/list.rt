@@ -72,6 +72,15 @@ impl<T> List<T> {
         let List { items } = self;
         items
     }
+
+    /// Gives back the room that growing has left over, where it may be much.
+    pub(crate) fn trim(&mut self)
+        ensures { self.new ≡ self.old }
+    {
+        if self.items.len() > 16 {
+            self.items.shrink_to_fit();
+        }
+    }
 }
 
 impl<T: Drop> List<T> {

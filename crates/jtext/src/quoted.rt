@@ -40,7 +40,11 @@ fn body(alloc: Global, s: &str) -> Result<(String, &str), Fault>
             return Err(Fault::Bad(after.len()));
         };
         match byte {
-            b'"' => return Ok((out, next)),
+            b'"' => {
+                // An escape at the end may have doubled the room.
+                out.shrink_to_fit();
+                return Ok((out, next));
+            }
             b'\\' => {
                 let (c, more) = escape(next, after.len())?;
                 out.push(c)?;

@@ -6,13 +6,14 @@ ghost use Rattle.std.specs.Str.{bytes_eq};
 ghost use Rattle.std.specs.BTreeSet.{contains_text};
 ghost use Rattle.jtext.specs.Grammar.{Spells};
 ghost use Rattle.jtext.specs.Gives.{Gives, ReadsAs};
-ghost use Rattle.jtext.specs.Reading.{value_at, document_at, list_at, item_at, field_at, key_at, word_at};
+ghost use Rattle.jtext.specs.Reading.{value_at, document_at, list_at, item_at, field_at, has_key, key_at, word_at};
 ghost use Rattle.jtext.specs.Faults.{strip_word};
 ghost use Rattle.jtext.specs.Refusal.{Refused, Stands, Answers};
 ghost use Rattle.jtext.specs.declared.fault.JsonFault as fault;
 ghost use Rattle.jtext.specs.Depth.{depth};
 
 use crate::fault::{Fault, JsonFault};
+use crate::key_set::is_taken;
 use crate::quoted::string;
 use crate::scan::{number_stop, skip_spaces, split_ascii, split_number, strip_word, word_stop};
 use crate::{Fields, Items, Json, NumText, Text};
@@ -87,6 +88,7 @@ fn items(alloc: Global, s: &str, deep: u32) -> Result<(Items, &str), Fault>
         found.push(item)?;
         let next = skip_spaces(after);
         if let Some(after) = strip_word(next, "]") {
+            found.trim();
             return Ok((found, after));
         }
         let Some(after) = strip_word(next, ",") else {
@@ -103,17 +105,18 @@ fn fields(alloc: Global, s: &str, deep: u32) -> Result<(Fields, &str), Fault>
     ensures exact { Gives (λ r. (r.0, r.1.now)) result (list_at (codes "}") (field_at (value_at deep)) s.now) }
 {
     let mut found = Fields::new(alloc);
-    let mut seen = BTreeSet::new(alloc);
+    let mut many = BTreeSet::new(alloc);
     let mut rest = skip_spaces(s);
     if let Some(after) = strip_word(rest, "}") {
         return Ok((found, after));
     }
     loop {
-        let (key, after) = key(alloc, rest, &mut seen)?;
+        let (key, after) = key(alloc, rest, &found, &mut many)?;
         let (value, after) = value(alloc, after, deep)?;
         found.push((key, value))?;
         let next = skip_spaces(after);
         if let Some(after) = strip_word(next, "}") {
+            found.trim();
             return Ok((found, after));
         }
         let Some(after) = strip_word(next, ",") else {
@@ -123,14 +126,20 @@ fn fields(alloc: Global, s: &str, deep: u32) -> Result<(Fields, &str), Fault>
     }
 }
 
-/// The key at the front, which isn't `seen` before, and the text after its colon.
-fn key<'a>(alloc: Global, s: &'a str, seen: &mut BTreeSet<String>) -> Result<(Text, &'a str), Fault>
+/// The key at the front, which none of the pairs has, and the text after its colon.
+fn key<'a>(
+    alloc: Global,
+    s: &'a str,
+    found: &Fields,
+    many: &mut BTreeSet<String>,
+) -> Result<(Text, &'a str), Fault>
+    requires kept { 16 < length found.now → (q : Plain ℕ) → contains_text many.old q ≡ has_key found.now q }
     ensures shorter { IfOk result (λ r. length r.1.now < length s.now) }
-    ensures seen { IfOk result (λ r. (q : Plain ℕ) → contains_text seen.new q ≡ cond (bytes_eq r.0 q) true (contains_text seen.old q)) }
-    ensures exact { Gives (λ r. (r.0, r.1.now)) result (key_at (contains_text seen.old) s.now) }
+    ensures kept { IfOk result (λ r. 16 ≤ length found.now → (q : Plain ℕ) → contains_text many.new q ≡ cond (bytes_eq r.0 q) true (has_key found.now q)) }
+    ensures exact { Gives (λ r. (r.0, r.1.now)) result (key_at (has_key found.now) s.now) }
 {
     let (key, after) = string(alloc, s)?;
-    if !seen.insert(String::from_str(alloc, key.as_str())?)? {
+    if is_taken(alloc, found, many, key.as_str())? {
         return Err(Fault::Repeated(s.len()));
     }
     let next = skip_spaces(after);

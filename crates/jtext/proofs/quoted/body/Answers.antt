@@ -20,7 +20,7 @@ returns-in-34-clause-exact c n h =
     let after = c.split_plain.result.1.now in
     let next = c.in-Some.next.now in
     body_ends n c.args.s.now (string_bytes l.out) l.rest.now c.split_plain.result.0.now after (l.invariant.far n h) c.split_plain.ensures.parts next
-    (at_byte after next c.in-Some.byte 34 c.in-Some.ensures.some c.in-34.is) ∙ ap (λ x. Ok (x, next)) (sym c.in_ok-push_str.ensures.bytes)
+    (at_byte after next c.in-Some.byte 34 c.in-Some.ensures.some c.in-34.is) ∙ ap (λ x. Ok (x, next)) (sym (c.shrink_to_fit.ensures.bytes ∙ c.in_ok-push_str.ensures.bytes))
 
 pub returns-in_err-c-in-92-clause-exact : goal.returns-in_err-c-in-92-clause-exact
 returns-in_err-c-in-92-clause-exact c n h =

@@ -1,7 +1,5 @@
-use Rattle.std.proofs.Common.{◌≡◌, Ok, Err, take, suc, length, cond, true, ◌∙◌, sym, ap, ◌-◌, arith}
+use Rattle.std.proofs.Common.{length-append, [], ◌∷◌, ◌≡◌, Ok, Err, take, suc, length, ◌∙◌, sym, ap, ◌-◌, arith}
 use Rattle.std.specs.Prelude.{codes}
-use Rattle.std.specs.Str.{bytes_eq}
-use Rattle.std.specs.BTreeSet.{contains_text}
 use Rattle.std.proofs.lemmas.Result.{err_from_is_err_and}
 use Rattle.jtext.specs.declared.json.Json.{Num}
 use Rattle.jtext.specs.declared.fault.Fault.TheVariants.{Bad}
@@ -17,57 +15,57 @@ use Rattle.jtext.proofs.reader.+parse.Goals as goal
 
 pub fields-returns-in_err-key-clause-exact : goal.fields-returns-in_err-key-clause-exact
 fields-returns-in_err-key-clause-exact t c =
-    let l = c.loop-seen in
+    let l = c.loop-many in
     let p = err_from_is_err_and c.from_residual.result c.from_residual.ensures.1 in
     let V = value_at c.args.deep in
     let fails = list_fails (codes "}") (field_at V) l.found c.args.s.now l.rest.now c.in_err-key.field-0.0 l.invariant.far
-    (field_key_fails V l.found (contains_text l.seen) l.rest.now l.invariant.keys c.in_err-key.field-0.0 c.in_err-key.ensures.exact) in
+    (field_key_fails V l.found l.rest.now c.in_err-key.field-0.0 c.in_err-key.ensures.exact) in
     rw (p.1, p.2) fails
 
 pub fields-returns-in_err-value-clause-exact : goal.fields-returns-in_err-value-clause-exact
 fields-returns-in_err-value-clause-exact t c =
-    let l = c.loop-seen in
+    let l = c.loop-many in
     let p = err_from_is_err_and c.from_residual-in_err-value.result c.from_residual-in_err-value.ensures.1 in
     let V = value_at c.args.deep in
     let fails = list_fails (codes "}") (field_at V) l.found c.args.s.now l.rest.now c.in_err-value.field-0.0 l.invariant.far
-    (field_value_fails V l.found (contains_text l.seen) l.rest.now l.invariant.keys c.in_ok-key.key c.in_ok-key.after.now c.in_err-value.field-0.0 c.in_ok-key.ensures.exact c.in_err-value.ensures.exact) in
+    (field_value_fails V l.found l.rest.now c.in_ok-key.key c.in_ok-key.after.now c.in_err-value.field-0.0 c.in_ok-key.ensures.exact c.in_err-value.ensures.exact) in
     rw (p.1, p.2) fails
 
 pub fields-returns-in-Some-strip_word-clause-exact : goal.fields-returns-in-Some-strip_word-clause-exact
 fields-returns-in-Some-strip_word-clause-exact t c =
-    let l = c.loop-seen in
+    let l = c.loop-many in
     let k = c.in_ok-key in
     let v = c.in_ok-value in
     let V = value_at c.args.deep in
-    let read = field_read V l.found (contains_text l.seen) l.rest.now l.invariant.keys k.key k.after.now v.after.now v.value k.ensures.exact v.ensures.exact in
-    list_ends (codes "}") (field_at V) l.found c.push.new.self (k.key, v.value) c.args.s.now l.rest.now v.after.now c.skip_spaces-next.result.now l.invariant.far read
-    c.skip_spaces-next.ensures.exact c.in_ok-push.ensures.ok c.in-Some-strip_word.after.now (sym c.in-Some-strip_word.ensures.exact)
+    let read = field_read V l.found l.rest.now k.key k.after.now v.after.now v.value k.ensures.exact v.ensures.exact in
+    list_ends (codes "}") (field_at V) l.found c.trim.new.self (k.key, v.value) c.args.s.now l.rest.now v.after.now c.skip_spaces-next.result.now l.invariant.far read
+    c.skip_spaces-next.ensures.exact (c.trim.ensures ∙ c.in_ok-push.ensures.ok) c.in-Some-strip_word.after.now (sym c.in-Some-strip_word.ensures.exact)
 
 pub fields-returns-in_default-strip_word-2-clause-exact : goal.fields-returns-in_default-strip_word-2-clause-exact
 fields-returns-in_default-strip_word-2-clause-exact t c =
-    let l = c.loop-seen in
+    let l = c.loop-many in
     let k = c.in_ok-key in
     let v = c.in_ok-value in
     let V = value_at c.args.deep in
-    let read = field_read V l.found (contains_text l.seen) l.rest.now l.invariant.keys k.key k.after.now v.after.now v.value k.ensures.exact v.ensures.exact in
+    let read = field_read V l.found l.rest.now k.key k.after.now v.after.now v.value k.ensures.exact v.ensures.exact in
     list_bad (codes "}") (field_at V) l.found c.push.new.self (k.key, v.value) c.args.s.now l.rest.now v.after.now c.skip_spaces-next.result.now l.invariant.far read
     c.skip_spaces-next.ensures.exact c.in_ok-push.ensures.ok (sym c.in_default-strip_word.ensures.exact) (sym c.in_default-strip_word-2.ensures.exact)
 
-pub fields-loop-seen-preserved : goal.fields-loop-seen-preserved
-fields-loop-seen-preserved t c =
-    let l = c.loop-seen in
+pub fields-loop-many-preserved : goal.fields-loop-many-preserved
+fields-loop-many-preserved t c =
+    let l = c.loop-many in
     let k = c.in_ok-key in
     let v = c.in_ok-value in
     let V = value_at c.args.deep in
     let next = c.skip_spaces-next in
-    let rest = c.skip_spaces-rest-in-loop-seen in
-    let read = field_read V l.found (contains_text l.seen) l.rest.now l.invariant.keys k.key k.after.now v.after.now v.value k.ensures.exact v.ensures.exact in
+    let rest = c.skip_spaces-rest-in-loop-many in
+    let read = field_read V l.found l.rest.now k.key k.after.now v.after.now v.value k.ensures.exact v.ensures.exact in
     let comma : length next.result.now ≡ suc (length c.in-Some-strip_word-2.after.now) = ap length c.in-Some-strip_word-2.ensures.some in
     record {
       text = rest.utf8;
       within = omega (arith, k.ensures.shorter, v.ensures.shorter, l.invariant.within, next.ensures.within, rest.ensures.within, comma);
-      keys = λ q.
-          k.ensures.seen q ∙ ap (λ b. cond (bytes_eq k.key q) true b) (l.invariant.keys q) ∙ sym (has_key-push l.found (k.key, v.value) q) ∙ ap (λ xs. has_key xs q) (sym c.in_ok-push.ensures.ok);
+      kept = λ many q.
+          k.ensures.kept (omega (arith, many, ap length c.in_ok-push.ensures.ok, length-append l.found ((k.key, v.value) ∷ []))) q ∙ sym (has_key-push l.found (k.key, v.value) q) ∙ ap (λ xs. has_key xs q) (sym c.in_ok-push.ensures.ok);
       far = so_far_more (codes "}") (field_at V) l.found c.push.new.self (k.key, v.value) c.args.s.now l.rest.now v.after.now next.result.now l.invariant.far read
           next.ensures.exact c.in_ok-push.ensures.ok c.in-Some-strip_word-2.after.now rest.result.now (sym c.in_default-strip_word.ensures.exact)
           (sym c.in-Some-strip_word-2.ensures.exact) rest.ensures.exact
@@ -87,8 +85,8 @@ pub items-returns-in-Some-strip_word-clause-exact : goal.items-returns-in-Some-s
 items-returns-in-Some-strip_word-clause-exact t c =
     let l = c.loop-found in
     let v = c.in_ok-item in
-    list_ends (codes "]") (item_at (value_at c.args.deep)) l.found c.push.new.self v.item c.args.s.now l.rest.now v.after.now c.skip_spaces-next.result.now l.invariant.far v.ensures.exact
-    c.skip_spaces-next.ensures.exact c.in_ok-push.ensures.ok c.in-Some-strip_word.after.now (sym c.in-Some-strip_word.ensures.exact)
+    list_ends (codes "]") (item_at (value_at c.args.deep)) l.found c.trim.new.self v.item c.args.s.now l.rest.now v.after.now c.skip_spaces-next.result.now l.invariant.far v.ensures.exact
+    c.skip_spaces-next.ensures.exact (c.trim.ensures ∙ c.in_ok-push.ensures.ok) c.in-Some-strip_word.after.now (sym c.in-Some-strip_word.ensures.exact)
 
 pub items-returns-in_default-strip_word-2-clause-exact : goal.items-returns-in_default-strip_word-2-clause-exact
 items-returns-in_default-strip_word-2-clause-exact t c =

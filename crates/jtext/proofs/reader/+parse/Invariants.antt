@@ -1,4 +1,4 @@
-use Rattle.std.proofs.Common.{◌≡◌, ℕ, List, ◌+◌, ◌*◌, ◌≤◌, length}
+use Rattle.std.proofs.Common.{◌≡◌, ℕ, List, ◌+◌, ◌*◌, ◌<◌, ◌≤◌, length}
 use Rattle.std.specs.Prelude.{codes}
 use Rattle.std.specs.BTreeSet.{contains_text}
 use denote.Text.{Utf8}
@@ -27,14 +27,14 @@ invariant-items-loop-found l =
 abbrev pub decreases-items-loop-found : goal.decreases-items-loop-found
 decreases-items-loop-found l = length l.rest
 
-abbrev pub invariant-fields-loop-seen : goal.invariant-fields-loop-seen
-invariant-fields-loop-seen l =
+abbrev pub invariant-fields-loop-many : goal.invariant-fields-loop-many
+invariant-fields-loop-many l =
     record {
       text : shadow (Utf8 l.rest);
       within : length l.rest ≤ length l.s;
-      keys : (q : List ℕ) → contains_text l.seen q ≡ has_key l.found q;
+      kept : 16 < length l.found → (q : List ℕ) → contains_text l.many q ≡ has_key l.found q;
       far : SoFar (codes "}") (field_at (value_at l.deep)) l.found l.s l.rest;
     }
 
-abbrev pub decreases-fields-loop-seen : goal.decreases-fields-loop-seen
-decreases-fields-loop-seen l = length l.rest
+abbrev pub decreases-fields-loop-many : goal.decreases-fields-loop-many
+decreases-fields-loop-many l = length l.rest
