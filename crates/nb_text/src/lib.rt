@@ -10,4 +10,4 @@ mod notebook_text;
 mod tests;
 
 pub use generator::generate;
-pub use notebook_text::text;
+pub use notebook_text::{text, text_with_capacity};

@@ -14,7 +14,15 @@ use std::alloc::Global;
 pub fn text(alloc: Global, n: &Notebook) -> Result<Bytes, NoMemory>
     ensures { IfOk result (λ b. b ≡ print (notebook_tree n.now)) }
 {
-    let mut out = Bytes::new(alloc);
+    text_with_capacity(alloc, n, 0)
+}
+
+/// The same text in a buffer with room for `capacity` bytes from the start. Who knows roughly how long
+/// the text gets spares it growing; the text may be shorter or longer.
+pub fn text_with_capacity(alloc: Global, n: &Notebook, capacity: usize) -> Result<Bytes, NoMemory>
+    ensures { IfOk result (λ b. b ≡ print (notebook_tree n.now)) }
+{
+    let mut out = Bytes::of_vec(Vec::with_capacity(alloc, capacity)?);
     out.add(b"{")?;
     put_cells(alloc, &mut out, n.cells.as_slice())?;
     out.add(b",")?;
