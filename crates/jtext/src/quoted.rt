@@ -26,14 +26,26 @@ pub(crate) fn string(alloc: Global, s: &str) -> Result<(Text, &str), Fault>
     }
 }
 
-/// What follows the opening quote, up to the closing one.
+/// What follows the opening quote, up to the closing one. Without an escape it is copied once.
 fn body(alloc: Global, s: &str) -> Result<(String, &str), Fault>
+    ensures shorter { IfOk result (λ r. length r.1.now < length s.now) }
+    ensures exact { (n : ℕ) → length s.now < n → Gives (λ r. (string_bytes r.0, r.1.now)) result (spec.body_at n [] s.now) }
+{
+    let (plain, after) = split_plain(s);
+    match split_ascii(after) {
+        Some((b'"', next)) => Ok((String::from_str(alloc, plain)?, next)),
+        _ => pieces(alloc, s),
+    }
+}
+
+/// The same, put together from plain pieces and the characters of escapes.
+fn pieces(alloc: Global, s: &str) -> Result<(String, &str), Fault>
     ensures shorter { IfOk result (λ r. length r.1.now < length s.now) }
     ensures exact { (n : ℕ) → length s.now < n → Gives (λ r. (string_bytes r.0, r.1.now)) result (spec.body_at n [] s.now) }
 {
     let mut out = String::new(alloc);
     let mut rest = s;
-    'pieces: loop {
+    'each: loop {
         let (plain, after) = split_plain(rest);
         out.push_str(plain)?;
         let Some((byte, next)) = split_ascii(after) else {
@@ -41,7 +53,7 @@ fn body(alloc: Global, s: &str) -> Result<(String, &str), Fault>
         };
         match byte {
             b'"' => {
-                // An escape at the end may have doubled the room.
+                // The room is up to twice what was needed.
                 out.shrink_to_fit();
                 return Ok((out, next));
             }
