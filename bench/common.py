@@ -10,10 +10,15 @@ CRATE = TOP / "crates" / "measure"
 PROGRAM = CRATE / "out" / "measure"
 
 
+def processor():
+    """What the program is compiled for, as the script `nbrun` has it."""
+    flags = set(Path("/proc/cpuinfo").read_text().split())
+    return "x86-64-v3" if {"avx2", "bmi1", "bmi2", "f16c", "fma", "abm", "movbe"} <= flags else "x86-64-v2"
+
+
 def program():
-    """The program `measure`, built where it isn't there."""
-    if not PROGRAM.exists():
-        subprocess.run(["rt", "run"], cwd=CRATE, check=True, stdout=sys.stderr)
+    """The program `measure`, built where it isn't there as it is wanted."""
+    subprocess.run(["rt", "run", "--cpu", processor()], cwd=CRATE, check=True, stdout=sys.stderr)
     return str(PROGRAM)
 
 
