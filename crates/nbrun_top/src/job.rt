@@ -16,7 +16,7 @@ use crate::plain::{SaveFault, save};
 use crate::reports::Reports;
 use jtext::{Bytes, NoMemory};
 use nb_model::Notebook;
-use nb_text::text;
+use nb_text::text_with_capacity;
 use std::alloc::Global;
 use words::Ask;
 use world::{Disk, ReadFile};
@@ -35,10 +35,13 @@ pub(crate) fn prepare<W: Disk>(alloc: Global, ask: &Ask, w: &mut W) -> Answer
     ensures counts { DiskCause (W.counts w.old) (W.counts w.new) ⊥ }
 {
     match w.read_file(alloc, &ask.input, MOST) {
-        ReadFile::Whole(bytes) => match loaded(alloc, bytes, ask) {
-            Ok(notebook) => save_of(alloc, ask, &notebook, w),
-            Err(end) => refused(alloc, ask, end),
-        },
+        ReadFile::Whole(bytes) => {
+            let size = bytes.len();
+            match loaded(alloc, bytes, ask) {
+                Ok(notebook) => save_of(alloc, ask, &notebook, size, w),
+                Err(end) => refused(alloc, ask, end),
+            }
+        }
         ReadFile::Big => refused(alloc, ask, End::TooLarge),
         ReadFile::Failed => refused(alloc, ask, End::NotRead),
         ReadFile::NoMemory => Answer::no_memory(alloc),
@@ -53,8 +56,8 @@ fn refused(alloc: Global, ask: &Ask, end: End) -> Answer
     Answer::refused(alloc, ask.input.as_str(), ask.output.as_str(), end)
 }
 
-// The text and the lines are made before anything is written.
-fn save_of<W: Disk>(alloc: Global, ask: &Ask, notebook: &Notebook, w: &mut W) -> Answer
+// The text and the lines are made before anything is written. The input had that size.
+fn save_of<W: Disk>(alloc: Global, ask: &Ask, notebook: &Notebook, size: usize, w: &mut W) -> Answer
     ensures entries { Told (W.journal w.old) (W.journal w.new) (λ before after. SavesAs ask.now.output notebook.now before result.end after) }
     ensures text { Speaks ask.now.input ask.now.output result }
     ensures read_fault { result.end ≡ ending.NotRead → ⊥ }
@@ -63,7 +66,7 @@ fn save_of<W: Disk>(alloc: Global, ask: &Ask, notebook: &Notebook, w: &mut W) ->
     ensures save_fault { (f : fault.SaveFault) → result.end ≡ ending.NotSaved f → Rose (W.counts w.old).disk (W.counts w.new).disk }
     ensures counts { DiskCause (W.counts w.old) (W.counts w.new) ⊥ }
 {
-    let Ok((text, reports)) = made(alloc, ask, notebook) else {
+    let Ok((text, reports)) = made(alloc, ask, notebook, size) else {
         return Answer::no_memory(alloc);
     };
     match save(w, &ask.output, text.bytes()) {
@@ -84,13 +87,19 @@ fn save_of<W: Disk>(alloc: Global, ask: &Ask, notebook: &Notebook, w: &mut W) ->
     }
 }
 
-fn made(alloc: Global, ask: &Ask, notebook: &Notebook) -> Result<(Bytes, Reports), NoMemory>
+// A text is seldom longer than its input by more than an eighth.
+fn made(
+    alloc: Global,
+    ask: &Ask,
+    notebook: &Notebook,
+    size: usize,
+) -> Result<(Bytes, Reports), NoMemory>
     ensures text { IfOk result (λ r. r.0 ≡ text_of notebook.now) }
     ensures done { IfOk result (λ r. r.1.done ≡ spec.saved ask.now.output (length notebook.now.cells) ++ spec.line ask.now.output (codes "done")) }
     ensures not_written { IfOk result (λ r. r.1.not_written ≡ spec.line ask.now.output (codes "cannot save: write")) }
     ensures not_synced { IfOk result (λ r. r.1.not_synced ≡ spec.line ask.now.output (codes "cannot save: sync")) }
 {
-    let text = text(alloc, notebook)?;
+    let text = text_with_capacity(alloc, notebook, size.saturating_add(size / 8))?;
     let reports = Reports::new(alloc, ask.output.as_str(), notebook.cells.len())?;
     Ok((text, reports))
 }
