@@ -1,4 +1,6 @@
 //! What `--help` and `--version` print.
+ghost use Rattle.std.specs.Prelude.{◌≡◌, map, option_map, string_bytes};
+ghost use Rattle.nbrun_main.specs.Printed as spec;
 
 /// The program's name and version.
 pub(crate) const VERSION: &str = "nbrun 0.1.0\n";
@@ -36,3 +38,24 @@ Status: 0 done, 2 wrong words, 3 input not read, 4 no notebook, 5 no translator
 for parameters, 10 output not saved, 11 done but not said, 12 no memory,
 20 arguments or folder not read, 70 not built.
 ";
+
+/// What is printed in place of a run, where `--help` or `--version` is the only word.
+pub(crate) fn printed(words: &[String]) -> Option<&'static str>
+    ensures { option_map (λ text. text.now) result ≡ spec.printed (map string_bytes words.now) }
+{
+    match words {
+        [word] => text_for(word.as_str()),
+        _ => None,
+    }
+}
+
+// What is printed for this word alone.
+fn text_for(word: &str) -> Option<&'static str>
+    ensures { option_map (λ text. text.now) result ≡ spec.text_for word.now }
+{
+    match word {
+        "--help" => Some(HELP),
+        "--version" => Some(VERSION),
+        _ => None,
+    }
+}

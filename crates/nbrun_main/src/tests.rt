@@ -1,8 +1,7 @@
 //! Runs over real files, each test with files of its own.
-use crate::printed;
-use crate::real_world::RealWorld;
+use crate::help::printed;
+use crate::run_words;
 use jtext::Text;
-use nbrun_top::{Limits, run};
 use std::fs;
 use std::test::Fail;
 
@@ -52,12 +51,11 @@ fn given(rt: &HostRuntime, words: &str) -> Result<Vec<String>, Fail> {
     Ok(given)
 }
 
-/// What `run` answers to these words over real files.
+/// What the program answers to these words.
 fn status(rt: HostRuntime, words: &str) -> Result<u8, Fail> {
     let words = given(&rt, words)?;
-    let limits = Limits::usual(Text::of(rt.alloc(), "/")?);
-    let mut world = RealWorld::new(rt);
-    Ok(run(rt.alloc(), words.as_slice(), &limits, &mut world))
+    let here = Text::of(rt.alloc(), "/")?;
+    Ok(run_words(rt, rt.alloc(), words.as_slice(), here))
 }
 
 #[test]
@@ -113,5 +111,6 @@ fn help_and_version_are_printed_where_they_stand_alone(rt: HostRuntime) -> Resul
     for (words, shown) in rows {
         assert_eq!(rt; printed(given(&rt, words)?.as_slice()).is_some(), shown);
     }
+    assert_eq!(rt; status(rt, "--version")?, 0);
     Ok(())
 }
