@@ -16,7 +16,7 @@ use Rattle.display_index.proofs.StandingLemmas.{standing-added, standing-cleared
 use Rattle.out_fold.specs.Live.{appends, clears_now}
 use Rattle.out_fold.specs.Shown.{shown_in, data_if, data_under, data_shown}
 use Rattle.out_fold.specs.Names.{name_of, has_id}
-use Rattle.out_fold.specs.Placing.{has_place, Grown, Placed, settled}
+use Rattle.out_fold.specs.Placing.{has_place, Grown, Placed, Settled, settled}
 use Rattle.out_fold.proofs.ListTests.{no, eqb-same, any-append, any-snoc, or_left, or_right}
 
 -- ---- the display id of a message
@@ -122,3 +122,12 @@ settled-other c cell calls id n e h = settled_by (clears_now c) cell calls id n 
 -- and so does every one, where nothing is cleared
 pub settled-same : (c : Content) (cell : ℕ) (calls : List Call) → clears_now c ≡ false → settled c cell calls ≡ calls
 settled-same c cell calls e = ap (λ b. cond b (calls ++ cleared cell ∷ []) calls) e
+
+-- ---- the message as a whole
+
+pub placed-grown : (calls : List Call) (x : Index) (c : Content) (cell : ℕ) → Placed calls x c cell → Grown calls x
+placed-grown calls x c cell p = record { calls' = p.calls'; told = p.told; more = p.more }
+
+pub placed-settled : (calls : List Call) (x x' : Index) (c : Content) (cell : ℕ) → Placed calls x c cell
+    → ((told : List Call) → index.StandsFor x told → index.StandsFor x' (settled c cell told)) → Settled calls x' c cell
+placed-settled calls x x' c cell p settles = record { calls' = p.calls'; told = settles p.calls' p.told; more = p.more; here = p.here }

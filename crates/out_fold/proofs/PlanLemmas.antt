@@ -1,9 +1,12 @@
 -- Cells in increasing order, with one more.
-use Rattle.std.proofs.Common.{◌≡◌, ℕ, ◌==◌, Bool, true, false, cond, ◌&&◌, ◌||◌, nat_lt, List, [], ◌∷◌, ◌++◌, refl, sym, ◌∙◌, ap, arith, add-one}
-use Rattle.std.specs.List.{list_any, list_all, insert}
+use Rattle.std.proofs.Common.{◌≡◌, ℕ, zero, suc, ◌==◌, ◌+◌, ◌<◌, ◌≤◌, Bool, true, false, cond, ◌||◌, nat_lt, nat_cmp, List, [], ◌∷◌, ◌++◌, length, get_or, take, drop, Result, Ok, Err, refl, sym, ◌∙◌, ap, arith, add-one}
+use Rattle.std.specs.List.{list_any, list_all, insert, remove}
+use Rattle.std.specs.List.Sorted.{IsBinarySearchResult}
+use Rattle.std.specs.Result.{IfOk, IfErr}
+use Rattle.std.proofs.lemmas.List.Sorted.{searched}
 use Rattle.display_index.specs.declared.place.Place.{Place}
 use Rattle.out_fold.specs.Plans.{is_in, increases, lead, Covers}
-use Rattle.out_fold.proofs.ListTests.{no, and_parts, and_made, or_false, or_left, all-more, any-snoc, eqb-same}
+use Rattle.out_fold.proofs.ListTests.{no, and_parts, and_made, or_false, or_left, or_right, all-more, any-append, any-snoc, eqb-same}
 
 -- a cell in its place
 abbrev ins : ℕ → List ℕ → List ℕ
@@ -94,10 +97,15 @@ none_in (p ∷ ps) plan n h e =
     let parts = and_parts (is_in plan p.cell) (list_all (λ (q : Place). is_in plan q.cell) ps) h in
     none_by p ps plan n (p.cell == n) refl parts.0 e (none_in ps plan n parts.1 e)
 
-pub covers-all : (plan : List ℕ) (cell : ℕ) (ps : List Place) → increases plan ≡ true → (is_in plan cell && list_all (λ p. is_in plan p.cell) ps) ≡ true → Covers plan plan cell ps
-covers-all plan cell ps i h =
-    let parts = and_parts (is_in plan cell) (list_all (λ (p : Place). is_in plan p.cell) ps) h in
-    record { sorted = i; kept = λ n e. e; current = parts.0; placed = λ n e. none_in ps plan n parts.1 e }
+-- one more cell, where those of the places are there
+pub covers-one : (plan new : List ℕ) (cell : ℕ) (ps : List Place) → increases new ≡ true → list_all (λ p. is_in plan p.cell) ps ≡ true
+    → ((n : ℕ) → is_in new n ≡ ((cell == n) || is_in plan n)) → Covers plan new cell ps
+covers-one plan new cell ps i all h = record {
+  sorted = i;
+  kept = λ n e. (or_false (cell == n) (is_in plan n) (sym (h n) ∙ e)).1;
+  current = h cell ∙ or_left (cell == cell) (is_in plan cell) (eqb-same cell);
+  placed = λ n e. none_in ps plan n all (or_false (cell == n) (is_in plan n) (sym (h n) ∙ e)).1;
+}
 
 pub covers-union : (plan new : List ℕ) (cell : ℕ) (ps : List Place) → increases new ≡ true
     → ((n : ℕ) → is_in new n ≡ (((cell == n) || is_in plan n) || list_any (λ p. p.cell == n) ps)) → Covers plan new cell ps
@@ -108,19 +116,146 @@ covers-union plan new cell ps i h = record {
   placed = λ n e. (or_false ((cell == n) || is_in plan n) (list_any (λ (p : Place). p.cell == n) ps) (sym (h n) ∙ e)).1;
 }
 
-or_place : (a b c : Bool) → (c || (a || b)) ≡ (a || (b || c))
-or_place true b true = refl
-or_place true b false = refl
-or_place false true true = refl
-or_place false true false = refl
-or_place false false true = refl
-or_place false false false = refl
+-- ---- two lists that are put together
+
+or_next : (p a r b c : Bool) → (a || r) ≡ (b || c) → ((p || a) || r) ≡ (b || (c || p))
+or_next true a r true c h = refl
+or_next true a r false true h = refl
+or_next true a r false false h = refl
+or_next false a r b true h = h
+or_next false a r b false h = h
 
 -- one more place
-pub in-next : (cells cells' plan : List ℕ) (cell : ℕ) (before after : List Place) (p : Place) → after ≡ before ++ p ∷ []
-    → ((n : ℕ) → is_in cells n ≡ (((cell == n) || is_in plan n) || list_any (λ q. q.cell == n) before))
-    → ((n : ℕ) → is_in cells' n ≡ ((p.cell == n) || is_in cells n))
-    → (n : ℕ) → is_in cells' n ≡ (((cell == n) || is_in plan n) || list_any (λ q. q.cell == n) after)
-in-next cells cells' plan cell before after p e h g n =
-    g n ∙ ap (λ b. (p.cell == n) || b) (h n) ∙ or_place ((cell == n) || is_in plan n) (list_any (λ (q : Place). q.cell == n) before) (p.cell == n)
-    ∙ ap (λ b. ((cell == n) || is_in plan n) || b) (sym (any-snoc (λ (q : Place). q.cell == n) before p) ∙ ap (λ ps. list_any (λ (q : Place). q.cell == n) ps) (sym e))
+pub in-next : (cells rest cells₁ rest₁ cells₂ plan : List ℕ) (before after : List Place) (p : Place) → after ≡ before ++ p ∷ []
+    → ((n : ℕ) → (is_in cells n || is_in rest n) ≡ (is_in plan n || list_any (λ q. q.cell == n) before))
+    → ((n : ℕ) → (is_in cells₁ n || is_in rest₁ n) ≡ (is_in cells n || is_in rest n))
+    → ((n : ℕ) → is_in cells₂ n ≡ ((p.cell == n) || is_in cells₁ n))
+    → (n : ℕ) → (is_in cells₂ n || is_in rest₁ n) ≡ (is_in plan n || list_any (λ q. q.cell == n) after)
+in-next cells rest cells₁ rest₁ cells₂ plan before after p e h f g n =
+    ap (λ b. b || is_in rest₁ n) (g n)
+    ∙ or_next (p.cell == n) (is_in cells₁ n) (is_in rest₁ n) (is_in plan n) (list_any (λ (q : Place). q.cell == n) before) (f n ∙ h n)
+    ∙ ap (λ b. is_in plan n || b) (sym (any-snoc (λ (q : Place). q.cell == n) before p) ∙ ap (λ ps. list_any (λ (q : Place). q.cell == n) ps) (sym e))
+
+or_assoc : (a b c : Bool) → (a || (b || c)) ≡ ((a || b) || c)
+or_assoc true b c = refl
+or_assoc false b c = refl
+
+-- the last of the plan, and the cell
+pub in-all : (cells rest cells₁ cells₂ plan : List ℕ) (cell : ℕ) (ps : List Place)
+    → ((n : ℕ) → (is_in cells n || is_in rest n) ≡ (is_in plan n || list_any (λ q. q.cell == n) ps))
+    → ((n : ℕ) → is_in cells₁ n ≡ (is_in cells n || is_in rest n))
+    → ((n : ℕ) → is_in cells₂ n ≡ ((cell == n) || is_in cells₁ n))
+    → (n : ℕ) → is_in cells₂ n ≡ (((cell == n) || is_in plan n) || list_any (λ q. q.cell == n) ps)
+in-all cells rest cells₁ cells₂ plan cell ps h f g n =
+    g n ∙ ap (λ b. (cell == n) || b) (f n ∙ h n) ∙ or_assoc (cell == n) (is_in plan n) (list_any (λ (q : Place). q.cell == n) ps)
+
+take-drop : (k : ℕ) (xs : List ℕ) → take k xs ++ drop k xs ≡ xs
+take-drop zero xs = refl
+take-drop (suc k) [] = refl
+take-drop (suc k) (x ∷ xs) = ap (λ ys. x ∷ ys) (take-drop k xs)
+
+-- some of the rest
+pub in-below : (cells cells₁ rest : List ℕ) (k : ℕ) → ((n : ℕ) → is_in cells₁ n ≡ (is_in cells n || is_in (take k rest) n))
+    → (n : ℕ) → (is_in cells₁ n || is_in (drop k rest) n) ≡ (is_in cells n || is_in rest n)
+in-below cells cells₁ rest k h n =
+    ap (λ b. b || is_in (drop k rest) n) (h n)
+    ∙ sym (or_assoc (is_in cells n) (is_in (take k rest) n) (is_in (drop k rest) n))
+    ∙ ap (λ b. is_in cells n || b) (sym (any-append (λ m. m == n) (take k rest) (drop k rest)) ∙ ap (λ ys. is_in ys n) (take-drop k rest))
+
+or_more : (p a b : Bool) → (p || (a || b)) ≡ (a || (b || p))
+or_more true true b = refl
+or_more true false true = refl
+or_more true false false = refl
+or_more false true b = refl
+or_more false false true = refl
+or_more false false false = refl
+
+-- one more of them
+pub in-more : (cells cells₁ cells₂ before after : List ℕ) (x : ℕ) → after ≡ before ++ x ∷ []
+    → ((n : ℕ) → is_in cells₁ n ≡ (is_in cells n || is_in before n)) → ((n : ℕ) → is_in cells₂ n ≡ ((x == n) || is_in cells₁ n))
+    → (n : ℕ) → is_in cells₂ n ≡ (is_in cells n || is_in after n)
+in-more cells cells₁ cells₂ before after x e h g n =
+    g n ∙ ap (λ b. (x == n) || b) (h n) ∙ or_more (x == n) (is_in cells n) (is_in before n)
+    ∙ ap (λ b. is_in cells n || b) (sym (any-snoc (λ m. m == n) before x) ∙ ap (λ ys. is_in ys n) (sym e))
+
+-- ---- a cell taken out again
+
+pub taken-out : (xs : List ℕ) (i x : ℕ) → i ≤ length xs → remove (insert xs i x) i ≡ xs
+taken-out xs zero x l = refl
+taken-out [] (suc i) x l = absurd (omega (arith, l))
+taken-out (y ∷ ys) (suc i) x l = ap (λ zs. y ∷ zs) (taken-out ys i x (omega (arith, l)))
+
+pub none-out : (xs : List ℕ) (i : ℕ) → length xs ≤ i → remove xs i ≡ xs
+none-out [] zero l = refl
+none-out [] (suc i) l = refl
+none-out (y ∷ ys) zero l = absurd (omega (arith, l))
+none-out (y ∷ ys) (suc i) l = ap (λ zs. y ∷ zs) (none-out ys i (omega (arith, l)))
+
+-- ---- the place of a cell
+
+all-at : (f : ℕ → Bool) (xs : List ℕ) (i : ℕ) → list_all f xs ≡ true → i < length xs → f (get_or xs i 0) ≡ true
+all-at f [] i h l = absurd (omega (arith, l))
+all-at f (x ∷ xs) zero h l = (and_parts (f x) (list_all f xs) h).0
+all-at f (x ∷ xs) (suc i) h l = all-at f xs i (and_parts (f x) (list_all f xs) h).1 (omega (arith, l))
+
+less : (x y : ℕ) → nat_lt x y ≡ true → x < y
+less x y e = grind (arith, e)
+
+rises : (xs : List ℕ) → increases xs ≡ true → (i j : ℕ) → i ≤ j → j < length xs → get_or xs i 0 ≤ get_or xs j 0
+rises [] h i j le l = absurd (omega (arith, l))
+rises (x ∷ xs) h zero zero le l = omega arith
+rises (x ∷ xs) h zero (suc j) le l =
+    let below : x < get_or xs j 0 = less x (get_or xs j 0) (all-at (nat_lt x) xs j (and_parts (list_all (nat_lt x) xs) (increases xs) h).0 (omega (arith, l))) in omega (arith, below)
+rises (x ∷ xs) h (suc i) zero le l = absurd (omega (arith, le))
+rises (x ∷ xs) h (suc i) (suc j) le l = rises xs (and_parts (list_all (nat_lt x) xs) (increases xs) h).1 i j (omega (arith, le)) (omega (arith, l))
+
+in-at : (xs : List ℕ) (x i : ℕ) → i < length xs → get_or xs i 0 ≡ x → is_in xs x ≡ true
+in-at [] x i l e = absurd (omega (arith, l))
+in-at (y ∷ ys) x zero l e = or_left (y == x) (is_in ys x) (ap (λ k. k == x) e ∙ eqb-same x)
+in-at (y ∷ ys) x (suc i) l e = or_right (y == x) (is_in ys x) (in-at ys x i (omega (arith, l)) e)
+
+above_no : (y x : ℕ) → x < y → (y == x) ≡ false
+above_no y x l = grind (arith, l)
+
+below_no : (y x : ℕ) → y < x → (y == x) ≡ false
+below_no y x l = grind (arith, l)
+
+not_less : (y x : ℕ) → x < y → nat_lt y x ≡ false
+not_less y x l = grind (arith, l)
+
+is_less : (y x : ℕ) → y < x → nat_lt y x ≡ true
+is_less y x l = grind (arith, l)
+
+or_none : (a b : Bool) → a ≡ false → b ≡ false → (a || b) ≡ false
+or_none a b e f = rw (e, f) refl
+
+out-of : (xs : List ℕ) (x i : ℕ) → ((k : ℕ) → k < i → get_or xs k 0 < x) → ((k : ℕ) → i ≤ k → k < length xs → x < get_or xs k 0) → is_in xs x ≡ false
+out-of [] x i b a = refl
+out-of (y ∷ ys) x zero b a = or_none (y == x) (is_in ys x) (above_no y x (a 0 (omega arith) (omega arith))) (out-of ys x 0 (λ k l. absurd (omega (arith, l))) (λ k l m. a (suc k) (omega arith) (omega (arith, m))))
+out-of (y ∷ ys) x (suc i) b a = or_none (y == x) (is_in ys x) (below_no y x (b 0 (omega arith))) (out-of ys x i (λ k l. b (suc k) (omega (arith, l))) (λ k l m. a (suc k) (omega (arith, l)) (omega (arith, m))))
+
+lead_no : (y x : ℕ) (ys : List ℕ) → nat_lt y x ≡ false → lead (y ∷ ys) x ≡ 0
+lead_no y x ys e = ap (λ b. cond b (lead ys x + 1) 0) e
+
+lead_yes : (y x : ℕ) (ys : List ℕ) → nat_lt y x ≡ true → lead (y ∷ ys) x ≡ lead ys x + 1
+lead_yes y x ys e = ap (λ b. cond b (lead ys x + 1) 0) e
+
+leads : (xs : List ℕ) (x i : ℕ) → i ≤ length xs → ((k : ℕ) → k < i → get_or xs k 0 < x) → ((k : ℕ) → i ≤ k → k < length xs → x < get_or xs k 0) → i ≡ lead xs x
+leads [] x i l b a = omega (arith, l)
+leads (y ∷ ys) x zero l b a = sym (lead_no y x ys (not_less y x (a 0 (omega arith) (omega arith))))
+leads (y ∷ ys) x (suc i) l b a =
+    let rest : i ≡ lead ys x = leads ys x i (omega (arith, l)) (λ k m. b (suc k) (omega (arith, m))) (λ k m o. a (suc k) (omega (arith, m)) (omega (arith, o))) in
+    let step : lead (y ∷ ys) x ≡ lead ys x + 1 = lead_yes y x ys (is_less y x (b 0 (omega arith))) in
+    omega (arith, rest, step)
+
+pub found-in : (xs : List ℕ) (x : ℕ) (r : Result ℕ ℕ) → increases xs ≡ true → IsBinarySearchResult (λ y. nat_cmp y x) xs r → IfOk r (λ i. is_in xs x ≡ true)
+found-in xs x (Ok i) up h = let at = searched xs x (Ok i) h (rises xs up) in in-at xs x i at.0 at.1
+found-in xs x (Err i) up h = tt
+
+pub absent-in : (xs : List ℕ) (x : ℕ) (r : Result ℕ ℕ) → increases xs ≡ true → IsBinarySearchResult (λ y. nat_cmp y x) xs r → IfErr r (λ i. is_in xs x ≡ false)
+absent-in xs x (Ok i) up h = tt
+absent-in xs x (Err i) up h = let at = searched xs x (Err i) h (rises xs up) in out-of xs x i at.1 at.2
+
+pub lead-in : (xs : List ℕ) (x : ℕ) (r : Result ℕ ℕ) → increases xs ≡ true → IsBinarySearchResult (λ y. nat_cmp y x) xs r → IfErr r (λ i. i ≡ lead xs x)
+lead-in xs x (Ok i) up h = tt
+lead-in xs x (Err i) up h = let at = searched xs x (Err i) h (rises xs up) in leads xs x i at.0 at.1 at.2

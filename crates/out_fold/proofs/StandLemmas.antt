@@ -7,7 +7,6 @@ use Rattle.jtext.specs.declared.json.Json.{Json}
 use Rattle.jcontent.specs.declared.content.Content.{Content}
 use Rattle.jcontent.specs.declared.content.Content.TheVariants as content
 use Rattle.jcontent.specs.declared.shown.Shown.{Shown}
-use Rattle.display_index.specs.declared.index.Index.{Index}
 use Rattle.display_index.specs.declared.place.Place.{Place}
 use Rattle.display_index.specs.Standing.{Call}
 use Rattle.display_index.specs.Held as index
@@ -20,7 +19,7 @@ use Rattle.out_fold.specs.Tree.{output_tree}
 use Rattle.out_fold.specs.Cells.{Used, begun, with_message, with_reply, contents, all_contents, joined_where, outputs_of, last_count, count_of, last_date, is_input, says_busy, says_idle, date_pairs, dates_of}
 use Rattle.out_fold.specs.Held.{Holds, Ordered, waits}
 use Rattle.out_fold.specs.Names.{name_of, has_id}
-use Rattle.out_fold.specs.Placing.{has_place, named_places, Grown, Placed, settled}
+use Rattle.out_fold.specs.Placing.{has_place, named_places, Grown, Settled, settled}
 use Rattle.out_fold.specs.Plans.{is_in, Covers}
 use Rattle.out_fold.specs.Stands.{has_output, StandsFor, SameCell, Rested, merge_of}
 use Rattle.out_fold.proofs.ListTests.{no, eqb-same, eqb-other, or_false, any-snoc}
@@ -221,26 +220,20 @@ found-after us u next calls calls' c date o found more here id n true e h =
 
 pub message-stands-for : (f f' : Fold) (us : List Used) (u : Used) (c : Content) (date : Option (List ℕ)) (cell : ℕ) → u.cell ≡ cell
     → Holds f'.held (us ++ with_message u c date ∷ [])
-    → (s : StandsFor f (us ++ u ∷ [])) (x : Index) → Placed s.calls x c cell → ((calls : List Call) → index.StandsFor x calls → index.StandsFor f'.index (settled c cell calls))
+    → (s : StandsFor f (us ++ u ∷ [])) → Settled s.calls f'.index c cell
     → StandsFor f' (us ++ with_message u c date ∷ [])
-message-stands-for f f' us u c date cell same h s x p settles =
+message-stands-for f f' us u c date cell same h s p =
     let o : Ordered 0 (us ++ u ∷ []) f.held.next = s.held.order in
     record {
       held = h;
       calls = settled c cell p.calls';
-      told = settles p.calls' p.told;
+      told = p.told;
       found = λ id n e. ap (λ k. has_place (settled c k p.calls') id n) (sym same)
           ∙ found-after us u f.held.next s.calls p.calls' c date o s.found p.more (λ a i g. ap (λ k. has_place p.calls' i k) same ∙ p.here a i g) id n (u.cell == n) refl e;
     }
 
 pub grown-stands-for : (f f' : Fold) (us : List Used) → Holds f'.held us → (s : StandsFor f us) → Grown s.calls f'.index → StandsFor f' us
 grown-stands-for f f' us h s g = record { held = h; calls = g.calls'; told = g.told; found = λ id n e. g.more id n (s.found id n e) }
-
-placed-grown : (calls : List Call) (x : Index) (c : Content) (cell : ℕ) → Placed calls x c cell → Grown calls x
-placed-grown calls x c cell p = record { calls' = p.calls'; told = p.told; more = p.more }
-
-pub placed-stands-for : (f f' : Fold) (us : List Used) (c : Content) (cell : ℕ) → Holds f'.held us → (s : StandsFor f us) → Placed s.calls f'.index c cell → StandsFor f' us
-placed-stands-for f f' us c cell h s p = grown-stands-for f f' us h s (placed-grown s.calls f'.index c cell p)
 
 cell_apart : (new : List ℕ) (m cell n : ℕ) → m ≡ cell → is_in new cell ≡ true → is_in new n ≡ false → (m == n) ≡ false
 cell_apart new m cell n e h g = eqb-other m n (λ x. no (sym g ∙ ap (λ k. is_in new k) (sym (sym e ∙ x)) ∙ h))

@@ -34,3 +34,10 @@ pub record Placed (calls : List Call) (x : Index) (c : Content) (cell : ℕ) : T
 
 abbrev pub settled : Content → ℕ → List Call → List Call
 settled c cell calls = if clears_now c then calls ++ cleared cell ∷ [] else calls
+
+-- what had a place has one but for what the message clears, and so has its output, where it has a display id
+pub record Settled (calls : List Call) (x : Index) (c : Content) (cell : ℕ) : Type 0 where
+  pub calls' : List Call
+  pub told : index.StandsFor x (settled c cell calls')
+  pub more : (id : List ℕ) (n : ℕ) → has_place calls id n ≡ true → has_place calls' id n ≡ true
+  pub here : appends c ≡ true → (id : List ℕ) → has_id id c ≡ true → has_place calls' id cell ≡ true

@@ -1,7 +1,9 @@
 -- Cells in increasing order.
-use Rattle.std.specs.Prelude.{◌≡◌, ℕ, ◌==◌, ◌+◌, Bool, true, false, List, [], ◌∷◌, ◌&&◌, nat_lt, if◌then◌else◌}
-use Rattle.std.specs.List.{list_any, list_all}
+use Rattle.std.specs.Prelude.{◌≡◌, ℕ, ◌==◌, ◌+◌, Bool, true, false, List, [], ◌∷◌, ◌&&◌, nat_lt, Option, Some, None, if◌then◌else◌}
+use Rattle.std.specs.List.{list_any, list_all, remove}
 use Rattle.display_index.specs.declared.place.Place.{Place}
+use Rattle.out_fold.specs.declared.before.Before.{Before}
+use Rattle.out_fold.specs.declared.before.Before.TheVariants as before
 
 -- the cell is one of these
 abbrev pub is_in : List ℕ → ℕ → Bool
@@ -23,3 +25,14 @@ pub record Covers (old new : List ℕ) (cell : ℕ) (ps : List Place) : Type 0 w
 abbrev pub lead : List ℕ → ℕ → ℕ
 lead [] cell = 0
 lead (n ∷ ns) cell = if nat_lt n cell then lead ns cell + 1 else 0
+
+-- without the one at this index
+abbrev pub without : Option ℕ → List ℕ → List ℕ
+without None cells = cells
+without (Some at) cells = remove cells at
+
+-- the cells as they were before
+abbrev pub restored : Before → List ℕ → List ℕ
+restored before.Same cells = cells
+restored (before.Without at) cells = without (Some at) cells
+restored (before.Cells old) cells = old

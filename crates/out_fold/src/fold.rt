@@ -4,8 +4,8 @@ ghost use Rattle.out_fold.specs.Plans.{increases};
 
 use crate::folds::Folds;
 use crate::parts::name_of;
-use crate::places::{place, settle};
-use crate::plans::{cells_with, put_touched};
+use crate::plans::{restore, touch};
+use crate::taking::{take_placed, touch_named};
 use display_index::Index;
 use jcontent::Content;
 use jtext::{Fields, Items, NoMemory, NumText, Text};
@@ -76,13 +76,14 @@ impl Fold {
     {
         let cell = self.held.current();
         let name = name_of(c);
-        let touched = self.touch(cell, name)?;
-        let at = self.held.outputs_held();
-        place(&mut self.index, cell, at, c, name)?;
-        self.held.take(c, date)?;
-        settle(&mut self.index, cell, c);
-        put_touched(&mut self.touched, touched);
-        Ok(())
+        let before = touch_named(self.alloc, &mut self.touched, &self.index, cell, name)?;
+        match take_placed(&mut self.held, &mut self.index, cell, c, date) {
+            Ok(()) => Ok(()),
+            Err(refused) => {
+                restore(&mut self.touched, before);
+                Err(refused)
+            }
+        }
     }
 
     /// Takes the date of the reply to the current cell's request. Without memory nothing changes.
@@ -97,10 +98,14 @@ impl Fold {
         ensures untouched { OnErr result (touched_of self.new ≡ touched_of self.old) }
     {
         let cell = self.held.current();
-        let touched = self.touch(cell, None)?;
-        self.held.reply(date)?;
-        put_touched(&mut self.touched, touched);
-        Ok(())
+        let before = touch(self.alloc, &mut self.touched, cell, &[])?;
+        match self.held.reply(date) {
+            Ok(()) => Ok(()),
+            Err(refused) => {
+                restore(&mut self.touched, before);
+                Err(refused)
+            }
+        }
     }
 
     /// The outputs of a cell as nbformat writes them; none where it was not begun.
@@ -145,21 +150,5 @@ impl Fold {
         ensures rested { (us : Plain Used) → Rested self.new us us }
     {
         self.touched = Plan::new(self.alloc);
-    }
-
-    fn touch(&self, cell: u32, name: Option<&Text>) -> Result<Option<Plan>, NoMemory>
-        ensures sorted { IfOk result (λ r. increases (unwrap_or r self.now.touched) ≡ true) }
-        ensures covers { (calls : Plain Call) → ids.StandsFor self.now.index calls
-            → IfOk result (λ r. Covers self.now.touched (unwrap_or r self.now.touched) cell (named_places calls (option_copied name.entry))) }
-    {
-        match name {
-            Some(id) => cells_with(
-                self.alloc,
-                &self.touched,
-                cell,
-                self.index.places(id).as_slice(),
-            ),
-            None => cells_with(self.alloc, &self.touched, cell, &[]),
-        }
     }
 }

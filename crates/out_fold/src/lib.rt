@@ -2,6 +2,7 @@
 //! (Jupyter messaging 5.3, nbformat 4.5). Values only; it does no IO.
 #![tactic(auto)]
 
+mod before;
 mod bundle;
 mod copies;
 mod fold;
@@ -19,6 +20,7 @@ mod plans;
 mod random_tests;
 mod render;
 mod standing;
+mod taking;
 #[cfg(test)]
 mod tests;
 mod tree;

@@ -1,36 +1,86 @@
 //! The cells that may have changed, in increasing order.
-ghost use Rattle.std.specs.Prelude.{◌≡◌, ◌==◌, ◌||◌, ◌&&◌, ◌≤◌, ℕ, true, length, insert, unwrap_or, IfOk, OnOk, OnErr};
+ghost use Rattle.std.specs.Prelude.{◌≡◌, ◌==◌, ◌||◌, ◌≤◌, ℕ, true, false, length, Some, IfOk, IfErr, OnOk, OnErr};
 ghost use Rattle.std.specs.List.{list_all, list_any};
-ghost use Rattle.out_fold.specs.Plans.{is_in, increases, lead, Covers};
+ghost use Rattle.out_fold.specs.Plans.{is_in, increases, lead, without, restored, Covers};
 
+use crate::before::Before;
 use display_index::Place;
 use jtext::NoMemory;
 use nb_model::Plan;
 use std::alloc::Global;
+use std::mem;
 
-/// The plan with the cell and those of the places besides; `None` where it has them all.
-pub(crate) fn cells_with(
+/// Puts the cell and those of the places among the cells, and says how the cells were. Where they have those of the
+/// places, as they mostly do, nothing is copied. Without memory nothing changes.
+pub(crate) fn touch(
     alloc: Global,
-    plan: &Plan,
+    plan: &mut Plan,
     cell: u32,
     places: &[Place],
-) -> Result<Option<Plan>, NoMemory>
-    requires { increases plan.now ≡ true }
-    ensures { IfOk result (λ r. Covers plan.now (unwrap_or r plan.now) cell places.now) }
+) -> Result<Before, NoMemory>
+    requires { increases plan.old ≡ true }
+    ensures sorted { increases plan.new ≡ true }
+    ensures covers { OnOk result (Covers plan.old plan.new cell places.now) }
+    ensures before { IfOk result (λ b. restored b plan.new ≡ plan.old) }
+    ensures err { OnErr result (plan.new ≡ plan.old) }
 {
-    if has_all(plan.as_slice(), cell, places) {
-        return Ok(None);
+    if has_cells(plan.as_slice(), places) {
+        touch_one(plan, cell)
+    } else {
+        touch_all(alloc, plan, cell, places)
     }
-    Ok(Some(union(alloc, plan, cell, places)?))
 }
 
-fn has_all(plan: &[u32], cell: u32, places: &[Place]) -> bool
-    ensures { result ≡ (is_in plan.now cell && list_all (λ p. is_in plan.now p.cell) places.now) }
+/// Makes the cells what they were.
+pub(crate) fn restore(plan: &mut Plan, before: Before)
+    ensures { plan.new ≡ restored before plan.old }
 {
-    has(plan, cell) && has_cells(plan, places)
+    match before {
+        Before::Same => {}
+        Before::Without(at) => take_out(plan, at),
+        Before::Cells(cells) => *plan = cells,
+    }
+}
+
+fn take_out(plan: &mut Plan, at: usize)
+    ensures { plan.new ≡ without (Some at) plan.old }
+{
+    if at < plan.len() {
+        plan.take(at);
+    }
+}
+
+fn touch_one(plan: &mut Plan, cell: u32) -> Result<Before, NoMemory>
+    requires { increases plan.old ≡ true }
+    ensures sorted { increases plan.new ≡ true }
+    ensures members { OnOk result ((n : ℕ) → is_in plan.new n ≡ (cell == n || is_in plan.old n)) }
+    ensures before { IfOk result (λ b. restored b plan.new ≡ plan.old) }
+    ensures err { OnErr result (plan.new ≡ plan.old) }
+{
+    match put_cell(plan, cell)? {
+        Some(at) => Ok(Before::Without(at)),
+        None => Ok(Before::Same),
+    }
+}
+
+fn touch_all(
+    alloc: Global,
+    plan: &mut Plan,
+    cell: u32,
+    places: &[Place],
+) -> Result<Before, NoMemory>
+    requires { increases plan.old ≡ true }
+    ensures sorted { increases plan.new ≡ true }
+    ensures covers { OnOk result (Covers plan.old plan.new cell places.now) }
+    ensures before { IfOk result (λ b. restored b plan.new ≡ plan.old) }
+    ensures err { OnErr result (plan.new ≡ plan.old) }
+{
+    let cells = union(alloc, plan.as_slice(), cell, places)?;
+    Ok(Before::Cells(mem::replace(plan, cells)))
 }
 
 fn has_cells(plan: &[u32], places: &[Place]) -> bool
+    requires { increases plan.now ≡ true }
     ensures { result ≡ list_all (λ p. is_in plan.now p.cell) places.now }
 {
     for p in places {
@@ -42,34 +92,90 @@ fn has_cells(plan: &[u32], places: &[Place]) -> bool
 }
 
 fn has(plan: &[u32], cell: u32) -> bool
+    requires { increases plan.now ≡ true }
     ensures { result ≡ is_in plan.now cell }
 {
-    plan.iter().any(|n| *n == cell)
+    match place_in(plan, cell) {
+        Ok(_) => true,
+        Err(_) => false,
+    }
 }
 
-fn union(alloc: Global, plan: &Plan, cell: u32, places: &[Place]) -> Result<Plan, NoMemory>
+/// Where the cell is, or how many come before it where it isn't there.
+fn place_in(plan: &[u32], cell: u32) -> Result<usize, usize>
     requires { increases plan.now ≡ true }
+    ensures found { IfOk result (λ i. is_in plan.now cell ≡ true) }
+    ensures absent { IfErr result (λ i. is_in plan.now cell ≡ false) }
+    ensures lead { IfErr result (λ i. i ≡ lead plan.now cell) }
+    ensures within { IfErr result (λ i. i ≤ length plan.now) }
+{
+    plan.binary_search(&cell)
+}
+
+/// The cells of the plan, the cell and those of the places. Places whose cells increase are merged.
+fn union(alloc: Global, plan: &[u32], cell: u32, places: &[Place]) -> Result<Plan, NoMemory>
     ensures sorted { IfOk result (λ r. increases r ≡ true) }
     ensures members { IfOk result (λ r. (n : ℕ) → is_in r n ≡ ((cell == n || is_in plan.now n) || list_any (λ p. p.cell == n) places.now)) }
 {
-    let mut cells = Plan::of_vec(Vec::from_slice(alloc, plan.as_slice())?);
-    put_cell(&mut cells, cell)?;
+    let mut cells = Plan::new(alloc);
+    let mut rest = plan;
     for place in places {
+        rest = put_below(&mut cells, rest, place.cell)?;
         put_cell(&mut cells, place.cell)?;
     }
+    put_all(&mut cells, rest)?;
+    put_cell(&mut cells, cell)?;
     Ok(cells)
 }
 
-/// Puts the cell in its place, where it isn't there yet.
-fn put_cell(plan: &mut Plan, cell: u32) -> Result<(), NoMemory>
-    ensures sorted { OnOk result (increases plan.old ≡ true → increases plan.new ≡ true) }
-    ensures members { OnOk result ((n : ℕ) → is_in plan.new n ≡ (cell == n || is_in plan.old n)) }
+/// Puts those that come before this cell, and gives back the others.
+fn put_below<'a>(cells: &mut Plan, rest: &'a [u32], cell: u32) -> Result<&'a [u32], NoMemory>
+    requires { increases cells.old ≡ true }
+    ensures sorted { increases cells.new ≡ true }
+    ensures members { IfOk result (λ r. (n : ℕ) → (is_in cells.new n || is_in r.now n) ≡ (is_in cells.old n || is_in rest.now n)) }
 {
-    if has(plan.as_slice(), cell) {
-        return Ok(());
+    let (below, others) = rest.split_at(cells_below(rest, cell));
+    put_all(cells, below)?;
+    Ok(others)
+}
+
+fn put_all(cells: &mut Plan, others: &[u32]) -> Result<(), NoMemory>
+    requires { increases cells.old ≡ true }
+    ensures sorted { increases cells.new ≡ true }
+    ensures members { OnOk result ((n : ℕ) → is_in cells.new n ≡ (is_in cells.old n || is_in others.now n)) }
+{
+    for n in others {
+        put_cell(cells, *n)?;
     }
-    let at = cells_below(plan.as_slice(), cell);
-    plan.insert(at, cell)
+    Ok(())
+}
+
+/// Puts the cell in its place, where it isn't there yet, and says where that is.
+fn put_cell(plan: &mut Plan, cell: u32) -> Result<Option<usize>, NoMemory>
+    requires { increases plan.old ≡ true }
+    ensures sorted { increases plan.new ≡ true }
+    ensures members { OnOk result ((n : ℕ) → is_in plan.new n ≡ (cell == n || is_in plan.old n)) }
+    ensures before { IfOk result (λ at. without at plan.new ≡ plan.old) }
+    ensures err { OnErr result (plan.new ≡ plan.old) }
+{
+    match place_in(plan.as_slice(), cell) {
+        Ok(_) => Ok(None),
+        Err(at) => put_at(plan, at, cell),
+    }
+}
+
+fn put_at(plan: &mut Plan, at: usize, cell: u32) -> Result<Option<usize>, NoMemory>
+    requires sorted { increases plan.old ≡ true }
+    requires absent { is_in plan.old cell ≡ false }
+    requires lead { at ≡ lead plan.old cell }
+    requires within { at ≤ length plan.old }
+    ensures sorted { increases plan.new ≡ true }
+    ensures members { OnOk result ((n : ℕ) → is_in plan.new n ≡ (cell == n || is_in plan.old n)) }
+    ensures before { IfOk result (λ at. without at plan.new ≡ plan.old) }
+    ensures err { OnErr result (plan.new ≡ plan.old) }
+{
+    plan.insert(at, cell)?;
+    Ok(Some(at))
 }
 
 /// How many of the cells come before this one.
@@ -83,13 +189,4 @@ fn cells_below(plan: &[u32], cell: u32) -> usize
         }
     }
     plan.len()
-}
-
-/// Puts the new cells in place of the old ones, where there are new ones.
-pub(crate) fn put_touched(plan: &mut Plan, cells: Option<Plan>)
-    ensures { plan.new ≡ unwrap_or cells plan.old }
-{
-    if let Some(cells) = cells {
-        *plan = cells;
-    }
 }
