@@ -1,28 +1,92 @@
 //! Folding streams and updates of one display.
-ghost use Rattle.std.specs.Prelude.{◌≡◌, ◌<◌, ◌≤◌, IfOk};
+ghost use Rattle.std.specs.Prelude.{◌≡◌, ◌+◌, ◌<◌, ◌≤◌, IfOk, OnOk};
 ghost use Rattle.out_fold.specs.Stands.{cells_of, next_of};
 
-use anyhow::{Result, bail};
+use anyhow::{Error, Result, anyhow, bail};
 use jcontent::{Content, Shown};
 use jtext::{Fields, Json, NoMemory, Text};
 use out_fold::Fold;
 use std::alloc::Global;
 use std::time::Instant;
 
+// What the cells take.
+#[derive(Drop)]
+struct Messages {
+    show: Content,
+    stream: Content,
+    update: Content,
+}
+
 /// Folds `count` streams and as many updates of one display, which each of `cells` cells shows and has its share of,
 /// and makes the outputs of all cells.
 pub fn measure(rt: &HostRuntime, count: u32, cells: u32) -> Result<()> {
     if cells == 0 {
-        bail!("there is at least one cell");
+        return no_cell();
     }
+    let messages = all_messages(rt)?;
+    measure_both(rt, &messages, cells, count / cells)
+}
+
+/// Times `count` streams of one cell, where the cell before it has that many outputs of one display.
+pub fn measure_takes(rt: &HostRuntime, outputs: u32, count: u32) -> Result<()> {
+    let messages = all_messages(rt)?;
+    measure_streams(rt, &messages, outputs, count)
+}
+
+/// Times `count` updates of one display that each of `cells` cells shows.
+pub fn measure_updates(rt: &HostRuntime, cells: u32, count: u32) -> Result<()> {
+    if cells == 0 {
+        return no_cell();
+    }
+    let messages = all_messages(rt)?;
+    measure_shown(rt, &messages, cells, count)
+}
+
+fn no_cell() -> Result<()> {
+    bail!("there is at least one cell")
+}
+
+fn no_memory() -> Error {
+    anyhow!("no memory")
+}
+
+fn measure_both(rt: &HostRuntime, messages: &Messages, cells: u32, each: u32) -> Result<()> {
+    let fold = time_fold(rt, messages, cells, each)?;
+    time_outputs(rt, &fold, cells)
+}
+
+fn measure_streams(rt: &HostRuntime, messages: &Messages, outputs: u32, count: u32) -> Result<()> {
+    match begun(rt.alloc(), messages, outputs) {
+        Ok(mut fold) => time_takes(rt, &mut fold, &messages.stream, count),
+        Err(_) => Err(no_memory()),
+    }
+}
+
+fn measure_shown(rt: &HostRuntime, messages: &Messages, cells: u32, count: u32) -> Result<()>
+    requires { 0 < cells }
+{
+    match folded(rt.alloc(), messages, cells, 0) {
+        Ok(mut fold) => time_takes(rt, &mut fold, &messages.update, count),
+        Err(_) => Err(no_memory()),
+    }
+}
+
+fn time_fold(rt: &HostRuntime, messages: &Messages, cells: u32, each: u32) -> Result<Fold>
+    ensures { IfOk result (λ f. cells_of f ≡ cells) }
+{
     let start = Instant::now(rt)?;
-    let Ok(fold) = folded(rt.alloc(), cells, count / cells) else {
+    let Ok(fold) = folded(rt.alloc(), messages, cells, each) else {
         bail!("no memory");
     };
-    let took = start.elapsed(rt)?.as_micros();
-    println!(rt; "fold {took}")?;
+    print_since(rt, "fold", start)?;
+    Ok(fold)
+}
+
+fn time_outputs(rt: &HostRuntime, fold: &Fold, cells: u32) -> Result<()>
+    requires { cells ≤ cells_of fold.now }
+{
     let start = Instant::now(rt)?;
-    let Ok(outputs) = outputs(&fold, cells) else {
+    let Ok(outputs) = outputs(fold, cells) else {
         bail!("no memory");
     };
     let took = start.elapsed(rt)?.as_micros();
@@ -30,69 +94,105 @@ pub fn measure(rt: &HostRuntime, count: u32, cells: u32) -> Result<()> {
     Ok(())
 }
 
-/// Times `count` streams of one cell, where the cell before it has that many outputs of one display.
-pub fn measure_takes(rt: &HostRuntime, outputs: u32, count: u32) -> Result<()> {
-    let Ok(fold) = begun(rt.alloc(), outputs) else {
-        bail!("no memory");
-    };
-    let Ok(stream) = stream(rt.alloc()) else {
-        bail!("no memory");
-    };
-    time_takes(rt, fold, &stream, count / 2)
-}
-
-// Takes the message twice so many times, and prints the time.
-fn time_takes(rt: &HostRuntime, mut fold: Fold, stream: &Content, count: u32) -> Result<()>
-    requires { 0 < next_of fold }
+// Takes the message so many times, and prints the time.
+fn time_takes(rt: &HostRuntime, fold: &mut Fold, message: &Content, count: u32) -> Result<()>
+    requires { 0 < next_of fold.old }
 {
     let start = Instant::now(rt)?;
-    if take_all(&mut fold, stream, stream, count).is_err() {
+    if take_all(fold, message, count).is_err() {
         bail!("no memory");
     }
+    print_since(rt, "take", start)
+}
+
+fn print_since(rt: &HostRuntime, name: &str, start: Instant) -> Result<()> {
     let took = start.elapsed(rt)?.as_micros();
-    println!(rt; "take {took}")?;
+    println!(rt; "{name} {took}")?;
     Ok(())
 }
 
 // Each cell shows the display, and takes `each` streams and updates.
-fn folded(alloc: Global, cells: u32, each: u32) -> Result<Fold, NoMemory>
-    ensures { IfOk result (λ f. cells_of f ≡ cells) }
+fn folded(alloc: Global, messages: &Messages, cells: u32, each: u32) -> Result<Fold, NoMemory>
+    ensures cells { IfOk result (λ f. cells_of f ≡ cells) }
+    ensures next { IfOk result (λ f. next_of f ≡ cells) }
 {
-    let mut fold = Fold::new(alloc, cells, false)?;
-    let stream = stream(alloc)?;
-    let show = Content::Display(shown(alloc)?);
-    let update = Content::Update(shown(alloc)?);
+    let mut fold = empty(alloc, cells)?;
     for cell in 0..cells {
-        fold.start(cell);
-        fold.take(&show, None)?;
-        take_all(&mut fold, &stream, &update, each)?;
+        fill(&mut fold, messages, cell, each)?;
     }
     Ok(fold)
 }
 
 // A fold of two cells, whose first has so many outputs and whose second begins.
-fn begun(alloc: Global, outputs: u32) -> Result<Fold, NoMemory>
+fn begun(alloc: Global, messages: &Messages, outputs: u32) -> Result<Fold, NoMemory>
     ensures { IfOk result (λ f. next_of f ≡ 2) }
 {
-    let mut fold = Fold::new(alloc, 2, false)?;
-    let show = Content::Display(shown(alloc)?);
-    fold.start(0);
-    take_all(&mut fold, &show, &show, outputs / 2)?;
-    fold.start(1);
+    let mut fold = empty(alloc, 2)?;
+    begin(&mut fold, 0);
+    take_all(&mut fold, &messages.show, outputs)?;
+    begin(&mut fold, 1);
     Ok(fold)
 }
 
-// Takes both so many times.
-fn take_all(fold: &mut Fold, first: &Content, second: &Content, count: u32) -> Result<(), NoMemory>
+fn empty(alloc: Global, cells: u32) -> Result<Fold, NoMemory>
+    ensures cells { IfOk result (λ f. cells_of f ≡ cells) }
+    ensures next { IfOk result (λ f. next_of f ≡ 0) }
+{
+    Fold::new(alloc, cells, false)
+}
+
+fn begin(fold: &mut Fold, cell: u32)
+    requires below { cell < cells_of fold.old }
+    requires above { next_of fold.old ≤ cell }
+    ensures next { next_of fold.new ≡ cell + 1 }
+    ensures cells { cells_of fold.new ≡ cells_of fold.old }
+{
+    fold.start(cell);
+}
+
+// The cell shows the display, and takes `each` streams and updates.
+fn fill(fold: &mut Fold, messages: &Messages, cell: u32, each: u32) -> Result<(), NoMemory>
+    requires below { cell < cells_of fold.old }
+    requires above { next_of fold.old ≤ cell }
+    ensures next { next_of fold.new ≡ cell + 1 }
+    ensures cells { cells_of fold.new ≡ cells_of fold.old }
+{
+    begin(fold, cell);
+    take(fold, &messages.show)?;
+    take_both(fold, messages, each)
+}
+
+// Takes the stream and the update so many times.
+fn take_both(fold: &mut Fold, messages: &Messages, count: u32) -> Result<(), NoMemory>
     requires { 0 < next_of fold.old }
     ensures next { next_of fold.new ≡ next_of fold.old }
     ensures cells { cells_of fold.new ≡ cells_of fold.old }
 {
     for taken in 0..count {
-        fold.take(first, None)?;
-        fold.take(second, None)?;
+        take(fold, &messages.stream)?;
+        take(fold, &messages.update)?;
     }
     Ok(())
+}
+
+// Takes the message so many times.
+fn take_all(fold: &mut Fold, message: &Content, count: u32) -> Result<(), NoMemory>
+    requires { 0 < next_of fold.old }
+    ensures next { next_of fold.new ≡ next_of fold.old }
+    ensures cells { cells_of fold.new ≡ cells_of fold.old }
+{
+    for taken in 0..count {
+        take(fold, message)?;
+    }
+    Ok(())
+}
+
+fn take(fold: &mut Fold, message: &Content) -> Result<(), NoMemory>
+    requires { 0 < next_of fold.old }
+    ensures next { next_of fold.new ≡ next_of fold.old }
+    ensures cells { cells_of fold.new ≡ cells_of fold.old }
+{
+    fold.take(message, None)
 }
 
 // How many outputs all cells have.
@@ -101,9 +201,34 @@ fn outputs(fold: &Fold, cells: u32) -> Result<usize, NoMemory>
 {
     let mut count = 0usize;
     for cell in 0..cells {
-        count = count.saturating_add(fold.outputs(cell)?.len());
+        count = count.saturating_add(outputs_in(fold, cell)?);
     }
     Ok(count)
+}
+
+fn outputs_in(fold: &Fold, cell: u32) -> Result<usize, NoMemory>
+    requires { cell < cells_of fold.now }
+{
+    let outputs = fold.outputs(cell)?;
+    Ok(outputs.len())
+}
+
+fn all_messages(rt: &HostRuntime) -> Result<Messages> {
+    match make_messages(rt.alloc()) {
+        Ok(messages) => Ok(messages),
+        Err(_) => bail!("no memory"),
+    }
+}
+
+fn make_messages(alloc: Global) -> Result<Messages, NoMemory> {
+    let show = Content::Display(shown(alloc)?);
+    let stream = stream(alloc)?;
+    let update = Content::Update(shown(alloc)?);
+    Ok(Messages {
+        show,
+        stream,
+        update,
+    })
 }
 
 fn stream(alloc: Global) -> Result<Content, NoMemory> {
@@ -113,12 +238,17 @@ fn stream(alloc: Global) -> Result<Content, NoMemory> {
 }
 
 fn shown(alloc: Global) -> Result<Shown, NoMemory> {
-    let value = Json::Str(Text::of(alloc, "Progress: 50 %")?);
-    let pair = (Text::of(alloc, "text/plain")?, value);
-    let bundle = Fields::of_vec(vec![in alloc; pair]?);
+    let bundle = bundle(alloc)?;
+    let id = Text::of(alloc, "bar")?;
     Ok(Shown {
         bundle,
         metadata: Json::Obj(Fields::new(alloc)),
-        id: Some(Text::of(alloc, "bar")?),
+        id: Some(id),
     })
+}
+
+fn bundle(alloc: Global) -> Result<Fields, NoMemory> {
+    let kind = Text::of(alloc, "text/plain")?;
+    let text = Text::of(alloc, "Progress: 50 %")?;
+    Ok(Fields::of_vec(vec![in alloc; (kind, Json::Str(text))]?))
 }

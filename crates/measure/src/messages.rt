@@ -17,49 +17,98 @@ const PARENT: &[u8] = b"{\"msg_id\":\"1_1\",\"msg_type\":\"execute_request\"}";
 /// Decodes one stream message `count` times, whose text has `size` octets: under the key, then under
 /// a signer that was made of it once; then signs its frames as often.
 pub fn measure(rt: &HostRuntime, count: u32, size: u32) -> Result<()> {
-    let Ok(parts) = message(rt.alloc(), size) else {
-        bail!("no memory");
-    };
-    let mut good = 0u32;
-    let start = Instant::now(rt)?;
-    for _ in 0..count {
-        if let Ok(Decoded::Good(_)) = decode(rt.alloc(), KEY, &parts) {
-            good = good.saturating_add(1);
-        }
+    match message(rt.alloc(), size) {
+        Ok(parts) => measure_parts(rt, count, &parts),
+        Err(_) => bail!("no memory"),
     }
-    let decoded = start.elapsed(rt)?.as_millis();
-    println!(rt; "decode {decoded}")?;
+}
+
+fn measure_parts(rt: &HostRuntime, count: u32, parts: &Parts) -> Result<()> {
+    let plain = time_decode(rt, count, parts)?;
+    let under = time_decode_under(rt, count, parts)?;
+    let good = plain.saturating_add(under);
+    println!(rt; "good {good}")?;
+    time_signatures(rt, count, parts)
+}
+
+// How often the parts were decoded.
+fn time_decode(rt: &HostRuntime, count: u32, parts: &Parts) -> Result<u32> {
+    let start = Instant::now(rt)?;
+    let good = decode_all(rt.alloc(), count, parts);
+    print_since(rt, "decode", start)?;
+    Ok(good)
+}
+
+fn time_decode_under(rt: &HostRuntime, count: u32, parts: &Parts) -> Result<u32> {
     let signer = Signer::new(KEY);
     let start = Instant::now(rt)?;
-    for _ in 0..count {
-        if let Ok(Decoded::Good(_)) = decode_under(rt.alloc(), &signer, &parts) {
-            good = good.saturating_add(1);
-        }
-    }
-    let decoded = start.elapsed(rt)?.as_millis();
-    println!(rt; "decode_under {decoded}")?;
-    println!(rt; "good {good}")?;
-    signatures(rt, count, &parts)
+    let good = decode_all_under(rt.alloc(), count, &signer, parts);
+    print_since(rt, "decode_under", start)?;
+    Ok(good)
 }
 
 // The part of decoding that is the signature.
-fn signatures(rt: &HostRuntime, count: u32, parts: &Parts) -> Result<()> {
-    let [_, expected, header, parent, metadata, content] = parts.as_slice() else {
-        bail!("no memory");
-    };
-    let (header, parent) = (header.bytes(), parent.bytes());
-    let (metadata, content) = (metadata.bytes(), content.bytes());
-    let mut right = 0u32;
+fn time_signatures(rt: &HostRuntime, count: u32, parts: &Parts) -> Result<()> {
     let start = Instant::now(rt)?;
+    let right = check_all(count, parts.as_slice());
+    print_since(rt, "check", start)?;
+    println!(rt; "right {right}")?;
+    Ok(())
+}
+
+fn print_since(rt: &HostRuntime, name: &str, start: Instant) -> Result<()> {
+    let took = start.elapsed(rt)?.as_millis();
+    println!(rt; "{name} {took}")?;
+    Ok(())
+}
+
+fn decode_all(alloc: Global, count: u32, parts: &Parts) -> u32 {
+    let mut good = 0u32;
     for _ in 0..count {
-        if check(KEY, header, parent, metadata, content, expected.bytes()) {
+        if is_good(decode(alloc, KEY, parts)) {
+            good = good.saturating_add(1);
+        }
+    }
+    good
+}
+
+fn decode_all_under(alloc: Global, count: u32, signer: &Signer, parts: &Parts) -> u32 {
+    let mut good = 0u32;
+    for _ in 0..count {
+        if is_good(decode_under(alloc, signer, parts)) {
+            good = good.saturating_add(1);
+        }
+    }
+    good
+}
+
+fn is_good(decoded: Result<Decoded, NoMemory>) -> bool {
+    matches!(&decoded, Ok(Decoded::Good(_)))
+}
+
+// How often the signature held.
+fn check_all(count: u32, parts: &[Bytes]) -> u32 {
+    let mut right = 0u32;
+    for _ in 0..count {
+        if is_signed(parts) {
             right = right.saturating_add(1);
         }
     }
-    let checked = start.elapsed(rt)?.as_millis();
-    println!(rt; "check {checked}")?;
-    println!(rt; "right {right}")?;
-    Ok(())
+    right
+}
+
+fn is_signed(parts: &[Bytes]) -> bool {
+    let [_, expected, header, parent, metadata, content] = parts else {
+        return false;
+    };
+    check(
+        KEY,
+        header.bytes(),
+        parent.bytes(),
+        metadata.bytes(),
+        content.bytes(),
+        expected.bytes(),
+    )
 }
 
 fn message(alloc: Global, size: u32) -> Result<Parts, NoMemory> {
