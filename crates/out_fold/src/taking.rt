@@ -46,7 +46,8 @@ fn places_of<'a>(index: &'a Index, name: Option<&Text>) -> &'a [Place]
     }
 }
 
-/// Takes the message among what is held and in the index. Without memory neither says anything else.
+/// Takes the message among what is held and in the index. Without memory what is held is as it was, and
+/// what had a place in the index still has one.
 pub(crate) fn take_placed(
     held: &mut Folds,
     index: &mut Index,
