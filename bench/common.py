@@ -22,6 +22,21 @@ def program():
     return str(PROGRAM)
 
 
+def make(file, text):
+    """Writes what `text()` gives to the file, in a process of its own: what this process has held in memory is
+    counted into the peak of each command that it starts."""
+    pid = os.fork()
+    if pid == 0:
+        status = 1
+        try:
+            Path(file).write_text(text())
+            status = 0
+        finally:
+            os._exit(status)
+    if os.waitpid(pid, 0)[1] != 0:
+        sys.exit(f"{file} was not made")
+
+
 def run(command):
     """The lines that the command prints as name and numbers, and its peak memory in bytes."""
     read_end, write_end = os.pipe()

@@ -79,7 +79,7 @@ def least(command, times=3):
 
 def beside(folder, name, tree, program):
     path = Path(folder) / f"{name}.ipynb"
-    path.write_text(json.dumps(tree, indent=1))
+    common.make(path, lambda: json.dumps(tree(), indent=1))
     size = path.stat().st_size
     out = str(path.with_suffix(".out"))
     ours, our_peak = least([str(NBRUN), str(path), out, "--prepare-only"])
@@ -90,7 +90,7 @@ def beside(folder, name, tree, program):
 
 def many(folder, count):
     path = Path(folder) / f"{count}.ipynb"
-    path.write_text(json.dumps(notebook([code(i, []) for i in range(count)])))
+    common.make(path, lambda: json.dumps(notebook([code(i, []) for i in range(count)])))
     ms, _ = least([str(NBRUN), str(path), str(path.with_suffix(".out")), "--prepare-only"])
     print(f"{count} cells: {ms:.0f} ms")
 
@@ -100,8 +100,8 @@ def main():
     print(f"beside nbformat's read and write, by {program}" if whole else "no nbformat here: beside json alone")
     subprocess.run([str(NBRUN), "--version"], check=True)
     with tempfile.TemporaryDirectory() as folder:
-        beside(folder, "10,000 cells", notebook([code(i, [stream(82)]) for i in range(10000)]), program)
-        beside(folder, "100 cells with pictures", notebook([code(i, [picture(250_000)]) for i in range(100)]), program)
+        beside(folder, "10,000 cells", lambda: notebook([code(i, [stream(82)]) for i in range(10000)]), program)
+        beside(folder, "100 cells with pictures", lambda: notebook([code(i, [picture(250_000)]) for i in range(100)]), program)
         many(folder, 50000)
         many(folder, 100000)
 

@@ -56,8 +56,7 @@ def main():
     with tempfile.TemporaryDirectory() as folder:
         for name, make in (("pictures", pictures), ("dense", dense), ("keys", keys)):
             file = os.path.join(folder, name + ".json")
-            with open(file, "w") as opened:
-                opened.write(make())
+            common.make(file, make)
             size = os.path.getsize(file)
             ours, peak = common.least([program, "json", file])
             theirs, their_peak = common.least([sys.executable, __file__, file])
