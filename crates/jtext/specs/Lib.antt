@@ -9,6 +9,7 @@ pub mod Reading
 pub mod Gives
 pub mod Find
 pub mod Look
+pub mod Bundle
 pub mod Sound
 pub mod Keyed
 pub mod Loose

@@ -1,7 +1,8 @@
 //! JSON trees and the lists and texts that they are made of (RFC 8259).
-//! Reads bytes to a tree, and writes a tree as compact or as indented text. It does no IO.
+//! Reads bytes to a tree, looks into it, and writes a tree as compact or as indented text. It does no IO.
 #![tactic(auto)]
 
+mod bundle;
 mod compact;
 mod duplicate;
 mod escape;
@@ -11,6 +12,7 @@ mod json;
 mod key_set;
 pub mod laws;
 mod list;
+mod look;
 mod lookup;
 mod no_memory;
 mod number;
@@ -23,13 +25,15 @@ mod sorted;
 mod tests;
 mod text;
 
+pub use bundle::{is_bundle, is_json_type, is_multiline};
 pub use compact::write_compact;
 pub use duplicate::copy;
 pub use fault::JsonFault;
 pub use indent::{write_indented, write_indented_at};
 pub use json::{Fields, Items, Json, Texts};
 pub use list::{Bytes, List};
-pub use lookup::field;
+pub use look::is_whole_text;
+pub use lookup::{field, string_at};
 pub use no_memory::NoMemory;
 pub use number::{NumFault, NumText};
 pub use reader::read;

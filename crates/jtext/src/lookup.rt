@@ -1,8 +1,9 @@
 //! The value of a key.
 ghost use Rattle.std.specs.Prelude.{◌≡◌, option_map};
 ghost use Rattle.jtext.specs.Find as spec;
+ghost use Rattle.jtext.specs.Look as look;
 
-use crate::Json;
+use crate::{Json, Text};
 
 /// The value of the first pair with that key, and `None` where `t` is no object or lacks it.
 pub fn field<'a>(t: &'a Json, key: &str) -> Option<&'a Json>
@@ -17,4 +18,11 @@ pub fn field<'a>(t: &'a Json, key: &str) -> Option<&'a Json>
         }
     }
     None
+}
+
+/// The string under a key, and `None` where there is none.
+pub fn string_at<'a>(t: &'a Json, key: &str) -> Option<&'a Text>
+    ensures { option_map (λ r. r.now) result ≡ look.string_at t.now key.now }
+{
+    field(t, key)?.as_text()
 }

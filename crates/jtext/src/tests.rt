@@ -1,4 +1,5 @@
 mod lists;
+mod looking;
 mod notebooks;
 mod reading;
 mod writing;
