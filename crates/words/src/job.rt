@@ -3,9 +3,8 @@ ghost use Rattle.std.specs.Prelude.{◌≡◌, IfOk};
 ghost use Rattle.words.specs.JobsAsked as spec;
 
 use crate::Ask;
-use crate::look::{pairs, string_at};
 use crate::used_path::path_at;
-use jtext::{Fields, Json, NoMemory, Text, Texts, copy, field};
+use jtext::{Fields, Json, NoMemory, Text, Texts, copy, field, string_at};
 use std::alloc::Global;
 
 /// What is asked of the job: what all jobs have in common, but for what this one gives.
@@ -35,7 +34,7 @@ fn kernel(alloc: Global, common: &Ask, job: &Json) -> Result<Option<Text>, NoMem
     ensures { IfOk result (λ r. r ≡ spec.kernel_of common.now job.now) }
 {
     match string_at(job, "kernel") {
-        Some(name) => Ok(Some(Text::of(alloc, name)?)),
+        Some(name) => Ok(Some(copy_text(alloc, name)?)),
         None => match common.kernel.as_ref() {
             Some(name) => Ok(Some(copy_text(alloc, name)?)),
             None => Ok(None),
@@ -46,14 +45,14 @@ fn kernel(alloc: Global, common: &Ask, job: &Json) -> Result<Option<Text>, NoMem
 fn cwd(alloc: Global, common: &Ask, job: &Json) -> Result<Text, NoMemory>
     ensures { IfOk result (λ r. r ≡ spec.cwd_of common.now job.now) }
 {
-    Text::of(alloc, string_at(job, "cwd").unwrap_or(common.cwd.as_str()))
+    copy_text(alloc, string_at(job, "cwd").unwrap_or(&common.cwd))
 }
 
 fn params(alloc: Global, common: &Ask, job: &Json) -> Result<Fields, NoMemory>
     ensures { IfOk result (λ r. r ≡ spec.params_of common.now job.now) }
 {
     match field(job, "parameters") {
-        Some(parameters) => copy_pairs(alloc, pairs(parameters)),
+        Some(parameters) => copy_pairs(alloc, parameters.pairs()),
         None => copy_pairs(alloc, common.params.as_slice()),
     }
 }

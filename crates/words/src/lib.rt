@@ -13,7 +13,6 @@ mod form;
 mod job;
 mod kind;
 pub mod laws;
-mod look;
 mod member;
 mod number;
 mod parameters;

@@ -4,7 +4,6 @@ ghost use Rattle.std.specs.List.{list_all};
 ghost use Rattle.words.specs.Members as spec;
 ghost use Rattle.words.specs.Numbers.{is_name};
 
-use crate::look::{is_filled_string, is_object, is_string, pairs};
 use crate::number::is_name;
 use jtext::{Json, Text};
 
@@ -51,16 +50,23 @@ impl Member {
     {
         match self {
             Member::Input | Member::Output => is_filled_string(value),
-            Member::Kernel | Member::Cwd => is_string(value),
+            Member::Kernel | Member::Cwd => value.is_string(),
             Member::Parameters => are_parameters(value),
         }
     }
 }
 
+/// Whether it is a string that isn't empty.
+fn is_filled_string(value: &Json) -> bool
+    ensures { result ≡ spec.is_filled_string value.now }
+{
+    value.as_text().is_some_and(|text| 0 < text.bytes().len())
+}
+
 fn are_parameters(value: &Json) -> bool
     ensures { result ≡ spec.are_parameters value.now }
 {
-    is_object(value) && all_names(pairs(value))
+    value.is_object() && all_names(value.pairs())
 }
 
 fn all_names(pairs: &[(Text, Json)]) -> bool

@@ -6,7 +6,6 @@ ghost use Rattle.words.specs.JobsFaults as spec;
 ghost use Rattle.words.specs.JobsFile.{is_count, jobs_of};
 ghost use Rattle.words.specs.Members.{has_key, member_of};
 
-use crate::look::{is_list, is_object, items, pairs};
 use crate::member::Member;
 use crate::place::Place;
 use jtext::{Json, Text, field};
@@ -15,7 +14,7 @@ use jtext::{Json, Text, field};
 pub(crate) fn shape_fault(t: &Json) -> Option<Place>
     ensures { result ≡ spec.shape_fault t.now }
 {
-    if !(is_object(t) && has_only_jobs(pairs(t))) {
+    if !(t.is_object() && has_only_jobs(t.pairs())) {
         return Some(Place::Whole);
     }
     match field(t, "jobs") {
@@ -29,7 +28,7 @@ pub(crate) fn jobs_of(t: &Json) -> &[Json]
     ensures { result.now ≡ jobs_of t.now }
 {
     match field(t, "jobs") {
-        Some(list) => items(list),
+        Some(list) => list.items(),
         None => &[],
     }
 }
@@ -43,8 +42,8 @@ fn has_only_jobs(pairs: &[(Text, Json)]) -> bool
 fn list_fault(list: &Json) -> Option<Place>
     ensures { result ≡ spec.list_fault list.now }
 {
-    if is_list(list) && is_count(items(list).len()) {
-        first_job_fault(items(list))
+    if list.is_list() && is_count(list.items().len()) {
+        first_job_fault(list.items())
     } else {
         Some(Place::Jobs)
     }
@@ -70,8 +69,8 @@ fn first_job_fault(jobs: &[Json]) -> Option<Place>
 fn job_fault(i: usize, job: &Json) -> Option<Place>
     ensures { result ≡ spec.job_fault i job.now }
 {
-    if is_object(job) && has_job_keys(job) {
-        first_value_fault(i, pairs(job))
+    if job.is_object() && has_job_keys(job) {
+        first_value_fault(i, job.pairs())
     } else {
         Some(Place::Job(i))
     }
@@ -80,7 +79,7 @@ fn job_fault(i: usize, job: &Json) -> Option<Place>
 fn has_job_keys(job: &Json) -> bool
     ensures { result ≡ spec.has_job_keys job.now }
 {
-    has_key(job, "input") && has_key(job, "output") && all_members(pairs(job))
+    has_key(job, "input") && has_key(job, "output") && all_members(job.pairs())
 }
 
 fn has_key(t: &Json, key: &str) -> bool

@@ -6,10 +6,9 @@ ghost use Rattle.words.specs.JobsFile as spec;
 ghost use Rattle.words.specs.declared.member.Member.TheVariants as member;
 ghost use Rattle.words.specs.declared.place.Place.TheVariants as place;
 
-use crate::look::string_at;
 use crate::member::Member;
 use crate::place::Place;
-use jtext::{Json, List, NoMemory, Text};
+use jtext::{Json, List, NoMemory, Text, string_at};
 use std::alloc::Global;
 
 /// A path, with the value of the jobs file that gives it.
@@ -87,7 +86,10 @@ fn path_beside(alloc: Global, i: usize, job: &Json, ending: &str) -> Result<Used
 pub(crate) fn path_at<'a>(job: &'a Json, key: &str) -> &'a str
     ensures { result.now ≡ spec.path_at key.now job.now }
 {
-    string_at(job, key).unwrap_or("")
+    match string_at(job, key) {
+        Some(path) => path.as_str(),
+        None => "",
+    }
 }
 
 /// The first path that is equal to an earlier one, by the value that gives it.
