@@ -1,26 +1,9 @@
 -- Bundles (nbformat 4.5 schema, `mimebundle`): data by MIME type.
-use Rattle.std.specs.Prelude.{ℕ, ◌-◌, Bool, List, Option, Some, None, if◌then◌else◌, ◌||◌, ◌&&◌, nat_le, length, codes, drop, option_and_then}
-use Rattle.std.specs.List.{list_all}
-use Rattle.std.specs.Str.{bytes_eq}
+use Rattle.std.specs.Prelude.{ℕ, List, Option, Some, None, if◌then◌else◌, codes, option_and_then}
 use Rattle.jtext.specs.declared.json.Json.{Json}
 use Rattle.jtext.specs.Find.{field, fields}
-use Rattle.jtext.specs.Look.{is_object, is_string, is_strings}
-
--- a string, or a list of strings that are joined
-abbrev pub is_multiline : Json → Bool
-is_multiline v = is_string v || is_strings v
-
--- the text ends so
-abbrev pub ends_with : List ℕ → List ℕ → Bool
-ends_with text end = nat_le (length end) (length text) && bytes_eq (drop (length text - length end) text) end
-
--- the MIME type is one of JSON's, whose data is any tree
-abbrev pub is_json_type : List ℕ → Bool
-is_json_type key = bytes_eq key (codes "application/json") || ends_with key (codes "+json")
-
--- an object whose values are multiline strings, but under a MIME type of JSON's
-abbrev pub is_bundle : Json → Bool
-is_bundle v = is_object v && list_all (λ p. is_json_type p.0 || is_multiline p.1) (fields v)
+use Rattle.jtext.specs.Look.{is_object}
+use Rattle.jtext.specs.Bundle.{is_bundle}
 
 -- the pairs of an object
 abbrev pub pairs : Json → Option (List (List ℕ × Json))

@@ -1,24 +1,10 @@
-//! Looking into a tree.
+//! Texts, flags and counts in a content.
 ghost use Rattle.std.specs.Prelude.{◌≡◌, IfOk, option_map, map};
-ghost use Rattle.std.specs.List.{list_all};
-ghost use Rattle.std.specs.Char.{is_ascii_digit};
 ghost use Rattle.jtext.specs.Look as look;
 ghost use Rattle.jcontent.specs.Texts as spec;
 
-use jtext::{Json, NoMemory, NumText, Text, Texts, field};
+use jtext::{Json, NoMemory, NumText, Text, Texts, field, is_whole_text, string_at};
 use std::alloc::Global;
-
-pub(crate) fn is_object(v: &Json) -> bool
-    ensures { result ≡ look.is_object v.now }
-{
-    matches!(v, Json::Obj(_))
-}
-
-pub(crate) fn is_string(v: &Json) -> bool
-    ensures { result ≡ look.is_string v.now }
-{
-    matches!(v, Json::Str(_))
-}
 
 /// Whether `true` stands under the key.
 pub(crate) fn is_true_at(t: &Json, key: &str) -> bool
@@ -36,21 +22,11 @@ fn is_true(v: &Json) -> bool
     }
 }
 
-/// The string at the key, lent.
-pub(crate) fn found_text<'a>(t: &'a Json, key: &str) -> Option<&'a Text>
-    ensures { option_map (λ r. r.now) result ≡ look.string_at t.now key.now }
-{
-    match field(t, key) {
-        Some(Json::Str(text)) => Some(text),
-        _ => None,
-    }
-}
-
 /// A copy of the string at the key; `None` where there is no string.
 pub(crate) fn text_at(alloc: Global, t: &Json, key: &str) -> Result<Option<Text>, NoMemory>
     ensures { IfOk result (λ r. r ≡ look.string_at t.now key.now) }
 {
-    match found_text(t, key) {
+    match string_at(t, key) {
         Some(text) => Ok(Some(Text::of(alloc, text.as_str())?)),
         None => Ok(None),
     }
@@ -69,22 +45,11 @@ pub(crate) fn texts_at(alloc: Global, t: &Json, key: &str) -> Result<Option<Text
 fn texts(alloc: Global, v: &Json) -> Result<Option<Texts>, NoMemory>
     ensures { IfOk result (λ r. r ≡ spec.texts v.now) }
 {
-    match v {
-        Json::Arr(items) => {
-            if all_strings(items.as_slice()) {
-                Ok(Some(copies(alloc, items.as_slice())?))
-            } else {
-                Ok(None)
-            }
-        }
-        _ => Ok(None),
+    if v.is_strings() {
+        Ok(Some(copies(alloc, v.items())?))
+    } else {
+        Ok(None)
     }
-}
-
-pub(crate) fn all_strings(items: &[Json]) -> bool
-    ensures { result ≡ list_all look.is_string items.now }
-{
-    items.iter().all(|item| is_string(item))
 }
 
 fn copies(alloc: Global, items: &[Json]) -> Result<Texts, NoMemory>
@@ -100,9 +65,9 @@ fn copies(alloc: Global, items: &[Json]) -> Result<Texts, NoMemory>
 fn text_of(alloc: Global, v: &Json) -> Result<Text, NoMemory>
     ensures { IfOk result (λ r. r ≡ spec.text_of v.now) }
 {
-    match v {
-        Json::Str(text) => Text::of(alloc, text.as_str()),
-        _ => Ok(Text::new(alloc)),
+    match v.as_text() {
+        Some(text) => Text::of(alloc, text.as_str()),
+        None => Ok(Text::new(alloc)),
     }
 }
 
@@ -112,7 +77,7 @@ pub(crate) fn count(alloc: Global, t: &Json) -> Result<Option<NumText>, NoMemory
 {
     match found_number(t, "execution_count") {
         Some(text) => {
-            if is_whole(text.as_str().as_bytes()) {
+            if is_whole_text(text.as_str().as_bytes()) {
                 Ok(Some(NumText::of_number(alloc, text.as_str())?))
             } else {
                 Ok(None)
@@ -125,20 +90,5 @@ pub(crate) fn count(alloc: Global, t: &Json) -> Result<Option<NumText>, NoMemory
 fn found_number<'a>(t: &'a Json, key: &str) -> Option<&'a NumText>
     ensures { option_map (λ r. r.now) result ≡ look.number_at t.now key.now }
 {
-    match field(t, key) {
-        Some(Json::Num(text)) => Some(text),
-        _ => None,
-    }
-}
-
-fn is_whole(text: &[u8]) -> bool
-    ensures { result ≡ look.is_whole_text text.now }
-{
-    1 <= text.len() && all_digits(text) && (text[0] != b'0' || text.len() == 1)
-}
-
-fn all_digits(text: &[u8]) -> bool
-    ensures { result ≡ list_all is_ascii_digit text.now }
-{
-    text.iter().all(|c| c.is_ascii_digit())
+    field(t, key)?.as_number()
 }

@@ -3,8 +3,7 @@ ghost use Rattle.std.specs.Prelude.{◌≡◌, IfOk, option_map};
 ghost use Rattle.jcontent.specs.Contents as spec;
 
 use crate::bundle::bundle_at;
-use crate::look::{found_text, is_object};
-use jtext::{Fields, Json, NoMemory, Text, copy, field};
+use jtext::{Fields, Json, NoMemory, Text, copy, field, string_at};
 use std::alloc::Global;
 
 /// What a display or a result shows: its data by MIME type, the metadata of these, and its display id.
@@ -53,7 +52,7 @@ fn metadata(alloc: Global, t: &Json) -> Result<Option<Json>, NoMemory>
 fn object(alloc: Global, v: &Json) -> Result<Option<Json>, NoMemory>
     ensures { IfOk result (λ r. r ≡ spec.object v.now) }
 {
-    if is_object(v) {
+    if v.is_object() {
         Ok(Some(copy(alloc, v)?))
     } else {
         Ok(None)
@@ -72,8 +71,5 @@ fn display_id(alloc: Global, t: &Json) -> Result<Option<Text>, NoMemory>
 fn found_id(t: &Json) -> Option<&Text>
     ensures { option_map (λ r. r.now) result ≡ spec.display_id t.now }
 {
-    match field(t, "transient") {
-        Some(transient) => found_text(transient, "display_id"),
-        None => None,
-    }
+    string_at(field(t, "transient")?, "display_id")
 }
