@@ -16,7 +16,8 @@ use Rattle.jtext.specs.Find.{field, fields}
 use Rattle.jtext.specs.Look.{is_object, is_list, items, string, is_string, there_and, absent_or, is_strings}
 use Rattle.nb_model.specs.declared.nb_fault.NbFault.TheVariants as fault
 use Rattle.nb_model.specs.Keys.{is_text, is_number, has, may_have, has_only}
-use Rattle.nb_model.specs.Values.{is_multiline, is_count, is_bundle, is_json_type}
+use Rattle.jtext.specs.Bundle.{is_multiline, is_bundle, is_json_type}
+use Rattle.nb_model.specs.Values.{is_count}
 use Rattle.nb_model.specs.Valid as valid
 use Rattle.nb_model.specs.Reading.{value_at}
 use Rattle.nb_model.specs.Pointer.{unless, under_key, under_item}

@@ -15,7 +15,8 @@ use Rattle.nb_model.specs.declared.kind.Kind.TheVariants as kind
 use Rattle.nb_model.specs.declared.cell.Cell.{Cell}
 use Rattle.nb_model.specs.declared.notebook.Notebook.{Notebook}
 use Rattle.nb_model.specs.Keys.{is_text, is_number, has, may_have, has_only}
-use Rattle.nb_model.specs.Values.{is_count, is_multiline, is_id_text}
+use Rattle.jtext.specs.Bundle.{is_multiline}
+use Rattle.nb_model.specs.Values.{is_count, is_id_text}
 use Rattle.nb_model.specs.Valid as valid
 use Rattle.nb_model.specs.Reading.{value_at, kind_named, cell_of, notebook_of}
 use Rattle.nb_model.specs.Tree.{optional, count_tree, pairs_of_kind, outputs_of_kind, attachments_of_kind, cell_tree, notebook_tree}

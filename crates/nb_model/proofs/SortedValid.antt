@@ -13,7 +13,8 @@ use Rattle.jtext.specs.Look.{is_object, string, is_string, there_and, is_strings
 use Rattle.jtext.proofs.IndentedSpells.{indented_text}
 use Rattle.jtext.proofs.Only.{one_tree}
 use Rattle.nb_model.specs.Keys.{is_text, is_number}
-use Rattle.nb_model.specs.Values.{is_multiline, is_count, is_json_type, is_bundle, is_id_text}
+use Rattle.jtext.specs.Bundle.{is_multiline, is_json_type, is_bundle}
+use Rattle.nb_model.specs.Values.{is_count, is_id_text}
 use Rattle.nb_model.specs.Valid as valid
 use Rattle.nb_model.specs.Valid.{Valid}
 use Rattle.nb_model.proofs.PreparedLaws.{and_eq, no_repeat, ids_are}

@@ -8,7 +8,8 @@ use Rattle.jtext.specs.declared.json.Json.{Json}
 use Rattle.jtext.specs.Find.{field, fields}
 use Rattle.jtext.specs.Look.{is_object, is_list, items, is_string}
 use Rattle.nb_model.specs.Keys.{is_text, has, may_have}
-use Rattle.nb_model.specs.Values.{is_multiline, is_count, is_bundle, is_json_type}
+use Rattle.jtext.specs.Bundle.{is_multiline, is_bundle, is_json_type}
+use Rattle.nb_model.specs.Values.{is_count}
 use Rattle.nb_model.specs.Valid.{is_id, is_output, is_cell}
 use Rattle.nb_model.specs.Pointer.{unless, under_key, under_item}
 

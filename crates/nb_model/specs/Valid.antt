@@ -8,7 +8,8 @@ use Rattle.jtext.specs.Find.{fields}
 use Rattle.jtext.specs.Depth.{depth}
 use Rattle.jtext.specs.Look.{is_object, is_list, items, string, is_string, is_strings, there_and, string_at}
 use Rattle.nb_model.specs.Keys.{is_text, is_number, has, may_have, has_only}
-use Rattle.nb_model.specs.Values.{is_multiline, is_count, is_bundle, is_id_text}
+use Rattle.jtext.specs.Bundle.{is_multiline, is_bundle}
+use Rattle.nb_model.specs.Values.{is_count, is_id_text}
 
 -- ---- outputs
 

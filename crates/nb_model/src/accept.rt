@@ -9,7 +9,7 @@ ghost use Rattle.nb_model.specs.Faults as spec;
 
 use crate::parts::notebook_of;
 use crate::places::notebook_place;
-use crate::validity::{has_format, id_of, is_object};
+use crate::validity::{has_format, id_of};
 use crate::{NbFault, Notebook};
 use jtext::{Json, NoMemory, Text, field};
 use std::alloc::Global;
@@ -32,7 +32,7 @@ pub fn of_json(alloc: Global, t: Json) -> Result<Notebook, NbFault>
 fn fault_of(alloc: Global, t: &Json) -> Result<Option<NbFault>, NoMemory>
     ensures { IfOk result (λ r. r ≡ spec.fault_of t.now) }
 {
-    if !is_object(t) {
+    if !t.is_object() {
         return Ok(Some(NbFault::Shape {
             pointer: Text::new(alloc),
         }));
@@ -60,17 +60,8 @@ fn repeated_in(alloc: Global, t: &Json) -> Result<Option<Text>, NoMemory>
     ensures { IfOk result (λ r. r ≡ spec.repeated_id [] (look.items (reading.value_at (codes "cells") t.now))) }
 {
     match field(t, "cells") {
-        Some(v) => repeated_of(alloc, v),
+        Some(v) => repeated_id(alloc, v.items()),
         None => Ok(None),
-    }
-}
-
-fn repeated_of(alloc: Global, v: &Json) -> Result<Option<Text>, NoMemory>
-    ensures { IfOk result (λ r. r ≡ spec.repeated_id [] (look.items v.now)) }
-{
-    match v {
-        Json::Arr(items) => repeated_id(alloc, items.as_slice()),
-        _ => Ok(None),
     }
 }
 

@@ -7,7 +7,7 @@ ghost use Rattle.nb_model.specs.Places as spec;
 use crate::output_places::{count_place, outputs_place};
 use crate::places::{keys_place, value_place};
 use crate::pointer::{under_item, under_key};
-use crate::validity::{is_cell, is_id, is_object, is_text};
+use crate::validity::{is_cell, is_id, is_text};
 use crate::value_places::{attachments_place, multiline_place, strings_place};
 use jtext::{Items, Json, NoMemory, Text, field};
 use std::alloc::Global;
@@ -48,7 +48,7 @@ fn item_place(alloc: Global, items: &Items, i: usize) -> Result<Option<Text>, No
 fn cell_place(alloc: Global, c: &Json) -> Result<Option<Text>, NoMemory>
     ensures { IfOk result (λ r. r ≡ spec.of_cell c.now) }
 {
-    if is_object(c) {
+    if c.is_object() {
         by_kind(alloc, c)
     } else {
         Ok(Some(Text::new(alloc)))
@@ -106,7 +106,7 @@ fn id_place(alloc: Global, c: &Json) -> Result<Option<Text>, NoMemory>
 fn metadata_place(alloc: Global, v: &Json) -> Result<Option<Text>, NoMemory>
     ensures { IfOk result (λ r. r ≡ spec.of_cell_metadata v.now) }
 {
-    if is_object(v) {
+    if v.is_object() {
         within_tags(alloc, v)
     } else {
         Ok(Some(Text::new(alloc)))

@@ -7,7 +7,7 @@ ghost use Rattle.nb_model.specs.Places as spec;
 
 use crate::places::{keys_place, string_place, value_place};
 use crate::pointer::{under_item, under_key};
-use crate::validity::{has_type, is_count, is_object, is_output};
+use crate::validity::{has_type, is_count, is_output};
 use crate::value_places::{bundle_place, multiline_place, strings_place};
 use jtext::{Items, Json, NoMemory, Text, field};
 use std::alloc::Global;
@@ -48,7 +48,7 @@ fn item_place(alloc: Global, items: &Items, i: usize) -> Result<Option<Text>, No
 fn output_place(alloc: Global, o: &Json) -> Result<Option<Text>, NoMemory>
     ensures { IfOk result (λ r. r ≡ spec.of_output o.now) }
 {
-    if is_object(o) {
+    if o.is_object() {
         by_type(alloc, o)
     } else {
         Ok(Some(Text::new(alloc)))
@@ -96,7 +96,7 @@ fn data_place(alloc: Global, o: &Json) -> Result<Option<Text>, NoMemory>
     ensures { IfOk result (λ r. r ≡ spec.of_data o.now) }
 {
     let data = within_data(alloc, o)?;
-    let is_object = field(o, "metadata").is_none_or(|v| is_object(v));
+    let is_object = field(o, "metadata").is_none_or(|v| v.is_object());
     Ok(data.or(value_place(alloc, "metadata", is_object)?))
 }
 

@@ -11,7 +11,7 @@ ghost use Rattle.nb_model.specs.Places as spec;
 
 use crate::cell_places::cells_place;
 use crate::pointer::{under_item, under_key, unless};
-use crate::validity::{is_among, is_object, is_string};
+use crate::validity::is_among;
 use jtext::{Json, NoMemory, Text, field};
 use std::alloc::Global;
 
@@ -27,17 +27,7 @@ fn has_all(t: &Json, keys: &[&str]) -> bool
 fn unknown_key(alloc: Global, t: &Json, known: &[&str]) -> Result<Option<Text>, NoMemory>
     ensures { IfOk result (λ r. r ≡ option_and_then (λ p. pointer.under_key p.0 (Some [])) (find (λ p. not (list_any (λ k. bytes_eq p.0 k.now) known.now)) (fields t.now))) }
 {
-    unknown_place(alloc, pairs(t), known)
-}
-
-/// The pairs of an object, and none of another value.
-fn pairs(t: &Json) -> &[(Text, Json)]
-    ensures { result.now ≡ fields t.now }
-{
-    match t {
-        Json::Obj(fields) => fields.as_slice(),
-        _ => &[],
-    }
+    unknown_place(alloc, t.pairs(), known)
 }
 
 fn unknown_place(
@@ -87,7 +77,7 @@ pub(crate) fn value_place(alloc: Global, key: &str, holds: bool) -> Result<Optio
 pub(crate) fn string_place(alloc: Global, t: &Json, key: &str) -> Result<Option<Text>, NoMemory>
     ensures { IfOk result (λ r. r ≡ spec.of_value key.now look.is_string t.now) }
 {
-    value_place(alloc, key, field(t, key).is_none_or(|v| is_string(v)))
+    value_place(alloc, key, field(t, key).is_none_or(|v| v.is_string()))
 }
 
 // ---- the notebook
@@ -131,7 +121,7 @@ fn within_metadata(alloc: Global, t: &Json) -> Result<Option<Text>, NoMemory>
 fn metadata_place(alloc: Global, v: &Json) -> Result<Option<Text>, NoMemory>
     ensures { IfOk result (λ r. r ≡ spec.of_metadata v.now) }
 {
-    if !is_object(v) {
+    if !v.is_object() {
         return Ok(Some(Text::new(alloc)));
     }
     Ok(within_kernelspec(alloc, v)?.or(within_language_info(alloc, v)?))
@@ -149,7 +139,7 @@ fn within_kernelspec(alloc: Global, t: &Json) -> Result<Option<Text>, NoMemory>
 fn kernelspec_place(alloc: Global, v: &Json) -> Result<Option<Text>, NoMemory>
     ensures { IfOk result (λ r. r ≡ spec.of_kernelspec v.now) }
 {
-    if !is_object(v) {
+    if !v.is_object() {
         return Ok(Some(Text::new(alloc)));
     }
     if !has_all(v, &["name", "display_name"]) {
@@ -170,7 +160,7 @@ fn within_language_info(alloc: Global, t: &Json) -> Result<Option<Text>, NoMemor
 fn language_info_place(alloc: Global, v: &Json) -> Result<Option<Text>, NoMemory>
     ensures { IfOk result (λ r. r ≡ spec.of_language_info v.now) }
 {
-    if !is_object(v) {
+    if !v.is_object() {
         return Ok(Some(Text::new(alloc)));
     }
     if !has_all(v, &["name"]) {

@@ -25,7 +25,7 @@ pub fn code(alloc: Global, c: &Cell) -> Result<Text, NoMemory>
 pub fn tagged(c: &Cell, tag: &str) -> bool
     ensures { result ≡ injected.is_tagged tag.now c.now }
 {
-    field(&c.metadata, "tags").is_some_and(|tags| has_item(tags, tag))
+    field(&c.metadata, "tags").is_some_and(|tags| any_text(tags.items(), tag))
 }
 
 /// Whether the cell is to be executed.
@@ -53,15 +53,6 @@ fn is_blank(text: &str) -> bool
     ensures { result ≡ spec.is_blank text.now }
 {
     text.chars().all(|c| is_white_space(c))
-}
-
-fn has_item(v: &Json, text: &str) -> bool
-    ensures { result ≡ list_any (keys.is_text text.now) (look.items v.now) }
-{
-    match v {
-        Json::Arr(items) => any_text(items.as_slice(), text),
-        _ => false,
-    }
 }
 
 fn any_text(items: &[Json], text: &str) -> bool

@@ -1,22 +1,22 @@
 //! The plain test of the nbformat 4.5 schema, as the definition states it.
-ghost use Rattle.std.specs.Prelude.{◌≡◌, ◌&&◌, ◌||◌, ◌∷◌, [], codes, map};
+ghost use Rattle.std.specs.Prelude.{◌≡◌, ◌&&◌, ◌∷◌, [], codes, map};
 ghost use Rattle.std.specs.List.{list_any, list_all};
 ghost use Rattle.std.specs.Str.{bytes_eq};
-ghost use Rattle.std.specs.Char.{is_ascii_digit};
 ghost use Rattle.jtext.specs.Find.{fields};
 ghost use Rattle.jtext.specs.Look as look;
+ghost use Rattle.jtext.specs.Bundle.{is_bundle};
 ghost use Rattle.nb_model.specs.Keys as keys;
 ghost use Rattle.nb_model.specs.Values as values;
 ghost use Rattle.nb_model.specs.Valid as valid;
 
-use jtext::{Json, Text, field};
+use jtext::{Json, Text, field, is_bundle, is_multiline, is_whole_text, string_at};
 
 /// Whether the tree is a notebook of format 4.5, however deep it is nested.
 /// It takes no memory, and compares each id with each other one.
 pub fn is_valid(t: &Json) -> bool
     ensures { result ≡ valid.is_notebook t.now }
 {
-    is_object(t)
+    t.is_object()
         && has_notebook_keys(t)
         && has_format(t)
         && field(t, "metadata").is_some_and(|v| is_metadata(v))
@@ -39,7 +39,7 @@ pub(crate) fn has_format(t: &Json) -> bool
 pub(crate) fn is_metadata(v: &Json) -> bool
     ensures { result ≡ valid.is_metadata v.now }
 {
-    is_object(v)
+    v.is_object()
         && field(v, "kernelspec").is_none_or(|k| is_kernelspec(k))
         && field(v, "language_info").is_none_or(|l| is_language_info(l))
 }
@@ -47,13 +47,13 @@ pub(crate) fn is_metadata(v: &Json) -> bool
 pub(crate) fn is_kernelspec(v: &Json) -> bool
     ensures { result ≡ valid.is_kernelspec v.now }
 {
-    is_object(v) && has_string(v, "name") && has_string(v, "display_name")
+    v.is_object() && has_string(v, "name") && has_string(v, "display_name")
 }
 
 pub(crate) fn is_language_info(v: &Json) -> bool
     ensures { result ≡ valid.is_language_info v.now }
 {
-    is_object(v) && has_string(v, "name")
+    v.is_object() && has_string(v, "name")
 }
 
 // ---- cells
@@ -76,7 +76,7 @@ fn all_cells(items: &[Json]) -> bool
 pub(crate) fn is_cell(c: &Json) -> bool
     ensures { result ≡ valid.is_cell c.now }
 {
-    is_object(c) && (is_prose_cell(c) || is_code_cell(c))
+    c.is_object() && (is_prose_cell(c) || is_code_cell(c))
 }
 
 pub(crate) fn is_prose_cell(c: &Json) -> bool
@@ -131,7 +131,7 @@ fn has_common(c: &Json) -> bool
 pub(crate) fn is_cell_metadata(v: &Json) -> bool
     ensures { result ≡ valid.is_cell_metadata v.now }
 {
-    is_object(v) && field(v, "tags").is_none_or(|tags| are_strings(tags))
+    v.is_object() && field(v, "tags").is_none_or(|tags| tags.is_strings())
 }
 
 pub(crate) fn are_attachments(v: &Json) -> bool
@@ -144,7 +144,7 @@ pub(crate) fn are_attachments(v: &Json) -> bool
 }
 
 fn all_bundles(pairs: &[(Text, Json)]) -> bool
-    ensures { result ≡ list_all (λ p. values.is_bundle p.1) pairs.now }
+    ensures { result ≡ list_all (λ p. is_bundle p.1) pairs.now }
 {
     pairs.iter().all(|p| is_bundle(&p.1))
 }
@@ -152,9 +152,9 @@ fn all_bundles(pairs: &[(Text, Json)]) -> bool
 pub(crate) fn id_of(c: &Json) -> &str
     ensures { result.now ≡ valid.id_of c.now }
 {
-    match field(c, "id") {
-        Some(Json::Str(id)) => id.as_str(),
-        _ => "",
+    match string_at(c, "id") {
+        Some(id) => id.as_str(),
+        None => "",
     }
 }
 
@@ -198,7 +198,7 @@ fn all_outputs(items: &[Json]) -> bool
 pub(crate) fn is_output(o: &Json) -> bool
     ensures { result ≡ valid.is_output o.now }
 {
-    is_object(o) && (is_stream(o) || is_display(o) || is_result(o) || is_error(o))
+    o.is_object() && (is_stream(o) || is_display(o) || is_result(o) || is_error(o))
 }
 
 pub(crate) fn has_type(o: &Json, name: &str) -> bool
@@ -223,10 +223,10 @@ pub(crate) fn is_display(o: &Json) -> bool
 }
 
 fn has_data(o: &Json) -> bool
-    ensures { result ≡ (keys.has (codes "data") values.is_bundle o.now && keys.has (codes "metadata") look.is_object o.now) }
+    ensures { result ≡ (keys.has (codes "data") is_bundle o.now && keys.has (codes "metadata") look.is_object o.now) }
 {
     field(o, "data").is_some_and(|v| is_bundle(v))
-        && field(o, "metadata").is_some_and(|v| is_object(v))
+        && field(o, "metadata").is_some_and(|v| v.is_object())
 }
 
 pub(crate) fn is_result(o: &Json) -> bool
@@ -245,45 +245,27 @@ pub(crate) fn is_error(o: &Json) -> bool
         && has_only(o, &["output_type", "ename", "evalue", "traceback"])
         && has_string(o, "ename")
         && has_string(o, "evalue")
-        && field(o, "traceback").is_some_and(|v| are_strings(v))
+        && field(o, "traceback").is_some_and(|v| v.is_strings())
 }
 
 // ---- values
 
-pub(crate) fn is_object(v: &Json) -> bool
-    ensures { result ≡ look.is_object v.now }
-{
-    matches!(v, Json::Obj(_))
-}
-
-pub(crate) fn is_string(v: &Json) -> bool
-    ensures { result ≡ look.is_string v.now }
-{
-    matches!(v, Json::Str(_))
-}
-
 pub(crate) fn is_text(v: &Json, text: &str) -> bool
     ensures { result ≡ keys.is_text text.now v.now }
 {
-    match v {
-        Json::Str(s) => s.as_str() == text,
-        _ => false,
-    }
+    v.as_text().is_some_and(|s| s.as_str() == text)
 }
 
 pub(crate) fn is_number(v: &Json, text: &str) -> bool
     ensures { result ≡ keys.is_number text.now v.now }
 {
-    match v {
-        Json::Num(s) => s.as_str() == text,
-        _ => false,
-    }
+    v.as_number().is_some_and(|s| s.as_str() == text)
 }
 
 fn has_string(t: &Json, key: &str) -> bool
     ensures { result ≡ keys.has key.now look.is_string t.now }
 {
-    field(t, key).is_some_and(is_string)
+    field(t, key).is_some_and(|v| v.is_string())
 }
 
 pub(crate) fn is_among(key: &str, keys: &[&str]) -> bool
@@ -295,10 +277,7 @@ pub(crate) fn is_among(key: &str, keys: &[&str]) -> bool
 fn has_only(t: &Json, keys: &[&str]) -> bool
     ensures { result ≡ list_all (λ p. list_any (λ k. bytes_eq p.0 k.now) keys.now) (fields t.now) }
 {
-    match t {
-        Json::Obj(fields) => all_among(fields.as_slice(), keys),
-        _ => true,
-    }
+    all_among(t.pairs(), keys)
 }
 
 fn all_among(pairs: &[(Text, Json)], keys: &[&str]) -> bool
@@ -307,56 +286,20 @@ fn all_among(pairs: &[(Text, Json)], keys: &[&str]) -> bool
     pairs.iter().all(|p| is_among(p.0.as_str(), keys))
 }
 
-pub(crate) fn are_strings(v: &Json) -> bool
-    ensures { result ≡ look.is_strings v.now }
-{
-    match v {
-        Json::Arr(items) => all_strings(items.as_slice()),
-        _ => false,
-    }
-}
-
-fn all_strings(items: &[Json]) -> bool
-    ensures { result ≡ list_all look.is_string items.now }
-{
-    items.iter().all(|item| is_string(item))
-}
-
-pub(crate) fn is_multiline(v: &Json) -> bool
-    ensures { result ≡ values.is_multiline v.now }
-{
-    is_string(v) || are_strings(v)
-}
-
 pub(crate) fn is_count(v: &Json) -> bool
     ensures { result ≡ values.is_count v.now }
 {
     match v {
         Json::Null => true,
-        Json::Num(n) => is_whole(n.as_str().as_bytes()),
+        Json::Num(n) => is_whole_text(n.as_str().as_bytes()),
         _ => false,
     }
-}
-
-pub(crate) fn is_whole(text: &[u8]) -> bool
-    ensures { result ≡ look.is_whole_text text.now }
-{
-    1 <= text.len() && all_digits(text) && (text[0] != b'0' || text.len() == 1)
-}
-
-fn all_digits(text: &[u8]) -> bool
-    ensures { result ≡ list_all is_ascii_digit text.now }
-{
-    text.iter().all(|c| c.is_ascii_digit())
 }
 
 pub(crate) fn is_id(v: &Json) -> bool
     ensures { result ≡ valid.is_id v.now }
 {
-    match v {
-        Json::Str(id) => is_id_text(id.bytes()),
-        _ => false,
-    }
+    v.as_text().is_some_and(|id| is_id_text(id.bytes()))
 }
 
 pub(crate) fn is_id_text(text: &[u8]) -> bool
@@ -375,27 +318,4 @@ pub(crate) fn is_id_byte(c: u8) -> bool
     ensures { result ≡ values.is_id_byte c }
 {
     matches!(c, b'a'..=b'z' | b'A'..=b'Z' | b'0'..=b'9' | b'-' | b'_')
-}
-
-pub(crate) fn is_bundle(v: &Json) -> bool
-    ensures { result ≡ values.is_bundle v.now }
-{
-    match v {
-        Json::Obj(fields) => all_data(fields.as_slice()),
-        _ => false,
-    }
-}
-
-fn all_data(pairs: &[(Text, Json)]) -> bool
-    ensures { result ≡ list_all (λ p. values.is_json_type p.0 || values.is_multiline p.1) pairs.now }
-{
-    pairs
-        .iter()
-        .all(|p| is_json_type(p.0.bytes()) || is_multiline(&p.1))
-}
-
-pub(crate) fn is_json_type(key: &[u8]) -> bool
-    ensures { result ≡ values.is_json_type key.now }
-{
-    key == b"application/json".as_slice() || key.ends_with(b"+json")
 }

@@ -2,13 +2,12 @@
 ghost use Rattle.std.specs.Prelude.{◌≡◌, not, ◌||◌, option_map, option_and_then, find, position, IfOk, length, [], codes, Some};
 ghost use Rattle.jtext.specs.Find.{fields};
 ghost use Rattle.jtext.specs.Look as look;
-ghost use Rattle.nb_model.specs.Values as values;
+ghost use Rattle.jtext.specs.Bundle as bundle;
 ghost use Rattle.nb_model.specs.Pointer as pointer;
 ghost use Rattle.nb_model.specs.Places as spec;
 
 use crate::pointer::{under_item, under_key};
-use crate::validity::{is_bundle, is_json_type, is_multiline, is_string};
-use jtext::{Json, NoMemory, Text};
+use jtext::{Json, NoMemory, Text, is_bundle, is_json_type, is_multiline};
 use std::alloc::Global;
 
 pub(crate) fn strings_place(alloc: Global, v: &Json) -> Result<Option<Text>, NoMemory>
@@ -33,13 +32,13 @@ fn other_place(alloc: Global, items: &[Json]) -> Result<Option<Text>, NoMemory>
 fn first_other(items: &[Json]) -> Option<usize>
     ensures { result ≡ position (λ x. not (look.is_string x)) items.now }
 {
-    items.iter().position(|x| !is_string(x))
+    items.iter().position(|x| !x.is_string())
 }
 
 pub(crate) fn multiline_place(alloc: Global, v: &Json) -> Result<Option<Text>, NoMemory>
     ensures { IfOk result (λ r. r ≡ spec.of_multiline v.now) }
 {
-    if is_string(v) {
+    if v.is_string() {
         return Ok(None);
     }
     strings_place(alloc, v)
@@ -55,7 +54,7 @@ pub(crate) fn bundle_place(alloc: Global, v: &Json) -> Result<Option<Text>, NoMe
 }
 
 fn data_place(alloc: Global, pairs: &[(Text, Json)]) -> Result<Option<Text>, NoMemory>
-    ensures { IfOk result (λ r. r ≡ spec.within_pairs (λ p. values.is_json_type p.0 || values.is_multiline p.1) spec.of_multiline pairs.now) }
+    ensures { IfOk result (λ r. r ≡ spec.within_pairs (λ p. bundle.is_json_type p.0 || bundle.is_multiline p.1) spec.of_multiline pairs.now) }
 {
     match first_wrong_datum(pairs) {
         Some(p) => datum_place(alloc, p),
@@ -70,7 +69,7 @@ fn datum_place(alloc: Global, p: &(Text, Json)) -> Result<Option<Text>, NoMemory
 }
 
 fn first_wrong_datum(pairs: &[(Text, Json)]) -> Option<&(Text, Json)>
-    ensures { option_map (λ p. p.now) result ≡ find (λ p. not (values.is_json_type p.0 || values.is_multiline p.1)) pairs.now }
+    ensures { option_map (λ p. p.now) result ≡ find (λ p. not (bundle.is_json_type p.0 || bundle.is_multiline p.1)) pairs.now }
 {
     pairs
         .iter()
@@ -87,7 +86,7 @@ pub(crate) fn attachments_place(alloc: Global, v: &Json) -> Result<Option<Text>,
 }
 
 fn bundles_place(alloc: Global, pairs: &[(Text, Json)]) -> Result<Option<Text>, NoMemory>
-    ensures { IfOk result (λ r. r ≡ spec.within_pairs (λ p. values.is_bundle p.1) spec.of_bundle pairs.now) }
+    ensures { IfOk result (λ r. r ≡ spec.within_pairs (λ p. bundle.is_bundle p.1) spec.of_bundle pairs.now) }
 {
     match first_no_bundle(pairs) {
         Some(p) => attachment_place(alloc, p),
@@ -102,7 +101,7 @@ fn attachment_place(alloc: Global, p: &(Text, Json)) -> Result<Option<Text>, NoM
 }
 
 fn first_no_bundle(pairs: &[(Text, Json)]) -> Option<&(Text, Json)>
-    ensures { option_map (λ p. p.now) result ≡ find (λ p. not (values.is_bundle p.1)) pairs.now }
+    ensures { option_map (λ p. p.now) result ≡ find (λ p. not (bundle.is_bundle p.1)) pairs.now }
 {
     pairs.iter().find(|p| !is_bundle(&p.1))
 }

@@ -11,7 +11,7 @@ use Rattle.nb_model.specs.declared.kind.Kind.TheVariants as kind
 use Rattle.nb_model.specs.declared.cell.Cell.{Cell}
 use Rattle.nb_model.specs.declared.notebook.Notebook.{Notebook}
 use Rattle.nb_model.specs.Lines.{lines_of, lines_tree}
-use Rattle.nb_model.specs.Values.{is_multiline}
+use Rattle.jtext.specs.Bundle.{is_multiline}
 use Rattle.nb_model.specs.Valid.{is_output, is_cell_metadata, are_attachments, is_metadata, Valid}
 use Rattle.nb_model.specs.Python.{python}
 use Rattle.nb_model.specs.Tree.{cell_tree, notebook_tree}
