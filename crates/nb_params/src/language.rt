@@ -1,9 +1,9 @@
 //! The language of a notebook's cells.
 ghost use Rattle.std.specs.Prelude.{◌≡◌, option_map};
 ghost use Rattle.nb_model.specs.Injected as spec;
-ghost use Rattle.nb_params.specs.Language.{string_at, told};
+ghost use Rattle.nb_params.specs.Language.{told};
 
-use jtext::{Json, field};
+use jtext::{Json, field, string_at};
 use nb_model::Notebook;
 
 /// The kernel's language, else the one that its kernel told, else Python.
@@ -29,19 +29,7 @@ fn language_told(n: &Notebook) -> &str
 fn string_within<'a>(t: &'a Json, outer: &str, key: &str) -> Option<&'a str>
     ensures { option_map (λ r. r.now) result ≡ spec.string_within outer.now key.now t.now }
 {
-    match field(t, outer) {
-        Some(inner) => string_at(inner, key),
-        None => None,
-    }
-}
-
-fn string_at<'a>(t: &'a Json, key: &str) -> Option<&'a str>
-    ensures { option_map (λ r. r.now) result ≡ string_at key.now t.now }
-{
-    match field(t, key) {
-        Some(Json::Str(text)) => Some(text.as_str()),
-        _ => None,
-    }
+    Some(string_at(field(t, outer)?, key)?.as_str())
 }
 
 /// Whether parameters can be written in the language of the notebook's cells.
