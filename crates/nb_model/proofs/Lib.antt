@@ -1,6 +1,7 @@
 pub mod LinesLemmas
 pub mod PairsLemmas
 pub mod Tautologies
+pub mod RegroupedTests
 pub mod FaultLaws
 pub mod IdLemmas
 pub mod KeyOrders
