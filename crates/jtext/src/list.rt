@@ -89,7 +89,21 @@ impl<T: Drop> List<T> {
         ensures ok { OnOk result (self.new ≡ self.old ++ x ∷ []) }
         ensures err { OnErr result (self.new ≡ self.old) }
     {
+        self.widen()?;
         self.items.push(x)?;
+        Ok(())
+    }
+
+    /// Moves a full list of four to a new block of twice the room: `malloc` has blocks of such sizes at
+    /// hand, which `realloc` doesn't take.
+    fn widen(&mut self) -> Result<(), NoMemory>
+        ensures { self.new ≡ self.old }
+    {
+        if self.items.len() == 4 && self.items.capacity() == 4 {
+            let mut wider = Vec::with_capacity(*self.items.allocator(), 8)?;
+            wider.append(&mut self.items)?;
+            self.items = wider;
+        }
         Ok(())
     }
 
