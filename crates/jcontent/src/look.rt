@@ -3,7 +3,7 @@ ghost use Rattle.std.specs.Prelude.{◌≡◌, IfOk, option_map, map};
 ghost use Rattle.jtext.specs.Look as look;
 ghost use Rattle.jcontent.specs.Texts as spec;
 
-use jtext::{Json, NoMemory, NumText, Text, Texts, field, is_whole_text, string_at};
+use jtext::{Json, NoMemory, NumText, Text, Texts, field, is_whole_text};
 use std::alloc::Global;
 
 /// Whether `true` stands under the key.
@@ -19,16 +19,6 @@ fn is_true(v: &Json) -> bool
     match v {
         Json::Bool(is) => *is,
         _ => false,
-    }
-}
-
-/// A copy of the string at the key; `None` where there is no string.
-pub(crate) fn text_at(alloc: Global, t: &Json, key: &str) -> Result<Option<Text>, NoMemory>
-    ensures { IfOk result (λ r. r ≡ look.string_at t.now key.now) }
-{
-    match string_at(t, key) {
-        Some(text) => Ok(Some(Text::of(alloc, text.as_str())?)),
-        None => Ok(None),
     }
 }
 

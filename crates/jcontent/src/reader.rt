@@ -2,10 +2,10 @@
 ghost use Rattle.std.specs.Prelude.{◌≡◌, IfOk};
 ghost use Rattle.jcontent.specs.Contents as spec;
 
-use crate::look::{count, is_true_at, text_at, texts_at};
+use crate::look::{count, is_true_at, texts_at};
 use crate::reply::execute_reply;
 use crate::{Content, Shown, State};
-use jtext::{Json, NoMemory, Text};
+use jtext::{Json, NoMemory, Text, text_at};
 use std::alloc::Global;
 
 /// What a message of that type says by its content. Keys that the type doesn't need are passed over;

@@ -3,8 +3,7 @@ ghost use Rattle.std.specs.Prelude.{◌≡◌, IfOk};
 ghost use Rattle.jcontent.specs.Contents as spec;
 
 use crate::Content;
-use crate::look::text_at;
-use jtext::{Json, NoMemory, Text, field};
+use jtext::{Json, NoMemory, Text, field, text_at};
 use std::alloc::Global;
 
 /// How a request to execute ended.

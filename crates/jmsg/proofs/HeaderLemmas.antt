@@ -2,6 +2,7 @@
 use Rattle.std.proofs.Common.{◌≡◌, ◌≢◌, ℕ, ◌≤◌, ◌<◌, zero, suc, nat_lt, get_or, lit<, Bool, ◌&&◌, true, false, List, [], ◌∷◌, codes, Option, Some, None, refl, ◌∙◌, ap, rules, arith}
 use Rattle.std.specs.List.{AllByRecursion, list_all}
 use Rattle.std.specs.Option.{IfSome, unwrap_or}
+use Rattle.std.specs.Prelude.{option_and_then}
 use Rattle.std.specs.Str.{IsUtf8, bytes_eq}
 use Rattle.std.proofs.lemmas.Bool.{ltb-true}
 use Rattle.std.proofs.lemmas.Slice.Eq.{bytes_eq-Decides}
@@ -17,7 +18,7 @@ use Rattle.jtext.specs.Sound.{Sound, PairsSound}
 use Rattle.jtext.specs.declared.json.Json.{Json, out-Json, the_lemmas}
 use Rattle.jtext.specs.declared.json.Json.TheOpen.{Json-F}
 use Rattle.jtext.specs.declared.json.Json.TheVariants as json
-use Rattle.jmsg.specs.Dictionary.{is_object_row, text_at, text_of, text_of_row}
+use Rattle.jtext.specs.Look.{is_object_layer, string, string_at, string_layer}
 use Rattle.jmsg.specs.Header.{text_pair, pairs_of, tree_of, header_of, header_named, header_typed}
 use Rattle.jmsg.specs.Encoded.{AreTexts, IsSendableTree}
 use Rattle.jmsg.specs.declared.header.Header.{Header}
@@ -33,28 +34,28 @@ out-Obj ps = search (rules, the_lemmas)
 out-Str : (s : List ℕ) → out-Json (json.Str s) ≡ Json-F.Str s
 out-Str s = search (rules, the_lemmas)
 
-at : (ps : List (List ℕ × Json)) (key s : List ℕ) → find key ps ≡ Some (json.Str s) → text_at (json.Obj ps) key ≡ Some s
-at ps key s found = ap (λ r. text_of (find key (fields_of r))) (out-Obj ps) ∙ ap text_of found ∙ ap text_of_row (out-Str s)
+at : (ps : List (List ℕ × Json)) (key s : List ℕ) → find key ps ≡ Some (json.Str s) → string_at (json.Obj ps) key ≡ Some s
+at ps key s found = ap (λ r. (option_and_then string) (find key (fields_of r))) (out-Obj ps) ∙ ap (option_and_then string) found ∙ ap string_layer (out-Str s)
 
-none_at : (ps : List (List ℕ × Json)) (key : List ℕ) → find key ps ≡ None → text_at (json.Obj ps) key ≡ None
-none_at ps key found = ap (λ r. text_of (find key (fields_of r))) (out-Obj ps) ∙ ap text_of found
+none_at : (ps : List (List ℕ × Json)) (key : List ℕ) → find key ps ≡ None → string_at (json.Obj ps) key ≡ None
+none_at ps key found = ap (λ r. (option_and_then string) (find key (fields_of r))) (out-Obj ps) ∙ ap (option_and_then string) found
 
 abbrev pub with_texts : List ℕ → List ℕ → Option (List ℕ) → Option (List ℕ) → Option (List ℕ) → Option (List ℕ) → Option Header
 with_texts i t s u d v = Some (header i (unwrap_or s []) (unwrap_or u []) d t (unwrap_or v []))
 
-pub read_by : (j : Json) (i t : List ℕ) (s u d v : Option (List ℕ)) → text_at j (codes "msg_id") ≡ Some i → text_at j (codes "msg_type") ≡ Some t → text_at j (codes "session") ≡ s
-    → text_at j (codes "username") ≡ u → text_at j (codes "date") ≡ d → text_at j (codes "version") ≡ v → header_of j ≡ with_texts i t s u d v
+pub read_by : (j : Json) (i t : List ℕ) (s u d v : Option (List ℕ)) → string_at j (codes "msg_id") ≡ Some i → string_at j (codes "msg_type") ≡ Some t → string_at j (codes "session") ≡ s
+    → string_at j (codes "username") ≡ u → string_at j (codes "date") ≡ d → string_at j (codes "version") ≡ v → header_of j ≡ with_texts i t s u d v
 read_by j i t s u d v ei et es eu ed ev =
     ap (header_named j) ei ∙ ap (header_typed j i) et
-    ∙ ap (λ x. with_texts i t x (text_at j (codes "username")) (text_at j (codes "date")) (text_at j (codes "version"))) es
-    ∙ ap (λ x. with_texts i t s x (text_at j (codes "date")) (text_at j (codes "version"))) eu
-    ∙ ap (λ x. with_texts i t s u x (text_at j (codes "version"))) ed
+    ∙ ap (λ x. with_texts i t x (string_at j (codes "username")) (string_at j (codes "date")) (string_at j (codes "version"))) es
+    ∙ ap (λ x. with_texts i t s x (string_at j (codes "date")) (string_at j (codes "version"))) eu
+    ∙ ap (λ x. with_texts i t s u x (string_at j (codes "version"))) ed
     ∙ ap (λ x. with_texts i t s u d x) ev
 
-pub unnamed : (j : Json) → text_at j (codes "msg_id") ≡ None → header_of j ≡ None
+pub unnamed : (j : Json) → string_at j (codes "msg_id") ≡ None → header_of j ≡ None
 unnamed j e = ap (header_named j) e
 
-pub untyped : (j : Json) (i : List ℕ) → text_at j (codes "msg_id") ≡ Some i → text_at j (codes "msg_type") ≡ None → header_of j ≡ None
+pub untyped : (j : Json) (i : List ℕ) → string_at j (codes "msg_id") ≡ Some i → string_at j (codes "msg_type") ≡ None → header_of j ≡ None
 untyped j i ei et = ap (header_named j) ei ∙ ap (header_typed j i) et
 
 read_again : (i s u : List ℕ) (d : Option (List ℕ)) (t v : List ℕ) → header_of (tree_of (header i s u d t v)) ≡ Some (header i s u d t v)
@@ -116,7 +117,7 @@ pairs_sound i s u (Some d) t v ui us uu ud ut uv = sound_text (codes "msg_id") i
 
 pub header_sendable : (h : Header) → AreTexts h → IsSendableTree (tree_of h)
 header_sendable h a = record {
-  object = ap is_object_row (out-Obj (pairs_of h));
+  object = ap is_object_layer (out-Obj (pairs_of h));
   keyed = keyed.object (pairs_of h) (pairs_keyed h.msg_id h.session h.username h.date h.msg_type h.version) (distinct h.msg_id h.session h.username h.date h.msg_type h.version);
   nests = flat (pairs_of h) (pairs_flat h.msg_id h.session h.username h.date h.msg_type h.version);
   sound = sound.object (pairs_of h) (pairs_sound h.msg_id h.session h.username h.date h.msg_type h.version a.msg_id a.session a.username a.date a.msg_type a.version);

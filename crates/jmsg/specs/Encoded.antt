@@ -8,7 +8,7 @@ use Rattle.jtext.specs.Keyed.{Keyed}
 use Rattle.jtext.specs.Print.{compact}
 use Rattle.jtext.specs.Sound.{Sound}
 use Rattle.jtext.specs.declared.json.Json.{Json}
-use Rattle.jmsg.specs.Dictionary.{is_object, text_at}
+use Rattle.jtext.specs.Look.{is_object, string_at}
 use Rattle.jmsg.specs.Header.{tree_of}
 use Rattle.jmsg.specs.Signed.{delimiter}
 use Rattle.jmsg.specs.declared.header.Header.{Header}
@@ -44,6 +44,6 @@ pub record IsSendableTree (t : Json) : Type 0 where
 pub record IsSendable (m : Message) : Type 0 where
   pub texts : AreTexts m.header
   pub parent : IsSendableTree m.parent
-  pub parent_id : m.parent_id ≡ text_at m.parent (codes "msg_id")
+  pub parent_id : m.parent_id ≡ string_at m.parent (codes "msg_id")
   pub metadata : IsSendableTree m.metadata
   pub content : IsSendableTree m.content

@@ -2,7 +2,7 @@
 use Rattle.std.specs.Prelude.{ℕ, List, [], ◌∷◌, ◌++◌, Option, Some, None, codes}
 use Rattle.std.specs.Option.{unwrap_or}
 use Rattle.jmsg.specs.declared.header.Header.{Header}
-use Rattle.jmsg.specs.Dictionary.{text_at}
+use Rattle.jtext.specs.Look.{string_at}
 use Rattle.jtext.specs.declared.json.Json.{Json}
 use Rattle.jtext.specs.declared.json.Json.TheVariants as json
 
@@ -10,11 +10,11 @@ use Rattle.jtext.specs.declared.json.Json.TheVariants as json
 abbrev pub header_with : Json → List ℕ → List ℕ → Header
 header_with t id kind = record {
   msg_id = id;
-  session = unwrap_or (text_at t (codes "session")) [];
-  username = unwrap_or (text_at t (codes "username")) [];
-  date = text_at t (codes "date");
+  session = unwrap_or (string_at t (codes "session")) [];
+  username = unwrap_or (string_at t (codes "username")) [];
+  date = string_at t (codes "date");
   msg_type = kind;
-  version = unwrap_or (text_at t (codes "version")) [];
+  version = unwrap_or (string_at t (codes "version")) [];
 }
 
 abbrev pub header_typed : Json → List ℕ → Option (List ℕ) → Option Header
@@ -23,11 +23,11 @@ header_typed t id (Some kind) = Some (header_with t id kind)
 
 abbrev pub header_named : Json → Option (List ℕ) → Option Header
 header_named t None = None
-header_named t (Some id) = header_typed t id (text_at t (codes "msg_type"))
+header_named t (Some id) = header_typed t id (string_at t (codes "msg_type"))
 
 -- the header of that dictionary, where its msg_id and msg_type are strings
 abbrev pub header_of : Json → Option Header
-header_of t = header_named t (text_at t (codes "msg_id"))
+header_of t = header_named t (string_at t (codes "msg_id"))
 
 -- a pair with a string
 abbrev pub text_pair : List ℕ → List ℕ → List ℕ × Json

@@ -3,7 +3,8 @@ use Rattle.std.specs.Prelude.{◌≡◌, ◌≢◌, ℕ, ◌<◌, List, ◌∷�
 use Rattle.std.specs.List.{AllByRecursion}
 use Rattle.jsign.specs.Hmac as hmac
 use Rattle.jtext.specs.declared.json.Json.{Json}
-use Rattle.jmsg.specs.Dictionary.{IsDictionary, text_at}
+use Rattle.jtext.specs.Look.{string_at}
+use Rattle.jmsg.specs.Dictionary.{IsDictionary}
 use Rattle.jmsg.specs.Header.{header_of}
 use Rattle.jmsg.specs.declared.message.Message.{Message}
 use Rattle.jmsg.specs.declared.decoded.Decoded.{Decoded}
@@ -43,7 +44,7 @@ pub record Give (header parent metadata content : List ℕ) (buffers : List (Lis
   pub is_header : IsDictionary named header
   pub header_given : header_of named ≡ Some m.header
   pub is_parent : IsDictionary m.parent parent
-  pub parent_id_given : m.parent_id ≡ text_at m.parent (codes "msg_id")
+  pub parent_id_given : m.parent_id ≡ string_at m.parent (codes "msg_id")
   pub is_metadata : IsDictionary m.metadata metadata
   pub is_content : IsDictionary m.content content
   pub buffers_given : m.buffers ≡ buffers

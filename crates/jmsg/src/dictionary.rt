@@ -1,11 +1,12 @@
 //! Dictionaries: JSON objects.
-ghost use Rattle.std.specs.Prelude.{◌≡◌, ◌≢◌, ◌<◌, ℕ, List, length, position, IfOk, IfSome, Some, option_map};
+ghost use Rattle.std.specs.Prelude.{◌≡◌, ◌≢◌, ◌<◌, ℕ, List, length, position, IfOk, IfSome, Some, option_and_then};
 ghost use Rattle.std.specs.Str.{bytes_eq};
 ghost use Rattle.jmsg.specs.Dictionary as spec;
 ghost use Rattle.jtext.specs.Find.{find, fields};
+ghost use Rattle.jtext.specs.Look as look;
 ghost use Rattle.jtext.specs.declared.json.Json as tree;
 
-use jtext::{Fields, Json, JsonFault, NoMemory, Text, field, read};
+use jtext::{Fields, Json, JsonFault, NoMemory, Text, read};
 use std::alloc::Global;
 
 /// How deep a dictionary may nest.
@@ -17,40 +18,15 @@ pub(crate) fn dictionary(alloc: Global, bytes: &[u8]) -> Result<Option<Json>, No
     ensures only { (t : tree.Json) → spec.IsDictionary t bytes.now → IfOk result (λ r. r ≡ Some t) }
 {
     match read(alloc, bytes, DEEP) {
-        Ok(t) => { if is_object(&t) { Ok(Some(t)) } else { Ok(None) } }
+        Ok(t) => { if t.is_object() { Ok(Some(t)) } else { Ok(None) } }
         Err(JsonFault::NoMemory) => Err(NoMemory),
         Err(_) => Ok(None),
     }
 }
 
-fn is_object(t: &Json) -> bool
-    ensures { result ≡ spec.is_object t.now }
-{
-    matches!(t, Json::Obj(_))
-}
-
-/// A copy of the string at the key; `None` where there is no string.
-pub(crate) fn text_at(alloc: Global, t: &Json, key: &str) -> Result<Option<Text>, NoMemory>
-    ensures { IfOk result (λ r. r ≡ spec.text_at t.now key.now) }
-{
-    match found_text(t, key) {
-        Some(text) => Ok(Some(Text::of(alloc, text.as_str())?)),
-        None => Ok(None),
-    }
-}
-
-fn found_text<'a>(t: &'a Json, key: &str) -> Option<&'a Text>
-    ensures { option_map (λ r. r.now) result ≡ spec.text_at t.now key.now }
-{
-    match field(t, key) {
-        Some(Json::Str(text)) => Some(text),
-        _ => None,
-    }
-}
-
 /// Takes the first pair with the key out; the text of its value, where that is a string.
 pub(crate) fn take_text(pairs: &mut Fields, key: &str) -> Option<Text>
-    ensures text { result ≡ spec.text_of (find key.now pairs.old) }
+    ensures text { result ≡ option_and_then look.string (find key.now pairs.old) }
     ensures others { (other : List ℕ) → key.now ≢ other → find other pairs.new ≡ find other pairs.old }
 {
     let place = place_of(pairs, key)?;
@@ -59,7 +35,7 @@ pub(crate) fn take_text(pairs: &mut Fields, key: &str) -> Option<Text>
 
 /// The text of a string, and of no other value.
 fn string_of(value: Json) -> Option<Text>
-    ensures { result ≡ spec.text_of (Some value) }
+    ensures { result ≡ look.string value }
 {
     match value {
         Json::Str(text) => Some(text),

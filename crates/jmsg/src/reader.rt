@@ -5,11 +5,11 @@ ghost use Rattle.jmsg.specs.declared.decoded.Decoded as verdict;
 ghost use Rattle.jmsg.specs.declared.message.Message as spec;
 ghost use Rattle.jmsg.specs.Signed.{Decodes, Give};
 
-use crate::dictionary::{dictionary, text_at};
+use crate::dictionary::dictionary;
 use crate::frames::{after_delimiter, append_copies};
 use crate::{Decoded, Header, Message};
 use jsign::Signer;
-use jtext::{Bytes, NoMemory};
+use jtext::{Bytes, NoMemory, text_at};
 use std::alloc::Global;
 use zmtp_wire::Parts;
 

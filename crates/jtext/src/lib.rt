@@ -33,7 +33,7 @@ pub use indent::{write_indented, write_indented_at};
 pub use json::{Fields, Items, Json, Texts};
 pub use list::{Bytes, List};
 pub use look::is_whole_text;
-pub use lookup::{field, string_at};
+pub use lookup::{field, string_at, text_at};
 pub use no_memory::NoMemory;
 pub use number::{NumFault, NumText};
 pub use reader::read;

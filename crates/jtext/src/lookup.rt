@@ -1,9 +1,10 @@
 //! The value of a key.
-ghost use Rattle.std.specs.Prelude.{◌≡◌, option_map};
+ghost use Rattle.std.specs.Prelude.{◌≡◌, IfOk, option_map};
 ghost use Rattle.jtext.specs.Find as spec;
 ghost use Rattle.jtext.specs.Look as look;
 
-use crate::{Json, Text};
+use crate::{Json, NoMemory, Text};
+use std::alloc::Global;
 
 /// The value of the first pair with that key, and `None` where `t` is no object or lacks it.
 pub fn field<'a>(t: &'a Json, key: &str) -> Option<&'a Json>
@@ -25,4 +26,14 @@ pub fn string_at<'a>(t: &'a Json, key: &str) -> Option<&'a Text>
     ensures { option_map (λ r. r.now) result ≡ look.string_at t.now key.now }
 {
     field(t, key)?.as_text()
+}
+
+/// A copy of the string under a key, and `None` where there is none.
+pub fn text_at(alloc: Global, t: &Json, key: &str) -> Result<Option<Text>, NoMemory>
+    ensures { IfOk result (λ r. r ≡ look.string_at t.now key.now) }
+{
+    match string_at(t, key) {
+        Some(text) => Ok(Some(Text::of(alloc, text.as_str())?)),
+        None => Ok(None),
+    }
 }
