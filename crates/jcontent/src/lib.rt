@@ -4,7 +4,6 @@
 
 mod bundle;
 mod content;
-mod look;
 mod reader;
 mod reply;
 mod request;
@@ -12,6 +11,7 @@ mod shown;
 mod state;
 #[cfg(test)]
 mod tests;
+mod texts;
 
 pub use content::Content;
 pub use reader::read;

@@ -2,8 +2,8 @@
 ghost use Rattle.std.specs.Prelude.{◌≡◌, IfOk};
 ghost use Rattle.jcontent.specs.Contents as spec;
 
-use crate::look::{count, is_true_at, texts_at};
 use crate::reply::execute_reply;
+use crate::texts::{count, is_true_at, texts_at};
 use crate::{Content, Shown, State};
 use jtext::{Json, NoMemory, Text, text_at};
 use std::alloc::Global;
