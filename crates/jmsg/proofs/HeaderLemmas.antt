@@ -40,10 +40,10 @@ at ps key s found = ap (λ r. (option_and_then string) (find key (fields_of r)))
 none_at : (ps : List (List ℕ × Json)) (key : List ℕ) → find key ps ≡ None → string_at (json.Obj ps) key ≡ None
 none_at ps key found = ap (λ r. (option_and_then string) (find key (fields_of r))) (out-Obj ps) ∙ ap (option_and_then string) found
 
-abbrev pub with_texts : List ℕ → List ℕ → Option (List ℕ) → Option (List ℕ) → Option (List ℕ) → Option (List ℕ) → Option Header
+abbrev with_texts : List ℕ → List ℕ → Option (List ℕ) → Option (List ℕ) → Option (List ℕ) → Option (List ℕ) → Option Header
 with_texts i t s u d v = Some (header i (unwrap_or s []) (unwrap_or u []) d t (unwrap_or v []))
 
-pub read_by : (j : Json) (i t : List ℕ) (s u d v : Option (List ℕ)) → string_at j (codes "msg_id") ≡ Some i → string_at j (codes "msg_type") ≡ Some t → string_at j (codes "session") ≡ s
+read_by : (j : Json) (i t : List ℕ) (s u d v : Option (List ℕ)) → string_at j (codes "msg_id") ≡ Some i → string_at j (codes "msg_type") ≡ Some t → string_at j (codes "session") ≡ s
     → string_at j (codes "username") ≡ u → string_at j (codes "date") ≡ d → string_at j (codes "version") ≡ v → header_of j ≡ with_texts i t s u d v
 read_by j i t s u d v ei et es eu ed ev =
     ap (header_named j) ei ∙ ap (header_typed j i) et
@@ -51,12 +51,6 @@ read_by j i t s u d v ei et es eu ed ev =
     ∙ ap (λ x. with_texts i t s x (string_at j (codes "date")) (string_at j (codes "version"))) eu
     ∙ ap (λ x. with_texts i t s u x (string_at j (codes "version"))) ed
     ∙ ap (λ x. with_texts i t s u d x) ev
-
-pub unnamed : (j : Json) → string_at j (codes "msg_id") ≡ None → header_of j ≡ None
-unnamed j e = ap (header_named j) e
-
-pub untyped : (j : Json) (i : List ℕ) → string_at j (codes "msg_id") ≡ Some i → string_at j (codes "msg_type") ≡ None → header_of j ≡ None
-untyped j i ei et = ap (header_named j) ei ∙ ap (header_typed j i) et
 
 read_again : (i s u : List ℕ) (d : Option (List ℕ)) (t v : List ℕ) → header_of (tree_of (header i s u d t v)) ≡ Some (header i s u d t v)
 read_again i s u None t v =

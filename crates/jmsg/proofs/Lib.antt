@@ -1,4 +1,4 @@
-pub mod PairsLemmas
+pub mod ToldLemmas
 pub mod FrameLemmas
 pub mod VerdictLemmas
 pub mod MessageLemmas

@@ -3,7 +3,8 @@ ghost use Rattle.std.specs.Prelude.{◌≡◌, [], ◌∷◌, ◌++◌, IfOk, On
 ghost use Rattle.std.specs.Option.{unwrap_or};
 ghost use Rattle.jmsg.specs.Header as spec;
 
-use crate::dictionary::{pairs_of, take_text};
+use crate::dictionary::pairs_of;
+use crate::told::Told;
 use jtext::{Fields, Json, NoMemory, Text};
 use std::alloc::Global;
 
@@ -29,20 +30,14 @@ impl Header {
     pub(crate) fn of(alloc: Global, t: Json) -> Option<Header>
         ensures { result ≡ spec.header_of t }
     {
-        let mut pairs = pairs_of(alloc, t);
-        let msg_id = take_text(&mut pairs, "msg_id")?;
-        let msg_type = take_text(&mut pairs, "msg_type")?;
-        let session = take_text(&mut pairs, "session");
-        let username = take_text(&mut pairs, "username");
-        let date = take_text(&mut pairs, "date");
-        let version = take_text(&mut pairs, "version");
+        let told = Told::of(pairs_of(alloc, t));
         Some(Header {
-            msg_id,
-            session: or_empty(alloc, session),
-            username: or_empty(alloc, username),
-            date,
-            msg_type,
-            version: or_empty(alloc, version),
+            msg_id: told.msg_id?,
+            session: or_empty(alloc, told.session),
+            username: or_empty(alloc, told.username),
+            date: told.date,
+            msg_type: told.msg_type?,
+            version: or_empty(alloc, told.version),
         })
     }
 

@@ -13,6 +13,7 @@ mod message;
 mod reader;
 #[cfg(test)]
 mod tests;
+mod told;
 
 pub use date::date_text;
 pub use decoded::Decoded;
