@@ -16,3 +16,4 @@ pub mod Loose
 pub mod Refusal
 pub mod Sorting
 pub mod Indent
+pub mod Storage

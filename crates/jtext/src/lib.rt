@@ -21,6 +21,7 @@ mod quoted;
 mod reader;
 mod scan;
 mod sorted;
+mod storage;
 #[cfg(test)]
 mod tests;
 mod text;

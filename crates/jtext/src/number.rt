@@ -5,24 +5,26 @@ ghost use Rattle.jtext.specs.Gives.{NumberAnswer};
 
 use crate::NoMemory;
 use crate::scan::split_number;
+use crate::storage::Storage;
 use std::alloc::Global;
 use std::marker::Model;
 
 /// A text of the number grammar of RFC 8259, section 6. A contract sees it as the list of its bytes.
 #[derive(Debug, Drop)]
 pub struct NumText {
-    text: String,
+    storage: Storage,
 }
 
 impl Model for NumText {
-    ghost use Rattle.std.specs.Prelude.{List, ℕ, string_bytes};
+    ghost use Rattle.std.specs.Prelude.{List, ℕ};
+    ghost use Rattle.jtext.specs.Storage.{bytes_of};
     ghost use Rattle.jtext.specs.Number.{IsNumber};
 
     ghost Value = { List ℕ };
 
-    ghost view = { λ a. string_bytes a.text };
+    ghost view = { λ a. bytes_of a.storage };
 
-    ghost invariant = { λ a. IsNumber (string_bytes a.text) };
+    ghost invariant = { λ a. IsNumber (bytes_of a.storage) };
 }
 
 /// Why a text is refused as a number.
@@ -64,7 +66,7 @@ impl NumText {
         ensures { IfOk result (λ r. r ≡ text.now) }
     {
         Ok(NumText {
-            text: String::from_str(alloc, text)?,
+            storage: Storage::of(alloc, text)?,
         })
     }
 
@@ -73,6 +75,6 @@ impl NumText {
         ensures same { result.now ≡ self.now }
         ensures number { IsNumber result.now }
     {
-        self.text.as_str()
+        self.storage.as_str()
     }
 }

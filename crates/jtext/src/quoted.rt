@@ -19,22 +19,24 @@ pub(crate) fn string(alloc: Global, s: &str) -> Result<(Text, &str), Fault>
         return Err(Fault::Bad(s.len()));
     };
     if byte == b'"' {
-        let (text, rest) = body(alloc, after)?;
-        Ok((Text::of_string(text), rest))
+        body(alloc, after)
     } else {
         Err(Fault::Bad(s.len()))
     }
 }
 
 /// What follows the opening quote, up to the closing one. Without an escape it is copied once.
-fn body(alloc: Global, s: &str) -> Result<(String, &str), Fault>
+fn body(alloc: Global, s: &str) -> Result<(Text, &str), Fault>
     ensures shorter { IfOk result (λ r. length r.1.now < length s.now) }
-    ensures exact { (n : ℕ) → length s.now < n → Gives (λ r. (string_bytes r.0, r.1.now)) result (spec.body_at n [] s.now) }
+    ensures exact { (n : ℕ) → length s.now < n → Gives (λ r. (r.0, r.1.now)) result (spec.body_at n [] s.now) }
 {
     let (plain, after) = split_plain(s);
     match split_ascii(after) {
-        Some((b'"', next)) => Ok((String::from_str(alloc, plain)?, next)),
-        _ => pieces(alloc, s),
+        Some((b'"', next)) => Ok((Text::of(alloc, plain)?, next)),
+        _ => {
+            let (text, rest) = pieces(alloc, s)?;
+            Ok((Text::of_string(text), rest))
+        }
     }
 }
 

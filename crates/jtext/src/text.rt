@@ -2,21 +2,23 @@
 ghost use Rattle.std.specs.Prelude.{◌≡◌, [], ◌∷◌, ◌++◌, string_bytes, IfOk};
 
 use crate::NoMemory;
+use crate::storage::Storage;
 use std::alloc::Global;
 use std::marker::Model;
 
 /// Text in UTF-8. A contract sees it as the list of its bytes.
 #[derive(Debug, Drop)]
 pub struct Text {
-    text: String,
+    storage: Storage,
 }
 
 impl Model for Text {
-    ghost use Rattle.std.specs.Prelude.{List as Plain, ℕ, string_bytes};
+    ghost use Rattle.std.specs.Prelude.{List as Plain, ℕ};
+    ghost use Rattle.jtext.specs.Storage.{bytes_of};
 
     ghost Value = { Plain ℕ };
 
-    ghost view = { λ a. string_bytes a.text };
+    ghost view = { λ a. bytes_of a.storage };
 }
 
 impl Text {
@@ -25,7 +27,7 @@ impl Text {
         ensures { result ≡ [] }
     {
         Text {
-            text: String::new(alloc),
+            storage: Storage::Heap(String::new(alloc)),
         }
     }
 
@@ -34,7 +36,7 @@ impl Text {
         ensures { IfOk result (λ r. r ≡ text.now) }
     {
         Ok(Text {
-            text: String::from_str(alloc, text)?,
+            storage: Storage::of(alloc, text)?,
         })
     }
 
@@ -42,20 +44,22 @@ impl Text {
     pub fn of_string(text: String) -> Text
         ensures { result ≡ string_bytes text }
     {
-        Text { text }
+        Text {
+            storage: Storage::Heap(text),
+        }
     }
 
     /// Its bytes, lent.
     pub fn bytes(&self) -> &[u8]
         ensures { result.now ≡ self.now }
     {
-        self.text.as_bytes()
+        self.storage.as_str().as_bytes()
     }
 
     /// The text, lent.
     pub fn as_str(&self) -> &str
         ensures { result.now ≡ self.now }
     {
-        self.text.as_str()
+        self.storage.as_str()
     }
 }
