@@ -2,6 +2,7 @@ pub mod Machine
 pub mod Fronts
 pub mod Numbers
 pub mod Depths
+pub mod Edits
 pub mod Words
 pub mod NumberRuns
 pub mod Sounds
