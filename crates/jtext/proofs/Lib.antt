@@ -3,6 +3,8 @@ pub mod Fronts
 pub mod Numbers
 pub mod Depths
 pub mod Edits
+pub mod Trees
+pub mod SortedTrees
 pub mod Words
 pub mod NumberRuns
 pub mod Sounds
