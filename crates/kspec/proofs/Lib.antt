@@ -1,0 +1,4 @@
+pub mod Decimals
+mod Filled
+mod Pairs
+mod Unique

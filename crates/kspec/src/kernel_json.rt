@@ -1,0 +1,141 @@
+//! Kernel specs: the file `kernel.json`.
+ghost use Rattle.std.specs.Prelude.{◌≡◌, ◌⊎◌, map, IfOk, IfErr, MatchOption};
+ghost use Rattle.std.specs.List.{list_all};
+ghost use Rattle.jtext.specs.Find as find;
+ghost use Rattle.jtext.specs.Look.{is_string};
+ghost use Rattle.kspec.specs.KernelJson as kernel_json;
+ghost use Rattle.kspec.specs.declared.spec_fault.SpecFault.TheVariants as fault;
+
+use crate::{Spec, SpecFault};
+use jtext::{Json, JsonFault, NoMemory, Text, Texts, copy_fields, field, read, string_at};
+use std::alloc::Global;
+
+/// The size of the largest kernel spec, in bytes.
+const LARGEST: usize = 1 << 20;
+
+/// How deep a kernel spec may nest.
+const DEEP: u32 = 100;
+
+/// Reads a `kernel.json` (jupyter_client, "Kernel specs") from its bytes. `interrupt` says whether the kernel
+/// will have to be interrupted by a message. Keys that nbrun doesn't use are free.
+pub fn spec(alloc: Global, bytes: &[u8], interrupt: bool) -> Result<Spec, SpecFault>
+    ensures says { IfOk result (λ s. kernel_json.Says interrupt bytes.now s) }
+    ensures refused { IfErr result (λ f. (f ≡ fault.NoMemory) ⊎ kernel_json.Refuses interrupt bytes.now f) }
+{
+    let Some(tree) = parsed_tree(alloc, bytes)? else {
+        return Err(SpecFault::NotJson);
+    };
+    match fault_of(&tree, interrupt) {
+        Some(fault) => Err(fault),
+        None => Ok(spec_of(alloc, &tree)?),
+    }
+}
+
+/// The tree that the bytes spell, if they are a text of at most that size and depth.
+fn parsed_tree(alloc: Global, bytes: &[u8]) -> Result<Option<Json>, NoMemory>
+    ensures { IfOk result (λ o. MatchOption o (kernel_json.IsNoText bytes.now) (kernel_json.IsTextOf bytes.now)) }
+{
+    if LARGEST < bytes.len() {
+        return Ok(None);
+    }
+    match read(alloc, bytes, DEEP) {
+        Ok(tree) => Ok(Some(tree)),
+        Err(JsonFault::NoMemory) => Err(NoMemory),
+        Err(_) => Ok(None),
+    }
+}
+
+/// The first fault of the tree.
+fn fault_of(t: &Json, interrupt: bool) -> Option<SpecFault>
+    ensures { result ≡ kernel_json.fault_of interrupt t.now }
+{
+    if !t.is_object() {
+        Some(SpecFault::NotJson)
+    } else if !field(t, "argv").is_some_and(|v| is_argv(v)) {
+        Some(SpecFault::NoArgv)
+    } else if field(t, "env").is_some_and(|v| !is_env(v)) {
+        Some(SpecFault::BadEnv)
+    } else if interrupt && !is_by_message(t) {
+        Some(SpecFault::SignalMode)
+    } else {
+        None
+    }
+}
+
+fn is_argv(v: &Json) -> bool
+    ensures { result ≡ kernel_json.is_argv v.now }
+{
+    v.is_strings() && 1 <= v.items().len()
+}
+
+fn is_env(v: &Json) -> bool
+    ensures { result ≡ kernel_json.is_env v.now }
+{
+    v.is_object() && all_strings(v.pairs())
+}
+
+fn all_strings(pairs: &[(Text, Json)]) -> bool
+    ensures { result ≡ list_all (λ p. is_string p.1) pairs.now }
+{
+    pairs.iter().all(|pair| pair.1.is_string())
+}
+
+fn is_by_message(t: &Json) -> bool
+    ensures { result ≡ kernel_json.is_by_message t.now }
+{
+    string_at(t, "interrupt_mode").is_some_and(|mode| is_message(mode))
+}
+
+fn is_message(mode: &Text) -> bool
+    ensures { result ≡ kernel_json.is_message mode.now }
+{
+    mode.as_str() == "message"
+}
+
+/// What the tree says.
+fn spec_of(alloc: Global, t: &Json) -> Result<Spec, NoMemory>
+    ensures { IfOk result (λ s. s ≡ kernel_json.spec_of t.now) }
+{
+    Ok(Spec {
+        argv: texts(alloc, items_at(t, "argv"))?,
+        env: copy_fields(alloc, pairs_at(t, "env"))?,
+        by_message: is_by_message(t),
+    })
+}
+
+fn items_at<'a>(t: &'a Json, key: &str) -> &'a [Json]
+    ensures { result.now ≡ kernel_json.items_of (find.field t.now key.now) }
+{
+    match field(t, key) {
+        Some(v) => v.items(),
+        None => &[],
+    }
+}
+
+fn pairs_at<'a>(t: &'a Json, key: &str) -> &'a [(Text, Json)]
+    ensures { result.now ≡ kernel_json.pairs_of (find.field t.now key.now) }
+{
+    match field(t, key) {
+        Some(v) => v.pairs(),
+        None => &[],
+    }
+}
+
+fn texts(alloc: Global, items: &[Json]) -> Result<Texts, NoMemory>
+    ensures { IfOk result (λ r. r ≡ map kernel_json.text_of items.now) }
+{
+    let mut texts = Texts::new(alloc);
+    for item in items {
+        texts.push(text_of(alloc, item)?)?;
+    }
+    Ok(texts)
+}
+
+fn text_of(alloc: Global, v: &Json) -> Result<Text, NoMemory>
+    ensures { IfOk result (λ r. r ≡ kernel_json.text_of v.now) }
+{
+    match v.as_text() {
+        Some(text) => text.copy(alloc),
+        None => Ok(Text::new(alloc)),
+    }
+}
