@@ -1,0 +1,3 @@
+mod Folders
+pub mod Laws
+mod Rests

@@ -1,0 +1,4 @@
+pub mod Entries
+pub mod Messages
+pub mod Places
+pub mod Temporary
