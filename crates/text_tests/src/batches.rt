@@ -1,7 +1,7 @@
 //! What is asked of the jobs of a file.
-use super::shown::shown;
-use crate::{Asks, Command, jobs, read};
+use crate::shown::shown;
 use std::test::Fail;
+use words::{Asks, Command, jobs, read};
 
 const WORDS: &str =
     "--jobs f --kernel-path d --merge-streams --allow-error-name E --start-timeout 5";

@@ -1,7 +1,7 @@
 //! What is asked, as a line of text.
-use crate::Ask;
 use jtext::{Fields, Json, Texts};
 use std::test::Fail;
+use words::Ask;
 
 /// The paths, the kernel, its folders, the six switches, the two times, the names of errors and the parameters.
 pub(crate) fn shown(rt: &HostRuntime, ask: &Ask) -> Result<String, Fail> {

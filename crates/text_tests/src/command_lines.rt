@@ -1,7 +1,7 @@
 //! Command lines and what is answered, worked out by hand from the grammar of the options.
-use crate::{Command, Usage, read, value_of};
 use jtext::{Json, NoMemory};
 use std::test::Fail;
+use words::{Command, Usage, read, value_of};
 
 /// A command line a row: what is answered, the index of the word that is named, and the words.
 const LINES: &str = "\
@@ -184,7 +184,7 @@ extra 3 -- --jobs f x\n\
 same 2 -- --x --x\n\
 one 0 A B -p x --\n";
 
-fn answer(read: &Result<Command, Usage>) -> (&'static str, usize) {
+fn answer(read: &Result<Command, Usage>) -> (&'static str, u32) {
     match read {
         Ok(Command::One(_)) => ("one", 0),
         Ok(Command::Many { .. }) => ("many", 0),
@@ -217,7 +217,7 @@ fn each_command_line_is_taken_or_refused_at_its_word(rt: HostRuntime) -> Result<
         let row = words_of(&rt, line)?;
         let kind = row.first().ok_or("a kind is missing")?;
         let place = row.get(1).ok_or("a place is missing")?;
-        let at = place.as_str().parse::<usize>()?;
+        let at = place.as_str().parse::<u32>()?;
         let words = row.get(2..).ok_or("the words are missing")?;
         let (found, n) = answer(&read(rt.alloc(), words));
         assert!(rt; found == kind.as_str() && n == at, "{line}");

@@ -1,7 +1,7 @@
 //! Each option with the field that it sets, and what stands where it isn't given.
-use super::shown::shown;
-use crate::{Ask, Command, read};
+use crate::shown::shown;
 use std::test::Fail;
+use words::{Ask, Command, read};
 
 /// A command line a row, and what is asked of one job, or of all jobs of a batch.
 const LINES: &str = "\

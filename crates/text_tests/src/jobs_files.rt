@@ -1,6 +1,6 @@
 //! Jobs files and what is answered, worked out by hand from their form.
-use crate::{Command, Usage, jobs, read};
 use std::test::Fail;
+use words::{Command, Usage, jobs, read};
 
 /// A jobs file a row: `ok`, `whole` for the empty pointer, or the pointer; and the file, whose path is `f`.
 const FILES: &str = r#"ok {"jobs":[{"input":"a","output":"b"}]}
