@@ -3,7 +3,7 @@ use Rattle.std.proofs.Common.{◌≡◌, ◌⊎◌, Bool, true, false, cond, Opt
 use Rattle.jtext.specs.declared.fault.Fault.{Fault}
 use Rattle.jtext.specs.declared.fault.Fault.TheVariants.{NoMemory, Bad, Deep, Repeated, Lone}
 use Rattle.std.specs.Option.{option_and_then}
-use Rattle.jtext.specs.Faults.{◌>>=◌, or_fault}
+use Rattle.jtext.specs.Readings.{◌>>=◌, or_fault}
 use Rattle.jtext.specs.Gives.{Fails}
 
 pub bind_ok : {A B : Type 0} (r : Result A Fault) (f : A → Result B Fault) (y : B) → r >>= f ≡ Ok y → (x : A) × (r ≡ Ok x) × (f x ≡ Ok y)
@@ -16,6 +16,14 @@ bind_ok (Err g) f y e = absurd (no_ok g y e)
 pub or_fault_ok : {A : Type 0} (f : Fault) (o : Option A) (x : A) → or_fault f o ≡ Ok x → o ≡ Some x
 or_fault_ok f (Some y) x e = cc
 or_fault_ok f None x e = cc
+
+-- what two equal options hold
+pub some_is : {A : Type 0} (s t : A) → ◌≡◌ {A = Option A} (Some s) (Some t) → s ≡ t
+some_is s t e = cc
+
+-- nothing is no option that holds something
+pub no_some : {A : Type 0} (t : A) → ◌≡◌ {A = Option A} None (Some t) → ⊥
+no_some t e = cc
 
 -- which way a test went
 pub chosen : {A : Type 0} (b : Bool) (x y z : A) → cond b x y ≡ z → ((b ≡ true) × (x ≡ z)) ⊎ ((b ≡ false) × (y ≡ z))

@@ -7,7 +7,7 @@ use Rattle.std.specs.List.{prefix_len}
 use Rattle.std.specs.Char.{encode_utf8}
 use Rattle.jtext.specs.declared.fault.Fault.{Fault}
 use Rattle.jtext.specs.declared.fault.Fault.TheVariants.{Bad}
-use Rattle.jtext.specs.Faults.{◌>>=◌}
+use Rattle.jtext.specs.Readings.{◌>>=◌}
 use Rattle.jtext.specs.Reading.{ascii_front}
 use Rattle.jtext.specs.Gives.{Fails}
 use Rattle.jtext.specs.Strings.{is_plain, split_plain, escape_at, body_at}

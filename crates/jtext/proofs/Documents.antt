@@ -8,7 +8,7 @@ use Rattle.jtext.specs.declared.json.Json.{Json}
 use Rattle.jtext.specs.declared.json.Json.TheVariants as json
 use Rattle.jtext.specs.declared.fault.Fault.{Fault}
 use Rattle.jtext.specs.declared.fault.Fault.TheVariants.{Bad, Deep, Repeated}
-use Rattle.jtext.specs.Faults.{◌>>=◌, strip_word}
+use Rattle.jtext.specs.Readings.{◌>>=◌, strip_word}
 use Rattle.jtext.specs.Strings.{Quoted, string_at}
 use Rattle.jtext.specs.Grammar.{Spells, Spelled, null, yes, no, number, string, no_items, array, no_pairs, object, Items, last_item, next_item, Pairs, last_pair, next_pair, Pair, pair, Distinct, AreSpaces, Passes}
 use Rattle.jtext.specs.Number.{IsNumber}

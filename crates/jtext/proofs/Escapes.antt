@@ -6,8 +6,8 @@ use Rattle.std.specs.Bool.{nat_lt, nat_le}
 use Rattle.std.specs.Char.{digit_value, encode_utf8, is_digit}
 use Rattle.jtext.specs.declared.fault.Fault.{Fault}
 use Rattle.jtext.specs.declared.fault.Fault.TheVariants.{NoMemory, Bad, Deep, Repeated, Lone}
-use Rattle.jtext.specs.Faults.{Reading, ◌>>=◌, or_fault, strip_word}
-use Rattle.jtext.specs.Strings.{short, is_plain, paired, any_digit_at, four_at, cut_or_lone, low_letter_at, low_digit_at, low_at, unit_at, unicode_at, short_to, escape_at, body_at, string_at}
+use Rattle.jtext.specs.Readings.{Reading, ◌>>=◌, or_fault, strip_word}
+use Rattle.jtext.specs.Strings.{short, is_plain, character_of_pair, any_digit_at, four_at, cut_or_lone, low_letter_at, low_digit_at, low_at, unit_at, unicode_at, short_to, escape_at, body_at, string_at}
 use Rattle.jtext.proofs.Machine as machine
 use Rattle.jtext.proofs.Machine.{Frame, Mode, State, at, value, key, colon, after, text, escape, unit, string_end, step, run, Open, Refuses, Stands, Stops, Like, Passed, Follows}
 use Rattle.jtext.proofs.Binds.{test}
@@ -52,6 +52,7 @@ goes_bind : {A B : Type 0} (σ τ κ : State) (left : ℕ) (s : List ℕ) (r : R
 goes_bind σ τ κ left s (Ok p) f a b = goes_over σ a.place κ left s a.front p.1 (f p) a.split a.runs (goes_like a.place τ κ left p.1 (f p) a.like (b p))
 goes_bind σ τ κ left s (Err g) f a b = a
 
+-- a state has what it has itself
 pub itself : (τ : State) (s : List ℕ) → Like τ τ s
 itself τ [] = λ h. h
 itself τ (c ∷ cs) = refl
@@ -113,11 +114,11 @@ module _ (k : Bool) (fs : List Frame) (left : ℕ) where
 
   unit_goes : (u : ℕ) (s : List ℕ) → Goes (at (text k) fs) (at (text k) fs) left s (unit_at left u s)
   unit_goes u s =
-      test (λ b. Goes (at (text k) fs) (at (text k) fs) left s (cond b (Ok (u, s)) (cond (nat_le 0xDC00 u) (Err (Lone left)) (low_at left s >>= (λ p. Ok (paired u p.0, p.1)))))) (nat_lt u 0xD800 || nat_le 0xE000 u)
+      test (λ b. Goes (at (text k) fs) (at (text k) fs) left s (cond b (Ok (u, s)) (cond (nat_le 0xDC00 u) (Err (Lone left)) (low_at left s >>= (λ p. Ok (character_of_pair u p.0, p.1)))))) (nat_lt u 0xD800 || nat_le 0xE000 u)
       (λ e. stays (at (text k) fs) (at (text k) fs) (u, s) (itself (at (text k) fs) s))
-      (λ e. test (λ b. Goes (at (text k) fs) (at (text k) fs) left s (cond b (Err (Lone left)) (low_at left s >>= (λ p. Ok (paired u p.0, p.1))))) (nat_le 0xDC00 u)
+      (λ e. test (λ b. Goes (at (text k) fs) (at (text k) fs) left s (cond b (Err (Lone left)) (low_at left s >>= (λ p. Ok (character_of_pair u p.0, p.1))))) (nat_le 0xDC00 u)
       (λ d. refl)
-      (λ d. goes_bind (at (text k) fs) (at (text k) fs) (at (text k) fs) left s (low_at left s) _ (low_unit_goes s) (λ p. stays (at (text k) fs) (at (text k) fs) (paired u p.0, p.1) (itself (at (text k) fs) p.1))))
+      (λ d. goes_bind (at (text k) fs) (at (text k) fs) (at (text k) fs) left s (low_at left s) _ (low_unit_goes s) (λ p. stays (at (text k) fs) (at (text k) fs) (character_of_pair u p.0, p.1) (itself (at (text k) fs) p.1))))
 
   unicode_goes : (s : List ℕ) → Goes (at (unit k 3) fs) (at (text k) fs) left s (unicode_at left s)
   unfolding unicode_at

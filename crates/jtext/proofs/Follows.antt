@@ -6,7 +6,7 @@ use Rattle.std.specs.Option.{option_and_then}
 use Rattle.std.specs.Prelude.{codes}
 use Rattle.jtext.specs.declared.fault.Fault.{Fault}
 use Rattle.jtext.specs.declared.fault.Fault.TheVariants.{NoMemory, Bad, Deep, Repeated, Lone}
-use Rattle.jtext.specs.Faults.{Reading, ◌>>=◌, strip_word}
+use Rattle.jtext.specs.Readings.{Reading, ◌>>=◌, strip_word}
 use Rattle.jtext.specs.Grammar.{IsSpace, AreSpaces}
 use Rattle.jtext.specs.Reading.{is_space, skip_spaces, items_at, after_item, list_at, begun_at}
 use Rattle.jtext.proofs.Machine as machine

@@ -7,7 +7,7 @@ use Rattle.jtext.specs.declared.json.Json.{Json}
 use Rattle.jtext.specs.declared.fault.Fault.{Fault}
 use Rattle.jtext.specs.declared.fault.Fault.TheVariants.{Deep, Repeated, Lone}
 use Rattle.jtext.specs.Depth.{depth}
-use Rattle.jtext.specs.Faults.{Reading, ◌>>=◌}
+use Rattle.jtext.specs.Readings.{Reading, ◌>>=◌}
 use Rattle.jtext.specs.Strings.{string_at}
 use Rattle.jtext.specs.Grammar.{Spelled, Pair, AreSpaces, Lacks}
 use Rattle.jtext.specs.Reading.{skip_spaces, item_at, field_at, key_at, after_key, has_key, as_array, as_object, as_string, value_at, document_at, at_end}

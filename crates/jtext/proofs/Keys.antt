@@ -1,13 +1,13 @@
 -- Keys that stand once, and words.
-use Rattle.std.proofs.Common.{◌≡◌, ℕ, ◌≢◌, Bool, true, false, ◌||◌, List, [], ◌∷◌, ◌++◌, length, take, drop, Option, Some, None, refl, sym, ap₂, ◌∙◌, inl, inr}
-use Rattle.std.proofs.lemmas.Bool.{cases_Bool}
+use Rattle.std.proofs.Common.{◌≡◌, ℕ, ◌≢◌, true, false, ◌||◌, List, [], ◌∷◌, ◌++◌, length, take, drop, Option, Some, None, refl, sym, ap₂, ◌∙◌, inl, inr}
+use Rattle.std.proofs.lemmas.Bool.{cases_Bool, or_parts}
 use Rattle.std.proofs.lemmas.List.{take-append-drop}
 use Rattle.std.proofs.lemmas.Slice.Eq.{bytes_eq-Decides}
 use Rattle.std.specs.Prelude.{nat_eq}
 use Rattle.std.specs.List.{AllByRecursion, starts_with}
 use Rattle.std.specs.Str.{bytes_eq}
 use Rattle.jtext.specs.declared.json.Json.{Json}
-use Rattle.jtext.specs.Faults.{strip_word}
+use Rattle.jtext.specs.Readings.{strip_word}
 use Rattle.jtext.specs.Grammar.{Distinct}
 use Rattle.jtext.specs.Reading.{has_key}
 use Rattle.jtext.proofs.Binds.{chosen}
@@ -20,13 +20,6 @@ pub all-at : {A : Type 0} (P : A → Type 0) (xs : List A) (x : A) (ys : List A)
 all-at P [] x ys all = all.0
 all-at P (z ∷ zs) x ys all = all-at P zs x ys all.1
 
-pub or_false : (a b : Bool) → (a || b) ≡ false → (a ≡ false) × (b ≡ false)
-or_false false b e = (refl, e)
-or_false true b e = absurd (never e)
-  where
-    never : true ≡ false → ⊥
-    never h = cc
-
 pub differ : (xs ys : List ℕ) → bytes_eq xs ys ≡ false → ys ≢ xs
 differ xs ys e same = let t : true ≡ false = sym ((bytes_eq-Decides xs ys).1 (sym same)) ∙ e in cc
 
@@ -37,7 +30,7 @@ not_equal xs ys no_same =
 pub distinct-push : (ps : List (List ℕ × Json)) (p : List ℕ × Json) → Distinct ps → has_key ps p.0 ≡ false → Distinct (ps ++ p ∷ [])
 distinct-push [] p d e = (tt, tt)
 distinct-push (r ∷ rs) p d e =
-    let h = or_false (bytes_eq r.0 p.0) (has_key rs p.0) e in
+    let h = or_parts (bytes_eq r.0 p.0) (has_key rs p.0) e in
     (all-push (λ q. q.0 ≢ r.0) rs p d.0 (differ r.0 p.0 h.0), distinct-push rs p d.1 h.1)
 
 pub distinct-free : (ps : List (List ℕ × Json)) (p : List ℕ × Json) (qs : List (List ℕ × Json)) → Distinct (ps ++ p ∷ qs) → has_key ps p.0 ≡ false

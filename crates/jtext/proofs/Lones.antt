@@ -7,7 +7,7 @@ use Rattle.std.specs.Bool.{nat_lt, nat_le}
 use Rattle.std.specs.Char.{digit_value, encode_utf8}
 use Rattle.jtext.specs.declared.fault.Fault.{Fault}
 use Rattle.jtext.specs.declared.fault.Fault.TheVariants.{NoMemory, Bad, Deep, Repeated, Lone}
-use Rattle.jtext.specs.Faults.{Reading, ◌>>=◌, or_fault, strip_word}
+use Rattle.jtext.specs.Readings.{Reading, ◌>>=◌, or_fault, strip_word}
 use Rattle.jtext.specs.Strings.{IsFour, IsHigh, IsLow, IsEscape, Letters, done, plain, escaped, short, is_plain, digit_at, any_digit_at, four_at, low_letter_at, low_digit_at, low_at, unit_at, unicode_at, short_to, escape_at, body_at, string_at}
 use Rattle.jtext.specs.Refusal as refusal
 use Rattle.jtext.specs.Refusal.{fits, is_within, low_escape, IsLone}

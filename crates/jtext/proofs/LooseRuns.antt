@@ -14,6 +14,7 @@ use Rattle.jtext.specs.Loose.{Characters, IsString, IsWord, Value, Values, Membe
 use Rattle.jtext.proofs.Machine as machine
 use Rattle.jtext.proofs.Machine.{Frame, State, at, value, first, first_key, key, colon, after, text, escape, unit, string_end, step, run, start, Like, Passed, Follows}
 use Rattle.jtext.proofs.Follows.{blank, run-append, over, as_like, Loops, loops, run_spaces, after_loops, open_like}
+use Rattle.jtext.proofs.Escapes.{itself}
 use Rattle.jtext.proofs.Fronts.{all-append}
 use Rattle.jtext.proofs.Series.{Begins, Ends, ends_run}
 use Rattle.jtext.proofs.StringLaws.{of_plain}
@@ -31,10 +32,6 @@ pass_over σ τ κ s front rest t e is b = over {A = ℕ} σ τ κ s front rest 
 
 pass_like : (σ τ κ : State) (s t : List ℕ) → Like σ τ s → Passed τ κ s t → Passed σ κ s t
 pass_like σ τ κ s t like b = as_like {A = ℕ} σ τ κ s (Ok (blank, t)) like b
-
-itself : (τ : State) (s : List ℕ) → Like τ τ s
-itself τ [] = λ h. h
-itself τ (c ∷ cs) = refl
 
 here : (τ : State) (rest : List ℕ) → Passed τ τ rest rest
 here τ rest = record { front = []; place = τ; split = refl; runs = refl; like = itself τ rest }

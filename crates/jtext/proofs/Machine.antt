@@ -6,7 +6,7 @@ use Rattle.jtext.specs.declared.fault.Fault.TheVariants.{NoMemory, Bad, Deep, Re
 use Rattle.jtext.specs.declared.json.Json.{Json}
 use Rattle.jtext.specs.declared.fault.JsonFault.{JsonFault}
 use Rattle.jtext.specs.declared.fault.JsonFault.TheVariants as json_fault
-use Rattle.jtext.specs.Faults.{Reading}
+use Rattle.jtext.specs.Readings.{Reading}
 use Rattle.jtext.specs.Strings.{is_plain, short}
 use Rattle.jtext.specs.Reading.{is_space}
 

@@ -1,12 +1,12 @@
 -- What is read of a number is one.
-use Rattle.std.proofs.Common.{◌≡◌, ℕ, ◌≤◌, ◌⊎◌, true, false, cond, ◌==◌, ◌||◌, List, [], ◌∷◌, ◌++◌, length, Option, Some, None, inl, inr, refl, sym, ap, ◌∙◌, subst, append_assoc, arith}
+use Rattle.std.proofs.Common.{◌≡◌, ℕ, ◌≤◌, ◌⊎◌, true, false, cond, ◌==◌, ◌||◌, List, [], ◌∷◌, ◌++◌, length, Some, None, inl, inr, refl, sym, ap, ◌∙◌, subst, append_assoc, arith}
 use Rattle.std.proofs.lemmas.Bool.Decides.{nat_tests}
 use Rattle.std.proofs.lemmas.List.{append-nil}
 use Rattle.std.specs.Char.{is_ascii_digit}
 use Rattle.jtext.specs.Grammar.{Passes}
 use Rattle.jtext.specs.Number.{IsDigit, AreAllDigits, AreDigits, IsMinus, IsWhole, IsSign, IsFraction, IsExponent, IsNumber}
 use Rattle.jtext.specs.Reading.{skip_digits, after_digits, after_minus, after_sign, after_whole, after_fraction, after_exponent, after_number}
-use Rattle.jtext.proofs.Binds.{chosen, test, and_then_some}
+use Rattle.jtext.proofs.Binds.{chosen, test, and_then_some, some_is, no_some}
 use Rattle.jtext.proofs.NumberRuns.{number_ends}
 use Rattle.jtext.proofs.Numbers.{digits_of, whole_of, number_of}
 
@@ -15,12 +15,6 @@ digit_of c e = grind (arith, nat_tests)
 
 equal_of : (c n : ℕ) → (c == n) ≡ true → c ≡ n
 equal_of c n e = grind (arith, nat_tests)
-
-some_is : (s t : List ℕ) → ◌≡◌ {A = Option (List ℕ)} (Some s) (Some t) → s ≡ t
-some_is s t e = cc
-
-no_some : (t : List ℕ) → ◌≡◌ {A = Option (List ℕ)} None (Some t) → ⊥
-no_some t e = cc
 
 all_sound : (s : List ℕ) → Passes AreAllDigits s (skip_digits s)
 all_sound [] = ([], tt, refl)

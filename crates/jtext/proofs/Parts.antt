@@ -8,11 +8,11 @@ use Rattle.std.specs.Char.{is_ascii_digit}
 use Rattle.jtext.specs.declared.json.Json.{Json}
 use Rattle.jtext.specs.declared.json.Json.TheVariants as json
 use Rattle.jtext.specs.declared.fault.Fault.TheVariants.{Bad}
-use Rattle.jtext.specs.Faults.{Reading, strip_word}
+use Rattle.jtext.specs.Readings.{Reading, strip_word}
 use Rattle.jtext.specs.Reading.{is_space, skip_digits, ascii_front, after_digits, after_minus, after_sign, after_whole, after_fraction, after_exponent, after_number, word_at, word_stop, number_to, number_stop, whole_stop, fraction_stop, exponent_stop}
 use Rattle.jtext.proofs.Machine as machine
 use Rattle.jtext.proofs.Machine.{Frame, Mode, State, at, value, after, word, minus, zero_, whole, point, fraction, tail, power, sign, exponent, step, run, Open, Refuses, Stops, Like, Passed, Follows}
-use Rattle.jtext.proofs.Binds.{test}
+use Rattle.jtext.proofs.Binds.{test, some_is, no_some}
 use Rattle.jtext.proofs.Follows.{blank, over, byte, refused, stays, as_like, no_state, modes}
 
 -- ---- words
@@ -22,12 +22,6 @@ strip_step n c ns cs e = let t : nat_eq n c ≡ true = grind (arith, nat_tests) 
 
 strip_stop : (n c : ℕ) (ns cs : List ℕ) → (c == n) ≡ false → strip_word (n ∷ ns) (c ∷ cs) ≡ None
 strip_stop n c ns cs e = let t : nat_eq n c ≡ false = grind (arith, nat_tests) in rw t refl
-
-same_rest : (s t : List ℕ) → ◌≡◌ {A = Option (List ℕ)} (Some s) (Some t) → s ≡ t
-same_rest s t e = cc
-
-none_some : (t : List ℕ) → ◌≡◌ {A = Option (List ℕ)} None (Some t) → ⊥
-none_some t e = cc
 
 -- no text ends within a word
 word_open : (n : ℕ) (ns : List ℕ) (fs : List Frame) → Open (at (word (n ∷ ns)) fs)
@@ -48,10 +42,10 @@ word_step n c ns cs v (Some rest) e = refl
 
 pub word_follow : (fs : List Frame) (name s : List ℕ) (v : Json) (o : Option (List ℕ)) → strip_word name s ≡ o → Follows (at (word name) fs) (at after fs) s (word_at name v s o)
 unfolding word_stop
-word_follow fs [] s v None e = absurd (none_some s (sym e))
-word_follow fs [] s v (Some rest) e = record { front = []; place = at (word []) fs; split = same_rest s rest e; runs = refl; like = word_end fs rest }
+word_follow fs [] s v None e = absurd (no_some s (sym e))
+word_follow fs [] s v (Some rest) e = record { front = []; place = at (word []) fs; split = some_is s rest e; runs = refl; like = word_end fs rest }
 word_follow fs (n ∷ ns) [] v None e = refused Json (at (word (n ∷ ns)) fs) (at after fs) [] (word_open n ns fs)
-word_follow fs (n ∷ ns) [] v (Some rest) e = absurd (none_some rest e)
+word_follow fs (n ∷ ns) [] v (Some rest) e = absurd (no_some rest e)
 word_follow fs (n ∷ ns) (c ∷ cs) v None e =
     elim (cases_Bool (c == n)) [
       | inl t ↦
@@ -64,7 +58,7 @@ word_follow fs (n ∷ ns) (c ∷ cs) v None e =
 word_follow fs (n ∷ ns) (c ∷ cs) v (Some rest) e =
     elim (cases_Bool (c == n)) [
       | inl t ↦ byte (at (word (n ∷ ns)) fs) (at (word ns) fs) (at after fs) c cs (word_at ns v cs (Some rest)) (ap (λ b. cond b (Some (at (word ns) fs)) None) t) (word_follow fs ns cs v (Some rest) (sym (strip_step n c ns cs t) ∙ e))
-      | inr t ↦ absurd (none_some rest (sym (strip_stop n c ns cs t) ∙ e))
+      | inr t ↦ absurd (no_some rest (sym (strip_stop n c ns cs t) ∙ e))
     ]
 
 -- ---- numbers

@@ -7,7 +7,7 @@ use Rattle.jtext.specs.declared.json.Json.TheVariants as json
 use Rattle.jtext.specs.declared.fault.Fault.{Fault}
 use Rattle.jtext.specs.declared.fault.Fault.TheVariants.{NoMemory, Bad, Deep, Repeated, Lone}
 use Rattle.jtext.specs.declared.fault.JsonFault.{JsonFault}
-use Rattle.jtext.specs.Faults.{Reading, ◌>>=◌, strip_word}
+use Rattle.jtext.specs.Readings.{Reading, ◌>>=◌, strip_word}
 use Rattle.jtext.specs.Strings.{string_at}
 use Rattle.jtext.specs.Gives.{Fails, fault_within}
 use Rattle.jtext.specs.Reading.{is_space, skip_spaces, word_at, list_at, item_at, field_at, key_at, after_key, colon_at, has_key, as_array, as_object, as_string, value_at, document_at, at_end, number_to, after_number}

@@ -4,7 +4,7 @@ use Rattle.std.proofs.lemmas.List.{length-append}
 use Rattle.std.proofs.lemmas.Bool.Decides.{nat_tests}
 use Rattle.std.specs.Prelude.{codes}
 use Rattle.jtext.specs.declared.fault.Fault.TheVariants.{Bad}
-use Rattle.jtext.specs.Faults.{Reading, strip_word}
+use Rattle.jtext.specs.Readings.{Reading, strip_word}
 use Rattle.jtext.specs.Grammar.{IsSpace, AreSpaces, Passes}
 use Rattle.jtext.specs.Reading.{is_space, skip_spaces, items_at, after_item, list_at, begun_at}
 use Rattle.jtext.proofs.Binds.{bind_ok, test}

@@ -1,5 +1,6 @@
 -- What reading refuses stands in the bytes.
 use Rattle.std.proofs.Common.{◌≡◌, ℕ, zero, suc, ◌+◌, ◌<◌, ◌≤◌, ◌⊎◌, true, false, ◌||◌, ◌==◌, List, [], ◌∷◌, ◌++◌, length, Option, Some, None, Ok, Err, inl, inr, refl, sym, ap, ap₂, ◌∙◌, subst, append_assoc, eqb-true, arith}
+use Rattle.std.proofs.lemmas.Bool.{or_parts}
 use Rattle.std.proofs.lemmas.List.{length-append}
 use Rattle.std.specs.Prelude.{codes}
 use Rattle.std.specs.List.{AllByRecursion}
@@ -9,13 +10,13 @@ use Rattle.jtext.specs.declared.json.Json.TheVariants as json
 use Rattle.jtext.specs.declared.fault.Fault.{Fault}
 use Rattle.jtext.specs.declared.fault.Fault.TheVariants.{NoMemory, Bad, Deep, Repeated, Lone}
 use Rattle.jtext.specs.Depth.{depth}
-use Rattle.jtext.specs.Faults.{Reading, strip_word}
+use Rattle.jtext.specs.Readings.{Reading, strip_word}
 use Rattle.jtext.specs.Strings.{Letters, string_at}
 use Rattle.jtext.specs.Grammar.{Spelled, Pair, AreSpaces, Passes, Lacks}
 use Rattle.jtext.specs.Reading.{skip_spaces, word_at, items_at, after_item, begun_at, list_at, item_at, field_at, key_at, after_key, colon_at, has_key, as_array, as_object, as_string, value_at, number_to, after_number, word_stop, number_stop}
 use Rattle.jtext.specs.Refusal.{BeforeValue, first_item, next_item, member, BeforeKey, first_key, next_key, WithinString, in_value, in_key, IsDeep, IsRepeated, IsAlone}
 use Rattle.jtext.proofs.Binds.{chosen}
-use Rattle.jtext.proofs.Keys.{or_false, differ, not_equal, all-push}
+use Rattle.jtext.proofs.Keys.{differ, not_equal, all-push}
 use Rattle.jtext.proofs.Lones.{bind_err, no_err, fault_is, StringFault, string_fault}
 use Rattle.jtext.proofs.StringLaws.{strip_one, string_sound}
 use Rattle.jtext.proofs.Series.{Series, last, next, spaces_sound}
@@ -26,7 +27,7 @@ use Rattle.jtext.proofs.Documents.{Flat, to_items, to_pairs, value_sound, field_
 
 pub lacks_free : (ps : List (List ℕ × Json)) (key : List ℕ) → has_key ps key ≡ false → Lacks key ps
 lacks_free [] key e = tt
-lacks_free (p ∷ ps) key e = let h = or_false (bytes_eq p.0 key) (has_key ps key) e in (λ same. differ p.0 key h.0 (sym same), lacks_free ps key h.1)
+lacks_free (p ∷ ps) key e = let h = or_parts (bytes_eq p.0 key) (has_key ps key) e in (λ same. differ p.0 key h.0 (sym same), lacks_free ps key h.1)
 
 pub free_lacks : (ps : List (List ℕ × Json)) (key : List ℕ) → Lacks key ps → has_key ps key ≡ false
 free_lacks [] key l = refl

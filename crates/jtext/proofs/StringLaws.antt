@@ -8,8 +8,8 @@ use Rattle.std.specs.Char.{digit_value, encode_utf8}
 use Rattle.std.specs.Prelude.{codes}
 use Rattle.jtext.specs.declared.fault.Fault.{Fault}
 use Rattle.jtext.specs.declared.fault.Fault.TheVariants.{Bad, Lone}
-use Rattle.jtext.specs.Faults.{Reading, ◌>>=◌, or_fault, strip_word}
-use Rattle.jtext.specs.Strings.{IsPlain, short, IsFour, IsHigh, IsLow, paired, IsEscape, Letters, done, plain, escaped, Quoted, is_plain, digit_at, any_digit_at, four_at, cut_or_lone, low_letter_at, low_digit_at, low_at, unit_at, unicode_at, short_to, escape_at, body_at, string_at}
+use Rattle.jtext.specs.Readings.{Reading, ◌>>=◌, or_fault, strip_word}
+use Rattle.jtext.specs.Strings.{IsPlain, short, IsFour, IsHigh, IsLow, character_of_pair, IsEscape, Letters, done, plain, escaped, Quoted, is_plain, digit_at, any_digit_at, four_at, cut_or_lone, low_letter_at, low_digit_at, low_at, unit_at, unicode_at, short_to, escape_at, body_at, string_at}
 use Rattle.jtext.specs.Grammar.{Passes}
 use Rattle.jtext.proofs.Binds.{bind_ok, or_fault_ok, chosen}
 use Rattle.jtext.proofs.Bodies.{body_plain}
@@ -171,7 +171,7 @@ unicode_sound left s p e =
             | inr g ↦
                 let (l, is_l, e2) = bind_ok (low_at left u.1) _ p g.1 in
                 let (second, is_second, is_low, after) = low_unit_sound left u.1 l is_l in
-                let same = pair_is (paired u.0 l.0) l.1 p e2 in (
+                let same = pair_is (character_of_pair u.0 l.0) l.1 p e2 in (
                   digits ++ 92 ∷ 117 ∷ second,
                   inr (inr (record { high = u.0; low = l.0; first = digits; second = second; is_first = four; is_second = is_second; is_high = two_units u.0 h.0 g.0; is_low = is_low; character = sym (ap (λ q. q.0) same); text = refl })),
                   text ∙ ap (λ x. digits ++ x) (after ∙ ap (λ q. 92 ∷ 117 ∷ (second ++ q.1)) same) ∙ simp append_assoc,
@@ -195,14 +195,14 @@ escape_sound left (c ∷ cs) p e =
 unit_complete : (left u : ℕ) (rest : List ℕ) → (u < 0xD800) ⊎ (0xE000 ≤ u) → unit_at left u rest ≡ Ok (u, rest)
 unit_complete left u rest h =
     let t : (nat_lt u 0xD800 || nat_le 0xE000 u) ≡ true = grind (arith, nat_tests) in
-    ap (λ b. cond b (Ok (u, rest)) (cond (nat_le 0xDC00 u) (Err (Lone left)) (low_at left rest >>= (λ p. Ok (paired u p.0, p.1))))) t
+    ap (λ b. cond b (Ok (u, rest)) (cond (nat_le 0xDC00 u) (Err (Lone left)) (low_at left rest >>= (λ p. Ok (character_of_pair u p.0, p.1))))) t
 
-units_complete : (left u l : ℕ) (s rest : List ℕ) → IsHigh u → low_at left s ≡ Ok (l, rest) → unit_at left u s ≡ Ok (paired u l, rest)
+units_complete : (left u l : ℕ) (s rest : List ℕ) → IsHigh u → low_at left s ≡ Ok (l, rest) → unit_at left u s ≡ Ok (character_of_pair u l, rest)
 units_complete left u l s rest h e =
     let t : (nat_lt u 0xD800 || nat_le 0xE000 u) ≡ false = grind (arith, nat_tests) in
     let r : nat_le 0xDC00 u ≡ false = grind (arith, nat_tests) in
-    ap (λ b. cond b (Ok (u, s)) (cond (nat_le 0xDC00 u) (Err (Lone left)) (low_at left s >>= (λ p. Ok (paired u p.0, p.1))))) t
-    ∙ ap (λ b. cond b (Err (Lone left)) (low_at left s >>= (λ p. Ok (paired u p.0, p.1)))) r ∙ ap (λ r. r >>= (λ p. Ok (paired u p.0, p.1))) e
+    ap (λ b. cond b (Ok (u, s)) (cond (nat_le 0xDC00 u) (Err (Lone left)) (low_at left s >>= (λ p. Ok (character_of_pair u p.0, p.1))))) t
+    ∙ ap (λ b. cond b (Err (Lone left)) (low_at left s >>= (λ p. Ok (character_of_pair u p.0, p.1)))) r ∙ ap (λ r. r >>= (λ p. Ok (character_of_pair u p.0, p.1))) e
 
 pub escape_complete : (left c : ℕ) (e rest : List ℕ) → IsEscape c e → escape_at left (e ++ rest) ≡ Ok (c, rest)
 unfolding escape_at unicode_at

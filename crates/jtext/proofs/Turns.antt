@@ -6,7 +6,7 @@ use Rattle.jtext.specs.declared.json.Json.{Json}
 use Rattle.jtext.specs.declared.json.Json.TheVariants as json
 use Rattle.jtext.specs.declared.fault.Fault.{Fault}
 use Rattle.jtext.specs.declared.fault.Fault.TheVariants.{Bad, Deep, Repeated}
-use Rattle.jtext.specs.Faults.{Reading, ◌>>=◌, strip_word}
+use Rattle.jtext.specs.Readings.{Reading, ◌>>=◌, strip_word}
 use Rattle.jtext.specs.Strings.{string_at}
 use Rattle.jtext.specs.Reading.{skip_spaces, word_at, items_at, after_item, begun_at, list_at, item_at, field_at, key_at, after_key, colon_at, has_key, as_array, as_object, as_string, value_with, value_at, number_to, number_stop, after_number, ascii_front, Items, Pairs}
 use Rattle.jtext.specs.Gives.{Fails}

@@ -10,6 +10,7 @@ use Rattle.jtext.specs.declared.fault.JsonFault.TheVariants as json_fault
 use Rattle.jtext.specs.declared.fault.Fault.{Fault}
 use Rattle.jtext.specs.declared.fault.Fault.TheVariants.{NoMemory, Bad, Deep, Repeated, Lone}
 
+-- reading ends with that fault, and with none that is known where memory ran out
 abbrev pub Fails : {Y : Type 0} → Fault → Result Y Fault → Type 0
 Fails NoMemory read = Unit {0}
 Fails (Bad left) read = read ≡ Err (Bad left)
@@ -22,6 +23,7 @@ abbrev pub Gives : {X Y : Type 0} → (X → Y) → Result X Fault → Result Y 
 Gives view (Ok x) read = read ≡ Ok (view x)
 Gives view (Err e) read = Fails e read
 
+-- the fault with its place from the start, in a text of that length
 abbrev pub fault_within : Fault → ℕ → JsonFault
 fault_within NoMemory len = json_fault.NoMemory
 fault_within (Bad left) len = json_fault.Bad (len - left)

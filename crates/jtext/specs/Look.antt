@@ -8,6 +8,7 @@ use Rattle.jtext.specs.Find.{field}
 
 -- ---- kinds
 
+-- an object, seen at one level
 abbrev pub is_object_layer : Json-F Json → Bool
 is_object_layer Json-F.Null = false
 is_object_layer (Json-F.Bool b) = false
@@ -20,6 +21,7 @@ is_object_layer (Json-F.Obj ps) = true
 abbrev pub is_object : Json → Bool
 is_object t = is_object_layer (out-Json t)
 
+-- a list, seen at one level
 abbrev pub is_list_layer : Json-F Json → Bool
 is_list_layer Json-F.Null = false
 is_list_layer (Json-F.Bool b) = false
@@ -32,6 +34,7 @@ is_list_layer (Json-F.Obj ps) = false
 abbrev pub is_list : Json → Bool
 is_list t = is_list_layer (out-Json t)
 
+-- `null`, seen at one level
 abbrev pub is_null_layer : Json-F Json → Bool
 is_null_layer Json-F.Null = true
 is_null_layer (Json-F.Bool b) = false
@@ -46,6 +49,7 @@ is_null t = is_null_layer (out-Json t)
 
 -- ---- what stands in a value
 
+-- the items of a list, seen at one level
 abbrev pub items_layer : Json-F Json → List Json
 items_layer Json-F.Null = []
 items_layer (Json-F.Bool b) = []
@@ -58,6 +62,7 @@ items_layer (Json-F.Obj ps) = []
 abbrev pub items : Json → List Json
 items t = items_layer (out-Json t)
 
+-- the text of a string, seen at one level
 abbrev pub string_layer : Json-F Json → Option (List ℕ)
 string_layer Json-F.Null = None
 string_layer (Json-F.Bool b) = None
@@ -70,6 +75,7 @@ string_layer (Json-F.Obj ps) = None
 abbrev pub string : Json → Option (List ℕ)
 string t = string_layer (out-Json t)
 
+-- the text of a number, seen at one level
 abbrev pub number_layer : Json-F Json → Option (List ℕ)
 number_layer Json-F.Null = None
 number_layer (Json-F.Bool b) = None

@@ -7,8 +7,8 @@ use Rattle.jtext.specs.declared.number.NumFault.{NumFault}
 use Rattle.jtext.specs.declared.number.NumFault.TheVariants as num_fault
 
 -- a text and a place
-abbrev pub placed : List ℕ → ℕ → List ℕ
-placed what at = what ++ codes " at " ++ decimal at
+abbrev pub at_place : List ℕ → ℕ → List ℕ
+at_place what at = what ++ codes " at " ++ decimal at
 
 -- a growth was refused
 abbrev pub memory_message : List ℕ
@@ -16,11 +16,11 @@ memory_message = codes "out of memory"
 
 -- why bytes are refused as a JSON text
 abbrev pub json_message : JsonFault → List ℕ
-json_message (json_fault.NotUtf8 at) = placed (codes "not JSON: utf8") at
-json_message (json_fault.Bad at) = placed (codes "not JSON: syntax") at
-json_message (json_fault.Deep at) = placed (codes "not JSON: depth") at
-json_message (json_fault.Repeated at) = placed (codes "not JSON: repeated key") at
-json_message (json_fault.Lone at) = placed (codes "not JSON: lone surrogate") at
+json_message (json_fault.NotUtf8 at) = at_place (codes "not JSON: utf8") at
+json_message (json_fault.Bad at) = at_place (codes "not JSON: syntax") at
+json_message (json_fault.Deep at) = at_place (codes "not JSON: depth") at
+json_message (json_fault.Repeated at) = at_place (codes "not JSON: repeated key") at
+json_message (json_fault.Lone at) = at_place (codes "not JSON: lone surrogate") at
 json_message json_fault.NoMemory = memory_message
 
 -- why a text is refused as a number

@@ -1,5 +1,5 @@
--- Pairs in the order of their keys' bytes, as `sort_keys` of Python's `json` has them. A stable insertion sort.
-use Rattle.std.specs.Prelude.{ℕ, if◌then◌else◌, List, [], ◌∷◌}
+-- Pairs in the order of their keys' bytes, as `sort_keys` of Python's `json` has them: a stable insertion sort.
+use Rattle.std.specs.Prelude.{◌≡◌, ℕ, if◌then◌else◌, List, [], ◌∷◌, map, slice_get, Some}
 use Rattle.std.specs.declared.cmp.Ordering.{Ordering}
 use Rattle.std.specs.Ordering.{is_gt, nat_cmp}
 use Rattle.std.specs.Cmp.Lexicographic.{slice_cmp}
@@ -25,6 +25,10 @@ sort_by cmp (x ∷ xs) = insert_sorted cmp x (sort_by cmp xs)
 -- pairs in the order of their keys
 abbrev pub by_key : {A : Type 0} → List (List ℕ × A) → List (List ℕ × A)
 by_key ps = sort_by (λ p q. byte_order p.0 q.0) ps
+
+-- each place is that of a pair, and they stand in the order of the pairs' keys
+abbrev pub ArePlacesByKey : {A : Type 0} → List (List ℕ × Json) → List (A × ℕ) → Type 0
+ArePlacesByKey ps places = map (λ e. slice_get ps e.1) places ≡ map (λ p. Some p) (by_key ps)
 
 -- one level, with what was sorted inside in its place
 abbrev pub sorted_step : Json-F Json → Json

@@ -52,7 +52,7 @@ impl<T: Drop> From<AllocFailed<T>> for Fault {
 pub enum JsonFault {
     /// The bytes are not UTF-8: the first byte of the first ill-formed sequence.
     NotUtf8 { at: u64 },
-    /// The bytes are no JSON text: the length of the longest front that some continuation makes one.
+    /// The bytes are no JSON text: how long the longest front is that some continuation makes one.
     Bad { at: u64 },
     /// A bracket or brace that opens a level too many.
     Deep { at: u64 },

@@ -1,7 +1,8 @@
 //! The indented text of a tree.
 ghost use Rattle.std.specs.Prelude.{◌≡◌, ◌++◌, [], ℕ, List as Plain, replicate, IfOk, OnOk};
 ghost use Rattle.jtext.specs.Sorting.{by_key};
-ghost use Rattle.jtext.specs.Indent.{print, indented, indented_items, indented_fields, on_line, further};
+ghost use Rattle.jtext.specs.Indent.{print, indented, indented_items, indented_fields};
+ghost use Rattle.jtext.specs.Indent.{on_line, further};
 
 use crate::escape::put_string;
 use crate::json::{Fields, Items};
@@ -107,7 +108,8 @@ fn indent_fields(
     margin: &mut Bytes,
     fields: &Fields,
 ) -> Result<(), NoMemory>
-    ensures text { OnOk result (out.new ≡ out.old ++ indented_fields margin.old (by_key fields.now)) }
+    ensures text { OnOk result
+        (out.new ≡ out.old ++ indented_fields margin.old (by_key fields.now)) }
     ensures margin { OnOk result (margin.new ≡ margin.old) }
 {
     let pairs = fields.as_slice();

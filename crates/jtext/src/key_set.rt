@@ -1,8 +1,7 @@
-//! The keys of an object that is read: none may come twice. Few are compared one by one, and many are
-//! looked up in an ordered set.
-ghost use Rattle.std.specs.Prelude.{◌≡◌, ◌<◌, ◌≤◌, ℕ, List as Plain, length, cond, true, false, IfOk, OnOk};
-ghost use Rattle.std.specs.Str.{bytes_eq};
-ghost use Rattle.std.specs.BTreeSet.{contains_text};
+//! The keys of an object that is read: none may come twice. Few are compared one by one, and many
+//! are looked up in an ordered set.
+ghost use Rattle.std.specs.Prelude.{◌≡◌, ◌<◌, ◌≤◌, length, IfOk, OnOk};
+ghost use Rattle.jtext.specs.KeySet.{HasKeys, HasKeysAnd};
 ghost use Rattle.jtext.specs.Reading.{has_key};
 
 use crate::{Fields, Json, NoMemory, Text};
@@ -20,9 +19,10 @@ pub(crate) fn is_taken(
     many: &mut BTreeSet<String>,
     key: &str,
 ) -> Result<bool, NoMemory>
-    requires kept { 16 < length found.now → (q : Plain ℕ) → contains_text many.old q ≡ has_key found.now q }
+    requires kept { 16 < length found.now → HasKeys many.old found.now }
     ensures taken { IfOk result (λ taken. taken ≡ has_key found.now key.now) }
-    ensures kept { IfOk result (λ taken. 16 ≤ length found.now → (q : Plain ℕ) → contains_text many.new q ≡ cond (bytes_eq key.now q) true (has_key found.now q)) }
+    ensures kept { IfOk result (λ taken. 16 ≤ length found.now →
+        HasKeysAnd key.now many.new found.now) }
 {
     if found.len() < FEW {
         return Ok(has_key(found.as_slice(), key));
@@ -40,8 +40,8 @@ fn has_key(pairs: &[(Text, Json)], key: &str) -> bool
 
 /// Makes the set of the keys where the pairs have just ceased to be few.
 fn complete(alloc: Global, found: &Fields, many: &mut BTreeSet<String>) -> Result<(), NoMemory>
-    requires kept { 16 < length found.now → (q : Plain ℕ) → contains_text many.old q ≡ has_key found.now q }
-    ensures { OnOk result (16 ≤ length found.now → (q : Plain ℕ) → contains_text many.new q ≡ has_key found.now q) }
+    requires kept { 16 < length found.now → HasKeys many.old found.now }
+    ensures { OnOk result (16 ≤ length found.now → HasKeys many.new found.now) }
 {
     if found.len() == FEW {
         *many = keys_of(alloc, found.as_slice())?;
@@ -50,7 +50,7 @@ fn complete(alloc: Global, found: &Fields, many: &mut BTreeSet<String>) -> Resul
 }
 
 fn keys_of(alloc: Global, pairs: &[(Text, Json)]) -> Result<BTreeSet<String>, NoMemory>
-    ensures { IfOk result (λ keys. (q : Plain ℕ) → contains_text keys q ≡ has_key pairs.now q) }
+    ensures { IfOk result (λ keys. HasKeys keys pairs.now) }
 {
     let mut keys = BTreeSet::new(alloc);
     for pair in pairs {

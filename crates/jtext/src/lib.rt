@@ -1,33 +1,39 @@
 //! JSON trees and the lists and texts that they are made of (RFC 8259).
-//! Reads bytes to a tree, looks into it, and writes a tree as compact or as indented text. It does no IO.
+//! Reads bytes to a tree, looks into it, edits it, and writes it as compact or as indented text.
+//! It does no IO.
 #![tactic(auto)]
 
-mod build;
-mod bundle;
-mod compact;
-mod duplicate;
-mod edit;
-mod escape;
-mod fault;
-mod indent;
-mod inside;
+// Lists, texts and numbers, and the tree that they make.
 mod json;
-mod key_set;
-pub mod laws;
 mod list;
-mod look;
-mod lookup;
 mod no_memory;
 mod number;
+mod storage;
+mod text;
+
+// Looking into a tree, making one, changing one.
+mod build;
+mod bundle;
+mod duplicate;
+mod edit;
+mod inside;
+mod look;
+mod lookup;
+
+// Reading.
+mod fault;
+mod key_set;
 mod plain;
 mod quoted;
 mod reader;
 mod scan;
+
+// Writing.
+mod compact;
+mod escape;
+mod indent;
+pub mod laws;
 mod sorted;
-mod storage;
-#[cfg(test)]
-mod tests;
-mod text;
 
 pub use build::{object, pair, string, text_pair};
 pub use bundle::{is_bundle, is_json_type, is_multiline};

@@ -115,8 +115,8 @@ impl<T: Drop> List<T> {
         Ok(())
     }
 
-    /// Moves a full list of four to a new block of twice the room: `malloc` has blocks of such sizes at
-    /// hand, which `realloc` doesn't take.
+    /// Moves a full list of four to a new block of twice the room: `malloc` has blocks of such
+    /// sizes at hand, which `realloc` doesn't take.
     fn widen(&mut self) -> Result<(), NoMemory>
         ensures { self.new ≡ self.old }
     {

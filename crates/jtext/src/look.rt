@@ -83,7 +83,8 @@ fn all_strings(items: &[Json]) -> bool
     items.iter().all(|item| item.is_string())
 }
 
-/// Whether it is the text of a whole number that isn't negative: `0`, or digits that begin with another one.
+/// Whether it is the text of a whole number that isn't negative: `0`, or digits that begin with
+/// another one.
 pub fn is_whole_text(text: &[u8]) -> bool
     ensures { result ≡ spec.is_whole_text text.now }
 {

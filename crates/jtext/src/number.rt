@@ -11,7 +11,8 @@ use std::error::Error;
 use std::fmt;
 use std::marker::Model;
 
-/// A text of the number grammar of RFC 8259, section 6. A contract sees it as the list of its bytes.
+/// A text of the number grammar of RFC 8259, section 6. A contract sees it as the list of its
+/// bytes.
 #[derive(Debug, Drop)]
 pub struct NumText {
     storage: Storage,

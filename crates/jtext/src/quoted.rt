@@ -28,7 +28,8 @@ pub(crate) fn string(alloc: Global, s: &str) -> Result<(Text, &str), Fault>
 /// What follows the opening quote, up to the closing one. Without an escape it is copied once.
 fn body(alloc: Global, s: &str) -> Result<(Text, &str), Fault>
     ensures shorter { IfOk result (λ r. length r.1.now < length s.now) }
-    ensures exact { (n : ℕ) → length s.now < n → Gives (λ r. (r.0, r.1.now)) result (spec.body_at n [] s.now) }
+    ensures exact { (n : ℕ) → length s.now < n →
+        Gives (λ r. (r.0, r.1.now)) result (spec.body_at n [] s.now) }
 {
     let (plain, after) = split_plain(s);
     match split_ascii(after) {
@@ -43,7 +44,8 @@ fn body(alloc: Global, s: &str) -> Result<(Text, &str), Fault>
 /// The same, put together from plain pieces and the characters of escapes.
 fn pieces(alloc: Global, s: &str) -> Result<(String, &str), Fault>
     ensures shorter { IfOk result (λ r. length r.1.now < length s.now) }
-    ensures exact { (n : ℕ) → length s.now < n → Gives (λ r. (string_bytes r.0, r.1.now)) result (spec.body_at n [] s.now) }
+    ensures exact { (n : ℕ) → length s.now < n →
+        Gives (λ r. (string_bytes r.0, r.1.now)) result (spec.body_at n [] s.now) }
 {
     let mut out = String::new(alloc);
     let mut rest = s;

@@ -1,13 +1,12 @@
 //! `read`, from bytes to a tree, by recursive descent. Each function gives the value at the front
 //! and the text after it.
-ghost use Rattle.std.specs.Prelude.{◌≡◌, ℕ, ◌<◌, ◌≤◌, List as Plain, length, cond, true, codes, IfOk};
+ghost use Rattle.std.specs.Prelude.{◌≡◌, ◌<◌, ◌≤◌, length, true, codes, IfOk};
 ghost use Rattle.std.specs.List.{AllByRecursion};
-ghost use Rattle.std.specs.Str.{bytes_eq};
-ghost use Rattle.std.specs.BTreeSet.{contains_text};
 ghost use Rattle.jtext.specs.Grammar.{Spells};
 ghost use Rattle.jtext.specs.Gives.{Gives, ReadsAs};
 ghost use Rattle.jtext.specs.Reading.{value_at, document_at, list_at, item_at, field_at, has_key, key_at, word_at};
-ghost use Rattle.jtext.specs.Faults.{strip_word};
+ghost use Rattle.jtext.specs.Readings.{strip_word};
+ghost use Rattle.jtext.specs.KeySet.{HasKeys, HasKeysAnd};
 ghost use Rattle.jtext.specs.Refusal.{Refused, Stands, Answers};
 ghost use Rattle.jtext.specs.declared.fault.JsonFault as fault;
 ghost use Rattle.jtext.specs.Depth.{depth};
@@ -64,7 +63,8 @@ fn word<'a>(s: &'a str, name: &str, value: Json) -> Result<(Json, &'a str), Faul
     requires some { 0 < length name.now }
     requires ascii { AllByRecursion (λ c. c < 128) name.now }
     ensures shorter { IfOk result (λ r. length r.1.now < length s.now) }
-    ensures exact { Gives (λ r. (r.0, r.1.now)) result (word_at name.now value s.now (strip_word name.now s.now)) }
+    ensures exact { Gives (λ r. (r.0, r.1.now)) result
+        (word_at name.now value s.now (strip_word name.now s.now)) }
 {
     match strip_word(s, name) {
         Some(rest) => Ok((value, rest)),
@@ -76,7 +76,8 @@ fn word<'a>(s: &'a str, name: &str, value: Json) -> Result<(Json, &'a str), Faul
 #[cycle(parse)]
 fn items(alloc: Global, s: &str, deep: u32) -> Result<(Items, &str), Fault>
     ensures within { IfOk result (λ r. length r.1.now ≤ length s.now) }
-    ensures exact { Gives (λ r. (r.0, r.1.now)) result (list_at (codes "]") (item_at (value_at deep)) s.now) }
+    ensures exact { Gives (λ r. (r.0, r.1.now)) result
+        (list_at (codes "]") (item_at (value_at deep)) s.now) }
 {
     let mut found = Items::new(alloc);
     let mut rest = skip_spaces(s);
@@ -102,7 +103,8 @@ fn items(alloc: Global, s: &str, deep: u32) -> Result<(Items, &str), Fault>
 #[cycle(parse)]
 fn fields(alloc: Global, s: &str, deep: u32) -> Result<(Fields, &str), Fault>
     ensures within { IfOk result (λ r. length r.1.now ≤ length s.now) }
-    ensures exact { Gives (λ r. (r.0, r.1.now)) result (list_at (codes "}") (field_at (value_at deep)) s.now) }
+    ensures exact { Gives (λ r. (r.0, r.1.now)) result
+        (list_at (codes "}") (field_at (value_at deep)) s.now) }
 {
     let mut found = Fields::new(alloc);
     let mut many = BTreeSet::new(alloc);
@@ -133,9 +135,9 @@ fn key<'a>(
     found: &Fields,
     many: &mut BTreeSet<String>,
 ) -> Result<(Text, &'a str), Fault>
-    requires kept { 16 < length found.now → (q : Plain ℕ) → contains_text many.old q ≡ has_key found.now q }
+    requires kept { 16 < length found.now → HasKeys many.old found.now }
     ensures shorter { IfOk result (λ r. length r.1.now < length s.now) }
-    ensures kept { IfOk result (λ r. 16 ≤ length found.now → (q : Plain ℕ) → contains_text many.new q ≡ cond (bytes_eq r.0 q) true (has_key found.now q)) }
+    ensures kept { IfOk result (λ r. 16 ≤ length found.now → HasKeysAnd r.0 many.new found.now) }
     ensures exact { Gives (λ r. (r.0, r.1.now)) result (key_at (has_key found.now) s.now) }
 {
     let (key, after) = string(alloc, s)?;
@@ -149,9 +151,9 @@ fn key<'a>(
     }
 }
 
-/// Reads a whole JSON text (RFC 8259) in which lists and objects are at most `deep` levels deep; the
-/// outermost one is level 1. Keys must differ within an object, and surrogates must come in pairs.
-/// Of several faults the first is answered, and the recursion is no deeper than `deep`.
+/// Reads a whole JSON text (RFC 8259) in which lists and objects are at most `deep` levels deep;
+/// the outermost one is level 1. Keys must differ within an object, and surrogates must come in
+/// pairs. Of several faults the first is answered, and the recursion is no deeper than `deep`.
 pub fn read(alloc: Global, bytes: &[u8], deep: u32) -> Result<Json, JsonFault>
     // What is read is spelled so, and what is spelled so is read.
     ensures spelled { IfOk result (λ t. Spells t bytes.now) }

@@ -3,7 +3,7 @@ ghost use Rattle.std.specs.Prelude.{◌≡◌, ◌⊎◌, ℕ, ◌<◌, ◌≤�
 ghost use Rattle.std.specs.List.{AllByRecursion};
 ghost use Rattle.jtext.specs.Grammar.{IsSpace, AreSpaces, Passes};
 ghost use Rattle.jtext.specs.Reading as spec;
-ghost use Rattle.jtext.specs.Faults.{strip_word};
+ghost use Rattle.jtext.specs.Readings.{strip_word};
 ghost use Rattle.jtext.specs.Number.{IsNumber, AreAllDigits, AreDigits, IsMinus, IsSign, IsWhole, IsFraction, IsExponent};
 
 /// The first byte and the text after it, where that byte is ASCII.

@@ -1,6 +1,6 @@
 //! Pairs in the order of their keys.
-ghost use Rattle.std.specs.Prelude.{◌≡◌, ◌<◌, length, map, slice_get, Some, IfOk};
-ghost use Rattle.jtext.specs.Sorting.{by_key};
+ghost use Rattle.std.specs.Prelude.{◌≡◌, ◌<◌, length, slice_get, IfOk};
+ghost use Rattle.jtext.specs.Sorting.{by_key, ArePlacesByKey};
 
 use crate::{Json, NoMemory, Text};
 use std::alloc::Global;
@@ -10,7 +10,7 @@ pub(crate) fn places_by_key(
     alloc: Global,
     pairs: &[(Text, Json)],
 ) -> Result<Vec<(&str, usize)>, NoMemory>
-    ensures { IfOk result (λ v. map (λ e. slice_get pairs.now e.1) v.items ≡ map (λ p. Some p) (by_key pairs.now)) }
+    ensures { IfOk result (λ v. ArePlacesByKey pairs.now v.items) }
 {
     let mut places = Vec::new(alloc);
     for (i, pair) in pairs.iter().enumerate() {
@@ -22,7 +22,7 @@ pub(crate) fn places_by_key(
 
 /// The place of the pair whose key is at `i` of those keys.
 pub(crate) fn place_of(pairs: &[(Text, Json)], places: &[(&str, usize)], i: usize) -> usize
-    requires sorted { map (λ e. slice_get pairs.now e.1) places.now ≡ map (λ p. Some p) (by_key pairs.now) }
+    requires sorted { ArePlacesByKey pairs.now places.now }
     requires within { i < length places.now }
     ensures within { result < length pairs.now }
     ensures pair { slice_get (by_key pairs.now) i ≡ slice_get pairs.now result }

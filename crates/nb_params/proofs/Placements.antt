@@ -1,10 +1,10 @@
 -- Where the new cell stands, and what holds of all cells then.
 use Rattle.std.proofs.Common.{◌≡◌, ◌⊎◌, ℕ, zero, suc, ◌+◌, ◌<◌, ◌≤◌, ◌^◌, true, false, not, ◌&&◌, ◌||◌, List, [], ◌∷◌, ◌++◌, length, take, drop, refl, sym, ap, ap₂, ◌∙◌, inl, inr, arith, subst, codes, Option, Some, None}
+use Rattle.std.proofs.lemmas.Bool.{or_parts}
 use Rattle.std.proofs.lemmas.List.{take-append-drop, map-append, length-map}
 use Rattle.std.specs.List.{AllByRecursion, list_any, position}
 use Rattle.std.specs.Str.{bytes_eq}
 use Rattle.jtext.specs.declared.json.Json.{Json}
-use Rattle.jtext.proofs.Keys.{or_false}
 use Rattle.nb_model.specs.declared.cell.Cell.{Cell}
 use Rattle.nb_model.specs.Injected.{is_tagged, with_parameters, placed_at, placed_after, parameters_cell, fresh_id, ids}
 use Rattle.nb_model.proofs.PreparedLaws.{no_repeat}
@@ -105,7 +105,7 @@ pub no_repeat-between : (xs : List (List ℕ)) (y : List ℕ) (ys : List (List �
 no_repeat-between [] y ys e f = ap₂ (λ a b. not a && b) f e
 no_repeat-between (x ∷ xs) y ys e f =
     let h = and_parts (not (list_any (bytes_eq x) (xs ++ ys))) (no_repeat (xs ++ ys)) e in
-    let g = or_false (bytes_eq y x) (list_any (bytes_eq y) (xs ++ ys)) f in
+    let g = or_parts (bytes_eq y x) (list_any (bytes_eq y) (xs ++ ys)) f in
     ap₂ (λ a b. not a && b) (any-between x xs y ys (turned x y ∙ g.0)) (no_repeat-between xs y ys h.1 g.1) ∙ ap (λ b. b && true) h.0
 
 ids-left_out : (i : ℕ) (cs : List Cell) → ids (take i cs ++ drop (suc i) cs) ≡ take i (ids cs) ++ drop (suc i) (ids cs)

@@ -2,7 +2,7 @@
 use Rattle.std.proofs.Common.{◌≡◌, Bool, true, false, not, ◌&&◌, ◌||◌, List, [], ◌∷◌, ◌++◌, refl, ap, ◌∙◌}
 use Rattle.std.specs.List.{list_any, list_all}
 use Rattle.std.proofs.lemmas.List.Folds.{list_any-append}
-use Rattle.words.specs.Apart.{apart}
+use Rattle.words.specs.Apart.{are_distinct}
 
 -- none of these items is the same as one of those, or as one of these before it
 abbrev pub no_earlier : {A : Type 0} → (A → A → Bool) → List A → List A → Bool
@@ -33,17 +33,17 @@ fresh_more same flips before x (y ∷ ys) =
     ∙ crossed (list_any (same y) before) (same x y) (fresh same before ys) (list_any (same x) ys)
 
 no_earlier_is : {A : Type 0} (same : A → A → Bool) → ((x y : A) → same x y ≡ same y x) → (before xs : List A)
-    → no_earlier same before xs ≡ (fresh same before xs && apart same xs)
+    → no_earlier same before xs ≡ (fresh same before xs && are_distinct same xs)
 no_earlier_is same flips before [] = refl
 no_earlier_is same flips before (x ∷ xs) =
     ap (λ b. not (list_any (same x) before) && b)
-    (no_earlier_is same flips (before ++ x ∷ []) xs ∙ ap (λ f. f && apart same xs) (fresh_more same flips before x xs))
-    ∙ regrouped (not (list_any (same x) before)) (fresh same before xs) (not (list_any (same x) xs)) (apart same xs)
+    (no_earlier_is same flips (before ++ x ∷ []) xs ∙ ap (λ f. f && are_distinct same xs) (fresh_more same flips before x xs))
+    ∙ regrouped (not (list_any (same x) before)) (fresh same before xs) (not (list_any (same x) xs)) (are_distinct same xs)
 
 all_fresh : {A : Type 0} (same : A → A → Bool) (xs : List A) → fresh same [] xs ≡ true
 all_fresh same [] = refl
 all_fresh same (x ∷ xs) = all_fresh same xs
 
 -- a whole list, seen from its end and from its front
-pub no_earlier_apart : {A : Type 0} (same : A → A → Bool) → ((x y : A) → same x y ≡ same y x) → (xs : List A) → no_earlier same [] xs ≡ apart same xs
-no_earlier_apart same flips xs = no_earlier_is same flips [] xs ∙ ap (λ f. f && apart same xs) (all_fresh same xs)
+pub no_earlier_apart : {A : Type 0} (same : A → A → Bool) → ((x y : A) → same x y ≡ same y x) → (xs : List A) → no_earlier same [] xs ≡ are_distinct same xs
+no_earlier_apart same flips xs = no_earlier_is same flips [] xs ∙ ap (λ f. f && are_distinct same xs) (all_fresh same xs)

@@ -1,5 +1,6 @@
 -- A jobs file has a fault exactly where it isn't valid.
 use Rattle.std.proofs.Common.{◌≡◌, ℕ, ◌+◌, true, cond, not, ◌&&◌, List, [], ◌∷◌, ◌++◌, length, Option, Some, None, refl, sym, ap, ◌∙◌}
+use Rattle.std.proofs.lemmas.Bool.{and_parts, and_from}
 use Rattle.std.specs.Prelude.{is_some, codes}
 use Rattle.std.specs.List.{list_any, list_all}
 use Rattle.std.specs.Str.{bytes_eq}
@@ -13,7 +14,7 @@ use Rattle.words.specs.declared.used_path.UsedPath.{UsedPath}
 use Rattle.words.specs.Members.{has_key, member_of, takes_value}
 use Rattle.words.specs.JobsFile.{member_takes, is_member, is_job, is_count, are_jobs, is_batch, jobs_of, paths_of, is_equal, IsJobsFile}
 use Rattle.words.specs.JobsFaults.{value_fault_of, value_fault, first_value_fault, has_job_keys, job_fault, first_job_fault, list_fault, list_fault_of, shape_fault, first_equal, fault}
-use Rattle.words.proofs.Truths.{not_true, no_some, if_none, else_none, or_none, none_or, both, each, negated, unnegated}
+use Rattle.words.proofs.Truths.{not_true, no_some, if_none, else_none, or_none, none_or, negated, unnegated}
 use Rattle.words.proofs.ApartLemmas.{no_earlier, no_earlier_apart}
 
 -- ---- members
@@ -29,18 +30,18 @@ value_faultless i v (Some m) takes = (refl, ap (λ b. cond b None (Some (place.V
 values_sound : (i : ℕ) (ps : List (List ℕ × Json)) → list_all (λ p. is_some (member_of p.0)) ps ≡ true → first_value_fault i ps ≡ None → list_all is_member ps ≡ true
 values_sound i [] known e = refl
 values_sound i (p ∷ ps) known e =
-    let k = each (is_some (member_of p.0)) (list_all (λ q. is_some (member_of q.0)) ps) known in
+    let k = and_parts (is_some (member_of p.0)) (list_all (λ q. is_some (member_of q.0)) ps) known in
     let n = or_none (value_fault i p) (first_value_fault i ps) e in
-    both (is_member p) (list_all is_member ps) (value_sound i p.1 (member_of p.0) k.0 n.0) (values_sound i ps k.1 n.1)
+    and_from (is_member p) (list_all is_member ps) (value_sound i p.1 (member_of p.0) k.0 n.0) (values_sound i ps k.1 n.1)
 
 values_faultless : (i : ℕ) (ps : List (List ℕ × Json)) → list_all is_member ps ≡ true
     → (list_all (λ p. is_some (member_of p.0)) ps ≡ true) × (first_value_fault i ps ≡ None)
 values_faultless i [] all = (refl, refl)
 values_faultless i (p ∷ ps) all =
-    let parts = each (is_member p) (list_all is_member ps) all in
+    let parts = and_parts (is_member p) (list_all is_member ps) all in
     let here = value_faultless i p.1 (member_of p.0) parts.0 in
     let there = values_faultless i ps parts.1 in
-    (both (is_some (member_of p.0)) (list_all (λ q. is_some (member_of q.0)) ps) here.0 there.0, none_or (value_fault i p) (first_value_fault i ps) here.1 there.1)
+    (and_from (is_some (member_of p.0)) (list_all (λ q. is_some (member_of q.0)) ps) here.0 there.0, none_or (value_fault i p) (first_value_fault i ps) here.1 there.1)
 
 -- ---- jobs
 
@@ -50,10 +51,10 @@ job_sound i t e =
     let output = has_key (codes "output") t in
     let known = list_all (λ p. is_some (member_of p.0)) (fields t) in
     let whole = else_none (is_object t && has_job_keys t) (place.Job i) (first_value_fault i (fields t)) e in
-    let object = each (is_object t) (has_job_keys t) whole.0 in
-    let keys = each (input && output) known object.1 in
-    let two = each input output keys.0 in
-    both (is_object t && input && output) (list_all is_member (fields t)) (both (is_object t && input) output (both (is_object t) input object.0 two.0) two.1)
+    let object = and_parts (is_object t) (has_job_keys t) whole.0 in
+    let keys = and_parts (input && output) known object.1 in
+    let two = and_parts input output keys.0 in
+    and_from (is_object t && input && output) (list_all is_member (fields t)) (and_from (is_object t && input) output (and_from (is_object t) input object.0 two.0) two.1)
     (values_sound i (fields t) keys.1 whole.1)
 
 job_faultless : (i : ℕ) (t : Json) → is_job t ≡ true → job_fault i t ≡ None
@@ -61,24 +62,24 @@ job_faultless i t is =
     let input = has_key (codes "input") t in
     let output = has_key (codes "output") t in
     let known = list_all (λ p. is_some (member_of p.0)) (fields t) in
-    let parts = each (is_object t && input && output) (list_all is_member (fields t)) is in
-    let three = each (is_object t && input) output parts.0 in
-    let two = each (is_object t) input three.0 in
+    let parts = and_parts (is_object t && input && output) (list_all is_member (fields t)) is in
+    let three = and_parts (is_object t && input) output parts.0 in
+    let two = and_parts (is_object t) input three.0 in
     let values = values_faultless i (fields t) parts.1 in
     ap (λ b. cond b (first_value_fault i (fields t)) (Some (place.Job i)))
-    (both (is_object t) (has_job_keys t) two.0 (both (input && output) known (both input output two.1 three.1) values.0))
+    (and_from (is_object t) (has_job_keys t) two.0 (and_from (input && output) known (and_from input output two.1 three.1) values.0))
     ∙ values.1
 
 jobs_sound : (i : ℕ) (js : List Json) → first_job_fault i js ≡ None → list_all is_job js ≡ true
 jobs_sound i [] e = refl
 jobs_sound i (j ∷ js) e =
     let n = or_none (job_fault i j) (first_job_fault (i + 1) js) e in
-    both (is_job j) (list_all is_job js) (job_sound i j n.0) (jobs_sound (i + 1) js n.1)
+    and_from (is_job j) (list_all is_job js) (job_sound i j n.0) (jobs_sound (i + 1) js n.1)
 
 jobs_faultless : (i : ℕ) (js : List Json) → list_all is_job js ≡ true → first_job_fault i js ≡ None
 jobs_faultless i [] all = refl
 jobs_faultless i (j ∷ js) all =
-    let parts = each (is_job j) (list_all is_job js) all in
+    let parts = and_parts (is_job j) (list_all is_job js) all in
     none_or (job_fault i j) (first_job_fault (i + 1) js) (job_faultless i j parts.0) (jobs_faultless (i + 1) js parts.1)
 
 -- ---- the tree
@@ -86,11 +87,11 @@ jobs_faultless i (j ∷ js) all =
 list_sound : (v : Json) → list_fault v ≡ None → are_jobs v ≡ true
 list_sound v e =
     let whole = else_none (is_list v && is_count (length (items v))) place.Jobs (first_job_fault 0 (items v)) e in
-    both (is_list v && is_count (length (items v))) (list_all is_job (items v)) whole.0 (jobs_sound 0 (items v) whole.1)
+    and_from (is_list v && is_count (length (items v))) (list_all is_job (items v)) whole.0 (jobs_sound 0 (items v) whole.1)
 
 list_faultless : (v : Json) → are_jobs v ≡ true → list_fault v ≡ None
 list_faultless v are =
-    let parts = each (is_list v && is_count (length (items v))) (list_all is_job (items v)) are in
+    let parts = and_parts (is_list v && is_count (length (items v))) (list_all is_job (items v)) are in
     ap (λ b. cond b (first_job_fault 0 (items v)) (Some place.Jobs)) parts.0 ∙ jobs_faultless 0 (items v) parts.1
 
 under_sound : (o : Option Json) → list_fault_of o ≡ None → there_and are_jobs o ≡ true
@@ -106,13 +107,13 @@ shape_sound t e =
     let only = list_all (λ p. bytes_eq p.0 (codes "jobs")) (fields t) in
     let list = field t (codes "jobs") in
     let whole = else_none (is_object t && only) place.Whole (list_fault_of list) e in
-    both (is_object t && only) (there_and are_jobs list) whole.0 (under_sound list whole.1)
+    and_from (is_object t && only) (there_and are_jobs list) whole.0 (under_sound list whole.1)
 
 shape_faultless : (t : Json) → is_batch t ≡ true → shape_fault t ≡ None
 shape_faultless t is =
     let only = list_all (λ p. bytes_eq p.0 (codes "jobs")) (fields t) in
     let list = field t (codes "jobs") in
-    let parts = each (is_object t && only) (there_and are_jobs list) is in
+    let parts = and_parts (is_object t && only) (there_and are_jobs list) is in
     ap (λ b. cond b (list_fault_of list) (Some place.Whole)) parts.0 ∙ under_faultless list parts.1
 
 -- ---- the paths
@@ -124,13 +125,13 @@ differ_sound : (before ps : List UsedPath) → first_equal before ps ≡ None �
 differ_sound before [] e = refl
 differ_sound before (p ∷ ps) e =
     let parts = if_none (list_any (is_equal p) before) p.place (first_equal (before ++ p ∷ []) ps) e in
-    both (not (list_any (is_equal p) before)) (no_earlier is_equal (before ++ p ∷ []) ps) (negated (list_any (is_equal p) before) parts.0)
+    and_from (not (list_any (is_equal p) before)) (no_earlier is_equal (before ++ p ∷ []) ps) (negated (list_any (is_equal p) before) parts.0)
     (differ_sound (before ++ p ∷ []) ps parts.1)
 
 differ_faultless : (before ps : List UsedPath) → no_earlier is_equal before ps ≡ true → first_equal before ps ≡ None
 differ_faultless before [] is = refl
 differ_faultless before (p ∷ ps) is =
-    let parts = each (not (list_any (is_equal p) before)) (no_earlier is_equal (before ++ p ∷ []) ps) is in
+    let parts = and_parts (not (list_any (is_equal p) before)) (no_earlier is_equal (before ++ p ∷ []) ps) is in
     ap (λ b. cond b (Some p.place) (first_equal (before ++ p ∷ []) ps)) (unnegated (list_any (is_equal p) before) parts.0)
     ∙ differ_faultless (before ++ p ∷ []) ps parts.1
 

@@ -6,7 +6,7 @@ pub mod NumberTests
 pub mod PartSteps
 pub mod GrammarLaws
 pub mod JobsLaws
-pub mod PutLemmas
+pub mod PairLemmas
 pub mod RunnableWords
 pub mod RunnableJobs
 pub mod JobPaths

@@ -1,11 +1,12 @@
 -- A jobs file asks for what a run can do.
-use Rattle.std.proofs.Common.{◌≡◌, ◌≤◌, ℕ, ◌+◌, Bool, true, false, cond, nat_eq, List, [], ◌∷◌, map, Option, Some, None, IfSome, refl, sym, ap, ◌∙◌, subst, rules, arith}
+use Rattle.std.proofs.Common.{◌≡◌, ◌≤◌, ℕ, ◌+◌, Bool, true, false, cond, nat_eq, List, [], ◌∷◌, map, Option, Some, None, IfSome, refl, sym, ap, ◌∙◌, subst, arith}
+use Rattle.std.proofs.lemmas.Bool.{and_parts}
 use Rattle.std.specs.Prelude.{codes, option_map, unwrap_or}
 use Rattle.std.specs.List.{AllByRecursion, list_all}
 use Rattle.std.specs.Str.{bytes_eq}
 use Rattle.std.specs.Cmp.Lexicographic.{pointwise}
 use Rattle.std.proofs.lemmas.Slice.Eq.{bytes_eq-Decides}
-use Rattle.jtext.specs.declared.json.Json.{Json, out-Json, the_lemmas}
+use Rattle.jtext.specs.declared.json.Json.{Json, out-Json}
 use Rattle.jtext.specs.declared.json.Json.TheOpen.{Json-F}
 use Rattle.jtext.specs.declared.json.Json.TheVariants as json
 use Rattle.jtext.specs.Depth.{depth, highest, highest_of_pairs}
@@ -14,6 +15,7 @@ use Rattle.jtext.specs.Grammar.{Distinct}
 use Rattle.jtext.specs.Keyed as keyed
 use Rattle.jtext.specs.Keyed.{Keyed, AllKeyed, PairsKeyed}
 use Rattle.jtext.specs.Look.{is_object, items, items_layer, there_and}
+use Rattle.jtext.proofs.Trees.{open_Null, open_Bool, open_Num, open_Str, open_Arr, open_Obj}
 use Rattle.jtext.proofs.SpelledKeyed.{spelled_keyed}
 use Rattle.jtext.proofs.Depths.{depth-Arr, depth-Obj, highest-all, pairs-all}
 use Rattle.words.specs.declared.ask.Ask.{Ask}
@@ -22,7 +24,6 @@ use Rattle.words.specs.Members.{member_of, are_parameters}
 use Rattle.words.specs.JobsFile.{member_takes, is_member, is_job, are_jobs, items_of, jobs_of, IsJobsFile, IsTextOf}
 use Rattle.words.specs.JobsAsked.{ask_of_job, asks_of}
 use Rattle.words.specs.Runnable.{IsParameter, IsRunnable}
-use Rattle.words.proofs.Truths.{each}
 
 -- ---- looking into a tree
 
@@ -33,24 +34,6 @@ all_items _ (keyed.more x xs k all) = (k, all_items xs all)
 all_values : (ps : List (List ℕ × Json)) → PairsKeyed ps → AllByRecursion (λ p. Keyed p.1) ps
 all_values _ keyed.no_pairs = tt
 all_values _ (keyed.pair key value ps k all) = (k, all_values ps all)
-
-open_Null : out-Json json.Null ≡ Json-F.Null
-open_Null = search (rules, the_lemmas)
-
-open_Bool : (b : Bool) → out-Json (json.Bool b) ≡ Json-F.Bool b
-open_Bool b = search (rules, the_lemmas)
-
-open_Num : (s : List ℕ) → out-Json (json.Num s) ≡ Json-F.Num s
-open_Num s = search (rules, the_lemmas)
-
-open_Str : (s : List ℕ) → out-Json (json.Str s) ≡ Json-F.Str s
-open_Str s = search (rules, the_lemmas)
-
-open_Arr : (xs : List Json) → out-Json (json.Arr xs) ≡ Json-F.Arr xs
-open_Arr xs = search (rules, the_lemmas)
-
-open_Obj : (ps : List (List ℕ × Json)) → out-Json (json.Obj ps) ≡ Json-F.Obj ps
-open_Obj ps = search (rules, the_lemmas)
 
 -- a tree without a key twice, nested at most 100 deep
 abbrev IsFine : Json → Type 0
@@ -96,7 +79,7 @@ fine_items _ (keyed.array xs all) le =
     subst (AllByRecursion IsFine) (sym (ap items_layer (open_Arr xs))) (joined_items xs (all_items xs all) deep)
 fine_items _ (keyed.object ps all d) le = no_items (json.Obj ps) (Json-F.Obj ps) (open_Obj ps) refl
 
--- what holds of each value holds of the one under a key
+-- what holds of and_parts value holds of the one under a key
 found : (P : Json → Type 0) (key : List ℕ) (ps : List (List ℕ × Json)) → AllByRecursion (λ p. P p.1) ps → IfSome (find key ps) P
 found P key [] all = tt
 found P key (p ∷ ps) all = by_test (pointwise nat_eq p.0 key) (find key ps) all.0 (found P key ps all.1)
@@ -116,7 +99,7 @@ jobs_fine t fine = items_of_fine (field t (codes "jobs")) (found IsFine (codes "
 
 jobs_are : (o : Option Json) → there_and are_jobs o ≡ true → list_all is_job (items_of o) ≡ true
 jobs_are None e = refl
-jobs_are (Some v) e = (each _ (list_all is_job (items v)) e).1
+jobs_are (Some v) e = (and_parts _ (list_all is_job (items v)) e).1
 
 -- ---- the parameters
 
@@ -126,7 +109,7 @@ parameters_value name v e is = sym (ap (λ n. member_takes (member_of n) v) ((by
 found_parameters : (ps : List (List ℕ × Json)) → list_all is_member ps ≡ true → IfSome (find (codes "parameters") ps) (λ v. are_parameters v ≡ true)
 found_parameters [] all = tt
 found_parameters (p ∷ ps) all =
-    let parts = each (is_member p) (list_all is_member ps) all in
+    let parts = and_parts (is_member p) (list_all is_member ps) all in
     by_test (bytes_eq p.0 (codes "parameters")) (find (codes "parameters") ps) (λ e. parameters_value p.0 p.1 e parts.0) (found_parameters ps parts.1)
   where
     by_test : (b : Bool) (rest : Option Json) → (b ≡ true → are_parameters p.1 ≡ true) → IfSome rest (λ v. are_parameters v ≡ true) → IfSome (cond b (Some p.1) rest) (λ v. are_parameters v ≡ true)
@@ -136,7 +119,7 @@ found_parameters (p ∷ ps) all =
 named : (ps : List (List ℕ × Json)) → list_all (λ p. is_name p.0) ps ≡ true → AllByRecursion (λ p. IsFine p.1) ps → AllByRecursion IsParameter ps
 named [] all fine = tt
 named (p ∷ ps) all fine =
-    let parts = each (is_name p.0) (list_all (λ q. is_name q.0) ps) all in
+    let parts = and_parts (is_name p.0) (list_all (λ q. is_name q.0) ps) all in
     (record { name = parts.0; keyed = fine.0.0; nests = fine.0.1 }, named ps parts.1 fine.1)
 
 abbrev AreParameters : List (List ℕ × Json) → Type 0
@@ -146,11 +129,11 @@ params_are : (common : List (List ℕ × Json)) (o : Option Json) → AreParamet
 params_are common None are fine is = are
 params_are common (Some v) are fine is =
     let inside = fine_fields v fine.0 fine.1 in
-    (inside.1, named (fields v) (each (is_object v) (list_all (λ p. is_name p.0) (fields v)) is).1 inside.0)
+    (inside.1, named (fields v) (and_parts (is_object v) (list_all (λ p. is_name p.0) (fields v)) is).1 inside.0)
 
 job_runnable : (common : Ask) (job : Json) → IsRunnable common → IsFine job → is_job job ≡ true → IsRunnable (ask_of_job common job)
 job_runnable common job run fine is =
-    let members = (each _ (list_all is_member (fields job)) is).1 in
+    let members = (and_parts _ (list_all is_member (fields job)) is).1 in
     let inside = fine_fields job fine.0 fine.1 in
     let are = params_are common.params (field job (codes "parameters")) (run.distinct, run.parameters) (found IsFine (codes "parameters") (fields job) inside.0) (found_parameters (fields job) members) in
     record { distinct = are.0; parameters = are.1; start = run.start; limit = run.limit }
@@ -158,11 +141,11 @@ job_runnable common job run fine is =
 all_runnable : (common : Ask) (jobs : List Json) → IsRunnable common → AllByRecursion IsFine jobs → list_all is_job jobs ≡ true → AllByRecursion IsRunnable (map (ask_of_job common) jobs)
 all_runnable common [] run fine is = tt
 all_runnable common (job ∷ jobs) run fine is =
-    let parts = each (is_job job) (list_all is_job jobs) is in
+    let parts = and_parts (is_job job) (list_all is_job jobs) is in
     (job_runnable common job run fine.0 parts.0, all_runnable common jobs run fine.1 parts.1)
 
 pub asks_runnable : (file bytes : List ℕ) (common : Ask) (t : Json) → IsTextOf bytes t → IsJobsFile file t → IsRunnable common → AllByRecursion IsRunnable (asks_of common t)
 asks_runnable file bytes common t text valid run =
     let fine : IsFine t = (spelled_keyed t text.spells.value text.spells.is_value, text.within) in
-    let shape = each _ (there_and are_jobs (field t (codes "jobs"))) valid.shape in
+    let shape = and_parts _ (there_and are_jobs (field t (codes "jobs"))) valid.shape in
     all_runnable common (jobs_of t) run (jobs_fine t fine) (jobs_are (field t (codes "jobs")) shape.1)

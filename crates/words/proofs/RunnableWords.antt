@@ -1,5 +1,6 @@
 -- The words ask for what a run can do.
 use Rattle.std.proofs.Common.{◌≡◌, ◌≤◌, ◌<◌, ◌^◌, ℕ, ◌*◌, Bool, true, false, cond, not, ◌&&◌, List, [], ◌∷◌, Option, Some, None, IfSome, refl, sym, ap, ◌∙◌, subst, arith}
+use Rattle.std.proofs.lemmas.Bool.{and_parts}
 use Rattle.std.specs.Prelude.{nat_le, codes, option_map, option_and_then, unwrap_or}
 use Rattle.std.specs.List.{AllByRecursion, list_all}
 use Rattle.std.specs.Str.{bytes_eq}
@@ -25,12 +26,13 @@ use Rattle.words.specs.Parts.{word, parts_of, has_values, is_unknown, is_choice,
 use Rattle.words.specs.Forms.{form_of}
 use Rattle.words.specs.Grammar.{fits, is_well_formed}
 use Rattle.words.specs.Values.{is_number, value_of}
-use Rattle.words.specs.Parameters.{put, given, parameters_from}
-use Rattle.words.specs.Asked.{chosen, milliseconds, ask_of, command_in, asked}
+use Rattle.words.specs.Parameters.{with_parameter, parameters_from}
+use Rattle.jtext.specs.Edit.{set_pair}
+use Rattle.words.specs.Asked.{option_value, milliseconds, ask_of, command_in, asked}
 use Rattle.words.specs.Refusals.{refusal}
 use Rattle.words.specs.Runnable.{IsParameter, IsRunnable, IsRunnableCommand}
-use Rattle.words.proofs.Truths.{not_true, each}
-use Rattle.words.proofs.PutLemmas.{all_put, distinct_put}
+use Rattle.words.proofs.Truths.{not_true}
+use Rattle.words.proofs.PairLemmas.{all-set_pair, distinct-set_pair}
 use Rattle.words.proofs.GrammarLaws.{only_commands}
 
 -- ---- values
@@ -89,23 +91,23 @@ takes_raw_name Unknown e = absurd (not_true e)
 -- the first value of a part that takes a name is one
 named : (words : List (List ℕ)) (p : Part) → is_well_formed words p ≡ true → takes_of p.kind ≡ NameAndText → is_name (word p.first words) ≡ true
 named words p well takes =
-    let known = each (not (is_unknown p.kind)) (has_values words p && fits (takes_of p.kind) (word p.first words)) well in
-    let valued = each (has_values words p) (fits (takes_of p.kind) (word p.first words)) known.1 in
+    let known = and_parts (not (is_unknown p.kind)) (has_values words p && fits (takes_of p.kind) (word p.first words)) well in
+    let valued = and_parts (has_values words p) (fits (takes_of p.kind) (word p.first words)) known.1 in
     sym (ap (λ t. fits t (word p.first words)) takes) ∙ valued.1
 
 abbrev AreParameters : List (List ℕ × Json) → Type 0
 AreParameters fields = Distinct fields × AllByRecursion IsParameter fields
 
-put_parameter : (name : List ℕ) (v : Json) (fields : List (List ℕ × Json)) → is_name name ≡ true → IsPlain v → AreParameters fields → AreParameters (put name v fields)
+put_parameter : (name : List ℕ) (v : Json) (fields : List (List ℕ × Json)) → is_name name ≡ true → IsPlain v → AreParameters fields → AreParameters (set_pair name v fields)
 put_parameter name v fields is plain are =
-    (distinct_put name v fields are.0, all_put IsParameter name v fields (record { name = is; keyed = plain.0; nests = plain.1 }) are.1)
+    (distinct-set_pair name v fields are.0, all-set_pair IsParameter name v fields (record { name = is; keyed = plain.0; nests = plain.1 }) are.1)
 
 given_step : (a b : Bool) (x y fields : List (List ℕ × Json)) → (a ≡ true → AreParameters x) → (b ≡ true → AreParameters y) → AreParameters fields → AreParameters (cond a x (cond b y fields))
 given_step true b x y fields p q r = p refl
 given_step false true x y fields p q r = q refl
 given_step false false x y fields p q r = r
 
-given_parameters : (words : List (List ℕ)) (p : Part) (fields : List (List ℕ × Json)) → is_well_formed words p ≡ true → AreParameters fields → AreParameters (given words p fields)
+given_parameters : (words : List (List ℕ)) (p : Part) (fields : List (List ℕ × Json)) → is_well_formed words p ≡ true → AreParameters fields → AreParameters (with_parameter words p fields)
 given_parameters words p fields well are =
     given_step (is_choice choice.Parameter p.kind) (is_choice choice.RawParameter p.kind) _ _ fields
     (λ e. put_parameter (word p.first words) (value_of (word p.second words)) fields (named words p well (takes_name p.kind e)) (plain_value (word p.second words)) are)
@@ -115,8 +117,8 @@ given_parameters words p fields well are =
 all_parameters : (words : List (List ℕ)) (fields : List (List ℕ × Json)) (ps : List Part) → list_all (is_well_formed words) ps ≡ true → AreParameters fields → AreParameters (parameters_from words fields ps)
 all_parameters words fields [] well are = are
 all_parameters words fields (p ∷ ps) well are =
-    let parts = each (is_well_formed words p) (list_all (is_well_formed words) ps) well in
-    all_parameters words (given words p fields) ps parts.1 (given_parameters words p fields parts.0 are)
+    let parts = and_parts (is_well_formed words p) (list_all (is_well_formed words) ps) well in
+    all_parameters words (with_parameter words p fields) ps parts.1 (given_parameters words p fields parts.0 are)
 
 -- ---- numbers
 
@@ -170,14 +172,14 @@ ask_runnable input output words ps well =
     record {
       distinct = are.0;
       parameters = are.1;
-      start = or_minute (milliseconds choice.StartTimeout words ps) (thousands (chosen choice.StartTimeout words ps));
-      limit = thousands (chosen choice.ExecutionTimeout words ps);
+      start = or_minute (milliseconds choice.StartTimeout words ps) (thousands (option_value choice.StartTimeout words ps));
+      limit = thousands (option_value choice.ExecutionTimeout words ps);
     }
 
 command_runnable : (form : Form) (words : List (List ℕ)) (ps : List Part) → list_all (is_well_formed words) ps ≡ true → IsRunnableCommand (command_in form words ps)
 command_runnable One words ps well = ask_runnable _ _ words ps well
 command_runnable Batch words ps well = ask_runnable [] [] words ps well
-command_runnable Exercise words ps well = at_most_200 (chosen choice.Exercise words ps)
+command_runnable Exercise words ps well = at_most_200 (option_value choice.Exercise words ps)
 
 pub words_runnable : (words : List (List ℕ)) (c : Command) → c ≡ asked words → refusal words ≡ None → IsRunnableCommand c
 words_runnable words c is none = subst IsRunnableCommand (sym is) (command_runnable (form_of (parts_of words)) words (parts_of words) (only_commands words none).well_formed)

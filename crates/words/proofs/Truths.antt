@@ -1,5 +1,5 @@
 -- Tests that are true, and options that hold nothing.
-use Rattle.std.proofs.Common.{◌≡◌, Bool, true, false, cond, not, ◌&&◌, Option, Some, None, refl, sym, ap, ◌∙◌}
+use Rattle.std.proofs.Common.{◌≡◌, Bool, true, false, cond, not, Option, Some, None, refl, sym, ap, ◌∙◌}
 use Rattle.std.specs.Option.{option_or}
 
 pub no_some : {A : Type 0} (x : A) → ◌≡◌ {A = Option A} (Some x) None → ⊥
@@ -22,13 +22,6 @@ or_none (Some u) b e = absurd (no_some u e)
 
 pub none_or : {A : Type 0} (a b : Option A) → a ≡ None → b ≡ None → option_or a b ≡ None
 none_or a b x y = ap (λ k. option_or k b) x ∙ y
-
-pub both : (a b : Bool) → a ≡ true → b ≡ true → (a && b) ≡ true
-both a b x y = ap (λ k. k && b) x ∙ y
-
-pub each : (a b : Bool) → (a && b) ≡ true → (a ≡ true) × (b ≡ true)
-each true b e = (refl, e)
-each false b e = absurd (not_true e)
 
 pub negated : (b : Bool) → b ≡ false → not b ≡ true
 negated b e = ap not e

@@ -14,28 +14,29 @@ use Rattle.words.specs.Paths.{path_text}
 use Rattle.words.specs.Forms.{form_of, has}
 use Rattle.words.specs.Parameters.{parameters_from}
 
--- the value of the option, if it was chosen
-abbrev pub chosen : Choice → List (List ℕ) → List Part → Option (List ℕ)
-chosen c words parts = option_map (λ p. word p.first words) (find (λ p. is_choice c p.kind) parts)
+-- the value of the option, if it is given
+abbrev pub option_value : Choice → List (List ℕ) → List Part → Option (List ℕ)
+option_value c words parts = option_map (λ p. word p.first words) (find (λ p. is_choice c p.kind) parts)
 
+-- the name of the kernel, if it is given
 abbrev pub kernel : List (List ℕ) → List Part → Option (List ℕ)
-kernel words parts = chosen choice.Kernel words parts
+kernel words parts = option_value choice.Kernel words parts
 
 -- the folder of the kernels' specs
 abbrev pub kernel_path : List (List ℕ) → List Part → List ℕ
-kernel_path words parts = unwrap_or (chosen choice.KernelPath words parts) (codes "/usr/local/share/jupyter/kernels")
+kernel_path words parts = unwrap_or (option_value choice.KernelPath words parts) (codes "/usr/local/share/jupyter/kernels")
 
 -- the folder that the kernel runs in
 abbrev pub cwd : List (List ℕ) → List Part → List ℕ
-cwd words parts = unwrap_or (chosen choice.Cwd words parts) (codes ".")
+cwd words parts = unwrap_or (option_value choice.Cwd words parts) (codes ".")
 
 -- the jobs file
 abbrev pub jobs_file : List (List ℕ) → List Part → List ℕ
-jobs_file words parts = unwrap_or (chosen choice.Jobs words parts) []
+jobs_file words parts = unwrap_or (option_value choice.Jobs words parts) []
 
 -- the time that the option sets
 abbrev pub milliseconds : Choice → List (List ℕ) → List Part → Option ℕ
-milliseconds c words parts = option_map (λ n. n * 1000) (option_and_then seconds (chosen c words parts))
+milliseconds c words parts = option_map (λ n. n * 1000) (option_and_then seconds (option_value c words parts))
 
 -- how long the kernel may take to be ready: a minute, if nothing else is said
 abbrev pub start_ms : List (List ℕ) → List Part → ℕ
@@ -43,7 +44,7 @@ start_ms words parts = unwrap_or (milliseconds choice.StartTimeout words parts) 
 
 -- the number of cells of the exercise
 abbrev pub cells : List (List ℕ) → List Part → ℕ
-cells words parts = unwrap_or (option_and_then count (chosen choice.Exercise words parts)) 0
+cells words parts = unwrap_or (option_and_then count (option_value choice.Exercise words parts)) 0
 
 -- the names of the errors that are allowed, in their order
 abbrev pub error_names : List (List ℕ) → List Part → List (List ℕ)
@@ -70,11 +71,13 @@ ask_of input output words parts = record {
   limit_ms = milliseconds choice.ExecutionTimeout words parts;
 }
 
+-- what the parts ask for in this form
 abbrev pub command_in : Form → List (List ℕ) → List Part → Command
 command_in form.One words parts = command.One (ask_of (path_text 0 words parts) (path_text 1 words parts) words parts)
 command_in form.Batch words parts = command.Many (jobs_file words parts) (ask_of [] [] words parts)
 command_in form.Exercise words parts = command.Exercise (cells words parts)
 
+-- what the parts ask for
 abbrev pub command_of : List (List ℕ) → List Part → Command
 command_of words parts = command_in (form_of parts) words parts
 

@@ -7,7 +7,7 @@ use Rattle.words.specs.declared.takes.Takes.TheVariants.{Nothing, Text, Seconds,
 use Rattle.words.specs.declared.form.Form.{Form}
 use Rattle.words.specs.declared.form.Form.TheVariants.{One, Batch, Exercise}
 use Rattle.words.specs.declared.part.Part.{Part}
-use Rattle.words.specs.Apart.{apart}
+use Rattle.words.specs.Apart.{are_distinct}
 use Rattle.words.specs.Numbers.{seconds, count, is_name}
 use Rattle.words.specs.Parts.{word, parts_of, has_values, is_path, is_unknown, is_choice, is_of_batch_kind, repeats, takes_of}
 use Rattle.words.specs.Paths.{path_text, are_apart}
@@ -38,5 +38,5 @@ fits_form Exercise words parts = list_all (λ p. is_choice choice.Exercise p.kin
 -- the words are a command line
 pub record IsCommand (words : List (List ℕ)) : Type 0 where
   pub well_formed : list_all (is_well_formed words) (parts_of words) ≡ true
-  pub once : apart repeats (parts_of words) ≡ true
+  pub once : are_distinct repeats (parts_of words) ≡ true
   pub form : fits_form (form_of (parts_of words)) words (parts_of words) ≡ true

@@ -11,9 +11,11 @@ use Rattle.words.specs.JobsFile.{jobs_of, path_at}
 abbrev pub kernel_of : Ask → Json → Option (List ℕ)
 kernel_of common job = option_or (string_at job (codes "kernel")) common.kernel
 
+-- the folder that the kernel runs in: the job's, or else that of all
 abbrev pub cwd_of : Ask → Json → List ℕ
 cwd_of common job = unwrap_or (string_at job (codes "cwd")) common.cwd
 
+-- the parameters: the job's, or else those of all
 abbrev pub params_of : Ask → Json → List (List ℕ × Json)
 params_of common job = unwrap_or (option_map fields (field job (codes "parameters"))) common.params
 

@@ -18,6 +18,7 @@ use Rattle.words.specs.JobsFile.{is_count, is_equal, jobs_of, paths_of, IsTextOf
 
 -- ---- a value that isn't as it has to be
 
+-- the fault of a value of this member, in the job with this index
 abbrev pub value_fault_of : ℕ → Json → Option Member → Option Place
 value_fault_of i v None = None
 value_fault_of i v (Some m) = if takes_value m v then None else Some (place.Value i m)
@@ -26,6 +27,7 @@ value_fault_of i v (Some m) = if takes_value m v then None else Some (place.Valu
 abbrev pub value_fault : ℕ → List ℕ × Json → Option Place
 value_fault i p = value_fault_of i p.1 (member_of p.0)
 
+-- the first fault of these members' values, in the job with this index
 abbrev pub first_value_fault : ℕ → List (List ℕ × Json) → Option Place
 first_value_fault i [] = None
 first_value_fault i (p ∷ ps) = option_or (value_fault i p) (first_value_fault i ps)
@@ -47,6 +49,7 @@ first_job_fault i (job ∷ jobs) = option_or (job_fault i job) (first_job_fault 
 abbrev pub list_fault : Json → Option Place
 list_fault v = if is_list v && is_count (length (items v)) then first_job_fault 0 (items v) else Some place.Jobs
 
+-- the fault of the list of jobs, which may be missing
 abbrev pub list_fault_of : Option Json → Option Place
 list_fault_of None = Some place.Whole
 list_fault_of (Some v) = list_fault v

@@ -15,3 +15,4 @@ pub mod Places
 pub mod JobsFile
 pub mod JobsFaults
 pub mod JobsAsked
+pub mod Messages

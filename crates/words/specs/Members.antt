@@ -18,6 +18,7 @@ member_of name =
     if bytes_eq name (codes "cwd") then Some Cwd else
     if bytes_eq name (codes "parameters") then Some Parameters else None
 
+-- the name of the member
 abbrev pub name_of : Member → List ℕ
 name_of Input = codes "input"
 name_of Output = codes "output"

@@ -29,6 +29,7 @@ count text = number_within 3 0 200 text
 abbrev pub is_letter : ℕ → Bool
 is_letter c = (nat_le 97 c && nat_le c 122) || (nat_le 65 c && nat_le c 90) || (c == 95)
 
+-- a letter or a digit
 abbrev pub is_name_byte : ℕ → Bool
 is_name_byte c = is_letter c || is_ascii_digit c
 

@@ -19,6 +19,7 @@ word i words = unwrap_or (slice_get words i) []
 abbrev pub begins_with_dash : List ℕ → Bool
 begins_with_dash word = nat_lt 0 (length word) && (slice_index word 0 == 45)
 
+-- a word that begins with `-`: an option, or none
 abbrev pub kind_of_option : Option Choice → Kind
 kind_of_option None = Unknown
 kind_of_option (Some choice) = Chosen choice
@@ -30,10 +31,12 @@ kind_of ended word =
     if bytes_eq word (codes "--") then End else
     if begins_with_dash word then kind_of_option (choice_of word) else Path
 
+-- a path
 abbrev pub is_path : Kind → Bool
 is_path Path = true
 is_path k = false
 
+-- the `--` that ends the options
 abbrev pub is_end : Kind → Bool
 is_end End = true
 is_end k = false
@@ -42,6 +45,7 @@ is_end k = false
 abbrev pub ends : Bool → Kind → Bool
 ends ended k = ended || is_end k
 
+-- a word that begins like an option and is none
 abbrev pub is_unknown : Kind → Bool
 is_unknown Unknown = true
 is_unknown k = false
@@ -93,5 +97,6 @@ parts_from ended values i (w ∷ ws) =
     if nat_lt 0 values then parts_from ended (values - 1) (i + 1) ws else
     part_at i (kind_of ended w) ∷ parts_from (ends ended (kind_of ended w)) (arity (takes_of (kind_of ended w))) (i + 1) ws
 
+-- the parts of the words, in their order
 abbrev pub parts_of : List (List ℕ) → List Part
 parts_of words = parts_from false 0 0 words

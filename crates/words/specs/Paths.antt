@@ -9,6 +9,7 @@ abbrev pub path : ℕ → List Part → Option ℕ
 path n [] = None
 path n (p ∷ ps) = if is_path p.kind then (if n == 0 then Some p.at else path (n - 1) ps) else path n ps
 
+-- the word with an index that may be missing
 abbrev pub word_at : List (List ℕ) → Option ℕ → List ℕ
 word_at words None = []
 word_at words (Some i) = word i words

@@ -23,6 +23,7 @@ pub record IsRunnable (a : Ask) : Type 0 where
   pub start : a.start_ms < 2 ^ 40
   pub limit : IfSome a.limit_ms (λ n. (0 < n) × (n < 2 ^ 40))
 
+-- what is asked for can be run
 abbrev pub IsRunnableCommand : Command → Type 0
 IsRunnableCommand (command.One a) = IsRunnable a
 IsRunnableCommand (command.Many file a) = IsRunnable a

@@ -6,6 +6,7 @@ use Rattle.jtext.specs.Reading.{after_number}
 use Rattle.jtext.specs.declared.json.Json.{Json}
 use Rattle.jtext.specs.declared.json.Json.TheVariants as json
 
+-- nothing follows
 abbrev pub is_nothing : Option (List ℕ) → Bool
 is_nothing None = false
 is_nothing (Some rest) = length rest == 0
@@ -14,6 +15,7 @@ is_nothing (Some rest) = length rest == 0
 abbrev pub is_number : List ℕ → Bool
 is_number text = is_nothing (after_number text)
 
+-- a number, or else the text itself
 abbrev pub number_or_text : List ℕ → Json
 number_or_text text = if is_number text then json.Num text else json.Str text
 

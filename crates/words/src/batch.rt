@@ -23,15 +23,17 @@ const LARGEST: usize = 1 << 20;
 /// How deep a jobs file may nest.
 const DEEP: u32 = 100;
 
-/// Reads a jobs file (RFC 8259) from its bytes: what is asked of each job is what all have in common, but for
-/// what the job gives. `file` is its own path, which no job may use. A refusal names the first value that isn't
-/// as it has to be, by its JSON pointer (RFC 6901).
+/// Reads a jobs file (RFC 8259) from its bytes: what is asked of each job is what all have in
+/// common, but for what the job gives. `file` is its own path, which no job may use. A refusal
+/// names the first value that isn't as it has to be, by its JSON pointer (RFC 6901).
 pub fn jobs(alloc: Global, bytes: &[u8], file: &Text, common: &Ask) -> Result<Asks, Usage>
-    ensures asked { IfOk result (λ asks. (t : tree.Json) × IsTextOf bytes.now t × IsJobsFile file.now t × (asks ≡ asks_of common.now t)) }
+    // What is asked is what a tree asks for that the bytes are a text of, and that is a jobs file.
+    ensures asked { IfOk result (λ asks. (t : tree.Json) × IsTextOf bytes.now t
+        × IsJobsFile file.now t × (asks ≡ asks_of common.now t)) }
     ensures runnable { IsRunnable common.now → IfOk result (AllByRecursion IsRunnable) }
     ensures refused { IfErr result (λ u. (u ≡ usage.NoMemory) ⊎ Refused file.now bytes.now u) }
 {
-    let Some(tree) = parsed(alloc, bytes)? else {
+    let Some(tree) = tree_of(alloc, bytes)? else {
         return Err(refusal(alloc, Place::Whole));
     };
     match fault(alloc, file, &tree)? {
@@ -50,7 +52,7 @@ fn refusal(alloc: Global, place: Place) -> Usage
 }
 
 /// The tree that the bytes are a text of, if they are a jobs file's.
-fn parsed(alloc: Global, bytes: &[u8]) -> Result<Option<Json>, NoMemory>
+fn tree_of(alloc: Global, bytes: &[u8]) -> Result<Option<Json>, NoMemory>
     ensures { IfOk result (λ o. MatchOption o (IsNoText bytes.now) (IsTextOf bytes.now)) }
 {
     if LARGEST < bytes.len() {

@@ -1,4 +1,5 @@
-//! The options of the command line: how they are spelled, what they take, and which may be repeated.
+//! The options of the command line: how they are spelled, what they take, and which may stand
+//! more than once.
 ghost use Rattle.std.specs.Prelude.{◌≡◌};
 ghost use Rattle.words.specs.Options as spec;
 

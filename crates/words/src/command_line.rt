@@ -19,7 +19,8 @@ pub fn read(alloc: Global, words: &[String]) -> Result<Command, Usage>
     ensures accepted { IfOk result (λ c. spec.refusal (map string_bytes words.now) ≡ None) }
     // Names stand once, and values and times are in their range.
     ensures runnable { IfOk result IsRunnableCommand }
-    ensures refused { IfErr result (λ u. (u ≡ usage.NoMemory) ⊎ (spec.refusal (map string_bytes words.now) ≡ Some u)) }
+    ensures refused { IfErr result (λ u.
+        (u ≡ usage.NoMemory) ⊎ (spec.refusal (map string_bytes words.now) ≡ Some u)) }
 {
     let parts = parts_of(alloc, words)?;
     if let Some(usage) = refusal(words, parts.as_slice()) {

@@ -37,7 +37,8 @@ fn ask(
     input: &str,
     output: &str,
 ) -> Result<Ask, NoMemory>
-    ensures { IfOk result (λ r. r ≡ spec.ask_of input.now output.now (map string_bytes words.now) parts.now) }
+    ensures { IfOk result (λ r.
+        r ≡ spec.ask_of input.now output.now (map string_bytes words.now) parts.now) }
 {
     Ok(Ask {
         input: Text::of(alloc, input)?,
@@ -58,9 +59,10 @@ fn ask(
     })
 }
 
-/// The value of the option, if it was chosen.
-fn chosen<'a>(words: &'a [String], parts: &[Part], choice: Choice) -> Option<&'a str>
-    ensures { option_map (λ r. r.now) result ≡ spec.chosen choice (map string_bytes words.now) parts.now }
+/// The value of the option, if it is given.
+fn option_value<'a>(words: &'a [String], parts: &[Part], choice: Choice) -> Option<&'a str>
+    ensures { option_map (λ r. r.now) result
+        ≡ spec.option_value choice (map string_bytes words.now) parts.now }
 {
     match parts.iter().find(|part| part.kind.is_choice(choice)) {
         Some(part) => Some(word(words, part.first)),
@@ -71,7 +73,7 @@ fn chosen<'a>(words: &'a [String], parts: &[Part], choice: Choice) -> Option<&'a
 fn kernel(alloc: Global, words: &[String], parts: &[Part]) -> Result<Option<Text>, NoMemory>
     ensures { IfOk result (λ r. r ≡ spec.kernel (map string_bytes words.now) parts.now) }
 {
-    match chosen(words, parts, Choice::Kernel) {
+    match option_value(words, parts, Choice::Kernel) {
         Some(name) => Ok(Some(Text::of(alloc, name)?)),
         None => Ok(None),
     }
@@ -80,19 +82,19 @@ fn kernel(alloc: Global, words: &[String], parts: &[Part]) -> Result<Option<Text
 fn kernel_path<'a>(words: &'a [String], parts: &[Part]) -> &'a str
     ensures { result.now ≡ spec.kernel_path (map string_bytes words.now) parts.now }
 {
-    chosen(words, parts, Choice::KernelPath).unwrap_or("/usr/local/share/jupyter/kernels")
+    option_value(words, parts, Choice::KernelPath).unwrap_or("/usr/local/share/jupyter/kernels")
 }
 
 fn cwd<'a>(words: &'a [String], parts: &[Part]) -> &'a str
     ensures { result.now ≡ spec.cwd (map string_bytes words.now) parts.now }
 {
-    chosen(words, parts, Choice::Cwd).unwrap_or(".")
+    option_value(words, parts, Choice::Cwd).unwrap_or(".")
 }
 
 fn jobs_file<'a>(words: &'a [String], parts: &[Part]) -> &'a str
     ensures { result.now ≡ spec.jobs_file (map string_bytes words.now) parts.now }
 {
-    chosen(words, parts, Choice::Jobs).unwrap_or("")
+    option_value(words, parts, Choice::Jobs).unwrap_or("")
 }
 
 fn start_ms(words: &[String], parts: &[Part]) -> u64
@@ -105,7 +107,7 @@ fn milliseconds(words: &[String], parts: &[Part], choice: Choice) -> Option<u64>
     ensures exact { result ≡ spec.milliseconds choice (map string_bytes words.now) parts.now }
     ensures range { IfSome result (λ n. (1000 ≤ n) × (n ≤ 999999999000)) }
 {
-    match chosen(words, parts, choice) {
+    match option_value(words, parts, choice) {
         Some(text) => match seconds(text.as_bytes()) {
             Some(n) => Some(n * 1000),
             None => None,
@@ -118,7 +120,7 @@ fn cells(words: &[String], parts: &[Part]) -> u32
     ensures exact { result ≡ spec.cells (map string_bytes words.now) parts.now }
     ensures range { result ≤ 200 }
 {
-    match chosen(words, parts, Choice::Exercise) {
+    match option_value(words, parts, Choice::Exercise) {
         Some(text) => match count(text.as_bytes()) {
             Some(n) => n as u32,
             None => 0,

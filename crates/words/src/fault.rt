@@ -11,7 +11,8 @@ use crate::part::{Part, word};
 use crate::path::{are_apart, path, path_text};
 use crate::takes::Takes;
 
-/// The first word with a fault, from the left; then what goes beyond the form, what is missing, and equal paths.
+/// The first word with a fault, from the left; then what goes beyond the form, what is missing, and
+/// equal paths.
 pub(crate) fn refusal(words: &[String], parts: &[Part]) -> Option<Usage>
     ensures { result ≡ spec.refusal_of (map string_bytes words.now) parts.now }
 {
@@ -37,13 +38,19 @@ fn fault_of(words: &[String], before: &[Part], part: &Part) -> Option<Usage>
     ensures { result ≡ spec.fault_of (map string_bytes words.now) before.now part.now }
 {
     if part.kind.is_unknown() {
-        return Some(Usage::Unknown { i: part.at });
+        return Some(Usage::Unknown {
+            i: word_index(part.at),
+        });
     }
     if is_among(before, part) {
-        return Some(Usage::Twice { i: part.at });
+        return Some(Usage::Twice {
+            i: word_index(part.at),
+        });
     }
     if !has_values(words, part) {
-        return Some(Usage::NoValue { i: part.at });
+        return Some(Usage::NoValue {
+            i: word_index(part.at),
+        });
     }
     value_fault(
         part.kind.takes(),
@@ -76,10 +83,11 @@ fn has_values(words: &[String], part: &Part) -> bool
 fn value_fault(takes: Takes, value: &[u8], i: usize) -> Option<Usage>
     ensures { result ≡ spec.value_fault takes value.now i }
 {
+    let at = word_index(i);
     match takes {
-        Takes::Seconds if seconds(value).is_none() => Some(Usage::BadNumber { i }),
-        Takes::Count if count(value).is_none() => Some(Usage::BadNumber { i }),
-        Takes::NameAndText if !is_name(value) => Some(Usage::BadName { i }),
+        Takes::Seconds if seconds(value).is_none() => Some(Usage::BadNumber { i: at }),
+        Takes::Count if count(value).is_none() => Some(Usage::BadNumber { i: at }),
+        Takes::NameAndText if !is_name(value) => Some(Usage::BadName { i: at }),
         _ => None,
     }
 }
@@ -89,7 +97,7 @@ fn form_fault(words: &[String], parts: &[Part]) -> Option<Usage>
 {
     let form = Form::of(parts);
     if let Some(i) = form.extra(parts) {
-        return Some(Usage::Extra { i });
+        return Some(Usage::Extra { i: word_index(i) });
     }
     match form {
         Form::One => paths_fault(words, parts),
@@ -107,6 +115,17 @@ fn paths_fault(words: &[String], parts: &[Part]) -> Option<Usage>
     if are_apart(input, word(words, i).as_bytes()) {
         None
     } else {
-        Some(Usage::SamePath { i })
+        Some(Usage::SamePath { i: word_index(i) })
+    }
+}
+
+/// The index of a word as a refusal gives it: beyond 32 bits, the last one that they hold.
+fn word_index(i: usize) -> u32
+    ensures { result ≡ spec.word_index i }
+{
+    if i < u32::MAX as usize {
+        i as u32
+    } else {
+        u32::MAX
     }
 }

@@ -24,5 +24,6 @@ pub fn faulty_where_no_jobs_file()
 
 /// The input of the job that a command line asks for is none of the files that the job writes.
 pub fn inputs_are_apart()
-    ensures { (words : Plain (Plain ℕ)) (a : asks.Ask) → refusal words ≡ None → asked words ≡ command.One a → are_apart a.input a.output ≡ true }
+    ensures { (words : Plain (Plain ℕ)) (a : asks.Ask) →
+        refusal words ≡ None → asked words ≡ command.One a → are_apart a.input a.output ≡ true }
 {}

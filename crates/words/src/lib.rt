@@ -21,8 +21,6 @@ mod path;
 mod place;
 mod shape;
 mod takes;
-#[cfg(test)]
-mod tests;
 mod usage;
 mod used_path;
 mod value;

@@ -49,7 +49,8 @@ fn number(text: &[u8]) -> Option<u64>
     Some(n)
 }
 
-/// Whether the text is a parameter's name: a letter of ASCII or `_`, then such letters, digits and `_`.
+/// Whether the text is a parameter's name: a letter of ASCII or `_`, then such letters, digits
+/// and `_`.
 pub(crate) fn is_name(text: &[u8]) -> bool
     ensures { result ≡ spec.is_name text.now }
 {

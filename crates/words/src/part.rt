@@ -27,7 +27,8 @@ fn part_at(at: usize, kind: Kind) -> Part
     }
 }
 
-/// The parts of the words, in their order. An option's values are the words after it, whatever they begin with.
+/// The parts of the words, in their order. An option's values are the words after it, whatever they
+/// begin with.
 pub(crate) fn parts_of(alloc: Global, words: &[String]) -> Result<List<Part>, NoMemory>
     ensures { IfOk result (λ parts. parts ≡ spec.parts_of (map string_bytes words.now)) }
 {

@@ -6,7 +6,8 @@ use crate::member::Member;
 use jtext::{NoMemory, Text};
 use std::alloc::Global;
 
-/// A value of a jobs file: the whole, the list of jobs, a job by its index, or a value of one of its members.
+/// A value of a jobs file: the whole, the list of jobs, a job by its index, or a value of one of
+/// its members.
 #[derive(Clone, Copy, Debug, Drop)]
 pub(crate) enum Place {
     Whole,

@@ -28,7 +28,7 @@ pub(crate) fn paths_of(
 {
     let mut paths = List::new(alloc);
     paths.push(UsedPath {
-        path: Text::of(alloc, file.as_str())?,
+        path: file.copy(alloc)?,
         place: Place::Whole,
     })?;
     for (i, job) in jobs.iter().enumerate() {
@@ -53,7 +53,8 @@ fn add_paths(
 }
 
 fn input_path(alloc: Global, i: usize, job: &Json) -> Result<UsedPath, NoMemory>
-    ensures { IfOk result (λ r. r ≡ spec.used (spec.path_at (codes "input") job.now) (place.Value i member.Input)) }
+    ensures { IfOk result (λ r.
+        r ≡ spec.used_path (spec.path_at (codes "input") job.now) (place.Value i member.Input)) }
 {
     Ok(UsedPath {
         path: Text::of(alloc, path_at(job, "input"))?,
@@ -62,7 +63,8 @@ fn input_path(alloc: Global, i: usize, job: &Json) -> Result<UsedPath, NoMemory>
 }
 
 fn output_path(alloc: Global, i: usize, job: &Json) -> Result<UsedPath, NoMemory>
-    ensures { IfOk result (λ r. r ≡ spec.used (spec.path_at (codes "output") job.now) (place.Value i member.Output)) }
+    ensures { IfOk result (λ r.
+        r ≡ spec.used_path (spec.path_at (codes "output") job.now) (place.Value i member.Output)) }
 {
     Ok(UsedPath {
         path: Text::of(alloc, path_at(job, "output"))?,
@@ -72,7 +74,9 @@ fn output_path(alloc: Global, i: usize, job: &Json) -> Result<UsedPath, NoMemory
 
 /// The file beside the output with that ending.
 fn path_beside(alloc: Global, i: usize, job: &Json, ending: &str) -> Result<UsedPath, NoMemory>
-    ensures { IfOk result (λ r. r ≡ spec.used (spec.path_at (codes "output") job.now ++ ending.now) (place.Value i member.Output)) }
+    ensures { IfOk result (λ r.
+        r ≡ spec.used_path (spec.path_at (codes "output") job.now ++ ending.now)
+        (place.Value i member.Output)) }
 {
     let mut path = String::from_str(alloc, path_at(job, "output"))?;
     path.push_str(ending)?;

@@ -6,8 +6,9 @@ ghost use Rattle.words.specs.Values as spec;
 use jtext::{Json, NoMemory, NumFault, NumText, Text};
 use std::alloc::Global;
 
-/// The value that a word stands for: `True`, `False` and `None` are `true`, `false` and `null`, a text of
-/// JSON's number grammar (RFC 8259, section 6) is that number, and any other text is the string.
+/// The value that a word stands for: `True`, `False` and `None` are `true`, `false` and `null`, a
+/// text of JSON's number grammar (RFC 8259, section 6) is that number, and any other text is the
+/// string.
 pub fn value_of(alloc: Global, t: &str) -> Result<Json, NoMemory>
     ensures value { IfOk result (λ v. v ≡ spec.value_of t.now) }
     ensures means { IfOk result (λ v. spec.IsValue t.now v) }

@@ -1,5 +1,0 @@
-mod lists;
-mod looking;
-mod notebooks;
-mod reading;
-mod writing;

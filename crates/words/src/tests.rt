@@ -1,5 +1,0 @@
-mod answers;
-mod asks;
-mod fields;
-mod files;
-mod shown;
