@@ -14,4 +14,7 @@ pub mod ShakenLemmas
 pub mod VersionLemmas
 pub mod WholeLemmas
 pub mod WriteLemmas
+pub mod WritingLemmas
+pub mod MeaningLemmas
+pub mod ContextLemmas
 pub mod LawLemmas

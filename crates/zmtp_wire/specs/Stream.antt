@@ -7,7 +7,17 @@ use Rattle.zmtp_wire.specs.declared.fault.WireFault.{WireFault}
 use Rattle.zmtp_wire.specs.Fault.{clip, fault_at}
 use Rattle.zmtp_wire.specs.Greeting.{passes, greeting_cause, speaks}
 use Rattle.zmtp_wire.specs.Frame.{MOST, is_allowed, is_command, is_more, size_len, size_of}
-use Rattle.zmtp_wire.specs.Command.{error_name, WrongReady, contexts_in, messages_in}
+use Rattle.zmtp_wire.specs.Command.{error_name, WrongReady, command_contexts, command_messages}
+
+-- ---- messages
+
+-- a message: the bodies of its frames
+abbrev pub Message : Type 0
+Message = List (List ℕ)
+
+-- the context of a PING
+abbrev pub Context : Type 0
+Context = List ℕ
 
 -- ---- units
 
@@ -62,13 +72,13 @@ abbrev pub messages_of : Role → Bool → List (List ℕ) → List Item → Lis
 messages_of r newer frames [] = []
 messages_of r newer frames (frame true body ∷ items) = messages_of r newer (frames ++ body ∷ []) items
 messages_of r newer frames (frame false body ∷ items) = (frames ++ body ∷ []) ∷ messages_of r newer [] items
-messages_of r newer frames (command body ∷ items) = messages_in r newer body ++ messages_of r newer frames items
+messages_of r newer frames (command body ∷ items) = command_messages r newer body ++ messages_of r newer frames items
 
 -- the contexts of the PINGs among the items
 abbrev pub contexts_of : Bool → List Item → List (List ℕ)
 contexts_of newer [] = []
 contexts_of newer (frame more body ∷ items) = contexts_of newer items
-contexts_of newer (command body ∷ items) = contexts_in newer body ++ contexts_of newer items
+contexts_of newer (command body ∷ items) = command_contexts newer body ++ contexts_of newer items
 
 -- the messages that end in what has come
 abbrev pub messages_come : Role → Come → List (List (List ℕ))
