@@ -1,16 +1,16 @@
 //! Our side of one connection.
-ghost use Rattle.std.specs.Prelude.{◌≡◌, ℕ, List, [], ◌++◌, ◌<◌, ◌≤◌, ◌+◌, ◌↔◌, length, sum_by, Err, OnOk, OnErr, IsErr, IfSome, IfNone, IsTrue, true};
+ghost use Rattle.std.specs.Prelude.{◌≡◌, ℕ, List, [], ◌++◌, ◌<◌, ◌≤◌, ◌+◌, ◌↔◌, length, sum_by, Err, OnOk, OnErr, IsErr, IfSome, IfNone, IsTrue, true, false};
 ghost use Rattle.zmtp_wire.specs.declared.fault.WireFault.{WireFault};
 ghost use Rattle.zmtp_wire.specs.declared.fault.WireFault.TheVariants.{NoMemory as Starved};
 ghost use Rattle.zmtp_wire.specs.Frame.{MOST};
-ghost use Rattle.zmtp_wire.specs.Stream.{Gives, IsShaken};
-ghost use Rattle.zmtp_wire.specs.Decoder.{Answer, IsUnstarved};
+ghost use Rattle.zmtp_wire.specs.Stream.{IsShaken};
+ghost use Rattle.zmtp_wire.specs.Decoder.{IsUnstarved};
 ghost use Rattle.zmtp_wire.specs.Machine.{GrowsBy};
 ghost use Rattle.zmtp_wire.specs.Writing.{greeting_octets, ready_octets, message_octets};
 ghost use Rattle.zmtp_peer.specs.Envelope.{enveloped, bodies_of};
-ghost use Rattle.zmtp_peer.specs.Subscription.{prefixes_after, prefixes_after_one, in_force, IsWanted};
+ghost use Rattle.zmtp_peer.specs.Subscription.{prefixes_after, prefixes_after_one, prefixes_in, IsWanted};
 ghost use Rattle.zmtp_peer.specs.Reply.{Owes, pongs};
-ghost use Rattle.zmtp_peer.specs.Peer.{StandsFor, Brings, BringsSome, IsDue, IsSettled, answer_of, role_of};
+ghost use Rattle.zmtp_peer.specs.Peer.{StandsFor, Brings, BringsSome, IsDue, IsSettled, IsStarved, answer_of, role_of};
 
 use crate::envelope::{body_in, has_envelope};
 use crate::reply::{is_sub, put_replies, subscription_octets};
@@ -116,15 +116,16 @@ impl Peer {
 
         // What was given before with this is all that is owed, each once.
         ensures owes { OnOk result ((b sent : List ℕ) → StandsFor self.old b sent →
-            (more : List ℕ) × (out.new ≡ out.old ++ more) × Owes (role_of self.old) b (sent ++ more) × StandsFor self.new b (sent ++ more)) }
+            (more : List ℕ) × (out.new ≡ out.old ++ more) ×
+            Owes (role_of self.old) b (sent ++ more) × StandsFor self.new b (sent ++ more)) }
         ensures answer { OnOk result (answer_of self.new ≡ answer_of self.old) }
 
         // After a refusal each later call is refused.
         ensures err { OnErr result (out.new ≡ out.old) }
-        ensures starved { OnErr result (answer_of self.new ≡ Err Starved) }
-        ensures again { answer_of self.old ≡ Err Starved → IsErr result }
+        ensures starved { OnErr result (IsStarved self.new) }
+        ensures again { IsStarved self.old → IsErr result }
     {
-        if let Err(WireFault::NoMemory) = self.answer() {
+        if self.is_starved() {
             return Err(NoMemory);
         }
         match self.subscription_due() {
@@ -189,20 +190,39 @@ impl Peer {
         self.decoder.answer()
     }
 
-    /// Whether the other side's READY was read.
+    /// Whether the other side's READY was read; false once memory was wanted.
     pub fn shaken(&self) -> bool
-        ensures { (b sent : List ℕ) → StandsFor self.now b sent → (IsTrue result ↔ IsShaken (role_of self.now) b) }
+        ensures is { (b sent : List ℕ) →
+            StandsFor self.now b sent → (IsTrue result ↔ IsShaken (role_of self.now) b) }
+        ensures starved { IsStarved self.now → result ≡ false }
     {
+        if self.is_starved() {
+            return false;
+        }
         self.decoder.shaken()
     }
 
-    /// Whether a subscription in force is a prefix of the topic. Only a PUB has subscriptions.
+    /// Whether a subscription in force is a prefix of the topic; false once memory was wanted. Only a PUB has
+    /// subscriptions.
     pub fn wants(&self, topic: &[u8]) -> bool
-        ensures { (b sent : List ℕ) (ms : List (List (List ℕ))) (owed : List (List ℕ)) (answer : Answer) →
-            StandsFor self.now b sent → Gives (role_of self.now) b ms owed answer →
-            (IsTrue result ↔ IsWanted (in_force (role_of self.now) ms) topic.now) }
+        ensures is { (b sent : List ℕ) → StandsFor self.now b sent →
+            (IsTrue result ↔ IsWanted (prefixes_in (role_of self.now) b) topic.now) }
+        ensures starved { IsStarved self.now → result ≡ false }
     {
+        if self.is_starved() {
+            return false;
+        }
         is_wanted(&self.prefixes, topic)
+    }
+
+    /// Whether memory was wanted.
+    fn is_starved(&self) -> bool
+        ensures { IsTrue result ↔ IsStarved self.now }
+    {
+        match self.answer() {
+            Err(fault) => fault == WireFault::NoMemory,
+            Ok(()) => false,
+        }
     }
 }
 
