@@ -1,8 +1,11 @@
 //! What the definitions imply of every message.
-ghost use Rattle.std.specs.Prelude.{ℕ, List as Plain};
+ghost use Rattle.std.specs.Prelude.{◌≡◌, ℕ, List as Plain, Some};
 ghost use Rattle.jmsg.specs.declared.message.Message as spec;
+ghost use Rattle.jmsg.specs.declared.decoded.Decoded as verdict;
+ghost use Rattle.jmsg.specs.Date.{IsDateText};
+ghost use Rattle.jmsg.specs.Decoding.{decoded, verdict_on};
 ghost use Rattle.jmsg.specs.Encoded.{encoded, IsSendable};
-ghost use Rattle.jmsg.specs.Signed.{Signed};
+ghost use Rattle.jmsg.specs.Signed.{Signed, Decodes};
 
 use jtext::laws::compact_spells;
 
@@ -14,3 +17,20 @@ pub fn encoded_is_signed()
 {
     compact_spells();
 }
+
+/// What parts are is a function of the key and the parts, and so is the message that they are.
+pub fn decoded_is_signed()
+    ensures verdict { (key : Plain ℕ) (parts : Plain (Plain ℕ)) →
+        Decodes key parts (verdict_on key parts) }
+    ensures only_verdict { (key : Plain ℕ) (parts : Plain (Plain ℕ)) (d : verdict.Decoded) →
+        Decodes key parts d → d ≡ verdict_on key parts }
+    ensures message { (key : Plain ℕ) (parts : Plain (Plain ℕ)) (m : spec.Message) →
+        decoded key parts ≡ Some m → Signed key parts m }
+    ensures only_message { (key : Plain ℕ) (parts : Plain (Plain ℕ)) (m : spec.Message) →
+        Signed key parts m → decoded key parts ≡ Some m }
+{}
+
+/// A moment has one text.
+pub fn one_date_text()
+    ensures { (ms : ℕ) (a b : Plain ℕ) → IsDateText ms a → IsDateText ms b → a ≡ b }
+{}

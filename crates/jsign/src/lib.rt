@@ -8,8 +8,6 @@ mod key_block;
 pub mod laws;
 mod seen;
 mod signer;
-#[cfg(test)]
-mod tests;
 
 pub use hmac::{check, sign};
 pub use seen::Seen;

@@ -111,7 +111,7 @@ replies_read r peer b ms h a =
     let then_ms = map message ms in
     let s = writings_read r peer (first ++ then_ms) h (writable_join first then_ms (writable peer b) (writable_of ms a)) in
     let octets : writing_octets (first ++ then_ms) ≡ owed_octets peer b ++ all_octets ms =
-        octets_join first then_ms ∙ ap (λ x. x ++ writing_octets then_ms) (written peer b) ∙ ap (λ x. owed_octets peer b ++ x) (message_octets_of ms) in
+    octets_join first then_ms ∙ ap (λ x. x ++ writing_octets then_ms) (written peer b) ∙ ap (λ x. owed_octets peer b ++ x) (message_octets_of ms) in
     let messages : messages_heard r (first ++ then_ms) ≡ messages_heard r first ++ ms = messages_join r first then_ms ∙ ap (λ x. messages_heard r first ++ x) (messages_of r ms) in
     let contexts : contexts_heard (first ++ then_ms) ≡ [] = contexts_join first then_ms ∙ ap (λ x. x ++ contexts_heard then_ms) (no_ping peer b) ∙ contexts_of ms in
     let s1 = subst (λ (x : List ℕ). Stream (greeting_octets ++ (ready_octets peer ++ x)) r (messages_heard r (first ++ then_ms)) (contexts_heard (first ++ then_ms)) []) octets s in

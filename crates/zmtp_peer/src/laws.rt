@@ -17,7 +17,7 @@ pub fn sent_is_read()
     ensures gives { (r peer : Role) (ms : List Message) →
         is_peer r (Some (role_name peer)) ≡ true → AreBodies ms →
         Gives r (greeting_octets ++ (ready_octets peer ++ all_octets (all_enveloped peer ms)))
-            (all_enveloped peer ms) [] (Ok tt) }
+        (all_enveloped peer ms) [] (Ok tt) }
     ensures bodies { (r peer : Role) (ms : List Message) → has_envelope r ≡ has_envelope peer →
         bodies_of r (all_enveloped peer ms) ≡ ms }
 {}
@@ -39,12 +39,12 @@ pub fn replies_are_read()
     ensures writable { (r : Role) (b : List ℕ) → AreWritings (owed_writings r b) }
     ensures subscription { (r : Role) (newer : Bool) →
         messages_heard r (subscription_writing newer ∷ []) ≡
-            cond (is_pub r || not newer) (subscribe_message ∷ []) [] }
+        cond (is_pub r || not newer) (subscribe_message ∷ []) [] }
     ensures pong { (r : Role) (context : Context) →
         messages_heard r (pong_writing context ∷ []) ≡ [] }
     ensures no_ping { (r : Role) (b : List ℕ) → contexts_heard (owed_writings r b) ≡ [] }
     ensures read { (r peer : Role) (b : List ℕ) (ms : List Message) →
         is_peer r (Some (role_name peer)) ≡ true → AreMessages ms →
         Stream (greeting_octets ++ (ready_octets peer ++ (owed_octets peer b ++ all_octets ms))) r
-            (messages_heard r (owed_writings peer b) ++ ms) [] [] }
+        (messages_heard r (owed_writings peer b) ++ ms) [] [] }
 {}

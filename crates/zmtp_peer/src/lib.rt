@@ -7,7 +7,6 @@ pub mod laws;
 mod peer;
 mod reply;
 mod subscription;
-#[cfg(test)]
-mod tests;
 
+pub use envelope::is_body;
 pub use peer::Peer;

@@ -15,6 +15,7 @@ pub mod VersionLemmas
 pub mod WholeLemmas
 pub mod WriteLemmas
 pub mod WritingLemmas
+pub mod SumLemmas
 pub mod MeaningLemmas
 pub mod ContextLemmas
 pub mod LawLemmas

@@ -16,14 +16,12 @@ mod parts;
 mod role;
 mod state;
 mod stream;
-#[cfg(test)]
-mod tests;
 mod unit;
 mod version;
 
 pub use decoder::Decoder;
 pub use fault::WireFault;
-pub use frame::{put_command, put_message};
+pub use frame::{is_message, parts_len, put_command, put_message};
 pub use handshake::put_ready;
 pub use opening::greeting;
 pub use parts::{Messages, Parts};

@@ -14,7 +14,7 @@ use jtext::{Bytes, NoMemory};
 use std::alloc::Global;
 
 /// The most octets that the frames of a message have together, and a command has.
-const MOST_OCTETS: u64 = 67_108_864;
+pub const MOST_OCTETS: u64 = 67_108_864;
 
 /// What one more octet of a unit brings.
 pub fn unit_step(

@@ -1,4 +1,6 @@
-use crate::{Decoded, Header, Message, date_text, decode, encode, signature};
+//! Messages as Python signs and ipykernel sends them, and dates by Python's `datetime`.
+
+use jmsg::{Decoded, Header, Message, date_text, decode, encode, signature};
 use jsign::sign;
 use jtext::{Bytes, NoMemory, Text, read, write_compact};
 use std::alloc::Global;
@@ -198,7 +200,7 @@ fn is_so(alloc: Global, line: &[u8]) -> Result<bool, NoMemory> {
 #[test]
 fn refuses_by_the_first_test_that_fails(rt: HostRuntime) -> Result<(), Fail> {
     for line in VERDICTS.split(|byte| *byte == b'\n') {
-        assert!(rt; is_so(rt.alloc(), line)?);
+        assert!(rt; is_so(rt.alloc(), line)?, "{line:?}");
     }
     Ok(())
 }
@@ -206,7 +208,7 @@ fn refuses_by_the_first_test_that_fails(rt: HostRuntime) -> Result<(), Fail> {
 #[test]
 fn refuses_signed_frames_that_are_no_dictionaries(rt: HostRuntime) -> Result<(), Fail> {
     for line in SIGNED.split(|byte| *byte == b'\n') {
-        assert!(rt; is_so(rt.alloc(), line)?);
+        assert!(rt; is_so(rt.alloc(), line)?, "{line:?}");
     }
     Ok(())
 }
@@ -274,10 +276,13 @@ const NOT_FOUND: &[u8] = br#"<IDS|MSG>~7~~~~
 fn finds_the_signature_untested(rt: HostRuntime) -> Result<(), Fail> {
     let alloc = rt.alloc();
     for line in FOUND.split(|byte| *byte == b'\n') {
-        assert!(rt; signature(&parts_of(alloc, line)?) == Some([b'7'; 64]));
+        assert!(rt;
+            signature(&parts_of(alloc, line)?) == Some([b'7'; 64]),
+            "{line:?}"
+        );
     }
     for line in NOT_FOUND.split(|byte| *byte == b'\n') {
-        assert!(rt; signature(&parts_of(alloc, line)?).is_none());
+        assert!(rt; signature(&parts_of(alloc, line)?).is_none(), "{line:?}");
     }
     Ok(())
 }
@@ -309,7 +314,7 @@ fn is_date(line: &str) -> bool {
 #[test]
 fn writes_dates(rt: HostRuntime) -> Result<(), Fail> {
     for line in DATES.lines() {
-        assert!(rt; is_date(line));
+        assert!(rt; is_date(line), "{line}");
     }
     Ok(())
 }

@@ -1,8 +1,12 @@
 //! Octets from the standard and from libzmq 4.3.4, whose sockets were bound and read over a plain connection.
 
-use super::*;
+use crate::joined::put_joined;
 use jtext::{Bytes, NoMemory};
 use std::test::Fail;
+use zmtp_wire::{
+    Decoder, Messages, Parts, Role, WireFault, greeting, is_message, parts_len, put_message,
+    put_ready, whole,
+};
 
 /// What libzmq's ROUTER sends first: octet 8 of its greeting is 1, and its READY has an empty `Identity`.
 const ROUTER: &[u8] =
@@ -15,18 +19,6 @@ const PUB: &[u8] =
 /// A greeting of version 3.0.
 const OLD: &[u8] =
     b"\xFF\0\0\0\0\0\0\0\0\x7F\x03\0NULL\0\0\0\0\0\0\0\0\0\0\0\0\0\0\0\0\0\0\0\0\0\0\0\0\0\0\0\0\0\0\0\0\0\0\0\0\0\0\0\0\0\0\0\0\0\0\0\0";
-
-/// Parts end in `|`, messages in `/`.
-fn put_joined(messages: &Messages, out: &mut Bytes) -> Result<(), NoMemory> {
-    for message in messages.as_slice() {
-        for part in message.as_slice() {
-            out.add(part.bytes())?;
-            out.push(b'|')?;
-        }
-        out.push(b'/')?;
-    }
-    Ok(())
-}
 
 /// The stream of a peer of this kind, 94 octets or 91 of handshake, and then the tail.
 fn stream(rt: &HostRuntime, peer: Role, tail: &[u8]) -> Result<Bytes, NoMemory> {
@@ -143,6 +135,9 @@ fn what_is_written_is_as_the_standard_has_it(rt: HostRuntime) -> Result<(), Fail
     let mut out = Bytes::new(alloc);
     put_message(alloc, &long, &mut out)?;
     assert_eq!(rt; out.len(), 265);
+    assert_eq!(rt; parts_len(&long), 256);
+    assert!(rt; is_message(&long));
+    assert!(rt; !is_message(&Parts::new(alloc)));
     assert!(rt; out.bytes().starts_with(b"\x02\0\0\0\0\0\0\x01\0\x07"));
     Ok(())
 }
@@ -229,7 +224,8 @@ fn what_peers_send_is_read(rt: HostRuntime) -> Result<(), Fail> {
     ];
     for (role, peer, tail, messages, owed) in tails {
         let octets = stream(&rt, peer, tail)?;
-        assert!(rt; reads(&rt, role, octets.bytes(), messages, owed, true)?);
+        let read = reads(&rt, role, octets.bytes(), messages, owed, true)?;
+        assert!(rt; read, "{tail:?} to {role:?}");
     }
     Ok(())
 }
@@ -271,7 +267,8 @@ fn a_greeting_is_refused_at_its_octet(rt: HostRuntime) -> Result<(), Fail> {
         if place < octets.len() {
             octets.put(place, octet);
         }
-        assert!(rt; refuses(&rt, Role::Dealer, octets.bytes(), fault, b"")?);
+        let refused = refuses(&rt, Role::Dealer, octets.bytes(), fault, b"")?;
+        assert!(rt; refused, "{octet} at {place}");
     }
     Ok(())
 }
@@ -311,7 +308,8 @@ fn a_first_command_is_refused_at_its_octet(rt: HostRuntime) -> Result<(), Fail> 
     for (tail, fault) in rows {
         let mut octets = Bytes::of(rt.alloc(), &greeting())?;
         octets.add(tail)?;
-        assert!(rt; refuses(&rt, Role::Dealer, octets.bytes(), fault, b"")?);
+        let refused = refuses(&rt, Role::Dealer, octets.bytes(), fault, b"")?;
+        assert!(rt; refused, "{fault:?}: {tail:?}");
     }
     Ok(())
 }
@@ -364,7 +362,8 @@ fn a_unit_is_refused_at_its_octet(rt: HostRuntime) -> Result<(), Fail> {
     ];
     for (tail, fault, before) in rows {
         let octets = stream(&rt, Role::Router, tail)?;
-        assert!(rt; refuses(&rt, Role::Dealer, octets.bytes(), fault, before)?);
+        let refused = refuses(&rt, Role::Dealer, octets.bytes(), fault, before)?;
+        assert!(rt; refused, "{fault:?}: {tail:?}");
     }
     let mut many = stream(&rt, Role::Router, b"")?;
     for _ in 0..63u8 {

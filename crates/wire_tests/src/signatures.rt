@@ -1,4 +1,6 @@
-use crate::{Seen, Signer, check, sign};
+//! Signatures by RFC 4231 and by Python's `hmac`, and the last ones seen.
+
+use jsign::{Seen, Signer, check, sign};
 use std::test::Fail;
 
 /// A key, four frames, and the signature that they have.
@@ -66,7 +68,8 @@ fn signs_the_cases_of_rfc_4231(rt: HostRuntime) -> Result<(), Fail> {
         ),
     ];
     for case in &cases {
-        assert!(rt; signs_as(case) && signer_signs_as(case));
+        let (_, _, expected) = case;
+        assert!(rt; signs_as(case) && signer_signs_as(case), "{expected:?}");
     }
     Ok(())
 }
@@ -92,7 +95,8 @@ fn hashes_keys_longer_than_a_block(rt: HostRuntime) -> Result<(), Fail> {
         ),
     ];
     for case in &cases {
-        assert!(rt; signs_as(case) && signer_signs_as(case));
+        let (_, _, expected) = case;
+        assert!(rt; signs_as(case) && signer_signs_as(case), "{expected:?}");
     }
     Ok(())
 }
@@ -125,7 +129,7 @@ fn refuses_what_differs_from_the_signature(rt: HostRuntime) -> Result<(), Fail> 
             b"nothing?",
             given,
         );
-        assert_eq!(rt; checked, *answer);
+        assert_eq!(rt; checked, *answer, "{given:?}");
     }
     assert!(rt;
         !check(
@@ -156,7 +160,7 @@ fn forgets_the_oldest_of_more_than_65536(rt: HostRuntime) -> Result<(), Fail> {
     let mut seen = Seen::new(rt.alloc())?;
     assert!(rt; seen.fresh(&numbered(0))?);
     for number in 1..65_536 {
-        assert!(rt; seen.fresh(&numbered(number))?);
+        assert!(rt; seen.fresh(&numbered(number))?, "{number}");
     }
     assert!(rt; !seen.fresh(&numbered(0))?);
     assert!(rt; !seen.fresh(&numbered(65_535))?);

@@ -2,22 +2,11 @@
 
 ghost use Rattle.std.specs.Prelude.{◌≡◌, ◌∷◌, [], IfOk};
 
-use super::*;
+use crate::joined::put_joined;
 use jtext::{Bytes, NoMemory};
 use std::test::Fail;
+use zmtp_peer::{Peer, is_body};
 use zmtp_wire::{Messages, Parts, Role, WireFault, greeting, put_ready};
-
-/// Parts end in `|`, messages in `/`.
-fn put_joined(messages: &Messages, out: &mut Bytes) -> Result<(), NoMemory> {
-    for message in messages.as_slice() {
-        for part in message.as_slice() {
-            out.add(part.bytes())?;
-            out.push(b'|')?;
-        }
-        out.push(b'/')?;
-    }
-    Ok(())
-}
 
 /// A peer of this role that was fed the start of the other side, with this minor version, and then the tail.
 fn fed(
@@ -76,8 +65,9 @@ fn a_request_has_an_empty_frame_first(rt: HostRuntime) -> Result<(), Fail> {
     for (role, wanted) in rows {
         let mut out = Bytes::new(rt.alloc());
         Peer::new(rt.alloc(), role).message_bytes(&ping, &mut out)?;
-        assert_eq!(rt; out.bytes(), wanted);
+        assert_eq!(rt; out.bytes(), wanted, "{role:?}");
     }
+    assert!(rt; is_body(&ping));
     Ok(())
 }
 
@@ -98,8 +88,8 @@ fn what_comes_has_no_envelope(rt: HostRuntime) -> Result<(), Fail> {
     for (role, other, tail, wanted) in rows {
         let mut out = Bytes::new(rt.alloc());
         let peer = fed(&rt, role, other, 1, tail, &mut out)?;
-        assert_eq!(rt; out.bytes(), wanted);
-        assert!(rt; peer.shaken());
+        assert_eq!(rt; out.bytes(), wanted, "{tail:?} to {role:?}");
+        assert!(rt; peer.shaken(), "{role:?}");
     }
     Ok(())
 }
@@ -189,7 +179,7 @@ fn a_publisher_keeps_its_subscriptions(rt: HostRuntime) -> Result<(), Fail> {
     for (tail, topic, wanted) in rows {
         let mut out = Bytes::new(rt.alloc());
         let peer = fed(&rt, Role::Pub, Role::Sub, 1, tail, &mut out)?;
-        assert_eq!(rt; peer.wants(topic), wanted);
+        assert_eq!(rt; peer.wants(topic), wanted, "{topic:?} after {tail:?}");
     }
     Ok(())
 }
