@@ -1,6 +1,6 @@
 //! What the definitions imply of every message.
 ghost use Rattle.std.specs.Prelude.{◌≡◌, ℕ, List as Plain, Some};
-ghost use Rattle.jmsg.specs.declared.message.Message as spec;
+ghost use Rattle.jmsg.specs.declared.message.Message as message;
 ghost use Rattle.jmsg.specs.declared.decoded.Decoded as verdict;
 ghost use Rattle.jmsg.specs.Date.{IsDateText};
 ghost use Rattle.jmsg.specs.Decoding.{decoded, verdict_on};
@@ -10,10 +10,10 @@ ghost use Rattle.jmsg.specs.Signed.{Signed, Decodes};
 use jtext::laws::compact_spells;
 
 /// The parts to which a message is encoded under a key are that message, signed under that key; so
-/// `decode` gives it again. Its dictionaries are objects with distinct keys nested at most 100 deep,
-/// and its parent's id is the one in its parent header.
+/// `decode` gives it again. Its dictionaries are objects with distinct keys nested at most 100
+/// deep, and its parent's id is the one in its parent header.
 pub fn encoded_is_signed()
-    ensures { (key : Plain ℕ) (m : spec.Message) → IsSendable m → Signed key (encoded key m) m }
+    ensures { (key : Plain ℕ) (m : message.Message) → IsSendable m → Signed key (encoded key m) m }
 {
     compact_spells();
 }
@@ -24,9 +24,9 @@ pub fn decoded_is_signed()
         Decodes key parts (verdict_on key parts) }
     ensures only_verdict { (key : Plain ℕ) (parts : Plain (Plain ℕ)) (d : verdict.Decoded) →
         Decodes key parts d → d ≡ verdict_on key parts }
-    ensures message { (key : Plain ℕ) (parts : Plain (Plain ℕ)) (m : spec.Message) →
+    ensures message { (key : Plain ℕ) (parts : Plain (Plain ℕ)) (m : message.Message) →
         decoded key parts ≡ Some m → Signed key parts m }
-    ensures only_message { (key : Plain ℕ) (parts : Plain (Plain ℕ)) (m : spec.Message) →
+    ensures only_message { (key : Plain ℕ) (parts : Plain (Plain ℕ)) (m : message.Message) →
         Signed key parts m → decoded key parts ≡ Some m }
 {}
 

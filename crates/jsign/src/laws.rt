@@ -9,8 +9,8 @@ pub fn signature_is_long()
         length (signature key header parent metadata content) ≡ 64 }
 {}
 
-/// Of items that are offered with their signatures those are kept whose signature is fresh, and these are the fresh
-/// signatures.
+/// Of items that are offered with their signatures those are kept whose signature is fresh, and
+/// these are the fresh signatures.
 pub fn fresh_items_are_kept<T>()
     ensures signatures { (offered : List (List ℕ × T)) →
         signatures_of (fresh_items offered) ≡ fresh_of (signatures_of offered) }

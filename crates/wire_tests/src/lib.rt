@@ -1,5 +1,5 @@
-//! Tests of the wire: streams, peers, signatures and messages, by public calls alone. The octets and texts are those
-//! of the standards, of libzmq, of Python and of ipykernel.
+//! Tests of the wire: streams, peers, signatures and messages, by public calls alone. The octets
+//! and texts are those of the standards, of libzmq, of Python and of ipykernel.
 #![tactic(auto)]
 
 #[cfg(test)]

@@ -1,4 +1,5 @@
-//! Octets from the standard and from libzmq 4.3.4, whose PUB was bound and read over a plain connection.
+//! Octets from the standard and from libzmq 4.3.4, whose PUB was bound and read over a plain
+//! connection.
 
 ghost use Rattle.std.specs.Prelude.{◌≡◌, ◌∷◌, [], IfOk};
 
@@ -8,7 +9,8 @@ use std::test::Fail;
 use zmtp_peer::{Peer, is_body};
 use zmtp_wire::{Messages, Parts, Role, WireFault, greeting, put_ready};
 
-/// A peer of this role that was fed the start of the other side, with this minor version, and then the tail.
+/// A peer of this role that was fed the start of the other side, with this minor version, and then
+/// the tail.
 fn fed(
     rt: &HostRuntime,
     role: Role,

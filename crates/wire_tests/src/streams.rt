@@ -1,4 +1,5 @@
-//! Octets from the standard and from libzmq 4.3.4, whose sockets were bound and read over a plain connection.
+//! Octets from the standard and from libzmq 4.3.4, whose sockets were bound and read over a plain
+//! connection.
 
 use crate::joined::put_joined;
 use jtext::{Bytes, NoMemory};
@@ -8,7 +9,8 @@ use zmtp_wire::{
     put_ready, whole,
 };
 
-/// What libzmq's ROUTER sends first: octet 8 of its greeting is 1, and its READY has an empty `Identity`.
+/// What libzmq's ROUTER sends first: octet 8 of its greeting is 1, and its READY has an empty
+/// `Identity`.
 const ROUTER: &[u8] =
     b"\xFF\0\0\0\0\0\0\0\x01\x7F\x03\x01NULL\0\0\0\0\0\0\0\0\0\0\0\0\0\0\0\0\0\0\0\0\0\0\0\0\0\0\0\0\0\0\0\0\0\0\0\0\0\0\0\0\0\0\0\0\0\0\0\0\x04\x29\x05READY\x0BSocket-Type\0\0\0\x06ROUTER\x08Identity\0\0\0\0";
 
@@ -61,7 +63,8 @@ fn listen(rt: &HostRuntime, role: Role, octets: &[u8], size: usize) -> Result<He
     })
 }
 
-/// Whether the plain reader and the decoder, in pieces of 1, 2, 3 and all octets, give this fault and these messages.
+/// Whether the plain reader and the decoder, in pieces of 1, 2, 3 and all octets, give this fault
+/// and these messages.
 fn refuses(
     rt: &HostRuntime,
     role: Role,
@@ -86,7 +89,8 @@ fn refuses(
     Ok(true)
 }
 
-/// Whether the plain reader and the decoder, in pieces of 1, 2, 3 and all octets, give these messages and contexts.
+/// Whether the plain reader and the decoder, in pieces of 1, 2, 3 and all octets, give these
+/// messages and contexts.
 fn reads(
     rt: &HostRuntime,
     role: Role,

@@ -1,5 +1,5 @@
-//! The envelope of REQ and REP: an empty frame before the body. The other kinds have none; ROUTER serves one
-//! connection here and shows no identity.
+//! The envelope of REQ and REP: an empty frame before the body. The other kinds have none; ROUTER
+//! serves one connection here and shows no identity.
 ghost use Rattle.std.specs.Prelude.{◌≡◌, ◌↔◌, ◌∷◌, [], IfSome, IfNone, IsTrue};
 ghost use Rattle.zmtp_peer.specs.Envelope.{has_envelope, starts_empty, body_in};
 ghost use Rattle.zmtp_peer.specs.Sending.{IsBody};
@@ -27,7 +27,8 @@ pub fn is_body(parts: &Parts) -> bool
     0 < parts.len() && parts.len() <= 63 && parts_len(parts) <= MOST_OCTETS
 }
 
-/// The body of a message that the role reads. `None` where the message is passed over: its first frame isn't empty.
+/// The body of a message that the role reads. `None` where the message is passed over: its first
+/// frame isn't empty.
 #[tactic(auto, using(crate::proofs::BodyLemmas::body_laws))]
 pub fn body_in(role: Role, message: Parts) -> Option<Parts>
     ensures some { IfSome result (λ body. body_in role message ≡ body ∷ []) }

@@ -1,18 +1,20 @@
 //! Laws of the definitions, each the contract of a function without a body.
-ghost use Rattle.std.specs.Prelude.{◌≡◌, ℕ, Bool, List, [], ◌∷◌, ◌++◌, cond, ◌||◌, not, Some, Ok, true};
+ghost use Rattle.std.specs.Prelude.{◌≡◌, ℕ, Bool, List, [], ◌∷◌, ◌++◌, cond, ◌||◌, not, Some, Ok};
+ghost use Rattle.std.specs.Prelude.{true};
 ghost use Rattle.zmtp_wire.specs.declared.role.Role.{Role};
 ghost use Rattle.zmtp_wire.specs.Command.{is_peer, is_pub};
 ghost use Rattle.zmtp_wire.specs.Meaning.{Begins};
 ghost use Rattle.zmtp_wire.specs.Stream.{Message, Context, Gives, Stream};
 ghost use Rattle.zmtp_wire.specs.Writing.{greeting_octets, ready_octets, role_name, all_octets};
-ghost use Rattle.zmtp_wire.specs.Writing.{AreMessages, AreWritings, writing_octets, messages_heard, contexts_heard};
+ghost use Rattle.zmtp_wire.specs.Writing.{AreMessages, AreWritings, writing_octets, messages_heard};
+ghost use Rattle.zmtp_wire.specs.Writing.{contexts_heard};
 ghost use Rattle.zmtp_peer.specs.Envelope.{has_envelope, bodies_of};
 ghost use Rattle.zmtp_peer.specs.Reply.{Owes, owed_octets, owed_writings, subscription_writing};
 ghost use Rattle.zmtp_peer.specs.Reply.{pong_writing, subscribe_message};
 ghost use Rattle.zmtp_peer.specs.Sending.{AreBodies, all_enveloped};
 
-/// What one side sends, its start and then messages, the other side reads as just these bodies, where the two may meet
-/// and both have the envelope or neither.
+/// What one side sends, its start and then messages, the other side reads as just these bodies,
+/// where the two may meet and both have the envelope or neither.
 pub fn sent_is_read()
     ensures gives { (r peer : Role) (ms : List Message) →
         is_peer r (Some (role_name peer)) ≡ true → AreBodies ms →
@@ -31,8 +33,9 @@ pub fn owed_is_given()
     ensures none { (r : Role) → owed_octets r [] ≡ [] }
 {}
 
-/// What is owed may be written, and is octets of commands and messages. The other side reads a subscription as the
-/// message `01`, and passes over a PONG; a subscription as a command means something to a PUB alone.
+/// What is owed may be written, and is octets of commands and messages. The other side reads a
+/// subscription as the message `01`, and passes over a PONG; a subscription as a command means
+/// something to a PUB alone.
 pub fn replies_are_read()
     ensures written { (r : Role) (b : List ℕ) →
         writing_octets (owed_writings r b) ≡ owed_octets r b }

@@ -168,6 +168,14 @@ pub record Broken (b : List ℕ) (role : Role) (e : WireFault) (at : ℕ) (ms : 
   pub messages : ms ≡ messages_come role come
   pub contexts : owed ≡ contexts_come come
 
+-- b is a stream with these messages and a rest of that many octets
+abbrev pub Scans : List ℕ → Role → List Message → ℕ → Type 0
+Scans b role ms n = (owed : List Context) × (rest : List ℕ) × Stream b role ms owed rest × (n ≡ length rest)
+
+-- b is broken by this fault
+abbrev pub BreaksAs : List ℕ → Role → WireFault → Type 0
+BreaksAs b role e = (at : ℕ) × (ms : List Message) × (owed : List Context) × Broken b role e at ms owed
+
 -- b is a stream
 abbrev pub IsStream : List ℕ → Role → Type 0
 IsStream b role = (ms : List (List (List ℕ))) × (owed : List (List ℕ)) × (rest : List ℕ) × Stream b role ms owed rest

@@ -1,7 +1,9 @@
-//! What a peer's commands mean after the handshake. All but SUBSCRIBE, CANCEL and PING of a peer that speaks 3.1 are
-//! passed over. Read more loosely than the standard: a command may stand between the frames of a message.
+//! What a peer's commands mean after the handshake. All but SUBSCRIBE, CANCEL and PING of a peer
+//! that speaks 3.1 are passed over. Read more loosely than the standard: a command may stand
+//! between the frames of a message.
 ghost use Rattle.std.specs.Prelude.{◌≡◌, [], ◌∷◌, ◌++◌, ◌≤◌, length, OnOk, OnErr, IsTrue};
-ghost use Rattle.zmtp_wire.specs.Command.{command_messages, command_contexts, is_ping, is_pub, is_subscribe, is_cancel};
+ghost use Rattle.zmtp_wire.specs.Command.{command_messages, command_contexts, is_ping, is_pub};
+ghost use Rattle.zmtp_wire.specs.Command.{is_subscribe, is_cancel};
 
 use crate::parts::{Messages, Parts};
 use crate::role::Role;

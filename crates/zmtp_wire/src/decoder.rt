@@ -1,4 +1,5 @@
-//! The decoder: it keeps the unfinished unit and the frames of the unfinished message, and what it still owes.
+//! The decoder: it keeps the unfinished unit and the frames of the unfinished message, and what it
+//! still owes.
 ghost use Rattle.std.specs.Prelude.{◌≡◌, ℕ, List, [], ◌++◌, ◌↔◌, Err, None, IsTrue, false};
 ghost use Rattle.zmtp_wire.specs.declared.fault.WireFault.{WireFault};
 ghost use Rattle.zmtp_wire.specs.declared.fault.WireFault.TheVariants.{NoMemory as Starved};
@@ -45,8 +46,8 @@ impl Decoder {
         }
     }
 
-    /// Takes the next piece of the peer's stream, cut anywhere, and appends the messages that end in it to `out`.
-    /// Any `Err` is final: each later call answers it again.
+    /// Takes the next piece of the peer's stream, cut anywhere, and appends the messages that end
+    /// in it to `out`. Any `Err` is final: each later call answers it again.
     pub fn feed(&mut self, piece: &[u8], out: &mut Messages) -> Result<(), WireFault>
         ensures role { role_of self.new ≡ role_of self.old }
 
@@ -54,15 +55,18 @@ impl Decoder {
         ensures stands { IsUnstarved result → (b : List ℕ) (given : List Context) →
             StandsFor self.old b given → StandsFor self.new (b ++ piece.now) given }
         ensures brings { IsUnstarved result → (b : List ℕ) (given : List Context) →
-            StandsFor self.old b given → Brings (role_of self.old) b piece.now out.old out.new result }
+            StandsFor self.old b given →
+            Brings (role_of self.old) b piece.now out.old out.new result }
 
         // A refusal is given again, and brings nothing more.
         ensures answer { answer_of self.new ≡ result }
-        ensures again { (e : WireFault) → answer_of self.old ≡ Err e → (result ≡ Err e) × (out.new ≡ out.old) }
+        ensures again { (e : WireFault) → answer_of self.old ≡ Err e →
+            (result ≡ Err e) × (out.new ≡ out.old) }
 
         // Without memory the first ones of the messages are there.
         ensures starved { result ≡ Err Starved → (b : List ℕ) (given : List Context) →
-            StandsFor self.old b given → BringsSome (role_of self.old) b piece.now out.old out.new }
+            StandsFor self.old b given →
+            BringsSome (role_of self.old) b piece.now out.old out.new }
     {
         let start = self.at;
         self.version = self.version.with(start, piece);
@@ -111,8 +115,8 @@ impl Decoder {
         self.state.is_shaken()
     }
 
-    /// Whether the peer speaks 3.1 or above; `None` until twelve octets of its stream have come, and once memory
-    /// was wanted.
+    /// Whether the peer speaks 3.1 or above; `None` until twelve octets of its stream have come,
+    /// and once memory was wanted.
     pub fn newer(&self) -> Option<bool>
         ensures is { (b : List ℕ) (given : List Context) →
             StandsFor self.now b given → result ≡ newer_of b }
@@ -127,7 +131,8 @@ impl Decoder {
         Some(self.version.is_newer())
     }
 
-    /// The contexts of the PINGs since the last such call, in order; none once memory was wanted. It takes no memory.
+    /// The contexts of the PINGs since the last such call, in order; none once memory was wanted.
+    /// It takes no memory.
     pub fn owed(&mut self) -> Parts
         ensures role { role_of self.new ≡ role_of self.old }
         ensures stands { (b : List ℕ) (given : List Context) →

@@ -4,8 +4,8 @@ ghost use Rattle.zmtp_wire.specs.Fault.{number_of, place_of};
 
 use jtext::NoMemory;
 
-/// What a peer's stream breaks. `at` is the offset in the stream, from 0, of the octet at which it became certain;
-/// it stands still at `u64::MAX`.
+/// What a peer's stream breaks. `at` is the offset in the stream, from 0, of the octet at which it
+/// became certain; it stands still at `u64::MAX`.
 #[derive(Clone, Copy, Debug, Drop, PartialEq, Eq)]
 pub enum WireFault {
     /// Octet 0 isn't `FF`, or octet 9 isn't `7F`.
@@ -16,7 +16,8 @@ pub enum WireFault {
     Mechanism { at: u64 },
     /// A flag octet has a reserved bit, or COMMAND with MORE.
     Flags { at: u64 },
-    /// The size that ends at this place, or the sum of the sizes of the message's frames, is above 64 MiB.
+    /// The size that ends at this place, or the sum of the sizes of the message's frames, is above
+    /// 64 MiB.
     TooLong { at: u64, size: u64 },
     /// MORE on the 64th frame of a message.
     TooMany { at: u64 },
@@ -31,7 +32,8 @@ pub enum WireFault {
 }
 
 impl WireFault {
-    /// The number of the cause, from 1 to 9 in the order of the variants, and 12 for want of memory.
+    /// The number of the cause, from 1 to 9 in the order of the variants, and 12 for want of
+    /// memory.
     pub fn number(self) -> u32
         ensures { result ≡ number_of self }
     {
@@ -49,7 +51,8 @@ impl WireFault {
         }
     }
 
-    /// The offset in the stream of the octet at which the fault became certain; 0 for want of memory.
+    /// The offset in the stream of the octet at which the fault became certain; 0 for want of
+    /// memory.
     pub fn place(self) -> u64
         ensures { result ≡ place_of self }
     {

@@ -67,7 +67,8 @@ fn put_frame(more: bool, body: &[u8], out: &mut Bytes) -> Result<(), NoMemory>
     }
 }
 
-/// Appends one unit in its shortest form: the first flag goes with a size of one octet, the second with LONG.
+/// Appends one unit in its shortest form: the first flag goes with a size of one octet, the second
+/// with LONG.
 #[tactic(auto, unfolding(crate::specs::Writing::unit_octets))]
 fn put_unit(short: u8, long: u8, body: &[u8], out: &mut Bytes) -> Result<(), NoMemory>
     ensures { OnOk result (out.new ≡ out.old ++ unit_octets short long body.now) }

@@ -1,5 +1,6 @@
 //! Laws of the definitions, each the contract of a function without a body.
-ghost use Rattle.std.specs.Prelude.{◌≡◌, ◌≢◌, ◌<◌, ◌≤◌, ℕ, Bool, List, [], ◌++◌, length, map, ◌⊎◌, ◌↔◌, None, Some, true, false};
+ghost use Rattle.std.specs.Prelude.{◌≡◌, ◌≢◌, ◌<◌, ◌≤◌, ℕ, Bool, List, [], ◌++◌, length, map, ◌⊎◌};
+ghost use Rattle.std.specs.Prelude.{◌↔◌, None, Some, true, false};
 ghost use Rattle.std.specs.List.{AllByRecursion};
 ghost use Rattle.zmtp_wire.specs.declared.role.Role.{Role};
 ghost use Rattle.zmtp_wire.specs.declared.fault.WireFault.{WireFault};
@@ -21,11 +22,13 @@ ghost use Rattle.zmtp_wire.specs.Writing.{writing_octets, messages_heard, contex
 pub fn one_reading()
     ensures one { (b : List ℕ) (r : Role) → IsStream b r ⊎ IsBroken b r }
     ensures not_both { (b : List ℕ) (r : Role) → IsStream b r → IsBroken b r → ⊥ }
-    ensures one_stream { (b : List ℕ) (r : Role) (ms ms' : List Message) (owed owed' : List Context) (rest rest' : List ℕ) →
+    ensures one_stream { (b : List ℕ) (r : Role) (ms ms' : List Message)
+        (owed owed' : List Context) (rest rest' : List ℕ) →
         Stream b r ms owed rest → Stream b r ms' owed' rest' →
         (ms ≡ ms') × (owed ≡ owed') × (rest ≡ rest') }
-    ensures one_fault { (b : List ℕ) (r : Role) (e e' : WireFault) (at at' : ℕ) (ms ms' : List Message)
-        (owed owed' : List Context) → Broken b r e at ms owed → Broken b r e' at' ms' owed' →
+    ensures one_fault { (b : List ℕ) (r : Role) (e e' : WireFault) (at at' : ℕ)
+        (ms ms' : List Message) (owed owed' : List Context) →
+        Broken b r e at ms owed → Broken b r e' at' ms' owed' →
         (e ≡ e') × (at ≡ at') × (ms ≡ ms') × (owed ≡ owed') }
     ensures gives_one { (b : List ℕ) (r : Role) (ms ms' : List Message) (owed owed' : List Context)
         (answer answer' : Answer) → Gives r b ms owed answer → Gives r b ms' owed' answer' →
@@ -44,7 +47,8 @@ pub fn octets_give()
         AllByRecursion (λ context. length context ≤ 16) (contexts_in r b) }
 {}
 
-/// Whether octets are a stream, with what rest, and what is wrong with others and where, are such functions too.
+/// Whether octets are a stream, with what rest, and what is wrong with others and where, are such
+/// functions too.
 pub fn octets_are()
     ensures stream { (r : Role) (b : List ℕ) → fault_in r b ≡ None →
         Stream b r (messages_in r b) (contexts_in r b) (rest_in r b) }
@@ -56,7 +60,8 @@ pub fn octets_are()
         (owed : List Context) → Broken b r e at ms owed → fault_in r b ≡ Some (e, at) }
 {}
 
-/// With more octets the messages and contexts so far stay, and so do READY, the version and a fault.
+/// With more octets the messages and contexts so far stay, and so do READY, the version and a
+/// fault.
 pub fn octets_grow()
     ensures messages { (r : Role) (b more : List ℕ) →
         Begins (messages_in r b) (messages_in r (b ++ more)) }
@@ -80,7 +85,8 @@ pub fn no_octets()
     ensures fault { (r : Role) → fault_in r [] ≡ None }
 {}
 
-/// A fault tells the place of the octet that breaks the stream, up to the last `u64`, and is never want of memory.
+/// A fault tells the place of the octet that breaks the stream, up to the last `u64`, and is never
+/// want of memory.
 pub fn faults_are_placed()
     ensures place { (b : List ℕ) (r : Role) (e : WireFault) (at : ℕ) (ms : List Message)
         (owed : List Context) → Broken b r e at ms owed → place_of e ≡ clip at }
@@ -90,7 +96,8 @@ pub fn faults_are_placed()
         (owed : List Context) → Broken b r e at ms owed → e ≢ Starved }
 {}
 
-/// A decoder that stands for octets answers what they give, and a piece brings the messages that it adds.
+/// A decoder that stands for octets answers what they give, and a piece brings the messages that it
+/// adds.
 pub fn decoder_answers()
     ensures answer { (d : Decoder) (b : List ℕ) (given : List Context) →
         StandsFor d b given → answer_of d ≡ answer_to (role_of d) b }
@@ -104,8 +111,8 @@ pub fn ready_comes_first()
         Gives r b ms owed answer → (IsShaken r b → ⊥) → (ms ≡ []) × (owed ≡ []) }
 {}
 
-/// What we write is a stream with just these messages, for each role that may meet ours; a command stands in it as
-/// what it means.
+/// What we write is a stream with just these messages, for each role that may meet ours; a command
+/// stands in it as what it means.
 pub fn written_is_read()
     ensures messages { (r peer : Role) (ms : List Message) →
         is_peer r (Some (role_name peer)) ≡ true → AreMessages ms →
