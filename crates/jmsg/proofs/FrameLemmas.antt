@@ -11,16 +11,16 @@ use Rattle.jmsg.specs.Signed.{delimiter, AreRouting, Follow, Frames}
 
 -- ---- the first delimiter
 
-same_frame : (f : List ℕ) → bytes_eq delimiter f ≡ true → f ≡ delimiter
+pub same_frame : (f : List ℕ) → bytes_eq delimiter f ≡ true → f ≡ delimiter
 same_frame f h = sym ((bytes_eq-Decides delimiter f).0 h)
 
-other_frame : (f : List ℕ) → bytes_eq delimiter f ≡ false → f ≢ delimiter
+pub other_frame : (f : List ℕ) → bytes_eq delimiter f ≡ false → f ≢ delimiter
 other_frame f h e = let found = (bytes_eq-Decides delimiter f).1 (sym e) in cc
 
-follow_here : (f : List ℕ) (parts : List (List ℕ)) → f ≡ delimiter → Follow (f ∷ parts) parts
+pub follow_here : (f : List ℕ) (parts : List (List ℕ)) → f ≡ delimiter → Follow (f ∷ parts) parts
 follow_here f parts e = record { routing = []; are_routing = tt; parts_are = ap (λ g. g ∷ parts) e }
 
-follow_more : (f : List ℕ) (parts after : List (List ℕ)) → f ≢ delimiter → Follow parts after → Follow (f ∷ parts) after
+pub follow_more : (f : List ℕ) (parts after : List (List ℕ)) → f ≢ delimiter → Follow parts after → Follow (f ∷ parts) after
 follow_more f parts after apart follow = record { routing = f ∷ follow.routing; are_routing = (apart, follow.are_routing); parts_are = ap (λ fs. f ∷ fs) follow.parts_are }
 
 follow_first : (parts : List (List ℕ)) → position_or_len (bytes_eq delimiter) parts < length parts → Follow parts (drop (position_or_len (bytes_eq delimiter) parts + 1) parts)

@@ -3,3 +3,5 @@ pub mod FrameLemmas
 pub mod VerdictLemmas
 pub mod MessageLemmas
 pub mod HeaderLemmas
+pub mod DecodingLemmas
+pub mod DateLemmas

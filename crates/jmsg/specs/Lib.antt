@@ -4,3 +4,4 @@ pub mod Header
 pub mod Told
 pub mod Signed
 pub mod Encoded
+pub mod Decoding

@@ -1,6 +1,6 @@
 //! Dictionaries: JSON objects.
 ghost use Rattle.std.specs.Prelude.{◌≡◌, IfOk, IfSome, Some};
-ghost use Rattle.jmsg.specs.Dictionary as spec;
+ghost use Rattle.jmsg.specs.Dictionary.{IsDictionary};
 ghost use Rattle.jtext.specs.Find.{fields};
 ghost use Rattle.jtext.specs.Look as look;
 ghost use Rattle.jtext.specs.declared.json.Json as tree;
@@ -13,8 +13,8 @@ const DEEP: u32 = 100;
 
 /// The object that the bytes spell; `None` where they spell none nested at most 100 deep.
 pub(crate) fn dictionary(alloc: Global, bytes: &[u8]) -> Result<Option<Json>, NoMemory>
-    ensures some { IfOk result (λ r. IfSome r (λ t. spec.IsDictionary t bytes.now)) }
-    ensures only { (t : tree.Json) → spec.IsDictionary t bytes.now → IfOk result (λ r. r ≡ Some t) }
+    ensures some { IfOk result (λ r. IfSome r (λ t. IsDictionary t bytes.now)) }
+    ensures only { (t : tree.Json) → IsDictionary t bytes.now → IfOk result (λ r. r ≡ Some t) }
 {
     match read(alloc, bytes, DEEP) {
         Ok(t) => { if t.is_object() { Ok(Some(t)) } else { Ok(None) } }

@@ -19,7 +19,8 @@ pub fn encode(alloc: Global, key: &[u8], m: &Message) -> Result<Parts, NoMemory>
 
 /// Encodes as `encode` does under the signer's key, which isn't hashed again.
 pub fn encode_under(alloc: Global, signer: &Signer, m: &Message) -> Result<Parts, NoMemory>
-    ensures { (key : List ℕ) → SignsUnder signer.now key → IfOk result (λ parts. parts ≡ encoded key m.now) }
+    ensures { (key : List ℕ) → SignsUnder signer.now key →
+        IfOk result (λ parts. parts ≡ encoded key m.now) }
 {
     let header = write_compact(alloc, &m.header.tree(alloc)?)?;
     let parent = write_compact(alloc, &m.parent)?;

@@ -1,4 +1,5 @@
-//! The frames of a message: routing frames, the delimiter, the signature, four dictionaries, buffers.
+//! The frames of a message: routing frames, the delimiter, the signature, four dictionaries,
+//! buffers.
 ghost use Rattle.std.specs.Prelude.{◌≡◌, ◌++◌, ◌<◌, length, position, IfSome, IfNone, OnOk, Some};
 ghost use Rattle.std.specs.Str.{bytes_eq};
 ghost use Rattle.jmsg.specs.Signed.{delimiter, AreRouting, Follow, Frames};

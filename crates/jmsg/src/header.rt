@@ -1,7 +1,7 @@
 //! The header of a message.
 ghost use Rattle.std.specs.Prelude.{◌≡◌, [], ◌∷◌, ◌++◌, IfOk, OnOk};
 ghost use Rattle.std.specs.Option.{unwrap_or};
-ghost use Rattle.jmsg.specs.Header as spec;
+ghost use Rattle.jmsg.specs.Header as header;
 
 use crate::dictionary::pairs_of;
 use crate::told::Told;
@@ -26,9 +26,10 @@ pub struct Header {
 }
 
 impl Header {
-    /// Of its dictionary, whose texts it takes; `None` where `msg_id` or `msg_type` is no string there.
+    /// Of its dictionary, whose texts it takes; `None` where `msg_id` or `msg_type` is no string
+    /// there.
     pub(crate) fn of(alloc: Global, t: Json) -> Option<Header>
-        ensures { result ≡ spec.header_of t }
+        ensures { result ≡ header.header_of t }
     {
         let told = Told::of(pairs_of(alloc, t));
         Some(Header {
@@ -43,7 +44,7 @@ impl Header {
 
     /// Its dictionary, with no `date` where there is none.
     pub(crate) fn tree(&self, alloc: Global) -> Result<Json, NoMemory>
-        ensures { IfOk result (λ t. t ≡ spec.tree_of self.now) }
+        ensures { IfOk result (λ t. t ≡ header.tree_of self.now) }
     {
         let mut fields = Fields::new(alloc);
         put(alloc, &mut fields, "msg_id", &self.msg_id)?;
@@ -68,7 +69,7 @@ fn or_empty(alloc: Global, text: Option<Text>) -> Text
 }
 
 fn put(alloc: Global, fields: &mut Fields, key: &str, text: &Text) -> Result<(), NoMemory>
-    ensures { OnOk result (fields.new ≡ fields.old ++ spec.text_pair key.now text.now ∷ []) }
+    ensures { OnOk result (fields.new ≡ fields.old ++ header.text_pair key.now text.now ∷ []) }
 {
     let value = Json::Str(Text::of(alloc, text.as_str())?);
     fields.push((Text::of(alloc, key)?, value))

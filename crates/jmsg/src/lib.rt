@@ -11,8 +11,6 @@ mod header;
 pub mod laws;
 mod message;
 mod reader;
-#[cfg(test)]
-mod tests;
 mod told;
 
 pub use date::date_text;

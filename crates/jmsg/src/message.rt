@@ -9,7 +9,8 @@ use zmtp_wire::Parts;
 pub struct Message {
     /// What the message says of itself.
     pub header: Header,
-    /// The `msg_id` of the parent header, where that is a string: the request to which this belongs.
+    /// The `msg_id` of the parent header, where that is a string: the request to which this
+    /// belongs.
     pub parent_id: Option<Text>,
     /// The header of the request, empty where there is none.
     pub parent: Json,

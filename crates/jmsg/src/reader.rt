@@ -2,7 +2,7 @@
 ghost use Rattle.std.specs.Prelude.{◌≡◌, ℕ, List, IfOk, IfSome, Some};
 ghost use Rattle.jsign.specs.Signer.{SignsUnder};
 ghost use Rattle.jmsg.specs.declared.decoded.Decoded as verdict;
-ghost use Rattle.jmsg.specs.declared.message.Message as spec;
+ghost use Rattle.jmsg.specs.declared.message.Message as message;
 ghost use Rattle.jmsg.specs.Signed.{Decodes, Give};
 
 use crate::dictionary::dictionary;
@@ -13,22 +13,26 @@ use jtext::{Bytes, NoMemory, text_at};
 use std::alloc::Global;
 use zmtp_wire::Parts;
 
-/// The message that the parts are, where its signature holds under the key; else the first test that
-/// failed, in the order delimiter, count, signature, JSON. `NoMemory` alone is free.
+/// The message that the parts are, where its signature holds under the key; else the first test
+/// that failed, in the order delimiter, count, signature, JSON. `NoMemory` alone is free.
 pub fn decode(alloc: Global, key: &[u8], parts: &Parts) -> Result<Decoded, NoMemory>
     // It is a signed message, or this test is the first that fails,
     ensures is { IfOk result (λ decoded. Decodes key.now parts.now decoded) }
 
     // and nothing else is true of these parts.
-    ensures only { (decoded : verdict.Decoded) → Decodes key.now parts.now decoded → IfOk result (λ r. r ≡ decoded) }
+    ensures only { (decoded : verdict.Decoded) → Decodes key.now parts.now decoded →
+        IfOk result (λ r. r ≡ decoded) }
 {
     decode_under(alloc, &Signer::new(key), parts)
 }
 
 /// Decodes as `decode` does under the signer's key, which isn't hashed again.
 pub fn decode_under(alloc: Global, signer: &Signer, parts: &Parts) -> Result<Decoded, NoMemory>
-    ensures is { (key : List ℕ) → SignsUnder signer.now key → IfOk result (λ decoded. Decodes key parts.now decoded) }
-    ensures only { (key : List ℕ) → SignsUnder signer.now key → (decoded : verdict.Decoded) → Decodes key parts.now decoded → IfOk result (λ r. r ≡ decoded) }
+    ensures is { (key : List ℕ) → SignsUnder signer.now key →
+        IfOk result (λ decoded. Decodes key parts.now decoded) }
+    ensures only { (key : List ℕ) → SignsUnder signer.now key →
+        (decoded : verdict.Decoded) → Decodes key parts.now decoded →
+        IfOk result (λ r. r ≡ decoded) }
 {
     let Some(after) = after_delimiter(parts.as_slice()) else {
         return Ok(Decoded::NoDelimiter);
@@ -58,8 +62,11 @@ fn message(
     content: &[u8],
     buffers: &[Bytes],
 ) -> Result<Option<Message>, NoMemory>
-    ensures some { IfOk result (λ r. IfSome r (λ m. Give header.now parent.now metadata.now content.now buffers.now m)) }
-    ensures only { (m : spec.Message) → Give header.now parent.now metadata.now content.now buffers.now m → IfOk result (λ r. r ≡ Some m) }
+    ensures some { IfOk result (λ r. IfSome r (λ m.
+        Give header.now parent.now metadata.now content.now buffers.now m)) }
+    ensures only { (m : message.Message) →
+        Give header.now parent.now metadata.now content.now buffers.now m →
+        IfOk result (λ r. r ≡ Some m) }
 {
     let Some(named) = dictionary(alloc, header)? else {
         return Ok(None);

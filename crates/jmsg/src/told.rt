@@ -20,8 +20,8 @@ pub(crate) struct Told {
 impl Told {
     ghost use Rattle.jmsg.specs.Told.{IsTold};
 
-    /// What the pairs tell. Of two with the same key the first counts, so they are gone through from
-    /// the last one on.
+    /// What the pairs tell. Of two with the same key the first counts, so they are gone through
+    /// from the last one on.
     pub(crate) fn of(pairs: Fields) -> Told
         ensures { IsTold result pairs }
     {
@@ -35,7 +35,8 @@ impl Told {
 
     /// Adds a pair that stands before all others, by its key and the string that its value is.
     fn add(&mut self, key: &str, text: Option<Text>)
-        ensures { (value : Tree) (pairs : List (List ℕ × Tree)) → text ≡ string value → IsTold self.old pairs → IsTold self.new ((key.now, value) ∷ pairs) }
+        ensures { (value : Tree) (pairs : List (List ℕ × Tree)) → text ≡ string value →
+            IsTold self.old pairs → IsTold self.new ((key.now, value) ∷ pairs) }
     {
         match key {
             "msg_id" => self.msg_id = text,

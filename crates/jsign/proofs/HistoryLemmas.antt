@@ -47,7 +47,7 @@ keep_last-keep_last n xs ys =
 
 -- ---- what stands for the signatures that were offered
 
-next : (offered : List (List ℕ)) (sig : List ℕ) → fresh_of (offered ++ sig ∷ []) ≡ with_offered (fresh_of offered) sig
+pub next : (offered : List (List ℕ)) (sig : List ℕ) → fresh_of (offered ++ sig ∷ []) ≡ with_offered (fresh_of offered) sig
 unfolding fresh_of
 next offered sig = fold-append with_offered [] offered (sig ∷ [])
 

@@ -1,5 +1,5 @@
 -- Which signatures are fresh, as in the digest history of jupyter_client's Session: those that are not among the last 65,536 that were fresh.
-use Rattle.std.specs.Prelude.{◌≡◌, ℕ, ◌≤◌, Bool, false, List, [], ◌∷◌, ◌++◌, length, if◌then◌else◌}
+use Rattle.std.specs.Prelude.{◌≡◌, ℕ, ◌≤◌, Bool, false, List, [], ◌∷◌, ◌++◌, length, map, if◌then◌else◌}
 use Rattle.std.specs.List.{Contains, list_any, fold}
 use Rattle.std.specs.Str.{bytes_eq}
 use Rattle.std.specs.Ordering.{nat_cmp}
@@ -30,6 +30,20 @@ IsFresh offered sig = ¬ (Contains (recent (fresh_of offered)) sig)
 -- what is held is what has to be kept of those that were offered
 abbrev pub StandsFor : List (List ℕ) → List (List ℕ) → Type 0
 StandsFor held offered = held ≡ recent (fresh_of offered)
+
+-- ---- messages, by their signatures
+
+-- the signatures of items that stand beside theirs
+abbrev pub signatures_of : {A : Type 0} → List (List ℕ × A) → List (List ℕ)
+signatures_of items = map (λ item. item.0) items
+
+-- the items that were fresh, with one more offered
+abbrev pub with_item : {A : Type 0} → List (List ℕ × A) → List ℕ × A → List (List ℕ × A)
+with_item kept item = if is_among item.0 (recent (signatures_of kept)) then kept else kept ++ item ∷ []
+
+-- of all items that were offered in that order, those whose signature wasn't among the last 65,536 kept before them
+unfoldable pub fresh_items : {A : Type 0} → List (List ℕ × A) → List (List ℕ × A)
+fresh_items offered = fold with_item [] offered
 
 -- ---- how a ring and a set hold them
 

@@ -1,6 +1,7 @@
 //! The block of a key (RFC 2104, section 2).
-ghost use Rattle.std.specs.Prelude.{◌≡◌, ℕ, List, ◌≤◌, ◌++◌, ◌-◌, EachIndex, slice_index, drop, replicate, length, bit_xor};
-ghost use Rattle.jsign.specs.Hmac as spec;
+ghost use Rattle.std.specs.Prelude.{◌≡◌, ℕ, List, ◌≤◌, ◌++◌, ◌-◌, EachIndex, slice_index, drop};
+ghost use Rattle.std.specs.Prelude.{replicate, length, bit_xor};
+ghost use Rattle.jsign.specs.Hmac as hmac;
 
 use sha2::{Digest, Sha256};
 
@@ -13,7 +14,7 @@ pub(crate) const OUTER: u8 = 0x5c;
 /// The block combined with a pad octet.
 #[tactic(auto, unfolding(crate::specs::Hmac::padded))]
 pub(crate) fn padded(block: &[u8; 64], pad: u8) -> [u8; 64]
-    ensures { (key : List ℕ) → block.now ≡ spec.block_key key → result ≡ spec.padded pad key }
+    ensures { (key : List ℕ) → block.now ≡ hmac.block_key key → result ≡ hmac.padded pad key }
 {
     let mut padded = *block;
     combine(&mut padded, pad);
@@ -23,7 +24,7 @@ pub(crate) fn padded(block: &[u8; 64], pad: u8) -> [u8; 64]
 /// The key filled up to a block; its hash where it is longer.
 #[tactic(auto, unfolding(crate::specs::Hmac::block_key))]
 pub(crate) fn block_key(key: &[u8]) -> [u8; 64]
-    ensures { result ≡ spec.block_key key.now }
+    ensures { result ≡ hmac.block_key key.now }
 {
     if key.len() > 64 {
         filled(&Sha256::digest(key))
@@ -50,7 +51,8 @@ fn put_front(block: &mut [u8; 64], bytes: &[u8])
 }
 
 fn combine(block: &mut [u8], pad: u8)
-    ensures { EachIndex block.new (λ k. slice_index block.new k ≡ bit_xor (slice_index block.old k) pad) }
+    ensures { EachIndex block.new (λ k.
+        slice_index block.new k ≡ bit_xor (slice_index block.old k) pad) }
 {
     for byte in block.iter_mut() {
         *byte ^= pad;

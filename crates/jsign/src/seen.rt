@@ -1,5 +1,6 @@
 //! The signatures that were seen last.
-ghost use Rattle.std.specs.Prelude.{◌≡◌, [], ◌∷◌, ◌++◌, ◌↔◌, List, ℕ, IsTrue, IfOk, OnErr, OnOk, if◌then◌else◌};
+ghost use Rattle.std.specs.Prelude.{◌≡◌, [], ◌∷◌, ◌++◌, ◌↔◌, List, ℕ, IsTrue, IfOk, OnErr, OnOk};
+ghost use Rattle.std.specs.Prelude.{if◌then◌else◌};
 ghost use Rattle.std.specs.List.{Contains};
 ghost use Rattle.jsign.specs.History.{recent, IsFresh, StandsFor};
 
@@ -50,10 +51,13 @@ impl Seen {
     /// in place of the oldest where that many are. Without memory nothing changes.
     pub fn fresh(&mut self, sig: &[u8; 64]) -> Result<bool, NoMemory>
         ensures answer { IfOk result (λ fresh. IsTrue fresh ↔ ¬ (Contains self.old sig.now)) }
-        ensures kept { IfOk result (λ fresh. self.new ≡ (if fresh then recent (self.old ++ sig.now ∷ []) else self.old)) }
+        ensures kept { IfOk result (λ fresh.
+            self.new ≡ (if fresh then recent (self.old ++ sig.now ∷ []) else self.old)) }
 
         // The same, over all the signatures that were offered since it was made.
-        ensures history { (offered : List (List ℕ)) → StandsFor self.old offered → IfOk result (λ fresh. (IsTrue fresh ↔ IsFresh offered sig.now) × StandsFor self.new (offered ++ sig.now ∷ [])) }
+        ensures history { (offered : List (List ℕ)) → StandsFor self.old offered →
+            IfOk result (λ fresh. (IsTrue fresh ↔ IsFresh offered sig.now) ×
+            StandsFor self.new (offered ++ sig.now ∷ [])) }
         ensures err { OnErr result (self.new ≡ self.old) }
     {
         if self.known.contains(sig) {

@@ -1,6 +1,6 @@
 //! HMAC under a key whose blocks are hashed once (RFC 2104, section 4).
 ghost use Rattle.std.specs.Prelude.{◌≡◌, ◌++◌, ◌↔◌, ℕ, List, IsTrue};
-ghost use Rattle.jsign.specs.Hmac as spec;
+ghost use Rattle.jsign.specs.Hmac as hmac;
 
 use crate::key_block::{INNER, OUTER, block_key, padded};
 use sha2::{Digest, Sha256};
@@ -32,7 +32,8 @@ impl Signer {
     /// hexadecimal digits. Takes no memory.
     #[tactic(auto, unfolding(crate::specs::Hmac::signature))]
     pub fn sign(&self, header: &[u8], parent: &[u8], metadata: &[u8], content: &[u8]) -> [u8; 64]
-        ensures { (key : List ℕ) → SignsUnder self.now key → result ≡ spec.signature key header.now parent.now metadata.now content.now }
+        ensures { (key : List ℕ) → SignsUnder self.now key →
+            result ≡ hmac.signature key header.now parent.now metadata.now content.now }
     {
         let code = self.code(header, parent, metadata, content);
         let mut text = [0u8; 64];
@@ -49,7 +50,8 @@ impl Signer {
         content: &[u8],
         signature: &[u8],
     ) -> bool
-        ensures { (key : List ℕ) → SignsUnder self.now key → (IsTrue result ↔ (signature.now ≡ spec.signature key header.now parent.now metadata.now content.now)) }
+        ensures { (key : List ℕ) → SignsUnder self.now key → (IsTrue result ↔ (signature.now ≡
+            hmac.signature key header.now parent.now metadata.now content.now)) }
     {
         let right = self.sign(header, parent, metadata, content);
         signature == right.as_slice()
@@ -58,7 +60,8 @@ impl Signer {
     /// The frames go through the hasher one by one and are never joined.
     #[tactic(auto, unfolding(crate::specs::Hmac::hmac), using(std::proofs::lemmas::Grind::common_steps))]
     fn code(&self, header: &[u8], parent: &[u8], metadata: &[u8], content: &[u8]) -> [u8; 32]
-        ensures { (key : List ℕ) → SignsUnder self.now key → result ≡ spec.hmac key (header.now ++ parent.now ++ metadata.now ++ content.now) }
+        ensures { (key : List ℕ) → SignsUnder self.now key →
+            result ≡ hmac.hmac key (header.now ++ parent.now ++ metadata.now ++ content.now) }
     {
         let mut inner = self.inner.clone().unwrap();
         inner.update(header);

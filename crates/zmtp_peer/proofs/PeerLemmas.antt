@@ -1,6 +1,5 @@
 -- Our side of a connection, over pieces and replies.
 use Rattle.std.proofs.Common.{◌≡◌, ℕ, ◌+◌, ◌≤◌, ◌<◌, Bool, true, false, cond, nat_lt, nat_eq, List, [], ◌∷◌, ◌++◌, length, Option, None, Some, Result, Ok, Err, get_or, refl, ap, sym, ◌∙◌, arith, length-append, append_assoc, append-nil, subst, ◌&&◌, ◌||◌, ◌⊎◌, inl, inr, IsTrue, ◌↔◌, rules}
-use Rattle.std.proofs.lemmas.List.{get_or_append_left}
 use Rattle.std.proofs.lemmas.Bool.Decides.{nat_tests}
 use Rattle.zmtp_wire.specs.declared.role.Role.{Role}
 use Rattle.zmtp_wire.specs.declared.fault.WireFault.TheVariants as fault
@@ -11,13 +10,15 @@ use Rattle.zmtp_wire.specs.Machine.{run, GrowsBy}
 use Rattle.zmtp_wire.specs.Decoder as wire
 use Rattle.zmtp_wire.specs.Writing.{unit_octets}
 use Rattle.zmtp_wire.proofs.ListLemmas.{is_less, is_not_less, less, not_less, pick_true, pick_false}
+use Rattle.zmtp_wire.specs.Meaning.{contexts_in}
 use Rattle.zmtp_wire.proofs.GivesLemmas.{gives_reading, gives_one}
-use Rattle.zmtp_wire.proofs.ShakenLemmas.{none_before}
+use Rattle.zmtp_wire.proofs.MeaningLemmas.{meant_alone, newer_grows, stands_unstarved}
+use Rattle.zmtp_wire.proofs.ShakenLemmas.{none_before, shaken_longer, is_true, true_is}
 use Rattle.zmtp_peer.specs.declared.peer.Peer.{Peer}
 use Rattle.zmtp_peer.specs.Envelope.{bodies_of}
-use Rattle.zmtp_peer.specs.Subscription.{prefixes_after, in_force}
+use Rattle.zmtp_peer.specs.Subscription.{prefixes_after, in_force, prefixes_in, IsWanted}
 use Rattle.zmtp_peer.specs.Reply.{is_sub, subscription_octets, Subscribes, no_sub, not_yet, everything, pongs, Owes}
-use Rattle.zmtp_peer.specs.Peer.{StandsFor, Brings, BringsSome, IsDue, IsSettled}
+use Rattle.zmtp_peer.specs.Peer.{StandsFor, Brings, BringsSome, IsDue, IsSettled, answer_of}
 use Rattle.zmtp_peer.proofs.BodyLemmas.{bodies-append}
 use Rattle.zmtp_peer.proofs.PrefixLemmas.{prefixes-append}
 use Rattle.zmtp_peer.proofs.ReplyLemmas.{pongs-append}
@@ -27,29 +28,7 @@ pub gives_nothing : (r : Role) → Gives r [] [] [] (Ok tt)
 unfolding run
 gives_nothing r = gives_reading r []
 
--- ---- the version of what grows
-
-version_kept : (b piece : List ℕ) (i : ℕ) → i < length b → get_or (b ++ piece) i 0 ≡ get_or b i 0
-version_kept b piece i h = get_or_append_left b piece 0 i h
-
-speaks_kept : (b piece : List ℕ) → 12 ≤ length b → speaks (b ++ piece) ≡ speaks b
-speaks_kept b piece h = ap (λ x. is_newer x (get_or (b ++ piece) 11 0)) (version_kept b piece 10 (omega arith)) ∙ ap (is_newer (get_or b 10 0)) (version_kept b piece 11 (omega arith))
-
-newer_on : (short : Bool) (b : List ℕ) (newer : Bool) → nat_lt (length b) 12 ≡ short → cond short None (Some (speaks b)) ≡ Some newer → (12 ≤ length b) × (speaks b ≡ newer)
-newer_on true b newer e h = absurd (cc)
-newer_on false b newer e h = (is_not_less (length b) 12 e, cc)
-
-newer_longer : (b piece : List ℕ) (newer : Bool) → newer_of b ≡ Some newer → newer_of (b ++ piece) ≡ Some newer
-newer_longer b piece newer h =
-    let k = newer_on (nat_lt (length b) 12) b newer refl h in
-    let long : 12 ≤ length (b ++ piece) = omega (arith, k.0, length-append b piece) in
-    pick_false _ _ _ (not_less (length (b ++ piece)) 12 long) ∙ ap Some (speaks_kept b piece k.0 ∙ k.1)
-
 -- ---- READY in what grows
-
-shaken_longer : (r : Role) (b piece : List ℕ) → IsShaken r b → IsShaken r (b ++ piece)
-shaken_longer r b piece s =
-    record { front = s.front; rest = s.rest ++ piece; greeting = s.greeting; spelled = ap (λ t. t ++ piece) s.spelled ∙ append_assoc s.front s.rest piece; reads = s.reads }
 
 abbrev is_begun : Come → Bool
 is_begun nothing = false
@@ -73,7 +52,7 @@ shaken_newer r b s e =
 subscribes_longer : (r : Role) (b piece s : List ℕ) → is_sub r ≡ true → IsShaken r b → Subscribes r b s → Subscribes r (b ++ piece) s
 subscribes_longer r b piece _ e k (no_sub f) = let bad : true ≡ false = sym e ∙ f in absurd (cc)
 subscribes_longer r b piece _ e k (not_yet f) = absurd (f k)
-subscribes_longer r b piece _ e k (everything newer f j n) = everything newer e (shaken_longer r b piece k) (newer_longer b piece newer n)
+subscribes_longer r b piece _ e k (everything newer f j n) = everything newer e (shaken_longer r b piece k) (newer_grows b piece newer n)
 
 -- ---- pieces
 
@@ -165,12 +144,6 @@ grows_all old new all e = record { more = all; left = []; grown = e; first = sym
 
 -- ---- replies
 
-is_true : (b : Bool) → IsTrue b → b ≡ true
-is_true b h = search rules
-
-true_is : (b : Bool) → b ≡ true → IsTrue b
-true_is b h = search rules
-
 pub shaken_here : (p : Peer) (b sent : List ℕ) (r : Bool) → StandsFor p b sent → IsTrue r ↔ IsShaken (wire.role_of p.decoder) b → r ≡ true → IsShaken p.role b
 shaken_here p b sent r s h e = subst (λ (x : Role). IsShaken x b) s.role (h.0 (true_is r e))
 
@@ -196,7 +169,7 @@ pub record Taken (p p' : Peer) (b : List ℕ) (had now : List (List ℕ)) : Type
   pub prefixes : p'.prefixes ≡ p.prefixes
   pub decoder : wire.role_of p'.decoder ≡ wire.role_of p.decoder
   pub reads : wire.StandsFor p'.decoder b (had ++ now)
-  pub contexts : (owed : List (List ℕ)) (ms : List (List (List ℕ))) (a : wire.Answer) → Gives (wire.role_of p.decoder) b ms owed a → had ++ now ≡ owed
+  pub contexts : had ++ now ≡ contexts_in (wire.role_of p.decoder) b
 
 abbrev pub Replied : Peer → Peer → List ℕ → List ℕ → List ℕ → List ℕ → Type 0
 Replied p p' b sent old new = (more : List ℕ) × (new ≡ old ++ more) × Owes p.role b (sent ++ more) × StandsFor p' b (sent ++ more)
@@ -221,7 +194,7 @@ stands_on p p' b given sub had now sent s t e due done =
     }
 
 owed_now : (p p' : Peer) (b sent : List ℕ) (had now : List (List ℕ)) → (s : StandsFor p b sent) → Taken p p' b had now → had ++ now ≡ s.owed
-owed_now p p' b sent had now s t = t.contexts s.owed s.messages s.answer (subst (λ (x : Role). Gives x b s.messages s.owed s.answer) (sym s.role) s.gives)
+owed_now p p' b sent had now s t = t.contexts ∙ ap (λ x. contexts_in x b) s.role ∙ sym (meant_alone p.role b s.messages s.owed s.answer s.gives).1
 
 pub replied_due : (p p' : Peer) (b sent sub old new : List ℕ) (now : List (List ℕ)) → (s : StandsFor p b sent) → IsDue p b sub → Taken p p' b s.contexts now → p'.subscribed ≡ true → new ≡ old ++ (sub ++ pongs now) → Replied p p' b sent old new
 replied_due p p' b sent sub old new now s d t y e =
@@ -260,3 +233,19 @@ replied_settled p p' b sent old new now s k t y e =
           (λ n. let u = s.due (sym y ∙ n) in (u.0, λ f. all ∙ (none_before b p.role s.messages s.owed s.answer s.gives (not_shaken p.role b [] (ap is_sub (sym t.same) ∙ f) refl (k (sym y ∙ n)))).1))
           (λ n. let u = s.done (sym y ∙ n) in (ap is_sub t.same ∙ u.0, subst (λ (x : Role). IsShaken x b) (sym t.same) u.1, subst (λ (x : Role). Subscribes x b s.subscription) (sym t.same) u.2)),
     )
+
+-- ---- want of memory
+
+-- a side that wants memory stands for no octets
+pub peer_unstarved : (p : Peer) (b sent : List ℕ) → StandsFor p b sent → answer_of p ≡ Err fault.NoMemory → ⊥
+peer_unstarved p b sent s h = stands_unstarved p.decoder b s.contexts s.reads (ap (λ x. cond x (Err fault.NoMemory) (wire.answer_of p.decoder)) (sym s.unstarved) ∙ h)
+
+-- ---- what is told of what came
+
+pub shaken_both : (p : Peer) (b sent : List ℕ) (r : Bool) → StandsFor p b sent → IsTrue r ↔ IsShaken (wire.role_of p.decoder) b → IsTrue r ↔ IsShaken p.role b
+shaken_both p b sent r s h = subst (λ (x : Role). IsTrue r ↔ IsShaken x b) s.role h
+
+pub wanted_both : (p : Peer) (b sent topic : List ℕ) (r : Bool) → StandsFor p b sent → IsTrue r ↔ IsWanted p.prefixes topic → IsTrue r ↔ IsWanted (prefixes_in p.role b) topic
+wanted_both p b sent topic r s h =
+    let same : p.prefixes ≡ prefixes_in p.role b = s.prefixes ∙ ap (in_force p.role) (meant_alone p.role b s.messages s.owed s.answer s.gives).0 in
+    subst (λ (x : List (List ℕ)). IsTrue r ↔ IsWanted x topic) same h

@@ -17,6 +17,10 @@ role_of p = p.role
 abbrev pub answer_of : Peer → wire.Answer
 answer_of p = cond p.starved (Err fault.NoMemory) (wire.answer_of p.decoder)
 
+-- memory was wanted, and it reads no more
+abbrev pub IsStarved : Peer → Type 0
+IsStarved p = answer_of p ≡ Err fault.NoMemory
+
 -- It has read these octets of the other side, and has given these octets as replies.
 pub record StandsFor (p : Peer) (b sent : List ℕ) : Type 0 where
   pub contexts : List (List ℕ)

@@ -3,6 +3,7 @@ use Rattle.std.specs.Prelude.{◌≡◌, ℕ, Bool, cond, nat_eq, List, [], ◌�
 use lib.Pointwise.{pointwise}
 use Rattle.zmtp_wire.specs.declared.role.Role.{Role}
 use Rattle.zmtp_wire.specs.Command.{is_pub}
+use Rattle.zmtp_wire.specs.Meaning.{messages_in}
 
 -- the prefixes without the first that is this one
 abbrev pub without : List ℕ → List (List ℕ) → List (List ℕ)
@@ -26,6 +27,10 @@ prefixes_after r prefixes (m ∷ ms) = prefixes_after r (prefixes_after_one r pr
 -- the prefixes that the role has in force after all messages of a stream
 abbrev pub in_force : Role → List (List (List ℕ)) → List (List ℕ)
 in_force r ms = prefixes_after r [] ms
+
+-- the prefixes that the role has in force where the other side has sent b
+abbrev pub prefixes_in : Role → List ℕ → List (List ℕ)
+prefixes_in r b = in_force r (messages_in r b)
 
 -- a prefix among these begins the topic
 pub record IsWanted (prefixes : List (List ℕ)) (topic : List ℕ) : Type 0 where

@@ -1,5 +1,5 @@
-//! Our side of a ZMTP connection, for each kind of socket (RFC 23, 28, 29 and 37 of the ZeroMQ project): what it sends
-//! first, envelopes, subscriptions and replies to commands. It does no IO.
+//! Our side of a ZMTP connection, for each kind of socket (RFC 23, 28, 29 and 37 of the ZeroMQ
+//! project): what it sends first, envelopes, subscriptions and replies to commands. It does no IO.
 #![tactic(auto)]
 
 mod envelope;
@@ -7,7 +7,6 @@ pub mod laws;
 mod peer;
 mod reply;
 mod subscription;
-#[cfg(test)]
-mod tests;
 
+pub use envelope::is_body;
 pub use peer::Peer;

@@ -1,16 +1,19 @@
 //! Our side of one connection.
-ghost use Rattle.std.specs.Prelude.{◌≡◌, ℕ, List, [], ◌++◌, ◌<◌, ◌≤◌, ◌+◌, ◌↔◌, length, sum_by, Err, OnOk, OnErr, IsErr, IfSome, IfNone, IsTrue, true};
+ghost use Rattle.std.specs.Prelude.{◌≡◌, ℕ, List, [], ◌++◌, ◌<◌, ◌≤◌, ◌+◌, ◌↔◌, length, sum_by};
+ghost use Rattle.std.specs.Prelude.{Err, OnOk, OnErr, IsErr, IfSome, IfNone, IsTrue, true, false};
 ghost use Rattle.zmtp_wire.specs.declared.fault.WireFault.{WireFault};
 ghost use Rattle.zmtp_wire.specs.declared.fault.WireFault.TheVariants.{NoMemory as Starved};
 ghost use Rattle.zmtp_wire.specs.Frame.{MOST};
-ghost use Rattle.zmtp_wire.specs.Stream.{Gives, IsShaken};
-ghost use Rattle.zmtp_wire.specs.Decoder.{Answer, IsUnstarved};
+ghost use Rattle.zmtp_wire.specs.Stream.{IsShaken};
+ghost use Rattle.zmtp_wire.specs.Decoder.{IsUnstarved};
 ghost use Rattle.zmtp_wire.specs.Machine.{GrowsBy};
 ghost use Rattle.zmtp_wire.specs.Writing.{greeting_octets, ready_octets, message_octets};
 ghost use Rattle.zmtp_peer.specs.Envelope.{enveloped, bodies_of};
-ghost use Rattle.zmtp_peer.specs.Subscription.{prefixes_after, prefixes_after_one, in_force, IsWanted};
+ghost use Rattle.zmtp_peer.specs.Subscription.{prefixes_after, prefixes_after_one, prefixes_in};
+ghost use Rattle.zmtp_peer.specs.Subscription.{IsWanted};
 ghost use Rattle.zmtp_peer.specs.Reply.{Owes, pongs};
-ghost use Rattle.zmtp_peer.specs.Peer.{StandsFor, Brings, BringsSome, IsDue, IsSettled, answer_of, role_of};
+ghost use Rattle.zmtp_peer.specs.Peer.{StandsFor, Brings, BringsSome, IsDue, IsSettled, IsStarved};
+ghost use Rattle.zmtp_peer.specs.Peer.{answer_of, role_of};
 
 use crate::envelope::{body_in, has_envelope};
 use crate::reply::{is_sub, put_replies, subscription_octets};
@@ -48,7 +51,8 @@ impl Peer {
 
     /// Appends what we send first, the greeting and READY. Without memory nothing changes.
     pub fn start_bytes(&self, out: &mut Bytes) -> Result<(), NoMemory>
-        ensures ok { OnOk result (out.new ≡ out.old ++ (greeting_octets ++ ready_octets (role_of self.now))) }
+        ensures ok { OnOk result
+            (out.new ≡ out.old ++ (greeting_octets ++ ready_octets (role_of self.now))) }
         ensures err { OnErr result (out.new ≡ out.old) }
     {
         let mut octets = Bytes::of(self.alloc, &greeting())?;
@@ -56,12 +60,14 @@ impl Peer {
         out.add(octets.bytes())
     }
 
-    /// Appends a message of 1 to 63 parts with the envelope of the role. Without memory nothing changes.
+    /// Appends a message of 1 to 63 parts with the envelope of the role. Without memory nothing
+    /// changes.
     pub fn message_bytes(&self, parts: &Parts, out: &mut Bytes) -> Result<(), NoMemory>
         requires some { 0 < length parts.now }
         requires few { length parts.now ≤ 63 }
         requires small { sum_by length parts.now ≤ MOST }
-        ensures ok { OnOk result (out.new ≡ out.old ++ message_octets (enveloped (role_of self.now) parts.now)) }
+        ensures ok { OnOk result
+            (out.new ≡ out.old ++ message_octets (enveloped (role_of self.now) parts.now)) }
         ensures err { OnErr result (out.new ≡ out.old) }
     {
         if !has_envelope(self.role) {
@@ -73,8 +79,8 @@ impl Peer {
         out.add(octets.bytes())
     }
 
-    /// Takes the next piece of the other side's stream, cut anywhere, and appends the messages that end in it to
-    /// `out`, without envelope. Any `Err` is final: each later call answers it again.
+    /// Takes the next piece of the other side's stream, cut anywhere, and appends the messages that
+    /// end in it to `out`, without envelope. Any `Err` is final: each later call answers it again.
     pub fn feed(&mut self, piece: &[u8], out: &mut Messages) -> Result<(), WireFault>
         ensures role { role_of self.new ≡ role_of self.old }
 
@@ -82,15 +88,18 @@ impl Peer {
         ensures stands { IsUnstarved result → (b sent : List ℕ) →
             StandsFor self.old b sent → StandsFor self.new (b ++ piece.now) sent }
         ensures brings { IsUnstarved result → (b sent : List ℕ) →
-            StandsFor self.old b sent → Brings (role_of self.old) b piece.now out.old out.new result }
+            StandsFor self.old b sent →
+            Brings (role_of self.old) b piece.now out.old out.new result }
 
         // A refusal is given again, and brings nothing more.
         ensures answer { answer_of self.new ≡ result }
-        ensures again { (e : WireFault) → answer_of self.old ≡ Err e → (result ≡ Err e) × (out.new ≡ out.old) }
+        ensures again { (e : WireFault) → answer_of self.old ≡ Err e →
+            (result ≡ Err e) × (out.new ≡ out.old) }
 
         // Without memory the first ones of the messages are there.
         ensures starved { result ≡ Err Starved → (b sent : List ℕ) →
-            StandsFor self.old b sent → BringsSome (role_of self.old) b piece.now out.old out.new }
+            StandsFor self.old b sent →
+            BringsSome (role_of self.old) b piece.now out.old out.new }
     {
         if self.starved {
             return Err(WireFault::NoMemory);
@@ -109,22 +118,24 @@ impl Peer {
         }
     }
 
-    /// Appends what we owe the other side beside messages and haven't given: the subscription of a SUB, once the
-    /// handshake is finished, and then a PONG for each PING, in order. Want of memory is final, and changes nothing.
+    /// Appends what we owe the other side beside messages and haven't given: the subscription of a
+    /// SUB, once the handshake is finished, and then a PONG for each PING, in order. Want of memory
+    /// is final, and changes nothing.
     pub fn replies(&mut self, out: &mut Bytes) -> Result<(), NoMemory>
         ensures role { role_of self.new ≡ role_of self.old }
 
         // What was given before with this is all that is owed, each once.
         ensures owes { OnOk result ((b sent : List ℕ) → StandsFor self.old b sent →
-            (more : List ℕ) × (out.new ≡ out.old ++ more) × Owes (role_of self.old) b (sent ++ more) × StandsFor self.new b (sent ++ more)) }
+            (more : List ℕ) × (out.new ≡ out.old ++ more) ×
+            Owes (role_of self.old) b (sent ++ more) × StandsFor self.new b (sent ++ more)) }
         ensures answer { OnOk result (answer_of self.new ≡ answer_of self.old) }
 
         // After a refusal each later call is refused.
         ensures err { OnErr result (out.new ≡ out.old) }
-        ensures starved { OnErr result (answer_of self.new ≡ Err Starved) }
-        ensures again { answer_of self.old ≡ Err Starved → IsErr result }
+        ensures starved { OnErr result (IsStarved self.new) }
+        ensures again { IsStarved self.old → IsErr result }
     {
-        if let Err(WireFault::NoMemory) = self.answer() {
+        if self.is_starved() {
             return Err(NoMemory);
         }
         match self.subscription_due() {
@@ -142,8 +153,10 @@ impl Peer {
 
     /// The subscription, where it is due and wasn't given.
     fn subscription_due(&self) -> Option<&'static [u8]>
-        ensures some { (b sent : List ℕ) → StandsFor self.now b sent → IfSome result (λ s. IsDue self.now b s.now) }
-        ensures none { (b sent : List ℕ) → StandsFor self.now b sent → IfNone result (IsSettled self.now b) }
+        ensures some { (b sent : List ℕ) → StandsFor self.now b sent →
+            IfSome result (λ s. IsDue self.now b s.now) }
+        ensures none { (b sent : List ℕ) → StandsFor self.now b sent →
+            IfNone result (IsSettled self.now b) }
     {
         if !is_sub(self.role) {
             return None;
@@ -167,8 +180,11 @@ impl Peer {
         contexts: &Parts,
         out: &mut Bytes,
     ) -> Result<(), NoMemory>
-        ensures ok { OnOk result ((out.new ≡ out.old ++ (subscription.now ++ pongs contexts.now)) × (self.new ≡ self.old)) }
-        ensures err { OnErr result ((out.new ≡ out.old) × (self.new ≡ record self.old { starved = true })) }
+        ensures ok { OnOk result
+            ((out.new ≡ out.old ++ (subscription.now ++ pongs contexts.now)) ×
+            (self.new ≡ self.old)) }
+        ensures err { OnErr result
+            ((out.new ≡ out.old) × (self.new ≡ record self.old { starved = true })) }
     {
         match put_replies(self.alloc, subscription, contexts, out) {
             Ok(()) => Ok(()),
@@ -189,20 +205,39 @@ impl Peer {
         self.decoder.answer()
     }
 
-    /// Whether the other side's READY was read.
+    /// Whether the other side's READY was read; false once memory was wanted.
     pub fn shaken(&self) -> bool
-        ensures { (b sent : List ℕ) → StandsFor self.now b sent → (IsTrue result ↔ IsShaken (role_of self.now) b) }
+        ensures is { (b sent : List ℕ) →
+            StandsFor self.now b sent → (IsTrue result ↔ IsShaken (role_of self.now) b) }
+        ensures starved { IsStarved self.now → result ≡ false }
     {
+        if self.is_starved() {
+            return false;
+        }
         self.decoder.shaken()
     }
 
-    /// Whether a subscription in force is a prefix of the topic. Only a PUB has subscriptions.
+    /// Whether a subscription in force is a prefix of the topic; false once memory was wanted. Only
+    /// a PUB has subscriptions.
     pub fn wants(&self, topic: &[u8]) -> bool
-        ensures { (b sent : List ℕ) (ms : List (List (List ℕ))) (owed : List (List ℕ)) (answer : Answer) →
-            StandsFor self.now b sent → Gives (role_of self.now) b ms owed answer →
-            (IsTrue result ↔ IsWanted (in_force (role_of self.now) ms) topic.now) }
+        ensures is { (b sent : List ℕ) → StandsFor self.now b sent →
+            (IsTrue result ↔ IsWanted (prefixes_in (role_of self.now) b) topic.now) }
+        ensures starved { IsStarved self.now → result ≡ false }
     {
+        if self.is_starved() {
+            return false;
+        }
         is_wanted(&self.prefixes, topic)
+    }
+
+    /// Whether memory was wanted.
+    fn is_starved(&self) -> bool
+        ensures { IsTrue result ↔ IsStarved self.now }
+    {
+        match self.answer() {
+            Err(fault) => fault == WireFault::NoMemory,
+            Ok(()) => false,
+        }
     }
 }
 

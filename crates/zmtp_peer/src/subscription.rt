@@ -7,7 +7,8 @@ use jtext::{Bytes, NoMemory};
 use std::alloc::Global;
 use zmtp_wire::Parts;
 
-/// Takes a message of a subscriber: 01 and a prefix adds the prefix, 00 and a prefix takes one such back.
+/// Takes a message of a subscriber: 01 and a prefix adds the prefix, 00 and a prefix takes one such
+/// back.
 pub fn take_message(alloc: Global, message: &Parts, prefixes: &mut Parts) -> Result<(), NoMemory>
     ensures ok { OnOk result (prefixes.new ≡ after_message prefixes.old message.now) }
     ensures err { OnErr result (prefixes.new ≡ prefixes.old) }

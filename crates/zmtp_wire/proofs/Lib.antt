@@ -14,4 +14,8 @@ pub mod ShakenLemmas
 pub mod VersionLemmas
 pub mod WholeLemmas
 pub mod WriteLemmas
+pub mod WritingLemmas
+pub mod SumLemmas
+pub mod MeaningLemmas
+pub mod ContextLemmas
 pub mod LawLemmas

@@ -14,7 +14,7 @@ use Rattle.zmtp_wire.specs.declared.state.Phase.{Phase}
 use Rattle.zmtp_wire.specs.declared.state.Phase.TheVariants.{Handshake, Traffic}
 use Rattle.zmtp_wire.specs.declared.state.Open.{Open}
 use Rattle.zmtp_wire.specs.declared.state.Open.TheVariants.{Fresh, Size, Body}
-use Rattle.zmtp_wire.specs.Command.{Property, is_peer, socket_type, ready_name, messages_in, contexts_in, error_name}
+use Rattle.zmtp_wire.specs.Command.{Property, is_peer, socket_type, ready_name, command_messages, command_contexts, error_name}
 use Rattle.zmtp_wire.specs.Decoder.{open_len, rest_len}
 use Rattle.zmtp_wire.specs.Fault.{clip, fault_at}
 use Rattle.zmtp_wire.specs.Frame.{MOST, is_allowed, is_command, is_more, is_long, size_len, size_of}

@@ -18,10 +18,10 @@ use Rattle.zmtp_wire.proofs.FeedLemmas.{reading-append}
 use Rattle.zmtp_wire.proofs.StreamLemmas.{reads_as}
 use Rattle.zmtp_wire.proofs.OutcomeLemmas.{Outcome, reads, breaks, outcome, stream_reads, broken_reads}
 
-is_true : (b : Bool) → IsTrue b → b ≡ true
+pub is_true : (b : Bool) → IsTrue b → b ≡ true
 is_true b h = search rules
 
-true_is : (b : Bool) → b ≡ true → IsTrue b
+pub true_is : (b : Bool) → b ≡ true → IsTrue b
 true_is b h = search rules
 
 -- ---- no step forgets it
@@ -75,7 +75,7 @@ run_keeps r at s (x ∷ b) h = run_keeps r (tick at) (step r at s x).state b (st
 
 -- ---- and each way
 
-shaken_longer : (role : Role) (front p : List ℕ) → IsShaken role front → IsShaken role (front ++ p)
+pub shaken_longer : (role : Role) (front p : List ℕ) → IsShaken role front → IsShaken role (front ++ p)
 shaken_longer role front p s =
     record { front = s.front; rest = s.rest ++ p; greeting = s.greeting; spelled = ap (λ t. t ++ p) s.spelled ∙ append_assoc s.front s.rest p; reads = s.reads }
 

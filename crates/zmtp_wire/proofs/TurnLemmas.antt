@@ -14,7 +14,7 @@ use Rattle.zmtp_wire.specs.declared.state.Phase.{Phase}
 use Rattle.zmtp_wire.specs.declared.state.Phase.TheVariants.{Handshake, Traffic}
 use Rattle.zmtp_wire.specs.declared.state.Open.{Open}
 use Rattle.zmtp_wire.specs.declared.state.Open.TheVariants.{Fresh, Size, Body}
-use Rattle.zmtp_wire.specs.Command.{messages_in, contexts_in, error_name}
+use Rattle.zmtp_wire.specs.Command.{command_messages, command_contexts, error_name}
 use Rattle.zmtp_wire.specs.Frame.{MOST, is_allowed, is_command, is_more, is_long, size_len, size_of}
 use Rattle.zmtp_wire.specs.Greeting.{speaks, passes, greeting_cause}
 use Rattle.zmtp_wire.specs.Machine.{handshake_cause, Took, quiet, step, unit_step, size_step, body_step, greeting_step, flag_step, flag_state, finish, after_handshake, room_in, room_left, is_error}
@@ -157,12 +157,12 @@ pub messages-snoc : (r : Role) (newer : Bool) (frames : List (List ℕ)) (items 
 messages-snoc r newer frames [] i = refl
 messages-snoc r newer frames (frame true b ∷ items) i = messages-snoc r newer (frames ++ b ∷ []) items i
 messages-snoc r newer frames (frame false b ∷ items) i = ap (λ ms. (frames ++ b ∷ []) ∷ ms) (messages-snoc r newer [] items i)
-messages-snoc r newer frames (command b ∷ items) i = ap (λ ms. messages_in r newer b ++ ms) (messages-snoc r newer frames items i) ∙ sym (append_assoc (messages_in r newer b) (messages_of r newer frames items) (messages_of r newer (open_after frames items) (i ∷ [])))
+messages-snoc r newer frames (command b ∷ items) i = ap (λ ms. command_messages r newer b ++ ms) (messages-snoc r newer frames items i) ∙ sym (append_assoc (command_messages r newer b) (messages_of r newer frames items) (messages_of r newer (open_after frames items) (i ∷ [])))
 
 pub contexts-snoc : (newer : Bool) (items : List Item) (i : Item) → contexts_of newer (items ++ i ∷ []) ≡ contexts_of newer items ++ contexts_of newer (i ∷ [])
 contexts-snoc newer [] i = refl
 contexts-snoc newer (frame more b ∷ items) i = contexts-snoc newer items i
-contexts-snoc newer (command b ∷ items) i = ap (λ ms. contexts_in newer b ++ ms) (contexts-snoc newer items i) ∙ sym (append_assoc (contexts_in newer b) (contexts_of newer items) (contexts_of newer (i ∷ [])))
+contexts-snoc newer (command b ∷ items) i = ap (λ ms. command_contexts newer b ++ ms) (contexts-snoc newer items i) ∙ sym (append_assoc (command_contexts newer b) (contexts_of newer items) (contexts_of newer (i ∷ [])))
 
 finish_first_on : (role : Role) (at : ℕ) (g q body : List ℕ) (f : ℕ) (o : Option Cause) → Spells (command body) q → handshake_cause role body ≡ o
     → Turn role at (greeted g) q (finish role at (Handshake (speaks g)) f body)
@@ -187,7 +187,7 @@ finish_later_on : (role : Role) (at : ℕ) (g : List ℕ) (items : List Item) (q
 unfolding finish
 finish_later_on role at g items q body f true m s c e =
     let i : item_of f body ≡ command body = pick_true _ _ _ c in
-    let t : finish role at (Traffic (speaks g) (open_after [] items)) f body ≡ record { state = Units (Traffic (speaks g) (open_after [] items)) Fresh; messages = messages_in role (speaks g) body; owed = contexts_in (speaks g) body } = pick_true (is_command f) _ _ c in
+    let t : finish role at (Traffic (speaks g) (open_after [] items)) f body ≡ record { state = Units (Traffic (speaks g) (open_after [] items)) Fresh; messages = command_messages role (speaks g) body; owed = command_contexts (speaks g) body } = pick_true (is_command f) _ _ c in
     finish_item role at g items q (command body) _ (subst (λ (x : Item). Spells x q) i s) (ap (λ (x : Took). x.state) t) (ap (λ (x : Took). x.messages) t ∙ sym (append-nil _)) (ap (λ (x : Took). x.owed) t ∙ sym (append-nil _))
 finish_later_on role at g items q body f false true s c e =
     let i : item_of f body ≡ frame true body = pick_false _ _ _ c ∙ ap (λ m. frame m body) e in

@@ -14,7 +14,7 @@ use Rattle.zmtp_wire.specs.declared.state.Phase.{Phase}
 use Rattle.zmtp_wire.specs.declared.state.Phase.TheVariants.{Handshake, Traffic}
 use Rattle.zmtp_wire.specs.declared.state.Open.{Open}
 use Rattle.zmtp_wire.specs.declared.state.Open.TheVariants.{Fresh, Size, Body}
-use Rattle.zmtp_wire.specs.Command.{messages_in, contexts_in, error_name}
+use Rattle.zmtp_wire.specs.Command.{command_messages, command_contexts, error_name}
 use Rattle.zmtp_wire.specs.Frame.{MOST, is_allowed, is_command, is_more, is_long, size_len, size_of}
 use Rattle.zmtp_wire.specs.Greeting.{speaks, passes, greeting_cause}
 use Rattle.zmtp_wire.specs.Machine.{handshake_cause, Took, quiet, step, unit_step, size_step, body_step, greeting_step, flag_step, flag_state, finish, after_handshake, room_in, room_left, is_error}

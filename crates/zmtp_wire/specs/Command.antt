@@ -87,12 +87,12 @@ abbrev pub is_ping : List ℕ → Bool
 is_ping body = starts_with nat_eq body (4 ∷ codes "PING") && nat_le 7 (length body) && nat_le (length body) 23
 
 -- the context that a peer's command has to have answered by a PONG, where the peer speaks 3.1
-abbrev pub contexts_in : Bool → List ℕ → List (List ℕ)
-contexts_in newer body = cond (newer && is_ping body) (drop 7 body ∷ []) []
+abbrev pub command_contexts : Bool → List ℕ → List (List ℕ)
+command_contexts newer body = cond (newer && is_ping body) (drop 7 body ∷ []) []
 
 -- the message that a peer's command means to the role, where the peer speaks 3.1: 01 and a prefix subscribes, 00 takes back
-abbrev pub messages_in : Role → Bool → List ℕ → List (List (List ℕ))
-messages_in r newer body =
+abbrev pub command_messages : Role → Bool → List ℕ → List (List (List ℕ))
+command_messages r newer body =
     cond (newer && is_pub r)
     (cond (is_subscribe body) (((1 ∷ drop 10 body) ∷ []) ∷ [])
     (cond (is_cancel body) (((0 ∷ drop 7 body) ∷ []) ∷ []) []))

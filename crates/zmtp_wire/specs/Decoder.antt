@@ -56,6 +56,10 @@ role_of d = d.role
 abbrev pub answer_of : Decoder → Answer
 answer_of d = answer_in d.state
 
+-- memory was wanted, and the decoder reads no more
+abbrev pub IsStarved : Decoder → Type 0
+IsStarved d = answer_of d ≡ Err fault.NoMemory
+
 -- the decoder has read these octets, and has given these contexts
 pub record StandsFor (d : Decoder) (b : List ℕ) (given : List (List ℕ)) : Type 0 where
   pub place : d.at ≡ ticks 0 (length b)

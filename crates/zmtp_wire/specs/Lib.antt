@@ -5,4 +5,5 @@ pub mod Command
 pub mod Stream
 pub mod Machine
 pub mod Decoder
+pub mod Meaning
 pub mod Writing

@@ -14,7 +14,7 @@ use Rattle.zmtp_wire.specs.declared.state.Open.TheVariants.{Fresh, Size, Body}
 use Rattle.zmtp_wire.specs.Fault.{clip, fault_at}
 use Rattle.zmtp_wire.specs.Greeting.{passes, greeting_cause, speaks}
 use Rattle.zmtp_wire.specs.Frame.{MOST, is_allowed, is_command, is_more, size_len, size_of}
-use Rattle.zmtp_wire.specs.Command.{Property, error_name, ready_name, is_type_name, is_peer, socket_type, contexts_in, messages_in}
+use Rattle.zmtp_wire.specs.Command.{Property, error_name, ready_name, is_type_name, is_peer, socket_type, command_contexts, command_messages}
 
 -- ---- the first command
 
@@ -116,7 +116,7 @@ unfoldable pub finish : Role → ℕ → Phase → ℕ → List ℕ → Took
 finish r at (Handshake newer) f body = quiet (after_handshake at newer (handshake_cause r body))
 finish r at (Traffic newer frames) f body =
     cond (is_command f)
-    (record { state = Units (Traffic newer frames) Fresh; messages = messages_in r newer body; owed = contexts_in newer body })
+    (record { state = Units (Traffic newer frames) Fresh; messages = command_messages r newer body; owed = command_contexts newer body })
     (cond (is_more f)
     (quiet (Units (Traffic newer (frames ++ body ∷ [])) Fresh))
     (record { state = Units (Traffic newer []) Fresh; messages = (frames ++ body ∷ []) ∷ []; owed = [] }))

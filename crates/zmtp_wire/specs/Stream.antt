@@ -7,7 +7,17 @@ use Rattle.zmtp_wire.specs.declared.fault.WireFault.{WireFault}
 use Rattle.zmtp_wire.specs.Fault.{clip, fault_at}
 use Rattle.zmtp_wire.specs.Greeting.{passes, greeting_cause, speaks}
 use Rattle.zmtp_wire.specs.Frame.{MOST, is_allowed, is_command, is_more, size_len, size_of}
-use Rattle.zmtp_wire.specs.Command.{error_name, WrongReady, contexts_in, messages_in}
+use Rattle.zmtp_wire.specs.Command.{error_name, WrongReady, command_contexts, command_messages}
+
+-- ---- messages
+
+-- a message: the bodies of its frames
+abbrev pub Message : Type 0
+Message = List (List ℕ)
+
+-- the context of a PING
+abbrev pub Context : Type 0
+Context = List ℕ
 
 -- ---- units
 
@@ -62,13 +72,13 @@ abbrev pub messages_of : Role → Bool → List (List ℕ) → List Item → Lis
 messages_of r newer frames [] = []
 messages_of r newer frames (frame true body ∷ items) = messages_of r newer (frames ++ body ∷ []) items
 messages_of r newer frames (frame false body ∷ items) = (frames ++ body ∷ []) ∷ messages_of r newer [] items
-messages_of r newer frames (command body ∷ items) = messages_in r newer body ++ messages_of r newer frames items
+messages_of r newer frames (command body ∷ items) = command_messages r newer body ++ messages_of r newer frames items
 
 -- the contexts of the PINGs among the items
 abbrev pub contexts_of : Bool → List Item → List (List ℕ)
 contexts_of newer [] = []
 contexts_of newer (frame more body ∷ items) = contexts_of newer items
-contexts_of newer (command body ∷ items) = contexts_in newer body ++ contexts_of newer items
+contexts_of newer (command body ∷ items) = command_contexts newer body ++ contexts_of newer items
 
 -- the messages that end in what has come
 abbrev pub messages_come : Role → Come → List (List (List ℕ))
@@ -157,6 +167,14 @@ pub record Broken (b : List ℕ) (role : Role) (e : WireFault) (at : ℕ) (ms : 
   pub fault : e ≡ fault_at (clip at) broken
   pub messages : ms ≡ messages_come role come
   pub contexts : owed ≡ contexts_come come
+
+-- b is a stream with these messages and a rest of that many octets
+abbrev pub Scans : List ℕ → Role → List Message → ℕ → Type 0
+Scans b role ms n = (owed : List Context) × (rest : List ℕ) × Stream b role ms owed rest × (n ≡ length rest)
+
+-- b is broken by this fault
+abbrev pub BreaksAs : List ℕ → Role → WireFault → Type 0
+BreaksAs b role e = (at : ℕ) × (ms : List Message) × (owed : List Context) × Broken b role e at ms owed
 
 -- b is a stream
 abbrev pub IsStream : List ℕ → Role → Type 0

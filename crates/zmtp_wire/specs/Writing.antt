@@ -4,7 +4,10 @@ use Rattle.std.specs.Int.{w64, to_be_bytes}
 use Rattle.zmtp_wire.specs.declared.role.Role.{Role}
 use Rattle.zmtp_wire.specs.declared.role.Role.TheVariants as role
 use Rattle.zmtp_wire.specs.Frame.{MOST}
-use Rattle.zmtp_wire.specs.Command.{ready_name}
+use Rattle.std.specs.Prelude.{◌≡◌, nat_eq}
+use Rattle.std.specs.List.{starts_with}
+use Rattle.zmtp_wire.specs.Command.{ready_name, error_name, command_messages, command_contexts}
+use Rattle.zmtp_wire.specs.Stream.{Message, Context}
 
 -- version 3.1, mechanism NULL
 abbrev pub greeting_octets : List ℕ
@@ -64,3 +67,39 @@ AreMessages (m ∷ ms) = IsMessage m × AreMessages ms
 abbrev pub all_octets : List (List (List ℕ)) → List ℕ
 all_octets [] = []
 all_octets (m ∷ ms) = message_octets m ++ all_octets ms
+
+-- ---- what may follow READY
+
+-- a message, or a command with this body
+pub data Writing : Type 0 where
+  message : Message → Writing
+  command : List ℕ → Writing
+
+-- the octets of these, one after another
+abbrev pub writing_octets : List Writing → List ℕ
+writing_octets [] = []
+writing_octets (message m ∷ ws) = message_octets m ++ writing_octets ws
+writing_octets (command body ∷ ws) = command_octets body ++ writing_octets ws
+
+-- a command that may be written: no ERROR, and no longer than a frame
+pub record IsCommand (body : List ℕ) : Type 0 where
+  pub harmless : starts_with nat_eq body error_name ≡ false
+  pub small : length body ≤ MOST
+
+-- messages and commands that may be written
+abbrev pub AreWritings : List Writing → Type 0
+AreWritings [] = Unit {0}
+AreWritings (message m ∷ ws) = IsMessage m × AreWritings ws
+AreWritings (command body ∷ ws) = IsCommand body × AreWritings ws
+
+-- the messages that the role reads in them, of us who speak 3.1
+abbrev pub messages_heard : Role → List Writing → List Message
+messages_heard r [] = []
+messages_heard r (message m ∷ ws) = m ∷ messages_heard r ws
+messages_heard r (command body ∷ ws) = command_messages r true body ++ messages_heard r ws
+
+-- the contexts of the PINGs among them
+abbrev pub contexts_heard : List Writing → List Context
+contexts_heard [] = []
+contexts_heard (message m ∷ ws) = contexts_heard ws
+contexts_heard (command body ∷ ws) = command_contexts true body ++ contexts_heard ws

@@ -1,7 +1,9 @@
-//! What a peer's commands mean after the handshake. All but SUBSCRIBE, CANCEL and PING of a peer that speaks 3.1 are
-//! passed over. Read more loosely than the standard: a command may stand between the frames of a message.
+//! What a peer's commands mean after the handshake. All but SUBSCRIBE, CANCEL and PING of a peer
+//! that speaks 3.1 are passed over. Read more loosely than the standard: a command may stand
+//! between the frames of a message.
 ghost use Rattle.std.specs.Prelude.{◌≡◌, [], ◌∷◌, ◌++◌, ◌≤◌, length, OnOk, OnErr, IsTrue};
-ghost use Rattle.zmtp_wire.specs.Command.{messages_in, contexts_in, is_ping, is_pub, is_subscribe, is_cancel};
+ghost use Rattle.zmtp_wire.specs.Command.{command_messages, command_contexts, is_ping, is_pub};
+ghost use Rattle.zmtp_wire.specs.Command.{is_subscribe, is_cancel};
 
 use crate::parts::{Messages, Parts};
 use crate::role::Role;
@@ -16,7 +18,7 @@ pub fn put_meaning(
     body: &[u8],
     out: &mut Messages,
 ) -> Result<(), NoMemory>
-    ensures ok { OnOk result (out.new ≡ out.old ++ messages_in role newer body.now) }
+    ensures ok { OnOk result (out.new ≡ out.old ++ command_messages role newer body.now) }
     ensures err { OnErr result (out.new ≡ out.old) }
 {
     if newer && is_pub(role) {
@@ -50,7 +52,7 @@ pub fn put_context(
     body: &[u8],
     owed: &mut Parts,
 ) -> Result<(), NoMemory>
-    ensures ok { OnOk result (owed.new ≡ owed.old ++ contexts_in newer body.now) }
+    ensures ok { OnOk result (owed.new ≡ owed.old ++ command_contexts newer body.now) }
 {
     if newer && is_ping(body) {
         owed.push(Bytes::of(alloc, &body[7..])?)?;

@@ -1,10 +1,13 @@
-//! The decoder: it keeps the unfinished unit and the frames of the unfinished message, and what it still owes.
-ghost use Rattle.std.specs.Prelude.{◌≡◌, ℕ, List, [], ◌++◌, ◌↔◌, Err, IsTrue};
+//! The decoder: it keeps the unfinished unit and the frames of the unfinished message, and what it
+//! still owes.
+ghost use Rattle.std.specs.Prelude.{◌≡◌, ℕ, List, [], ◌++◌, ◌↔◌, Err, None, IsTrue, false};
 ghost use Rattle.zmtp_wire.specs.declared.fault.WireFault.{WireFault};
 ghost use Rattle.zmtp_wire.specs.declared.fault.WireFault.TheVariants.{NoMemory as Starved};
 ghost use Rattle.zmtp_wire.specs.Greeting.{newer_of};
-ghost use Rattle.zmtp_wire.specs.Stream.{Gives, IsShaken};
-ghost use Rattle.zmtp_wire.specs.Decoder.{StandsFor, IsUnstarved, Brings, BringsSome, Answer, answer_of, role_of};
+ghost use Rattle.zmtp_wire.specs.Stream.{Context, IsShaken};
+ghost use Rattle.zmtp_wire.specs.Decoder.{StandsFor, IsUnstarved, IsStarved, Brings, BringsSome};
+ghost use Rattle.zmtp_wire.specs.Decoder.{answer_of, role_of};
+ghost use Rattle.zmtp_wire.specs.Meaning.{contexts_in};
 
 use crate::fault::WireFault;
 use crate::machine::run;
@@ -43,24 +46,27 @@ impl Decoder {
         }
     }
 
-    /// Takes the next piece of the peer's stream, cut anywhere, and appends the messages that end in it to `out`.
-    /// Any `Err` is final: each later call answers it again.
+    /// Takes the next piece of the peer's stream, cut anywhere, and appends the messages that end
+    /// in it to `out`. Any `Err` is final: each later call answers it again.
     pub fn feed(&mut self, piece: &[u8], out: &mut Messages) -> Result<(), WireFault>
         ensures role { role_of self.new ≡ role_of self.old }
 
         // However the stream is cut, it is read as the grammar reads it whole.
-        ensures stands { IsUnstarved result → (b : List ℕ) (given : List (List ℕ)) →
+        ensures stands { IsUnstarved result → (b : List ℕ) (given : List Context) →
             StandsFor self.old b given → StandsFor self.new (b ++ piece.now) given }
-        ensures brings { IsUnstarved result → (b : List ℕ) (given : List (List ℕ)) →
-            StandsFor self.old b given → Brings (role_of self.old) b piece.now out.old out.new result }
+        ensures brings { IsUnstarved result → (b : List ℕ) (given : List Context) →
+            StandsFor self.old b given →
+            Brings (role_of self.old) b piece.now out.old out.new result }
 
         // A refusal is given again, and brings nothing more.
         ensures answer { answer_of self.new ≡ result }
-        ensures again { (e : WireFault) → answer_of self.old ≡ Err e → (result ≡ Err e) × (out.new ≡ out.old) }
+        ensures again { (e : WireFault) → answer_of self.old ≡ Err e →
+            (result ≡ Err e) × (out.new ≡ out.old) }
 
         // Without memory the first ones of the messages are there.
-        ensures starved { result ≡ Err Starved → (b : List ℕ) (given : List (List ℕ)) →
-            StandsFor self.old b given → BringsSome (role_of self.old) b piece.now out.old out.new }
+        ensures starved { result ≡ Err Starved → (b : List ℕ) (given : List Context) →
+            StandsFor self.old b given →
+            BringsSome (role_of self.old) b piece.now out.old out.new }
     {
         let start = self.at;
         self.version = self.version.with(start, piece);
@@ -97,33 +103,60 @@ impl Decoder {
         }
     }
 
-    /// Whether the peer's READY was read.
+    /// Whether the peer's READY was read; false once memory was wanted.
     pub fn shaken(&self) -> bool
-        ensures { (b : List ℕ) (given : List (List ℕ)) → StandsFor self.now b given → (IsTrue result ↔ IsShaken (role_of self.now) b) }
+        ensures is { (b : List ℕ) (given : List Context) →
+            StandsFor self.now b given → (IsTrue result ↔ IsShaken (role_of self.now) b) }
+        ensures starved { IsStarved self.now → result ≡ false }
     {
+        if self.is_starved() {
+            return false;
+        }
         self.state.is_shaken()
     }
 
-    /// Whether the peer speaks 3.1 or above; `None` until twelve octets of its stream have come.
+    /// Whether the peer speaks 3.1 or above; `None` until twelve octets of its stream have come,
+    /// and once memory was wanted.
     pub fn newer(&self) -> Option<bool>
-        ensures { (b : List ℕ) (given : List (List ℕ)) → StandsFor self.now b given → result ≡ newer_of b }
+        ensures is { (b : List ℕ) (given : List Context) →
+            StandsFor self.now b given → result ≡ newer_of b }
+        ensures starved { IsStarved self.now → result ≡ None }
     {
+        if self.is_starved() {
+            return None;
+        }
         if self.at < 12 {
             return None;
         }
         Some(self.version.is_newer())
     }
 
-    /// The contexts of the PINGs since the last such call, in order. It takes no memory.
+    /// The contexts of the PINGs since the last such call, in order; none once memory was wanted.
+    /// It takes no memory.
     pub fn owed(&mut self) -> Parts
         ensures role { role_of self.new ≡ role_of self.old }
-        ensures stands { (b : List ℕ) (given : List (List ℕ)) → StandsFor self.old b given → StandsFor self.new b (given ++ result) }
+        ensures stands { (b : List ℕ) (given : List Context) →
+            StandsFor self.old b given → StandsFor self.new b (given ++ result) }
         ensures answer { answer_of self.new ≡ answer_of self.old }
 
         // With those that were given before they are the contexts of the stream.
-        ensures contexts { (b : List ℕ) (given owed : List (List ℕ)) (ms : List (List (List ℕ))) (answer : Answer) →
-            StandsFor self.old b given → Gives (role_of self.old) b ms owed answer → given ++ result ≡ owed }
+        ensures contexts { (b : List ℕ) (given : List Context) →
+            StandsFor self.old b given → given ++ result ≡ contexts_in (role_of self.old) b }
+        ensures starved { IsStarved self.old → result ≡ [] }
     {
+        if self.is_starved() {
+            return Parts::new(self.alloc);
+        }
         mem::replace(&mut self.owed, Parts::new(self.alloc))
+    }
+
+    /// Whether memory was wanted.
+    fn is_starved(&self) -> bool
+        ensures { IsTrue result ↔ IsStarved self.now }
+    {
+        match self.answer() {
+            Err(fault) => fault == WireFault::NoMemory,
+            Ok(()) => false,
+        }
     }
 }

@@ -1,7 +1,9 @@
-//! Flag octets and sizes. Of a flag octet bit 0 is MORE, bit 1 LONG and bit 2 COMMAND; a size is one octet, or with
-//! LONG eight in network order. Read more loosely than the standard: LONG may stand before a small size.
+//! Flag octets and sizes. Of a flag octet bit 0 is MORE, bit 1 LONG and bit 2 COMMAND; a size is
+//! one octet, or with LONG eight in network order. Read more loosely than the standard: LONG may
+//! stand before a small size.
 ghost use Rattle.std.specs.Prelude.{◌≡◌, ◌<◌, length};
-ghost use Rattle.zmtp_wire.specs.Frame.{is_allowed, is_command, is_more, is_long, size_len, size_of};
+ghost use Rattle.zmtp_wire.specs.Frame.{is_allowed, is_command, is_more, is_long, size_len};
+ghost use Rattle.zmtp_wire.specs.Frame.{size_of};
 
 /// Whether the standard has such a flag octet.
 pub fn is_allowed(flag: u8) -> bool

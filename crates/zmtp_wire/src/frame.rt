@@ -1,11 +1,32 @@
 //! Frames, messages and commands, written in their shortest form.
-ghost use Rattle.std.specs.Prelude.{◌≡◌, ◌++◌, ◌<◌, ◌≤◌, length, OnOk, OnErr, sum_by};
+ghost use Rattle.std.specs.Prelude.{◌≡◌, ◌++◌, ◌<◌, ◌≤◌, ◌↔◌, length, OnOk, OnErr, IsTrue, sum_by};
+ghost use Rattle.zmtp_wire.specs.Fault.{clip};
 ghost use Rattle.zmtp_wire.specs.Frame.{MOST};
-ghost use Rattle.zmtp_wire.specs.Writing.{unit_octets, frame_octets, message_octets, command_octets};
+ghost use Rattle.zmtp_wire.specs.Writing.{IsMessage, unit_octets, frame_octets, message_octets};
+ghost use Rattle.zmtp_wire.specs.Writing.{command_octets};
 
 use crate::parts::Parts;
+use crate::unit::MOST_OCTETS;
 use jtext::{Bytes, NoMemory};
 use std::alloc::Global;
+
+/// How many octets the parts have together; it stands still at `u64::MAX`.
+pub fn parts_len(parts: &Parts) -> u64
+    ensures { result ≡ clip (sum_by length parts.now) }
+{
+    let mut len: u64 = 0;
+    for part in parts.as_slice() {
+        len = len.saturating_add(part.len() as u64);
+    }
+    len
+}
+
+/// Whether the parts may be written as a message: 1 to 64 of them, with at most 64 MiB together.
+pub fn is_message(parts: &Parts) -> bool
+    ensures { IsTrue result ↔ IsMessage parts.now }
+{
+    0 < parts.len() && parts.len() <= 64 && parts_len(parts) <= MOST_OCTETS
+}
 
 /// Appends a message of 1 to 64 parts. Without memory nothing changes.
 pub fn put_message(alloc: Global, parts: &Parts, out: &mut Bytes) -> Result<(), NoMemory>
@@ -46,7 +67,8 @@ fn put_frame(more: bool, body: &[u8], out: &mut Bytes) -> Result<(), NoMemory>
     }
 }
 
-/// Appends one unit in its shortest form: the first flag goes with a size of one octet, the second with LONG.
+/// Appends one unit in its shortest form: the first flag goes with a size of one octet, the second
+/// with LONG.
 #[tactic(auto, unfolding(crate::specs::Writing::unit_octets))]
 fn put_unit(short: u8, long: u8, body: &[u8], out: &mut Bytes) -> Result<(), NoMemory>
     ensures { OnOk result (out.new ≡ out.old ++ unit_octets short long body.now) }

@@ -1,11 +1,14 @@
 //! READY, written and read: the first command on each side.
 //!
-//! The body is a name's length, the name, and properties: each a name's length, a name, the value's length in four
-//! octets, a value. Read more strictly than the standard: of the allowed pairs of types only those that we serve.
-ghost use Rattle.std.specs.Prelude.{◌≡◌, ◌∷◌, ◌++◌, ◌<◌, ◌≤◌, drop, length, Some, None, IfSome, IfNone, OnOk, OnErr};
+//! The body is a name's length, the name, and properties: each a name's length, a name, the value's
+//! length in four octets, a value. Read more strictly than the standard: of the allowed pairs of
+//! types only those that we serve.
+ghost use Rattle.std.specs.Prelude.{◌≡◌, ◌∷◌, ◌++◌, ◌<◌, ◌≤◌, drop, length, Some, None, IfSome};
+ghost use Rattle.std.specs.Prelude.{IfNone, OnOk, OnErr};
 ghost use Rattle.std.specs.Int.{w32, from_be_bytes};
 ghost use Rattle.zmtp_wire.specs.Command.{is_peer, is_type_name};
-ghost use Rattle.zmtp_wire.specs.Machine.{handshake_cause, ready_cause, properties, with_property, after_one};
+ghost use Rattle.zmtp_wire.specs.Machine.{handshake_cause, ready_cause, properties, with_property};
+ghost use Rattle.zmtp_wire.specs.Machine.{after_one};
 ghost use Rattle.zmtp_wire.specs.Writing.{ready_octets};
 
 use crate::cause::Cause;
@@ -77,7 +80,8 @@ fn ready_cause(role: Role, octets: &[u8]) -> Option<Cause>
 fn take_property(octets: &[u8]) -> Option<(&[u8], &[u8], &[u8])>
     requires { 0 < length octets.now }
     ensures none { IfNone result (properties octets.now ≡ None) }
-    ensures some { IfSome result (λ p. properties octets.now ≡ with_property (p.0.now, p.1.now) (properties p.2.now)) }
+    ensures some { IfSome result (λ p.
+        properties octets.now ≡ with_property (p.0.now, p.1.now) (properties p.2.now)) }
     ensures shorter { IfSome result (λ p. length p.2.now < length octets.now) }
 {
     let (first, r) = octets.split_at(1);

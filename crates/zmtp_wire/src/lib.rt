@@ -1,5 +1,6 @@
-//! ZMTP 3.0 and 3.1 (RFC 23 and RFC 37 of the ZeroMQ project), read and written as octets. It does no IO.
-//! `Decoder` reads a peer's stream in pieces, `whole` all of it at once, `laws` says what the definitions imply.
+//! ZMTP 3.0 and 3.1 (RFC 23 and RFC 37 of the ZeroMQ project), read and written as octets. It does
+//! no IO. `Decoder` reads a peer's stream in pieces, `whole` all of it at once, `laws` says what
+//! the definitions imply.
 #![tactic(auto)]
 
 mod cause;
@@ -16,14 +17,12 @@ mod parts;
 mod role;
 mod state;
 mod stream;
-#[cfg(test)]
-mod tests;
 mod unit;
 mod version;
 
 pub use decoder::Decoder;
 pub use fault::WireFault;
-pub use frame::{put_command, put_message};
+pub use frame::{is_message, parts_len, put_command, put_message};
 pub use handshake::put_ready;
 pub use opening::greeting;
 pub use parts::{Messages, Parts};

@@ -1,5 +1,7 @@
-//! The decoder's steps over a piece: octet by octet, but for what is surely in the middle of a body.
-ghost use Rattle.std.specs.Prelude.{◌≡◌, ℕ, List, ◌++◌, ◌+◌, ◌<◌, ◌≤◌, ◌⊎◌, length, IfOk, OnOk, OnErr};
+//! The decoder's steps over a piece: octet by octet, but for what is surely in the middle of a
+//! body.
+ghost use Rattle.std.specs.Prelude.{◌≡◌, ℕ, List, ◌++◌, ◌+◌, ◌<◌, ◌≤◌, ◌⊎◌, length, IfOk, OnOk};
+ghost use Rattle.std.specs.Prelude.{OnErr};
 ghost use Rattle.zmtp_wire.specs.declared.role.Role.{Role};
 ghost use Rattle.zmtp_wire.specs.Machine.{step, run, ticks, GrowsBy};
 
@@ -23,11 +25,13 @@ pub fn run(
     owed: &mut Parts,
 ) -> Result<State, NoMemory>
     ensures state { IfOk result (λ s. s ≡ (run role start state piece.now).state) }
-    ensures messages { OnOk result (out.new ≡ out.old ++ (run role start state piece.now).messages) }
+    ensures messages { OnOk result
+        (out.new ≡ out.old ++ (run role start state piece.now).messages) }
     ensures owed { OnOk result (owed.new ≡ owed.old ++ (run role start state piece.now).owed) }
 
     // Without memory the first ones of the messages are there.
-    ensures starved { OnErr result (GrowsBy out.old out.new (run role start state piece.now).messages) }
+    ensures starved { OnErr result
+        (GrowsBy out.old out.new (run role start state piece.now).messages) }
 {
     let mut at = start;
     let mut now = state;

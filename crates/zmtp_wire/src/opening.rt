@@ -1,5 +1,6 @@
-//! The greeting, 64 octets: 0 is `FF`, 9 is `7F`, 10 the major version, 11 the minor one, 12 to 31 the mechanism,
-//! 32 whether we serve, the others 0. Read more loosely than the standard: octets 1 to 8 and 32 to 63 are free.
+//! The greeting, 64 octets: 0 is `FF`, 9 is `7F`, 10 the major version, 11 the minor one, 12 to 31
+//! the mechanism, 32 whether we serve, the others 0. Read more loosely than the standard: octets 1
+//! to 8 and 32 to 63 are free.
 ghost use Rattle.std.specs.Prelude.{◌≡◌, ◌∷◌, ◌++◌, ◌<◌, ◌≤◌, [], length, IfOk, OnOk};
 ghost use Rattle.zmtp_wire.specs.Greeting.{passes, greeting_cause, speaks};
 ghost use Rattle.zmtp_wire.specs.Machine.{greeting_step};

@@ -1,7 +1,9 @@
-//! What a decoder keeps between two octets: the unfinished unit and the frames of the unfinished message.
+//! What a decoder keeps between two octets: the unfinished unit and the frames of the unfinished
+//! message.
 //!
-//! `Greeting`, the 64th octet: `Units(Handshake, Fresh)`; READY's last octet: `Units(Traffic, Fresh)`; any octet that
-//! fails a test: `Failed`, for good. Within `Units` a flag octet opens `Size`, the last octet of a size `Body`.
+//! `Greeting`, the 64th octet: `Units(Handshake, Fresh)`; READY's last octet: `Units(Traffic,
+//! Fresh)`; any octet that fails a test: `Failed`, for good. Within `Units` a flag octet opens
+//! `Size`, the last octet of a size `Body`.
 ghost use Rattle.std.specs.Prelude.{◌≡◌};
 ghost use Rattle.zmtp_wire.specs.Decoder.{shaken_in};
 ghost use Rattle.zmtp_wire.specs.Machine.{is_over, stopped};

@@ -1,8 +1,8 @@
 //! The plain reader of a whole stream.
-ghost use Rattle.std.specs.Prelude.{◌≡◌, ℕ, List, ◌<◌, ◌^◌, ◌↔◌, length, IfOk, IfErr, IsTrue};
+ghost use Rattle.std.specs.Prelude.{◌≡◌, ◌≢◌, ◌<◌, ◌^◌, ◌↔◌, IfOk, IfErr, IsTrue};
 ghost use Rattle.zmtp_wire.specs.declared.fault.WireFault.TheVariants.{NoMemory as Starved};
 ghost use Rattle.zmtp_wire.specs.Decoder.{rest_len};
-ghost use Rattle.zmtp_wire.specs.Stream.{Stream, Broken, IsShaken};
+ghost use Rattle.zmtp_wire.specs.Stream.{Scans, BreaksAs, IsShaken};
 
 use crate::fault::WireFault;
 use crate::flag::size_len;
@@ -26,11 +26,11 @@ pub struct Scan {
 /// Reads all octets of a peer's stream at once, as a socket of this role.
 pub fn whole(alloc: Global, role: Role, bytes: &[u8]) -> Result<Scan, WireFault>
     // What is read is a stream.
-    ensures stream { IfOk result (λ s. (owed : List (List ℕ)) × (rest : List ℕ) × Stream bytes.now role s.messages owed rest × (s.rest ≡ length rest)) }
+    ensures stream { IfOk result (λ s. Scans bytes.now role s.messages s.rest) }
     ensures shaken { IfOk result (λ s. IsTrue s.shaken ↔ IsShaken role bytes.now) }
 
     // Where it isn't, the fault is the one that breaks it.
-    ensures broken { IfErr result (λ e. (e ≡ Starved → ⊥) → (at : ℕ) × (ms : List (List (List ℕ))) × (owed : List (List ℕ)) × Broken bytes.now role e at ms owed) }
+    ensures broken { IfErr result (λ e. e ≢ Starved → BreaksAs bytes.now role e) }
 {
     let _len = bytes.len();
     let mut messages = Messages::new(alloc);

@@ -1,7 +1,8 @@
 //! The steps within a unit: flag octet, size, body.
 ghost use Rattle.std.specs.Prelude.{◌≡◌, ◌++◌, IfOk, OnOk, OnErr};
 ghost use Rattle.zmtp_wire.specs.Frame.{MOST};
-ghost use Rattle.zmtp_wire.specs.Machine.{unit_step, flag_step, size_step, body_step, finish, room_in, room_left, is_error};
+ghost use Rattle.zmtp_wire.specs.Machine.{unit_step, flag_step, size_step, body_step, finish};
+ghost use Rattle.zmtp_wire.specs.Machine.{room_in, room_left, is_error};
 
 use crate::cause::Cause;
 use crate::command::{put_context, put_meaning};
@@ -14,7 +15,7 @@ use jtext::{Bytes, NoMemory};
 use std::alloc::Global;
 
 /// The most octets that the frames of a message have together, and a command has.
-const MOST_OCTETS: u64 = 67_108_864;
+pub const MOST_OCTETS: u64 = 67_108_864;
 
 /// What one more octet of a unit brings.
 pub fn unit_step(
@@ -28,8 +29,10 @@ pub fn unit_step(
     owed: &mut Parts,
 ) -> Result<State, NoMemory>
     ensures state { IfOk result (λ s. s ≡ (unit_step role at phase so_far octet).state) }
-    ensures messages { OnOk result (out.new ≡ out.old ++ (unit_step role at phase so_far octet).messages) }
-    ensures owed { OnOk result (owed.new ≡ owed.old ++ (unit_step role at phase so_far octet).owed) }
+    ensures messages { OnOk result
+        (out.new ≡ out.old ++ (unit_step role at phase so_far octet).messages) }
+    ensures owed { OnOk result
+        (owed.new ≡ owed.old ++ (unit_step role at phase so_far octet).owed) }
     ensures starved { OnErr result (out.new ≡ out.old) }
 {
     match so_far {
@@ -91,7 +94,8 @@ fn size_step(
     owed: &mut Parts,
 ) -> Result<State, NoMemory>
     ensures state { IfOk result (λ s. s ≡ (size_step role at phase flag size).state) }
-    ensures messages { OnOk result (out.new ≡ out.old ++ (size_step role at phase flag size).messages) }
+    ensures messages { OnOk result
+        (out.new ≡ out.old ++ (size_step role at phase flag size).messages) }
     ensures owed { OnOk result (owed.new ≡ owed.old ++ (size_step role at phase flag size).owed) }
     ensures starved { OnErr result (out.new ≡ out.old) }
 {
@@ -118,8 +122,10 @@ fn body_step(
     owed: &mut Parts,
 ) -> Result<State, NoMemory>
     ensures state { IfOk result (λ s. s ≡ (body_step role at phase flag size body).state) }
-    ensures messages { OnOk result (out.new ≡ out.old ++ (body_step role at phase flag size body).messages) }
-    ensures owed { OnOk result (owed.new ≡ owed.old ++ (body_step role at phase flag size body).owed) }
+    ensures messages { OnOk result
+        (out.new ≡ out.old ++ (body_step role at phase flag size body).messages) }
+    ensures owed { OnOk result
+        (owed.new ≡ owed.old ++ (body_step role at phase flag size body).owed) }
     ensures starved { OnErr result (out.new ≡ out.old) }
 {
     if is_error(&phase, flag, body.bytes()) {
@@ -144,7 +150,8 @@ fn finish(
     owed: &mut Parts,
 ) -> Result<State, NoMemory>
     ensures state { IfOk result (λ s. s ≡ (finish role at phase flag body).state) }
-    ensures messages { OnOk result (out.new ≡ out.old ++ (finish role at phase flag body).messages) }
+    ensures messages { OnOk result
+        (out.new ≡ out.old ++ (finish role at phase flag body).messages) }
     ensures owed { OnOk result (owed.new ≡ owed.old ++ (finish role at phase flag body).owed) }
     ensures starved { OnErr result (out.new ≡ out.old) }
 {

@@ -40,7 +40,8 @@ impl Version {
     }
 }
 
-/// The octet at `place` of a stream whose next piece begins at `at`, where `known` is what stood there before.
+/// The octet at `place` of a stream whose next piece begins at `at`, where `known` is what stood
+/// there before.
 fn octet_at(place: u64, at: u64, piece: &[u8], known: u8) -> u8
     requires { place < 64 }
     ensures { (b : List ℕ) → at ≡ clip (length b) → known ≡ slice_index b place →

@@ -1,5 +1,5 @@
-use Rattle.zmtp_wire.proofs.LawLemmas.{answers}
+use Rattle.zmtp_wire.proofs.MeaningLemmas.{decoder_answer, brought}
 use Rattle.zmtp_wire.proofs.laws.decoder_answers.Goals as goal
 
 pub returns : goal.returns
-returns c = answers
+returns c = record { answer = decoder_answer; brings = brought }

@@ -17,7 +17,7 @@ returns-in-Some-clause-owes c =
       prefixes = refl;
       decoder = o.ensures.role;
       reads = o.ensures.stands b s.contexts s.reads;
-      contexts = λ owed ms a g. o.ensures.contexts b s.contexts owed ms a s.reads g;
+      contexts = o.ensures.contexts b s.contexts s.reads;
     } in
     let r = replied_due p p' b sent c.in-Some.subscription.now c.args.out.now c.give.new.out o.result s (c.in-Some.ensures.some b sent s) t refl k.0 in
     subst (λ (x : Peer). Replied p x b sent c.args.out.now c.give.new.out) (sym k.1) r) c.give.ensures.ok
@@ -35,7 +35,7 @@ returns-in-None-clause-owes c =
       prefixes = refl;
       decoder = o.ensures.role;
       reads = o.ensures.stands b s.contexts s.reads;
-      contexts = λ owed ms a g. o.ensures.contexts b s.contexts owed ms a s.reads g;
+      contexts = o.ensures.contexts b s.contexts s.reads;
     } in
     let r = replied_settled p p' b sent c.args.out.now c.give-in-None.new.out o.result s (c.in-None.ensures.none b sent s) t refl k.0 in
     subst (λ (x : Peer). Replied p x b sent c.args.out.now c.give-in-None.new.out) (sym k.1) r) c.give-in-None.ensures.ok

@@ -1,11 +1,9 @@
-use Rattle.std.proofs.Common.{◌≡◌, List, ℕ, sym, ap, ◌∙◌, subst}
-use Rattle.zmtp_wire.proofs.GivesLemmas.{gives_one}
-use Rattle.zmtp_peer.specs.Subscription.{in_force, IsWanted}
+use Rattle.std.proofs.Common.{refl}
+use Rattle.zmtp_peer.proofs.PeerLemmas.{peer_unstarved, wanted_both}
 use Rattle.zmtp_peer.proofs.peer.Peer.wants.Goals as goal
 
-pub returns : goal.returns
-returns c = λ b sent ms owed answer s g.
-    let p = c.args.self.now in
-    let e = s.prefixes ∙ ap (in_force p.role) (gives_one b p.role s.messages ms s.owed owed s.answer answer s.gives g).0 in
-    let k = c.is_wanted.ensures in
-    (λ t. subst (λ (x : List (List ℕ)). IsWanted x c.args.topic.now) e (k.0 t), λ w. k.1 (subst (λ (x : List (List ℕ)). IsWanted x c.args.topic.now) (sym e) w))
+pub returns-then-is_starved-clause-is : goal.returns-then-is_starved-clause-is
+returns-then-is_starved-clause-is c = λ b sent s. absurd (peer_unstarved _ b sent s (c.if-is_starved.ensures.0 refl))
+
+pub returns-clause-is : goal.returns-clause-is
+returns-clause-is c = λ b sent s. wanted_both _ b sent c.args.topic.now _ s c.is_wanted.ensures

@@ -1,5 +1,10 @@
+use Rattle.std.proofs.Common.{refl}
+use Rattle.zmtp_wire.proofs.MeaningLemmas.{stands_unstarved}
 use Rattle.zmtp_wire.proofs.ShakenLemmas.{shaken_both}
 use Rattle.zmtp_wire.proofs.decoder.Decoder.shaken.Goals as goal
 
-pub returns : goal.returns
-returns c = λ b given s. shaken_both c.args.self.now.role b c.args.self.now.state c.is_shaken.result s.reads c.is_shaken.ensures
+pub returns-then-is_starved-clause-is : goal.returns-then-is_starved-clause-is
+returns-then-is_starved-clause-is c = λ b given s. absurd (stands_unstarved _ b given s (c.if-is_starved.ensures.0 refl))
+
+pub returns-clause-is : goal.returns-clause-is
+returns-clause-is c = λ b given s. shaken_both _ b _ c.is_shaken.result s.reads c.is_shaken.ensures

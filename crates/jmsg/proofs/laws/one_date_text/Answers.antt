@@ -1,0 +1,5 @@
+use Rattle.jmsg.proofs.DateLemmas.{one_date}
+use Rattle.jmsg.proofs.laws.one_date_text.Goals as goal
+
+pub returns : goal.returns
+returns c = one_date

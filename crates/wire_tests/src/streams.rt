@@ -1,0 +1,426 @@
+//! Octets from the standard and from libzmq 4.3.4, whose sockets were bound and read over a plain
+//! connection.
+
+use crate::joined::put_joined;
+use jtext::{Bytes, NoMemory};
+use std::test::Fail;
+use zmtp_wire::{
+    Decoder, Messages, Parts, Role, WireFault, greeting, is_message, parts_len, put_message,
+    put_ready, whole,
+};
+
+/// What libzmq's ROUTER sends first: octet 8 of its greeting is 1, and its READY has an empty
+/// `Identity`.
+const ROUTER: &[u8] =
+    b"\xFF\0\0\0\0\0\0\0\x01\x7F\x03\x01NULL\0\0\0\0\0\0\0\0\0\0\0\0\0\0\0\0\0\0\0\0\0\0\0\0\0\0\0\0\0\0\0\0\0\0\0\0\0\0\0\0\0\0\0\0\0\0\0\0\x04\x29\x05READY\x0BSocket-Type\0\0\0\x06ROUTER\x08Identity\0\0\0\0";
+
+/// What libzmq's PUB sends first, and then a PING.
+const PUB: &[u8] =
+    b"\xFF\0\0\0\0\0\0\0\x01\x7F\x03\x01NULL\0\0\0\0\0\0\0\0\0\0\0\0\0\0\0\0\0\0\0\0\0\0\0\0\0\0\0\0\0\0\0\0\0\0\0\0\0\0\0\0\0\0\0\0\0\0\0\0\x04\x19\x05READY\x0BSocket-Type\0\0\0\x03PUB\x04\x07\x04PING\0\0";
+
+/// A greeting of version 3.0.
+const OLD: &[u8] =
+    b"\xFF\0\0\0\0\0\0\0\0\x7F\x03\0NULL\0\0\0\0\0\0\0\0\0\0\0\0\0\0\0\0\0\0\0\0\0\0\0\0\0\0\0\0\0\0\0\0\0\0\0\0\0\0\0\0\0\0\0\0\0\0\0\0";
+
+/// The stream of a peer of this kind, 94 octets or 91 of handshake, and then the tail.
+fn stream(rt: &HostRuntime, peer: Role, tail: &[u8]) -> Result<Bytes, NoMemory> {
+    let mut octets = Bytes::of(rt.alloc(), &greeting())?;
+    put_ready(rt.alloc(), peer, &mut octets)?;
+    octets.add(tail)?;
+    Ok(octets)
+}
+
+/// What a decoder tells of a stream that is fed in pieces of this size.
+#[derive(Debug, Drop)]
+struct Heard {
+    messages: Bytes,
+    owed: Bytes,
+    answer: Result<(), WireFault>,
+    shaken: bool,
+    newer: Option<bool>,
+}
+
+fn listen(rt: &HostRuntime, role: Role, octets: &[u8], size: usize) -> Result<Heard, Fail> {
+    let mut decoder = Decoder::new(rt.alloc(), role);
+    let mut out = Messages::new(rt.alloc());
+    let mut answer = Ok(());
+    for piece in octets.chunks(size.max(1)) {
+        answer = decoder.feed(piece, &mut out);
+    }
+    let mut messages = Bytes::new(rt.alloc());
+    put_joined(&out, &mut messages)?;
+    let mut owed = Bytes::new(rt.alloc());
+    for context in decoder.owed().as_slice() {
+        owed.add(context.bytes())?;
+        owed.push(b'|')?;
+    }
+    Ok(Heard {
+        messages,
+        owed,
+        answer,
+        shaken: decoder.shaken(),
+        newer: decoder.newer(),
+    })
+}
+
+/// Whether the plain reader and the decoder, in pieces of 1, 2, 3 and all octets, give this fault
+/// and these messages.
+fn refuses(
+    rt: &HostRuntime,
+    role: Role,
+    octets: &[u8],
+    fault: WireFault,
+    before: &[u8],
+) -> Result<bool, Fail> {
+    match whole(rt.alloc(), role, octets) {
+        Ok(_) => return Ok(false),
+        Err(found) => {
+            if found != fault {
+                return Ok(false);
+            }
+        }
+    }
+    for size in [1, 2, 3, octets.len()] {
+        let heard = listen(rt, role, octets, size)?;
+        if heard.answer != Err(fault) || heard.messages.bytes() != before {
+            return Ok(false);
+        }
+    }
+    Ok(true)
+}
+
+/// Whether the plain reader and the decoder, in pieces of 1, 2, 3 and all octets, give these
+/// messages and contexts.
+fn reads(
+    rt: &HostRuntime,
+    role: Role,
+    octets: &[u8],
+    messages: &[u8],
+    owed: &[u8],
+    newer: bool,
+) -> Result<bool, Fail> {
+    let scan = whole(rt.alloc(), role, octets)?;
+    let mut found = Bytes::new(rt.alloc());
+    put_joined(&scan.messages, &mut found)?;
+    if found.bytes() != messages || !scan.shaken {
+        return Ok(false);
+    }
+    for size in [1, 2, 3, octets.len()] {
+        let heard = listen(rt, role, octets, size)?;
+        if heard.answer != Ok(())
+            || heard.messages.bytes() != messages
+            || heard.owed.bytes() != owed
+        {
+            return Ok(false);
+        }
+        if !heard.shaken || heard.newer != Some(newer) {
+            return Ok(false);
+        }
+    }
+    Ok(true)
+}
+
+#[test]
+fn what_is_written_is_as_the_standard_has_it(rt: HostRuntime) -> Result<(), Fail> {
+    let alloc = rt.alloc();
+    let mut ready = Bytes::new(alloc);
+    put_ready(alloc, Role::Dealer, &mut ready)?;
+    assert_eq!(rt;
+        ready.bytes(),
+        b"\x04\x1C\x05READY\x0BSocket-Type\0\0\0\x06DEALER".as_slice()
+    );
+    let mut short = Parts::new(alloc);
+    short.push(Bytes::of(alloc, b"A")?)?;
+    let mut out = Bytes::new(alloc);
+    put_message(alloc, &short, &mut out)?;
+    assert_eq!(rt; out.bytes(), b"\x00\x01A".as_slice());
+    let mut long = Parts::new(alloc);
+    long.push(Bytes::of(alloc, &[7; 256])?)?;
+    let mut out = Bytes::new(alloc);
+    put_message(alloc, &long, &mut out)?;
+    assert_eq!(rt; out.len(), 265);
+    assert_eq!(rt; parts_len(&long), 256);
+    assert!(rt; is_message(&long));
+    assert!(rt; !is_message(&Parts::new(alloc)));
+    assert!(rt; out.bytes().starts_with(b"\x02\0\0\0\0\0\0\x01\0\x07"));
+    Ok(())
+}
+
+#[test]
+fn a_stream_gives_its_messages_and_a_rest(rt: HostRuntime) -> Result<(), Fail> {
+    let octets = stream(&rt, Role::Router, b"\x00\x01A\x00")?;
+    let scan = whole(rt.alloc(), Role::Dealer, octets.bytes())?;
+    assert_eq!(rt; scan.messages.len(), 1);
+    assert_eq!(rt; scan.rest, 1);
+    assert!(rt; scan.shaken);
+    let octets = stream(&rt, Role::Router, b"\x02\0\0\0\0\x04\0\0\0")?;
+    let scan = whole(rt.alloc(), Role::Dealer, octets.bytes())?;
+    assert_eq!(rt; scan.messages.len(), 0);
+    assert_eq!(rt; scan.rest, 9);
+    Ok(())
+}
+
+#[test]
+fn what_peers_send_is_read(rt: HostRuntime) -> Result<(), Fail> {
+    let tails: [(Role, Role, &[u8], &[u8], &[u8]); 10] = [
+        // A second READY and commands that nobody knows are passed over, between frames too.
+        (
+            Role::Dealer,
+            Role::Router,
+            b"\x04\x06\x05READY\x01\x01a\x04\x02\x01x\x00\x01b",
+            b"a|b|/",
+            b"",
+        ),
+        // A long size that is small.
+        (
+            Role::Dealer,
+            Role::Router,
+            b"\x02\0\0\0\0\0\0\0\x01a\x00\0",
+            b"a|/|/",
+            b"",
+        ),
+        // Contexts of PINGs, in order; one of 17 octets is none.
+        (
+            Role::Sub,
+            Role::Pub,
+            b"\x04\x09\x04PING\0\x0Aab\x04\x08\x04PING\0\x0Ac",
+            b"",
+            b"ab|c|",
+        ),
+        (
+            Role::Sub,
+            Role::Pub,
+            b"\x04\x18\x04PING\0\x0A01234567890123456",
+            b"",
+            b"",
+        ),
+        (
+            Role::Sub,
+            Role::Pub,
+            b"\x04\x17\x04PING\0\x0A0123456789012345",
+            b"",
+            b"0123456789012345|",
+        ),
+        (Role::Sub, Role::Pub, b"\x04\x06\x04PING\0", b"", b""),
+        // What SUBSCRIBE and CANCEL mean, to PUB alone.
+        (
+            Role::Pub,
+            Role::Sub,
+            b"\x04\x0B\x09SUBSCRIBEx\x04\x08\x06CANCELx",
+            b"\x01x|/\0x|/",
+            b"",
+        ),
+        (
+            Role::Pub,
+            Role::Sub,
+            b"\x00\x02\x01y\x04\x0A\x09SUBSCRIBE",
+            b"\x01y|/\x01|/",
+            b"",
+        ),
+        (
+            Role::Router,
+            Role::Dealer,
+            b"\x04\x0B\x09SUBSCRIBEx",
+            b"",
+            b"",
+        ),
+        (Role::Req, Role::Rep, b"\x01\0\x00\x04ping", b"|ping|/", b""),
+    ];
+    for (role, peer, tail, messages, owed) in tails {
+        let octets = stream(&rt, peer, tail)?;
+        let read = reads(&rt, role, octets.bytes(), messages, owed, true)?;
+        assert!(rt; read, "{tail:?} to {role:?}");
+    }
+    Ok(())
+}
+
+#[test]
+fn libzmq_is_understood(rt: HostRuntime) -> Result<(), Fail> {
+    assert!(rt; reads(&rt, Role::Dealer, ROUTER, b"", b"", true)?);
+    assert!(rt; reads(&rt, Role::Req, ROUTER, b"", b"", true)?);
+    assert!(rt; reads(&rt, Role::Sub, PUB, b"", b"|", true)?);
+    Ok(())
+}
+
+#[test]
+fn a_peer_of_version_3_0_is_owed_nothing(rt: HostRuntime) -> Result<(), Fail> {
+    let mut octets = Bytes::of(rt.alloc(), OLD)?;
+    put_ready(rt.alloc(), Role::Pub, &mut octets)?;
+    octets.add(b"\x04\x09\x04PING\0\x0Aab")?;
+    assert!(rt; reads(&rt, Role::Sub, octets.bytes(), b"", b"", false)?);
+    let mut octets = Bytes::of(rt.alloc(), OLD)?;
+    put_ready(rt.alloc(), Role::Sub, &mut octets)?;
+    octets.add(b"\x04\x0B\x09SUBSCRIBEx")?;
+    assert!(rt; reads(&rt, Role::Pub, octets.bytes(), b"", b"", false)?);
+    Ok(())
+}
+
+#[test]
+fn a_greeting_is_refused_at_its_octet(rt: HostRuntime) -> Result<(), Fail> {
+    let rows: [(usize, u8, WireFault); 7] = [
+        (0, 0xFE, WireFault::Signature { at: 0 }),
+        (9, 0x7E, WireFault::Signature { at: 9 }),
+        (10, 2, WireFault::Version { at: 10 }),
+        (12, b'P', WireFault::Mechanism { at: 12 }),
+        (15, b'K', WireFault::Mechanism { at: 15 }),
+        (16, 1, WireFault::Mechanism { at: 16 }),
+        (31, 1, WireFault::Mechanism { at: 31 }),
+    ];
+    for (place, octet, fault) in rows {
+        let mut octets = Bytes::of(rt.alloc(), &greeting())?;
+        if place < octets.len() {
+            octets.put(place, octet);
+        }
+        let refused = refuses(&rt, Role::Dealer, octets.bytes(), fault, b"")?;
+        assert!(rt; refused, "{octet} at {place}");
+    }
+    Ok(())
+}
+
+#[test]
+fn a_first_command_is_refused_at_its_octet(rt: HostRuntime) -> Result<(), Fail> {
+    let rows: [(&[u8], WireFault); 11] = [
+        (b"\x08\0", WireFault::Flags { at: 64 }),
+        (b"\x00\0", WireFault::Command { at: 64 }),
+        (b"\x04\0", WireFault::Command { at: 65 }),
+        (b"\x04\x06\x05HELLO", WireFault::Command { at: 71 }),
+        (b"\x04\x07\x05READY\x0B", WireFault::Command { at: 72 }),
+        (b"\x04\x08\x05ERRORxy", WireFault::PeerError { at: 73 }),
+        (b"\x04\x06\x05READY", WireFault::WrongPeer { at: 71 }),
+        (
+            b"\x06\0\0\0\0\x04\0\0\x01",
+            WireFault::TooLong {
+                at: 72,
+                size: 67_108_865,
+            },
+        ),
+        (
+            b"\x04\x1C\x05READY\x0BSocket-Type\0\0\0\x06DEALER",
+            WireFault::WrongPeer { at: 93 },
+        ),
+        // The first one counts.
+        (
+            b"\x04\x2F\x05READY\x0BSocket-Type\0\0\0\x03SUB\x0BSocket-Type\0\0\0\x06ROUTER",
+            WireFault::WrongPeer { at: 112 },
+        ),
+        // A value that is longer than what is left.
+        (
+            b"\x04\x1C\x05READY\x0BSocket-Type\0\0\0\x07ROUTER",
+            WireFault::Command { at: 93 },
+        ),
+    ];
+    for (tail, fault) in rows {
+        let mut octets = Bytes::of(rt.alloc(), &greeting())?;
+        octets.add(tail)?;
+        let refused = refuses(&rt, Role::Dealer, octets.bytes(), fault, b"")?;
+        assert!(rt; refused, "{fault:?}: {tail:?}");
+    }
+    Ok(())
+}
+
+#[test]
+fn the_case_of_a_property_name_is_free(rt: HostRuntime) -> Result<(), Fail> {
+    let mut octets = Bytes::of(rt.alloc(), &greeting())?;
+    octets.add(b"\x04\x1C\x05READY\x0BsOCKET-tYPE\0\0\0\x06ROUTER\x00\x01A")?;
+    assert!(rt; reads(&rt, Role::Dealer, octets.bytes(), b"A|/", b"", true)?);
+    Ok(())
+}
+
+#[test]
+fn a_unit_is_refused_at_its_octet(rt: HostRuntime) -> Result<(), Fail> {
+    let rows: [(&[u8], WireFault, &[u8]); 7] = [
+        (b"\x08\0", WireFault::Flags { at: 94 }, b""),
+        (b"\x00\x01A\x05", WireFault::Flags { at: 97 }, b"A|/"),
+        (
+            b"\x02\0\0\0\0\x04\0\0\x01",
+            WireFault::TooLong {
+                at: 102,
+                size: 67_108_865,
+            },
+            b"",
+        ),
+        // The sizes of a message's frames count together.
+        (
+            b"\x01\x05abcde\x02\0\0\0\0\x03\xFF\xFF\xFC",
+            WireFault::TooLong {
+                at: 109,
+                size: 67_108_860,
+            },
+            b"",
+        ),
+        (b"\x04\x06\x05ERROR", WireFault::PeerError { at: 101 }, b""),
+        // It shows before the rest of it has come.
+        (
+            b"\x00\x01A\x04\xFF\x05ERROR",
+            WireFault::PeerError { at: 104 },
+            b"A|/",
+        ),
+        (
+            b"\x06\x80\0\0\0\0\0\0\0",
+            WireFault::TooLong {
+                at: 102,
+                size: 0x8000_0000_0000_0000,
+            },
+            b"",
+        ),
+    ];
+    for (tail, fault, before) in rows {
+        let octets = stream(&rt, Role::Router, tail)?;
+        let refused = refuses(&rt, Role::Dealer, octets.bytes(), fault, before)?;
+        assert!(rt; refused, "{fault:?}: {tail:?}");
+    }
+    let mut many = stream(&rt, Role::Router, b"")?;
+    for _ in 0..63u8 {
+        many.add(b"\x01\0")?;
+    }
+    many.push(1)?;
+    assert!(rt;
+        refuses(
+            &rt,
+            Role::Dealer,
+            many.bytes(),
+            WireFault::TooMany { at: 220 },
+            b""
+        )?
+    );
+    Ok(())
+}
+
+#[test]
+fn a_fault_is_given_again(rt: HostRuntime) -> Result<(), Fail> {
+    let octets = stream(&rt, Role::Router, b"\x00\x01A\x08")?;
+    let mut decoder = Decoder::new(rt.alloc(), Role::Dealer);
+    let mut out = Messages::new(rt.alloc());
+    let fault = WireFault::Flags { at: 97 };
+    assert_eq!(rt; decoder.feed(octets.bytes(), &mut out), Err(fault));
+    assert_eq!(rt; decoder.feed(b"\x00\x01B", &mut out), Err(fault));
+    assert_eq!(rt; out.len(), 1);
+    assert!(rt; decoder.shaken());
+    assert_eq!(rt; fault.number(), 4);
+    assert_eq!(rt; fault.place(), 97);
+    // A broken greeting tells the version as soon as it has come.
+    let mut decoder = Decoder::new(rt.alloc(), Role::Dealer);
+    let fault = WireFault::Signature { at: 0 };
+    assert_eq!(rt; decoder.feed(&[0; 11], &mut out), Err(fault));
+    assert_eq!(rt; decoder.newer(), None);
+    assert_eq!(rt; decoder.feed(&[0], &mut out), Err(fault));
+    assert_eq!(rt; decoder.newer(), Some(false));
+    assert!(rt; !decoder.shaken());
+    Ok(())
+}
+
+#[test]
+fn a_mebibyte_in_pieces_of_one_octet_is_one_message(rt: HostRuntime) -> Result<(), Fail> {
+    let alloc = rt.alloc();
+    let mut octets = stream(&rt, Role::Router, b"\x02\0\0\0\0\0\x10\0\0")?;
+    for _ in 0..1_048_576u32 {
+        octets.push(7)?;
+    }
+    let mut decoder = Decoder::new(alloc, Role::Dealer);
+    let mut out = Messages::new(alloc);
+    for octet in octets.bytes() {
+        decoder.feed(&[*octet], &mut out)?;
+    }
+    assert_eq!(rt; out.len(), 1);
+    Ok(())
+}
