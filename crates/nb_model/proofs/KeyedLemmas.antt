@@ -17,8 +17,8 @@ use Rattle.nb_model.specs.declared.kind.Kind.{Kind}
 use Rattle.nb_model.specs.declared.kind.Kind.TheVariants as kind
 use Rattle.nb_model.specs.declared.cell.Cell.{Cell}
 use Rattle.nb_model.specs.declared.notebook.Notebook.{Notebook}
-use Rattle.nb_model.specs.Tree.{optional, cell_tree, notebook_tree}
-use Rattle.nb_model.specs.Injected.{set_pair, set_field, set_within}
+use Rattle.nb_model.specs.Tree.{optional_pair, cell_tree, notebook_tree}
+use Rattle.nb_model.specs.Record.{set_pair, set_field, set_within}
 use Rattle.nb_model.proofs.Tautologies.{and_parts, not_or}
 use Rattle.nb_model.proofs.PreparedLaws.{no_repeat}
 use Rattle.nb_model.proofs.DepthLaws.{all-set_pair, all-found, no_fields}
@@ -39,7 +39,7 @@ each_of : (xs : List Json) → AllKeyed xs → AllByRecursion Keyed xs
 each_of [] k = tt
 each_of (x ∷ xs) k = let h = first_keyed x xs k in (h.0, each_of xs h.1)
 
-items_of : (xs : List Json) → AllByRecursion Keyed xs → AllKeyed xs
+pub items_of : (xs : List Json) → AllByRecursion Keyed xs → AllKeyed xs
 items_of [] all = keyed.none
 items_of (x ∷ xs) all = keyed.more x xs all.0 (items_of xs all.1)
 
@@ -109,7 +109,7 @@ keyed_items t k =
 
 -- ---- cells
 
-distinct_prose : (name : List ℕ) (c : Cell) (o : Option Json) → Distinct (optional (codes "attachments") o ++ prose_pairs name c c.metadata)
+distinct_prose : (name : List ℕ) (c : Cell) (o : Option Json) → Distinct (optional_pair (codes "attachments") o ++ prose_pairs name c c.metadata)
 distinct_prose name c None = distinct_from (prose_pairs name c c.metadata) refl
 distinct_prose name c (Some v) = distinct_from ((codes "attachments", v) ∷ prose_pairs name c c.metadata) refl
 

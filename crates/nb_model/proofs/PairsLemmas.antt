@@ -9,8 +9,8 @@ use Rattle.std.proofs.lemmas.Slice.Eq.{bytes_eq-Decides}
 use Rattle.jtext.specs.declared.json.Json.{Json}
 use Rattle.jtext.specs.declared.json.Json.TheVariants as json
 use Rattle.jtext.specs.Find.{find}
-use Rattle.nb_model.specs.Pairs.{without}
-use Rattle.nb_model.specs.Injected.{set_pair}
+use Rattle.nb_model.specs.Pairs.{pairs_without}
+use Rattle.nb_model.specs.Record.{set_pair}
 use Rattle.nb_model.specs.declared.kind.Kind.{Kind}
 use Rattle.nb_model.specs.declared.cell.Cell.{Cell}
 use Rattle.nb_model.specs.declared.notebook.Notebook.{Notebook}
@@ -28,35 +28,35 @@ value_at key (q ∷ qs) (suc i) p here none e =
     cond-false (bytes_eq q.0 key) (Some q.1) (find key qs) (none 0 (omega arith)) ∙ value_at key qs i p here (λ k below. none (suc k) (omega arith)) e
 
 rest_at : (key : List ℕ) (ps : List (List ℕ × Json)) (i : ℕ) → i < length ps → bytes_eq (get_or ps i nothing).0 key ≡ true
-    → ((k : ℕ) → k < i → bytes_eq (get_or ps k nothing).0 key ≡ false) → take i ps ++ drop (suc i) ps ≡ without key ps
+    → ((k : ℕ) → k < i → bytes_eq (get_or ps k nothing).0 key ≡ false) → take i ps ++ drop (suc i) ps ≡ pairs_without key ps
 rest_at key [] i lt here none = absurd (omega arith)
-rest_at key (q ∷ qs) zero lt here none = sym (cond-true (bytes_eq q.0 key) qs (q ∷ without key qs) here)
+rest_at key (q ∷ qs) zero lt here none = sym (cond-true (bytes_eq q.0 key) qs (q ∷ pairs_without key qs) here)
 rest_at key (q ∷ qs) (suc i) lt here none =
     ap (λ l. q ∷ l) (rest_at key qs i (omega arith) here (λ k below. none (suc k) (omega arith)))
-    ∙ sym (cond-false (bytes_eq q.0 key) qs (q ∷ without key qs) (none 0 (omega arith)))
+    ∙ sym (cond-false (bytes_eq q.0 key) qs (q ∷ pairs_without key qs) (none 0 (omega arith)))
 
 pub find-at : (key : List ℕ) (ps : List (List ℕ × Json)) (i : ℕ) (p : List ℕ × Json) → position (λ q. bytes_eq q.0 key) ps ≡ Some i → slice_get ps i ≡ Some p
     → find key ps ≡ Some p.1
 find-at key ps i p e at = let is = position-Some (λ q. bytes_eq q.0 key) ps i nothing e in value_at key ps i p is.1 is.2 at
 
-pub without-at : (key : List ℕ) (ps : List (List ℕ × Json)) (i : ℕ) → position (λ q. bytes_eq q.0 key) ps ≡ Some i → remove ps i ≡ without key ps
+pub without-at : (key : List ℕ) (ps : List (List ℕ × Json)) (i : ℕ) → position (λ q. bytes_eq q.0 key) ps ≡ Some i → remove ps i ≡ pairs_without key ps
 without-at key ps i e = let is = position-Some (λ q. bytes_eq q.0 key) ps i nothing e in rest_at key ps i is.0 is.1 is.2
 
 not_first : {A : Type 0} (b : Bool) (i : A) (r : Option A) → cond b (Some i) r ≡ None → (b ≡ false) × (r ≡ None)
 not_first true i r e = cc
 not_first false i r e = (refl, e)
 
-absent_from : (key : List ℕ) (ps : List (List ℕ × Json)) (i : ℕ) → position_from (λ q. bytes_eq q.0 key) i ps ≡ None → (find key ps ≡ None) × (without key ps ≡ ps)
+absent_from : (key : List ℕ) (ps : List (List ℕ × Json)) (i : ℕ) → position_from (λ q. bytes_eq q.0 key) i ps ≡ None → (find key ps ≡ None) × (pairs_without key ps ≡ ps)
 absent_from key [] i e = (refl, refl)
 absent_from key (q ∷ qs) i e =
     let h = not_first (bytes_eq q.0 key) i (position_from (λ q. bytes_eq q.0 key) (i + 1) qs) e in
     let more = absent_from key qs (i + 1) h.1 in
-    (cond-false (bytes_eq q.0 key) (Some q.1) (find key qs) h.0 ∙ more.0, cond-false (bytes_eq q.0 key) qs (q ∷ without key qs) h.0 ∙ ap (λ l. q ∷ l) more.1)
+    (cond-false (bytes_eq q.0 key) (Some q.1) (find key qs) h.0 ∙ more.0, cond-false (bytes_eq q.0 key) qs (q ∷ pairs_without key qs) h.0 ∙ ap (λ l. q ∷ l) more.1)
 
 pub find-none : (key : List ℕ) (ps : List (List ℕ × Json)) → position (λ q. bytes_eq q.0 key) ps ≡ None → find key ps ≡ None
 find-none key ps e = (absent_from key ps 0 (sym (position_from-zero (λ q. bytes_eq q.0 key) ps) ∙ e)).0
 
-pub without-none : (key : List ℕ) (ps : List (List ℕ × Json)) → position (λ q. bytes_eq q.0 key) ps ≡ None → ps ≡ without key ps
+pub without-none : (key : List ℕ) (ps : List (List ℕ × Json)) → position (λ q. bytes_eq q.0 key) ps ≡ None → ps ≡ pairs_without key ps
 without-none key ps e = sym (absent_from key ps 0 (sym (position_from-zero (λ q. bytes_eq q.0 key) ps) ∙ e)).1
 
 -- ---- the other keys
@@ -65,18 +65,18 @@ other : (xs ys zs : List ℕ) → bytes_eq xs ys ≡ true → bytes_eq ys zs ≡
 other xs ys zs same ne = let e = (bytes_eq-Decides xs ys).0 same in ap (λ l. bytes_eq l zs) e ∙ ne
 
 -- another key is found as before
-pub find-without : (k key : List ℕ) (ps : List (List ℕ × Json)) → bytes_eq key k ≡ false → find k (without key ps) ≡ find k ps
+pub find-without : (k key : List ℕ) (ps : List (List ℕ × Json)) → bytes_eq key k ≡ false → find k (pairs_without key ps) ≡ find k ps
 find-without k key [] ne = refl
 find-without k key (p ∷ ps) ne =
     elim (cases_Bool (bytes_eq p.0 key)) [
-      | inl t ↦ ap (find k) (cond-true (bytes_eq p.0 key) ps (p ∷ without key ps) t) ∙ sym (cond-false (bytes_eq p.0 k) (Some p.1) (find k ps) (other p.0 key k t ne))
-      | inr f ↦ ap (find k) (cond-false (bytes_eq p.0 key) ps (p ∷ without key ps) f) ∙ ap (λ o. cond (bytes_eq p.0 k) (Some p.1) o) (find-without k key ps ne)
+      | inl t ↦ ap (find k) (cond-true (bytes_eq p.0 key) ps (p ∷ pairs_without key ps) t) ∙ sym (cond-false (bytes_eq p.0 k) (Some p.1) (find k ps) (other p.0 key k t ne))
+      | inr f ↦ ap (find k) (cond-false (bytes_eq p.0 key) ps (p ∷ pairs_without key ps) f) ∙ ap (λ o. cond (bytes_eq p.0 k) (Some p.1) o) (find-without k key ps ne)
     ]
 
 -- the pairs with each of these taken out in turn
 abbrev pub without_all : List (List ℕ) → List (List ℕ × Json) → List (List ℕ × Json)
 without_all [] ps = ps
-without_all (key ∷ keys) ps = without_all keys (without key ps)
+without_all (key ∷ keys) ps = without_all keys (pairs_without key ps)
 
 split_or : (a b : Bool) → (a || b) ≡ false → (a ≡ false) × (b ≡ false)
 split_or false b e = (refl, e)
@@ -86,7 +86,7 @@ pub find-without_all : (k : List ℕ) (keys : List (List ℕ)) (ps : List (List 
 find-without_all k [] ps ne = refl
 find-without_all k (key ∷ keys) ps ne =
     let h = split_or (bytes_eq key k) (list_any (λ q. bytes_eq q k) keys) ne in
-    find-without_all k keys (without key ps) h.1 ∙ find-without k key ps h.0
+    find-without_all k keys (pairs_without key ps) h.1 ∙ find-without k key ps h.0
 
 -- ---- a value put under a key
 

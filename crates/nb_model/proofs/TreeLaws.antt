@@ -22,10 +22,11 @@ use Rattle.nb_model.specs.declared.kind.Kind.TheVariants as kind
 use Rattle.nb_model.specs.declared.cell.Cell.{Cell}
 use Rattle.nb_model.specs.Keys.{is_text, is_number, has}
 use Rattle.jtext.specs.Bundle.{is_multiline}
+use Rattle.nb_model.specs.Schema.{notebook_keys, prose_cell_keys, code_cell_keys}
 use Rattle.nb_model.specs.Values.{is_count}
 use Rattle.nb_model.specs.Valid as valid
 use Rattle.nb_model.specs.Reading.{value_at, cell_of, notebook_of, kind_named}
-use Rattle.nb_model.specs.Tree.{optional, count_tree, pairs_of_kind, outputs_of_kind, attachments_of_kind, cell_tree, notebook_tree}
+use Rattle.nb_model.specs.Tree.{optional_pair, count_tree, pairs_of_kind, outputs_of_kind, attachments_of_kind, cell_tree, notebook_tree}
 use Rattle.nb_model.proofs.Tautologies.{always, same, from_same, and_parts}
 use Rattle.nb_model.proofs.KeyOrders.{chosen, by_key-chosen, by_key-again, chosen-found}
 
@@ -174,28 +175,28 @@ found_keyed key (p ∷ ps) v all e =
 code_order : (b0 b1 b2 b3 b4 b5 : Bool) → (b0 || (b1 || (b2 || (b3 || (b4 || (b5 || false)))))) ≡ (b0 || (b5 || (b1 || (b2 || (b4 || (b3 || false))))))
 code_order b0 b1 b2 b3 b4 b5 = from_same (b0 || (b1 || (b2 || (b3 || (b4 || (b5 || false)))))) (b0 || (b5 || (b1 || (b2 || (b4 || (b3 || false)))))) (always 6 (λ b0 b1 b2 b3 b4 b5. same (b0 || (b1 || (b2 || (b3 || (b4 || (b5 || false)))))) (b0 || (b5 || (b1 || (b2 || (b4 || (b3 || false))))))) refl b0 b1 b2 b3 b4 b5)
 
-code_order_known : (ps : List (List ℕ × Json)) → list_all (λ p. list_any (λ k. bytes_eq p.0 k) (codes "cell_type" ∷ codes "id" ∷ codes "metadata" ∷ codes "source" ∷ codes "outputs" ∷ codes "execution_count" ∷ [])) ps ≡ true → list_all (λ p. list_any (λ k. bytes_eq p.0 k) (codes "cell_type" ∷ codes "execution_count" ∷ codes "id" ∷ codes "metadata" ∷ codes "outputs" ∷ codes "source" ∷ [])) ps ≡ true
+code_order_known : (ps : List (List ℕ × Json)) → list_all (λ p. list_any (λ k. bytes_eq p.0 k) code_cell_keys) ps ≡ true → list_all (λ p. list_any (λ k. bytes_eq p.0 k) (codes "cell_type" ∷ codes "execution_count" ∷ codes "id" ∷ codes "metadata" ∷ codes "outputs" ∷ codes "source" ∷ [])) ps ≡ true
 code_order_known [] e = refl
 code_order_known (p ∷ ps) e =
-    let h = and_parts (list_any (λ k. bytes_eq p.0 k) (codes "cell_type" ∷ codes "id" ∷ codes "metadata" ∷ codes "source" ∷ codes "outputs" ∷ codes "execution_count" ∷ [])) (list_all (λ q. list_any (λ k. bytes_eq q.0 k) (codes "cell_type" ∷ codes "id" ∷ codes "metadata" ∷ codes "source" ∷ codes "outputs" ∷ codes "execution_count" ∷ [])) ps) e in
+    let h = and_parts (list_any (λ k. bytes_eq p.0 k) code_cell_keys) (list_all (λ q. list_any (λ k. bytes_eq q.0 k) code_cell_keys) ps) e in
     ap₂ (λ a b. a && b) (sym (code_order (bytes_eq p.0 (codes "cell_type")) (bytes_eq p.0 (codes "id")) (bytes_eq p.0 (codes "metadata")) (bytes_eq p.0 (codes "source")) (bytes_eq p.0 (codes "outputs")) (bytes_eq p.0 (codes "execution_count"))) ∙ h.0) (code_order_known ps h.1)
 
 prose_order : (b0 b1 b2 b3 b4 : Bool) → (b0 || (b1 || (b2 || (b3 || (b4 || false))))) ≡ (b4 || (b0 || (b1 || (b2 || (b3 || false)))))
 prose_order b0 b1 b2 b3 b4 = from_same (b0 || (b1 || (b2 || (b3 || (b4 || false))))) (b4 || (b0 || (b1 || (b2 || (b3 || false))))) (always 5 (λ b0 b1 b2 b3 b4. same (b0 || (b1 || (b2 || (b3 || (b4 || false))))) (b4 || (b0 || (b1 || (b2 || (b3 || false)))))) refl b0 b1 b2 b3 b4)
 
-prose_order_known : (ps : List (List ℕ × Json)) → list_all (λ p. list_any (λ k. bytes_eq p.0 k) (codes "cell_type" ∷ codes "id" ∷ codes "metadata" ∷ codes "source" ∷ codes "attachments" ∷ [])) ps ≡ true → list_all (λ p. list_any (λ k. bytes_eq p.0 k) (codes "attachments" ∷ codes "cell_type" ∷ codes "id" ∷ codes "metadata" ∷ codes "source" ∷ [])) ps ≡ true
+prose_order_known : (ps : List (List ℕ × Json)) → list_all (λ p. list_any (λ k. bytes_eq p.0 k) prose_cell_keys) ps ≡ true → list_all (λ p. list_any (λ k. bytes_eq p.0 k) (codes "attachments" ∷ codes "cell_type" ∷ codes "id" ∷ codes "metadata" ∷ codes "source" ∷ [])) ps ≡ true
 prose_order_known [] e = refl
 prose_order_known (p ∷ ps) e =
-    let h = and_parts (list_any (λ k. bytes_eq p.0 k) (codes "cell_type" ∷ codes "id" ∷ codes "metadata" ∷ codes "source" ∷ codes "attachments" ∷ [])) (list_all (λ q. list_any (λ k. bytes_eq q.0 k) (codes "cell_type" ∷ codes "id" ∷ codes "metadata" ∷ codes "source" ∷ codes "attachments" ∷ [])) ps) e in
+    let h = and_parts (list_any (λ k. bytes_eq p.0 k) prose_cell_keys) (list_all (λ q. list_any (λ k. bytes_eq q.0 k) prose_cell_keys) ps) e in
     ap₂ (λ a b. a && b) (sym (prose_order (bytes_eq p.0 (codes "cell_type")) (bytes_eq p.0 (codes "id")) (bytes_eq p.0 (codes "metadata")) (bytes_eq p.0 (codes "source")) (bytes_eq p.0 (codes "attachments"))) ∙ h.0) (prose_order_known ps h.1)
 
 top_order : (b0 b1 b2 b3 : Bool) → (b0 || (b1 || (b2 || (b3 || false)))) ≡ (b3 || (b0 || (b1 || (b2 || false))))
 top_order b0 b1 b2 b3 = from_same (b0 || (b1 || (b2 || (b3 || false)))) (b3 || (b0 || (b1 || (b2 || false)))) (always 4 (λ b0 b1 b2 b3. same (b0 || (b1 || (b2 || (b3 || false)))) (b3 || (b0 || (b1 || (b2 || false))))) refl b0 b1 b2 b3)
 
-top_order_known : (ps : List (List ℕ × Json)) → list_all (λ p. list_any (λ k. bytes_eq p.0 k) (codes "metadata" ∷ codes "nbformat" ∷ codes "nbformat_minor" ∷ codes "cells" ∷ [])) ps ≡ true → list_all (λ p. list_any (λ k. bytes_eq p.0 k) (codes "cells" ∷ codes "metadata" ∷ codes "nbformat" ∷ codes "nbformat_minor" ∷ [])) ps ≡ true
+top_order_known : (ps : List (List ℕ × Json)) → list_all (λ p. list_any (λ k. bytes_eq p.0 k) notebook_keys) ps ≡ true → list_all (λ p. list_any (λ k. bytes_eq p.0 k) (codes "cells" ∷ codes "metadata" ∷ codes "nbformat" ∷ codes "nbformat_minor" ∷ [])) ps ≡ true
 top_order_known [] e = refl
 top_order_known (p ∷ ps) e =
-    let h = and_parts (list_any (λ k. bytes_eq p.0 k) (codes "metadata" ∷ codes "nbformat" ∷ codes "nbformat_minor" ∷ codes "cells" ∷ [])) (list_all (λ q. list_any (λ k. bytes_eq q.0 k) (codes "metadata" ∷ codes "nbformat" ∷ codes "nbformat_minor" ∷ codes "cells" ∷ [])) ps) e in
+    let h = and_parts (list_any (λ k. bytes_eq p.0 k) notebook_keys) (list_all (λ q. list_any (λ k. bytes_eq q.0 k) notebook_keys) ps) e in
     ap₂ (λ a b. a && b) (sym (top_order (bytes_eq p.0 (codes "metadata")) (bytes_eq p.0 (codes "nbformat")) (bytes_eq p.0 (codes "nbformat_minor")) (bytes_eq p.0 (codes "cells"))) ∙ h.0) (top_order_known ps h.1)
 
 -- ---- the pairs of a cell
@@ -239,7 +240,7 @@ record IsCell (c : Json) : Type 0 where
 code_is : (c : Json) → is_object c ≡ true → valid.is_code_cell c ≡ true → IsCell c
 code_is c o e =
     let K = has (codes "cell_type") (is_text (codes "code")) c in
-    let N = list_all (λ p. list_any (λ key. bytes_eq p.0 key) (codes "cell_type" ∷ codes "id" ∷ codes "metadata" ∷ codes "source" ∷ codes "outputs" ∷ codes "execution_count" ∷ [])) (fields c) in
+    let N = list_all (λ p. list_any (λ key. bytes_eq p.0 key) code_cell_keys) (fields c) in
     let M = valid.has_common c in
     let U = has (codes "outputs") valid.are_outputs c in
     let h1 = and_parts (((K && N) && M) && U) (has (codes "execution_count") is_count c) e in
@@ -263,7 +264,7 @@ code_is c o e =
     }
 
 prose_named : (c : Json) → is_object c ≡ true → (k : Kind) (name : List ℕ) → kind_named name ≡ k → chosen (codes "attachments" ∷ codes "cell_type" ∷ codes "id" ∷ codes "metadata" ∷ codes "source" ∷ []) (fields c) ≡ pairs_with k (cell_of c)
-    → field c (codes "cell_type") ≡ Some (json.Str name) → list_all (λ p. list_any (λ key. bytes_eq p.0 key) (codes "cell_type" ∷ codes "id" ∷ codes "metadata" ∷ codes "source" ∷ codes "attachments" ∷ [])) (fields c) ≡ true → IsCell c
+    → field c (codes "cell_type") ≡ Some (json.Str name) → list_all (λ p. list_any (λ key. bytes_eq p.0 key) prose_cell_keys) (fields c) ≡ true → IsCell c
 prose_named c o k name named found type known =
     record {
       object = object_is c o;
@@ -274,7 +275,7 @@ prose_named c o k name named found type known =
 prose_is : (c : Json) → is_object c ≡ true → valid.is_prose_cell c ≡ true → IsCell c
 prose_is c o e =
     let K = has (codes "cell_type") (λ v. is_text (codes "raw") v || is_text (codes "markdown") v) c in
-    let N = list_all (λ p. list_any (λ key. bytes_eq p.0 key) (codes "cell_type" ∷ codes "id" ∷ codes "metadata" ∷ codes "source" ∷ codes "attachments" ∷ [])) (fields c) in
+    let N = list_all (λ p. list_any (λ key. bytes_eq p.0 key) prose_cell_keys) (fields c) in
     let M = valid.has_common c in
     let h1 = and_parts ((K && N) && M) _ e in
     let h2 = and_parts (K && N) M h1.0 in
@@ -286,13 +287,13 @@ prose_is c o e =
       | inl r ↦
           let type : field c (codes "cell_type") ≡ Some (json.Str (codes "raw")) = t.0 ∙ ap Some (exact_text (codes "raw") v r) in
           prose_named c o kind.Raw (codes "raw") refl
-          (ap (λ l. optional (codes "attachments") (field c (codes "attachments")) ++ l)
+          (ap (λ l. optional_pair (codes "attachments") (field c (codes "attachments")) ++ l)
           (chosen-found ((codes "cell_type", json.Str (codes "raw")) ∷ (codes "id", json.Str (valid.id_of c)) ∷ (codes "metadata", value_at (codes "metadata") c) ∷ (codes "source", value_at (codes "source") c) ∷ []) (fields c)
           (type, (is.id, (is.metadata, (is.source, tt)))))) type h3.1
       | inr nr ↦
           let type : field c (codes "cell_type") ≡ Some (json.Str (codes "markdown")) = t.0 ∙ ap Some (exact_text (codes "markdown") v (ap (λ b. b || is_text (codes "markdown") v) (sym nr) ∙ t.1)) in
           prose_named c o kind.Markdown (codes "markdown") refl
-          (ap (λ l. optional (codes "attachments") (field c (codes "attachments")) ++ l)
+          (ap (λ l. optional_pair (codes "attachments") (field c (codes "attachments")) ++ l)
           (chosen-found ((codes "cell_type", json.Str (codes "markdown")) ∷ (codes "id", json.Str (valid.id_of c)) ∷ (codes "metadata", value_at (codes "metadata") c) ∷ (codes "source", value_at (codes "source") c) ∷ []) (fields c)
           (type, (is.id, (is.metadata, (is.source, tt)))))) type h3.1
     ]
@@ -334,7 +335,7 @@ module _ {A : Type 0} (F : Json → A) (G : List (List ℕ × A) → A) (H : Lis
   pub notebook_same : (t : Json) → valid.is_notebook t ≡ true → Keyed t → F (notebook_tree (notebook_of t)) ≡ F t
   notebook_same t e k =
       let O = is_object t in
-      let N = list_all (λ p. list_any (λ key. bytes_eq p.0 key) (codes "metadata" ∷ codes "nbformat" ∷ codes "nbformat_minor" ∷ codes "cells" ∷ [])) (fields t) in
+      let N = list_all (λ p. list_any (λ key. bytes_eq p.0 key) notebook_keys) (fields t) in
       let V = has (codes "nbformat") (is_number (codes "4")) t in
       let W = has (codes "nbformat_minor") (is_number (codes "5")) t in
       let M = has (codes "metadata") valid.is_metadata t in

@@ -5,6 +5,7 @@
 mod accept;
 mod cell;
 mod cell_places;
+mod key_lists;
 mod kind;
 pub mod laws;
 mod multiline;
@@ -18,8 +19,6 @@ mod preparation;
 mod record;
 mod schedule;
 mod source;
-#[cfg(test)]
-mod tests;
 mod validity;
 mod value_places;
 

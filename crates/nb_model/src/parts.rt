@@ -4,8 +4,8 @@ ghost use Rattle.std.specs.Str.{bytes_eq};
 ghost use Rattle.jtext.specs.Find.{find, fields};
 ghost use Rattle.jtext.specs.declared.json.Json.TheVariants as json;
 ghost use Rattle.jtext.specs.Look as look;
-ghost use Rattle.nb_model.specs.Pairs.{without};
-ghost use Rattle.nb_model.specs.Reading as spec;
+ghost use Rattle.nb_model.specs.Pairs.{pairs_without};
+ghost use Rattle.nb_model.specs.Reading as reading;
 
 use crate::{Cell, Cells, Kind, Notebook};
 use jtext::{Fields, Items, Json, NoMemory, NumText, Text};
@@ -13,7 +13,7 @@ use std::alloc::Global;
 
 /// The notebook of a tree. Where a part is missing or of another kind, it is as if empty.
 pub(crate) fn notebook_of(alloc: Global, t: Json) -> Result<Notebook, NoMemory>
-    ensures { IfOk result (λ n. n ≡ spec.notebook_of t) }
+    ensures { IfOk result (λ n. n ≡ reading.notebook_of t) }
 {
     let mut pairs = pairs_of(alloc, t);
     let metadata = or_null(take(&mut pairs, "metadata"));
@@ -25,7 +25,7 @@ pub(crate) fn notebook_of(alloc: Global, t: Json) -> Result<Notebook, NoMemory>
 }
 
 fn cells_of(alloc: Global, items: Items) -> Result<Cells, NoMemory>
-    ensures { IfOk result (λ cells. cells ≡ map spec.cell_of items) }
+    ensures { IfOk result (λ cells. cells ≡ map reading.cell_of items) }
 {
     let mut cells = Cells::new(alloc);
     for item in items.into_vec() {
@@ -35,7 +35,7 @@ fn cells_of(alloc: Global, items: Items) -> Result<Cells, NoMemory>
 }
 
 fn cell_of(alloc: Global, c: Json) -> Cell
-    ensures { result ≡ spec.cell_of c }
+    ensures { result ≡ reading.cell_of c }
 {
     let mut pairs = pairs_of(alloc, c);
     let kind = kind_of(alloc, take(&mut pairs, "cell_type"));
@@ -59,7 +59,7 @@ fn cell_of(alloc: Global, c: Json) -> Cell
 /// Takes the first pair with that key out.
 fn take(pairs: &mut Fields, key: &str) -> Option<Json>
     ensures value { result ≡ find key.now pairs.old }
-    ensures rest { pairs.new ≡ without key.now pairs.old }
+    ensures rest { pairs.new ≡ pairs_without key.now pairs.old }
 {
     match place_of(pairs.as_slice(), key) {
         Some(i) => Some(pairs.take(i).1),
@@ -124,13 +124,13 @@ fn number_of(v: Option<Json>) -> Option<NumText>
 }
 
 fn kind_of(alloc: Global, v: Option<Json>) -> Kind
-    ensures { result ≡ spec.kind_named (unwrap_or (option_and_then look.string v) []) }
+    ensures { result ≡ reading.kind_named (unwrap_or (option_and_then look.string v) []) }
 {
     kind_named(text_of(alloc, v).as_str())
 }
 
 fn kind_named(name: &str) -> Kind
-    ensures { result ≡ spec.kind_named name.now }
+    ensures { result ≡ reading.kind_named name.now }
 {
     if name == "code" {
         Kind::Code

@@ -1,6 +1,6 @@
 //! Records in metadata: a value set under a key.
 ghost use Rattle.std.specs.Prelude.{◌≡◌, ◌<◌, ◌∷◌, ◌++◌, [], IfOk, length, slice_set};
-ghost use Rattle.nb_model.specs.Injected as spec;
+ghost use Rattle.nb_model.specs.Record as records;
 
 use crate::parts::{pairs_of, place_of};
 use jtext::{Fields, Json, NoMemory, Text, copy, field};
@@ -8,7 +8,7 @@ use std::alloc::Global;
 
 /// The object with this value under the key, in its place or last. What is no object becomes one.
 pub fn set_field(alloc: Global, key: &str, value: Json, t: Json) -> Result<Json, NoMemory>
-    ensures { IfOk result (λ r. r ≡ spec.set_field key.now value t) }
+    ensures { IfOk result (λ r. r ≡ records.set_field key.now value t) }
 {
     Ok(Json::Obj(set_pair(alloc, key, value, pairs_of(alloc, t))?))
 }
@@ -21,7 +21,7 @@ pub fn set_within(
     value: Json,
     t: Json,
 ) -> Result<Json, NoMemory>
-    ensures { IfOk result (λ r. r ≡ spec.set_within outer.now key.now value t) }
+    ensures { IfOk result (λ r. r ≡ records.set_within outer.now key.now value t) }
 {
     let inner = match field(&t, outer) {
         Some(v) => copy(alloc, v)?,
@@ -32,7 +32,7 @@ pub fn set_within(
 }
 
 fn set_pair(alloc: Global, key: &str, value: Json, pairs: Fields) -> Result<Fields, NoMemory>
-    ensures { IfOk result (λ r. r ≡ spec.set_pair key.now value pairs) }
+    ensures { IfOk result (λ r. r ≡ records.set_pair key.now value pairs) }
 {
     let name = Text::of(alloc, key)?;
     match place_of(pairs.as_slice(), key) {

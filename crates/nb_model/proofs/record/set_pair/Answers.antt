@@ -1,7 +1,7 @@
 use Rattle.std.proofs.Common.{◌≡◌, ◌∷◌, ◌++◌, [], Some, None, set, ap, ◌∙◌}
 use Rattle.std.specs.Prelude.{position}
 use Rattle.std.specs.Str.{bytes_eq}
-use Rattle.nb_model.specs.Injected.{set_pair}
+use Rattle.nb_model.specs.Record.{set_pair}
 use Rattle.nb_model.proofs.PairsLemmas.{set_pair-at, set_pair-none, ok_eq}
 use Rattle.nb_model.proofs.record.set_pair.Goals as goal
 

@@ -2,7 +2,7 @@ use Rattle.std.proofs.Common.{ap}
 use Rattle.std.specs.Prelude.{codes}
 use Rattle.jtext.specs.declared.json.Json.TheVariants as json
 use Rattle.nb_model.proofs.PairsLemmas.{two_pairs}
-use Rattle.nb_model.proofs.preparation.pending.Goals as goal
+use Rattle.nb_model.proofs.preparation.pending_mark.Goals as goal
 
 pub returns : goal.returns
 returns c =
