@@ -2,7 +2,7 @@ use Rattle.std.proofs.Common.{◌∷◌, ◌++◌, [], codes, replicate, ap, ◌
 use Rattle.jtext.specs.declared.json.Json.TheVariants as json
 use Rattle.nb_text.specs.Lines.{line}
 use Rattle.nb_text.proofs.Texts.{Pair, first_line, next_line}
-use Rattle.nb_text.proofs.cell_text.put_common.Goals as goal
+use Rattle.nb_text.proofs.cell_lines.put_common.Goals as goal
 
 pub returns : goal.returns
 returns c =

@@ -3,7 +3,7 @@ use Rattle.jtext.specs.declared.json.Json.TheVariants as json
 use Rattle.nb_model.specs.Tree.{count_tree}
 use Rattle.nb_text.specs.Lines.{line}
 use Rattle.nb_text.proofs.Texts.{Pair, first_line, next_line}
-use Rattle.nb_text.proofs.cell_text.put_code.Goals as goal
+use Rattle.nb_text.proofs.cell_lines.put_code.Goals as goal
 
 pub returns : goal.returns
 returns c =

@@ -1,17 +1,35 @@
-//! The text of a cell.
-ghost use Rattle.std.specs.Prelude.{◌≡◌, ◌++◌, replicate, OnOk};
-ghost use Rattle.jtext.specs.Indent.{indented, indented_fields};
-ghost use Rattle.nb_model.specs.Tree.{cell_tree};
-ghost use Rattle.nb_text.specs.Cells.{sorted_pairs, common_pairs, prose_pairs, code_pairs, count_line, outputs_line};
+//! The text of a cell, line by line.
+ghost use Rattle.std.specs.Prelude.{◌≡◌, ◌++◌, replicate, IfOk, OnOk};
+ghost use Rattle.jtext.specs.Indent.{indented_fields};
+ghost use Rattle.std.specs.Str.{IsUtf8};
+ghost use Rattle.nb_text.specs.Cells.{cell_text, sorted_pairs, common_pairs, prose_pairs, code_pairs, count_line, outputs_line};
 
 use crate::lines::{new_line, put_items, put_line, put_pair, put_string};
-use jtext::{Bytes, Json, NoMemory};
+use jtext::{Bytes, Json, NoMemory, Text};
 use nb_model::{Cell, Kind};
 use std::alloc::Global;
 
+/// The text that the cell has among the cells of its notebook's text: without the margin before it
+/// and the comma after it.
+pub fn cell_text(alloc: Global, c: &Cell) -> Result<Text, NoMemory>
+    ensures { IfOk result (λ t. t ≡ cell_text c.now) }
+{
+    let mut out = Bytes::new(alloc);
+    put_cell(alloc, &mut out, c)?;
+    nb_model::laws::sound_cell(c);
+    Ok(text_of(out))
+}
+
+fn text_of(bytes: Bytes) -> Text
+    requires { IsUtf8 bytes }
+    ensures { result ≡ bytes }
+{
+    Text::of_string(String::from_utf8(bytes.into_vec()).unwrap())
+}
+
 /// Appends the text that the cell has as an item of a notebook's cells, without the margin before it.
 pub(crate) fn put_cell(alloc: Global, out: &mut Bytes, cell: &Cell) -> Result<(), NoMemory>
-    ensures { OnOk result (out.new ≡ out.old ++ indented (cell_tree cell.now) (replicate 2 32)) }
+    ensures { OnOk result (out.new ≡ out.old ++ cell_text cell.now) }
 {
     out.add(b"{")?;
     put_pairs(alloc, out, cell)?;
@@ -22,7 +40,8 @@ pub(crate) fn put_cell(alloc: Global, out: &mut Bytes, cell: &Cell) -> Result<()
 
 /// Appends the lines of the cell's pairs, sorted by their keys.
 fn put_pairs(alloc: Global, out: &mut Bytes, cell: &Cell) -> Result<(), NoMemory>
-    ensures { OnOk result (out.new ≡ out.old ++ indented_fields (replicate 3 32) (sorted_pairs cell.now)) }
+    ensures { OnOk result (out.new
+        ≡ out.old ++ indented_fields (replicate 3 32) (sorted_pairs cell.now)) }
 {
     match cell.kind {
         Kind::Raw => put_prose(alloc, out, "raw", cell),
@@ -32,7 +51,8 @@ fn put_pairs(alloc: Global, out: &mut Bytes, cell: &Cell) -> Result<(), NoMemory
 }
 
 fn put_prose(alloc: Global, out: &mut Bytes, kind: &str, cell: &Cell) -> Result<(), NoMemory>
-    ensures { OnOk result (out.new ≡ out.old ++ indented_fields (replicate 3 32) (prose_pairs kind.now cell.now)) }
+    ensures { OnOk result (out.new
+        ≡ out.old ++ indented_fields (replicate 3 32) (prose_pairs kind.now cell.now)) }
 {
     match &cell.attachments {
         Some(attachments) => {
@@ -46,7 +66,8 @@ fn put_prose(alloc: Global, out: &mut Bytes, kind: &str, cell: &Cell) -> Result<
 }
 
 fn put_common(alloc: Global, out: &mut Bytes, kind: &str, cell: &Cell) -> Result<(), NoMemory>
-    ensures { OnOk result (out.new ≡ out.old ++ indented_fields (replicate 3 32) (common_pairs kind.now cell.now)) }
+    ensures { OnOk result (out.new
+        ≡ out.old ++ indented_fields (replicate 3 32) (common_pairs kind.now cell.now)) }
 {
     put_string(alloc, out, 3, "cell_type", kind)?;
     out.add(b",")?;
@@ -59,7 +80,8 @@ fn put_common(alloc: Global, out: &mut Bytes, kind: &str, cell: &Cell) -> Result
 }
 
 fn put_code(alloc: Global, out: &mut Bytes, cell: &Cell) -> Result<(), NoMemory>
-    ensures { OnOk result (out.new ≡ out.old ++ indented_fields (replicate 3 32) (code_pairs cell.now)) }
+    ensures { OnOk result (out.new
+        ≡ out.old ++ indented_fields (replicate 3 32) (code_pairs cell.now)) }
 {
     put_string(alloc, out, 3, "cell_type", "code")?;
     out.add(b",")?;

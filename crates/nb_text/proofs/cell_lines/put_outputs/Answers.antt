@@ -1,7 +1,7 @@
 use Rattle.std.proofs.Common.{codes, replicate, arith}
 use Rattle.std.proofs.lemmas.Bool.Decides.{nat_tests}
 use Rattle.nb_text.proofs.Texts.{list_line}
-use Rattle.nb_text.proofs.cell_text.put_outputs.Goals as goal
+use Rattle.nb_text.proofs.cell_lines.put_outputs.Goals as goal
 
 pub returns : goal.returns
 returns c =
