@@ -1,6 +1,6 @@
 -- Escapes by number in string literals (The Python Language Reference, 2.4.1).
 use Rattle.std.specs.Prelude.{ℕ, List, ◌∷◌, if◌then◌else◌, nat_le}
-use Rattle.nb_model.specs.Python.{two_digits, four_digits, eight_digits}
+use Rattle.nb_params.specs.Python.{two_digits, four_digits, eight_digits}
 
 -- the escape of a character that doesn't stand for itself
 abbrev pub escape : ℕ → List ℕ

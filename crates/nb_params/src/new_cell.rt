@@ -1,7 +1,7 @@
 //! The cell that is injected.
 ghost use Rattle.std.specs.Prelude.{◌≡◌, ◌∷◌, [], IfOk, codes};
 ghost use Rattle.jtext.specs.declared.json.Json.TheVariants as json;
-ghost use Rattle.nb_model.specs.Injected as spec;
+ghost use Rattle.nb_params.specs.Injected as injected;
 
 use crate::source::python;
 use jtext::{Fields, Items, Json, NoMemory, Text};
@@ -10,7 +10,7 @@ use std::alloc::Global;
 
 /// The code cell that sets the parameters, tagged `injected-parameters`.
 pub(crate) fn parameters_cell(alloc: Global, id: Text, params: &Fields) -> Result<Cell, NoMemory>
-    ensures { IfOk result (λ c. c ≡ spec.parameters_cell id params.now) }
+    ensures { IfOk result (λ c. c ≡ injected.parameters_cell id params.now) }
 {
     let text = python(alloc, params)?;
     let source = split_lines(alloc, text.as_str())?;

@@ -1,6 +1,6 @@
 use Rattle.std.proofs.Common.{sym, ◌∙◌}
 use Rattle.nb_params.proofs.Places.{replaced}
-use Rattle.nb_params.proofs.injection.placed.Goals as goal
+use Rattle.nb_params.proofs.injection.place_parameters.Goals as goal
 
 pub returns-in_ok-replaced-in-Some : goal.returns-in_ok-replaced-in-Some
 returns-in_ok-replaced-in-Some c =
