@@ -1,17 +1,17 @@
 -- The indented text of a tree spells the tree with its pairs sorted.
-use Rattle.std.proofs.Common.{◌≡◌, ◌≢◌, ℕ, ◌<◌, Bool, true, false, cond, List, [], ◌∷◌, ◌++◌, map, length, inl, inr, refl, sym, ap, ◌∙◌, subst, append_assoc, rules, arith, is_gt}
+use Rattle.std.proofs.Common.{◌≡◌, ℕ, ◌<◌, Bool, true, false, List, [], ◌∷◌, ◌++◌, map, length, inl, inr, refl, sym, ap, ◌∙◌, subst, append_assoc, arith}
 use Rattle.std.proofs.lemmas.List.{append-nil}
 use Rattle.std.proofs.lemmas.Str.{IsUtf8-append}
 use Rattle.std.specs.List.{AllByRecursion}
 use Rattle.std.specs.Prelude.{codes}
 use Rattle.std.specs.Str.{IsUtf8}
-use Rattle.jtext.specs.declared.json.Json.{Json, the_lemmas}
+use Rattle.jtext.specs.declared.json.Json.{Json}
 use Rattle.jtext.specs.declared.json.Json.TheVariants as json
 use Rattle.jtext.specs.Grammar as grammar
-use Rattle.jtext.specs.Grammar.{Spells, Spelled, Items, last_item, next_item, Pairs, last_pair, next_pair, Pair, IsSpace, AreSpaces, Lacks, Distinct}
+use Rattle.jtext.specs.Grammar.{Spells, Spelled, Items, last_item, next_item, Pairs, last_pair, next_pair, Pair, IsSpace, AreSpaces, Distinct}
 use Rattle.jtext.specs.Keyed.{Keyed}
 use Rattle.jtext.specs.Print.{quoted}
-use Rattle.jtext.specs.Sorting.{byte_order, insert_sorted, by_key, sorted}
+use Rattle.jtext.specs.Sorting.{byte_order, by_key, sorted}
 use Rattle.jtext.specs.Sound.{Sound}
 use Rattle.jtext.specs.Indent.{on_line, further, named, indented, indented_items, indented_fields, print}
 use Rattle.jtext.proofs.Fronts.{all-append}
@@ -19,54 +19,9 @@ use Rattle.jtext.proofs.Indented.{indented-Null, indented-Bool, indented-Num, in
 use Rattle.jtext.proofs.Printed.{quoted_spelled}
 use Rattle.jtext.proofs.Propers as proper
 use Rattle.jtext.proofs.Propers.{Proper, AllProper, PairsProper, proper_of}
-use Rattle.jtext.proofs.Sorts.{all-insert_sorted, all-sort_by, sort_by-map}
+use Rattle.jtext.proofs.Sorts.{all-sort_by}
+use Rattle.jtext.proofs.SortedTrees.{with_sorted, sorted-Null, sorted-Bool, sorted-Num, sorted-Str, sorted-Arr, sorted_pairs-Obj, distinct-map, distinct-by_key}
 use Rattle.jtext.proofs.Utf8s.{Ascii, utf8_ascii, ascii-append, word_utf8, number_utf8, quoted_utf8, joined_utf8}
-
-sorted-Null : sorted json.Null ≡ json.Null
-sorted-Null = search (rules, the_lemmas)
-
-sorted-Bool : (b : Bool) → sorted (json.Bool b) ≡ json.Bool b
-sorted-Bool b = search (rules, the_lemmas)
-
-sorted-Num : (s : List ℕ) → sorted (json.Num s) ≡ json.Num s
-sorted-Num s = search (rules, the_lemmas)
-
-sorted-Str : (s : List ℕ) → sorted (json.Str s) ≡ json.Str s
-sorted-Str s = search (rules, the_lemmas)
-
-sorted-Arr : (xs : List Json) → sorted (json.Arr xs) ≡ json.Arr (map sorted xs)
-sorted-Arr xs = search (rules, the_lemmas)
-
-abbrev with_sorted : List ℕ × Json → List ℕ × Json
-with_sorted p = (p.0, sorted p.1)
-
-sorted-Obj : (ps : List (List ℕ × Json)) → sorted (json.Obj ps) ≡ json.Obj (map with_sorted (by_key ps))
-sorted-Obj ps = whole ∙ ap json.Obj (sort_by-map (λ p q. byte_order p.0 q.0) with_sorted ps)
-  where
-    whole : sorted (json.Obj ps) ≡ json.Obj (by_key (map (λ p. (p.0, sorted p.1)) ps))
-    whole = search (rules, the_lemmas)
-
--- ---- distinct keys
-
-lacks-map : (key : List ℕ) (ps : List (List ℕ × Json)) → Lacks key ps → Lacks key (map with_sorted ps)
-lacks-map key [] l = tt
-lacks-map key (p ∷ ps) l = (l.0, lacks-map key ps l.1)
-
-distinct-map : (ps : List (List ℕ × Json)) → Distinct ps → Distinct (map with_sorted ps)
-distinct-map [] d = tt
-distinct-map (p ∷ ps) d = (lacks-map p.0 ps d.0, distinct-map ps d.1)
-
-distinct-insert : (p : List ℕ × Json) (ps : List (List ℕ × Json)) → Lacks p.0 ps → Distinct ps → Distinct (insert_sorted (λ a b. byte_order a.0 b.0) p ps)
-distinct-insert p [] l d = (tt, tt)
-distinct-insert p (q ∷ qs) l d =
-    elim (is_gt (byte_order p.0 q.0)) as (λ b. Distinct (cond b (q ∷ insert_sorted (λ a c. byte_order a.0 c.0) p qs) (p ∷ q ∷ qs))) [
-      | true ↦ (all-insert_sorted (λ a b. byte_order a.0 b.0) (λ r. r.0 ≢ q.0) p qs (λ e. l.0 (sym e)) d.0, distinct-insert p qs l.1 d.1)
-      | false ↦ (l, d)
-    ]
-
-distinct-by_key : (ps : List (List ℕ × Json)) → Distinct ps → Distinct (by_key ps)
-distinct-by_key [] d = tt
-distinct-by_key (p ∷ ps) d = distinct-insert p (by_key ps) (all-sort_by (λ a b. byte_order a.0 b.0) (λ q. q.0 ≢ p.0) ps d.0) (distinct-by_key ps d.1)
 
 -- ---- lines
 
@@ -120,11 +75,11 @@ pairs_inside [] m spaces some all = absurd (omega arith)
 pairs_inside (q ∷ qs) m spaces some all = pairs_lines (further m) (further_spaces m spaces) (on_line m []) (line_spaces m spaces) (q ∷ qs) all
 
 object_spell : (ps : List (List ℕ × Json)) (m : List ℕ) → AreSpaces m → Distinct ps → AllByRecursion (λ p. Spelled (sorted p.1) (indented p.1 (further m))) ps → Spelled (sorted (json.Obj ps)) (indented (json.Obj ps) m)
-object_spell [] m spaces d all = subst (λ t. Spelled t (indented (json.Obj []) m)) (sym (sorted-Obj [])) (grammar.no_pairs [] (indented (json.Obj []) m) tt (indented-empty m))
+object_spell [] m spaces d all = subst (λ t. Spelled t (indented (json.Obj []) m)) (sym (sorted_pairs-Obj [])) (grammar.no_pairs [] (indented (json.Obj []) m) tt (indented-empty m))
 object_spell (p ∷ ps) m spaces d all =
     let qs = by_key (p ∷ ps) in
     let some : 0 < length qs = omega (arith, length-sort_by (λ a b. byte_order a.0 b.0) (p ∷ ps)) in
-    subst (λ t. Spelled t (indented (json.Obj (p ∷ ps)) m)) (sym (sorted-Obj (p ∷ ps)))
+    subst (λ t. Spelled t (indented (json.Obj (p ∷ ps)) m)) (sym (sorted_pairs-Obj (p ∷ ps)))
     (grammar.object (map with_sorted qs) (indented_fields (further m) qs ++ on_line m []) (indented (json.Obj (p ∷ ps)) m)
     (pairs_inside qs m spaces some (all-sort_by (λ a b. byte_order a.0 b.0) (λ p. Spelled (sorted p.1) (indented p.1 (further m))) (p ∷ ps) all)) (distinct-map qs (distinct-by_key (p ∷ ps) d))
     (object_text (p ∷ ps) m (omega arith) ∙ ap (λ l. 123 ∷ l) (simp append_assoc)))

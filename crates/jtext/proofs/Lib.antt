@@ -2,6 +2,9 @@ pub mod Machine
 pub mod Fronts
 pub mod Numbers
 pub mod Depths
+pub mod Edits
+pub mod Trees
+pub mod SortedTrees
 pub mod Words
 pub mod NumberRuns
 pub mod Sounds

@@ -8,6 +8,8 @@ pub mod Strings
 pub mod Reading
 pub mod Gives
 pub mod Find
+pub mod Edit
+pub mod Messages
 pub mod Look
 pub mod Bundle
 pub mod Sound

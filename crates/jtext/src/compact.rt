@@ -2,7 +2,7 @@
 ghost use Rattle.std.specs.Prelude.{◌≡◌, ◌++◌, IfOk, OnOk};
 ghost use Rattle.jtext.specs.Print.{compact, compact_items, compact_fields};
 
-use crate::escape::write_string;
+use crate::escape::put_string;
 use crate::json::{Fields, Items};
 use crate::{Bytes, Json, NoMemory};
 use std::alloc::Global;
@@ -12,12 +12,13 @@ pub fn write_compact(alloc: Global, t: &Json) -> Result<Bytes, NoMemory>
     ensures { IfOk result (λ b. b ≡ compact t.now) }
 {
     let mut out = Bytes::new(alloc);
-    write_value(&mut out, t)?;
+    put_compact(&mut out, t)?;
     Ok(out)
 }
 
+/// Appends the tree with no white space, and its pairs in their order.
 #[cycle(write)]
-fn write_value(out: &mut Bytes, t: &Json) -> Result<(), NoMemory>
+pub fn put_compact(out: &mut Bytes, t: &Json) -> Result<(), NoMemory>
     ensures { OnOk result (out.new ≡ out.old ++ compact t.now) }
 {
     match t {
@@ -25,7 +26,7 @@ fn write_value(out: &mut Bytes, t: &Json) -> Result<(), NoMemory>
         Json::Bool(true) => out.add(b"true"),
         Json::Bool(false) => out.add(b"false"),
         Json::Num(n) => out.add(n.as_str().as_bytes()),
-        Json::Str(s) => write_string(out, s.as_str()),
+        Json::Str(s) => put_string(out, s.as_str()),
         Json::Arr(items) => {
             out.add(b"[")?;
             write_items(out, items)?;
@@ -47,7 +48,7 @@ fn write_items(out: &mut Bytes, items: &Items) -> Result<(), NoMemory>
         if i > 0 {
             out.add(b",")?;
         }
-        write_value(out, item)?;
+        put_compact(out, item)?;
     }
     Ok(())
 }
@@ -61,9 +62,9 @@ fn write_fields(out: &mut Bytes, fields: &Fields) -> Result<(), NoMemory>
             out.add(b",")?;
         }
         let (key, value) = field;
-        write_string(out, key.as_str())?;
+        put_string(out, key.as_str())?;
         out.add(b":")?;
-        write_value(out, value)?;
+        put_compact(out, value)?;
     }
     Ok(())
 }

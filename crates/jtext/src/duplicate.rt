@@ -1,7 +1,7 @@
-//! Copies of trees.
+//! Copies of trees, and of what they are made of.
 ghost use Rattle.std.specs.Prelude.{◌≡◌, IfOk};
 
-use crate::json::{Fields, Items};
+use crate::json::{Fields, Items, Texts};
 use crate::{Json, NoMemory, NumText, Text};
 use std::alloc::Global;
 
@@ -14,30 +14,43 @@ pub fn copy(alloc: Global, t: &Json) -> Result<Json, NoMemory>
         Json::Null => Ok(Json::Null),
         Json::Bool(b) => Ok(Json::Bool(*b)),
         Json::Num(n) => Ok(Json::Num(NumText::of_number(alloc, n.as_str())?)),
-        Json::Str(s) => Ok(Json::Str(Text::of(alloc, s.as_str())?)),
-        Json::Arr(items) => Ok(Json::Arr(copy_items(alloc, items)?)),
-        Json::Obj(fields) => Ok(Json::Obj(copy_fields(alloc, fields)?)),
+        Json::Str(s) => Ok(Json::Str(s.copy(alloc)?)),
+        Json::Arr(items) => Ok(Json::Arr(copy_items(alloc, items.as_slice())?)),
+        Json::Obj(fields) => Ok(Json::Obj(copy_fields(alloc, fields.as_slice())?)),
     }
 }
 
+/// Items equal to these, which own their texts.
 #[cycle(copy)]
-fn copy_items(alloc: Global, items: &Items) -> Result<Items, NoMemory>
+pub fn copy_items(alloc: Global, items: &[Json]) -> Result<Items, NoMemory>
     ensures { IfOk result (λ r. r ≡ items.now) }
 {
     let mut copied = Items::new(alloc);
-    for item in items.as_slice() {
+    for item in items {
         copied.push(copy(alloc, item)?)?;
     }
     Ok(copied)
 }
 
+/// Pairs equal to these, which own their keys and values.
 #[cycle(copy)]
-fn copy_fields(alloc: Global, fields: &Fields) -> Result<Fields, NoMemory>
+pub fn copy_fields(alloc: Global, fields: &[(Text, Json)]) -> Result<Fields, NoMemory>
     ensures { IfOk result (λ r. r ≡ fields.now) }
 {
     let mut copied = Fields::new(alloc);
-    for (key, value) in fields.as_slice() {
-        copied.push((Text::of(alloc, key.as_str())?, copy(alloc, value)?))?;
+    for (key, value) in fields {
+        copied.push((key.copy(alloc)?, copy(alloc, value)?))?;
+    }
+    Ok(copied)
+}
+
+/// Texts equal to these.
+pub fn copy_texts(alloc: Global, texts: &[Text]) -> Result<Texts, NoMemory>
+    ensures { IfOk result (λ r. r ≡ texts.now) }
+{
+    let mut copied = Texts::new(alloc);
+    for text in texts {
+        copied.push(text.copy(alloc)?)?;
     }
     Ok(copied)
 }

@@ -7,7 +7,7 @@ use crate::plain::plain_len;
 use crate::{Bytes, NoMemory};
 
 /// Appends `s` between quotes. Only what has to be escaped is, and runs of the rest are copied.
-pub(crate) fn write_string(out: &mut Bytes, s: &str) -> Result<(), NoMemory>
+pub fn put_string(out: &mut Bytes, s: &str) -> Result<(), NoMemory>
     ensures { OnOk result (out.new ≡ out.old ++ quoted s.now) }
 {
     out.add(b"\"")?;

@@ -4,6 +4,8 @@ ghost use Rattle.jtext.specs.Gives.{fault_within};
 
 use crate::NoMemory;
 use std::alloc::{AllocError, AllocFailed};
+use std::error::Error;
+use std::fmt;
 
 /// What ends the reading, with the number of bytes from its place to the end.
 #[derive(Clone, Copy, Debug, Drop, PartialEq, Eq)]
@@ -84,3 +86,23 @@ impl Fault {
         }
     }
 }
+
+impl fmt::Display for JsonFault {
+    ghost use Rattle.std.specs.Prelude.{Some};
+    ghost use Rattle.jtext.specs.Messages.{json_message};
+
+    ghost output = { λ f. Some (json_message f) };
+
+    fn fmt<W: fmt::Write>(&self, f: &mut fmt::Formatter<W>) -> fmt::Result {
+        match *self {
+            JsonFault::NotUtf8 { at } => write!(f, "not JSON: utf8 at {at}"),
+            JsonFault::Bad { at } => write!(f, "not JSON: syntax at {at}"),
+            JsonFault::Deep { at } => write!(f, "not JSON: depth at {at}"),
+            JsonFault::Repeated { at } => write!(f, "not JSON: repeated key at {at}"),
+            JsonFault::Lone { at } => write!(f, "not JSON: lone surrogate at {at}"),
+            JsonFault::NoMemory => write!(f, "out of memory"),
+        }
+    }
+}
+
+impl Error for JsonFault {}

@@ -3,7 +3,7 @@ ghost use Rattle.std.specs.Prelude.{◌≡◌, ◌++◌, [], ℕ, List as Plain,
 ghost use Rattle.jtext.specs.Sorting.{by_key};
 ghost use Rattle.jtext.specs.Indent.{print, indented, indented_items, indented_fields, on_line, further};
 
-use crate::escape::write_string;
+use crate::escape::put_string;
 use crate::json::{Fields, Items};
 use crate::sorted::{place_of, places_by_key};
 use crate::{Bytes, Json, NoMemory};
@@ -25,9 +25,17 @@ pub fn write_indented_at(alloc: Global, t: &Json, level: usize) -> Result<Bytes,
     ensures { IfOk result (λ b. b ≡ indented t.now (replicate level 32)) }
 {
     let mut text = Bytes::new(alloc);
-    let mut margin = Bytes::of_vec(vec![in alloc; b' '; level]?);
-    indent_value(alloc, &mut text, &mut margin, t)?;
+    put_indented(alloc, &mut text, level, t)?;
     Ok(text)
+}
+
+/// Appends the text that the value has within an indented text, this many levels deep: without the
+/// margin before it, and without a line end after it.
+pub fn put_indented(alloc: Global, out: &mut Bytes, level: usize, t: &Json) -> Result<(), NoMemory>
+    ensures { OnOk result (out.new ≡ out.old ++ indented t.now (replicate level 32)) }
+{
+    let mut margin = Bytes::of_vec(vec![in alloc; b' '; level]?);
+    indent_value(alloc, out, &mut margin, t)
 }
 
 /// Writes the value at that margin, which is as before afterwards.
@@ -46,7 +54,7 @@ fn indent_value(
         Json::Bool(true) => out.add(b"true"),
         Json::Bool(false) => out.add(b"false"),
         Json::Num(n) => out.add(n.as_str().as_bytes()),
-        Json::Str(s) => write_string(out, s.as_str()),
+        Json::Str(s) => put_string(out, s.as_str()),
         Json::Arr(items) => {
             if items.len() == 0 {
                 return out.add(b"[]");
@@ -110,7 +118,7 @@ fn indent_fields(
         }
         let (key, value) = &pairs[place_of(pairs, &places, i)];
         new_line(out, margin)?;
-        write_string(out, key.as_str())?;
+        put_string(out, key.as_str())?;
         out.add(b": ")?;
         indent_value(alloc, out, margin, value)?;
     }

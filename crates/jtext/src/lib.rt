@@ -2,12 +2,15 @@
 //! Reads bytes to a tree, looks into it, and writes a tree as compact or as indented text. It does no IO.
 #![tactic(auto)]
 
+mod build;
 mod bundle;
 mod compact;
 mod duplicate;
+mod edit;
 mod escape;
 mod fault;
 mod indent;
+mod inside;
 mod json;
 mod key_set;
 pub mod laws;
@@ -26,11 +29,14 @@ mod storage;
 mod tests;
 mod text;
 
+pub use build::{object, pair, string, text_pair};
 pub use bundle::{is_bundle, is_json_type, is_multiline};
-pub use compact::write_compact;
-pub use duplicate::copy;
+pub use compact::{put_compact, write_compact};
+pub use duplicate::{copy, copy_fields, copy_items, copy_texts};
+pub use edit::{set_field, set_pair, set_within};
+pub use escape::put_string;
 pub use fault::JsonFault;
-pub use indent::{write_indented, write_indented_at};
+pub use indent::{put_indented, write_indented, write_indented_at};
 pub use json::{Fields, Items, Json, Texts};
 pub use list::{Bytes, List};
 pub use look::is_whole_text;

@@ -7,6 +7,8 @@ use crate::NoMemory;
 use crate::scan::split_number;
 use crate::storage::Storage;
 use std::alloc::Global;
+use std::error::Error;
+use std::fmt;
 use std::marker::Model;
 
 /// A text of the number grammar of RFC 8259, section 6. A contract sees it as the list of its bytes.
@@ -45,6 +47,22 @@ impl From<NoMemory> for NumFault {
         NumFault::NoMemory
     }
 }
+
+impl fmt::Display for NumFault {
+    ghost use Rattle.std.specs.Prelude.{Some};
+    ghost use Rattle.jtext.specs.Messages.{number_message};
+
+    ghost output = { λ f. Some (number_message f) };
+
+    fn fmt<W: fmt::Write>(&self, f: &mut fmt::Formatter<W>) -> fmt::Result {
+        match self {
+            NumFault::NotNumber => write!(f, "not a number"),
+            NumFault::NoMemory => write!(f, "out of memory"),
+        }
+    }
+}
+
+impl Error for NumFault {}
 
 impl NumText {
     /// A copy of `text`. It is refused as `NotNumber` exactly where it is outside the grammar.

@@ -40,6 +40,13 @@ impl Text {
         })
     }
 
+    /// A text equal to this one.
+    pub fn copy(&self, alloc: Global) -> Result<Text, NoMemory>
+        ensures { IfOk result (λ r. r ≡ self.now) }
+    {
+        Text::of(alloc, self.as_str())
+    }
+
     /// The text of that string, which takes no memory.
     pub fn of_string(text: String) -> Text
         ensures { result ≡ string_bytes text }
@@ -62,4 +69,24 @@ impl Text {
     {
         self.storage.as_str()
     }
+}
+
+impl PartialEq for Text {
+    ghost use Rattle.std.specs.Prelude.{nat_eq};
+    ghost use Rattle.std.specs.Cmp.{partial_equiv_from_equiv};
+    ghost use Rattle.std.specs.Cmp.Lexicographic.{pointwise, nat_list_eq_equiv};
+
+    ghost eq = { pointwise nat_eq };
+
+    ghost laws = { partial_equiv_from_equiv nat_list_eq_equiv };
+
+    fn eq(&self, other: &Text) -> bool {
+        self.as_str() == other.as_str()
+    }
+}
+
+impl Eq for Text {
+    ghost use Rattle.std.specs.Cmp.Lexicographic.{nat_list_eq_equiv};
+
+    ghost laws = { nat_list_eq_equiv };
 }

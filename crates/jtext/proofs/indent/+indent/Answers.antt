@@ -20,8 +20,8 @@ indent_fields-loop-i-preserved t c =
       | indent_fields-else-i-gt0 w ↦ inr (omega (arith, w.if-i-gt0.false), w.out-is ∙ l.invariant.text)
     ] in
     record {
-      text = field_done m c.args.out.now c.if-i-gt0.out c.new_line.new.out c.write_string.new.out c.add-in-loop-i.new.self c.indent_value.new.out (by_key c.args.fields.now) l.i p at before
-          line (c.in_ok-write_string.ensures ∙ ap (λ x. c.new_line.new.out ++ quoted x) c.as_str.ensures) c.in_ok-add-2.ensures.ok value;
+      text = field_done m c.args.out.now c.if-i-gt0.out c.new_line.new.out c.put_string.new.out c.add-in-loop-i.new.self c.indent_value.new.out (by_key c.args.fields.now) l.i p at before
+          line (c.in_ok-put_string.ensures ∙ ap (λ x. c.new_line.new.out ++ quoted x) c.as_str.ensures) c.in_ok-add-2.ensures.ok value;
       margin = c.in_ok-indent_value.ensures.margin ∙ l.invariant.margin;
     }
 
