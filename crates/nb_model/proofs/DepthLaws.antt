@@ -20,10 +20,11 @@ use Rattle.nb_model.specs.declared.notebook.Notebook.{Notebook}
 use Rattle.nb_model.specs.Valid.{is_notebook}
 use Rattle.nb_model.specs.Reading.{notebook_of}
 use Rattle.nb_model.specs.Tree.{optional_pair, pairs_of_kind, outputs_of_kind, attachments_of_kind, cell_tree, notebook_tree}
-use Rattle.nb_model.specs.Record.{set_pair, set_field, set_within}
+use Rattle.jtext.specs.Edit.{set_pair, set_field, set_within}
 use Rattle.nb_model.specs.Kind.{is_code}
 use Rattle.nb_model.specs.Prepared.{pending_mark, prepared_cell, prepared_notebook}
-use Rattle.nb_model.proofs.TreeLaws.{notebook_same, object_is}
+use Rattle.jtext.proofs.Trees.{object_is}
+use Rattle.nb_model.proofs.TreeLaws.{notebook_same}
 
 -- ---- the order of keys doesn't matter
 

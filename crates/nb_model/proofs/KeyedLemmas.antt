@@ -18,11 +18,12 @@ use Rattle.nb_model.specs.declared.kind.Kind.TheVariants as kind
 use Rattle.nb_model.specs.declared.cell.Cell.{Cell}
 use Rattle.nb_model.specs.declared.notebook.Notebook.{Notebook}
 use Rattle.nb_model.specs.Tree.{optional_pair, cell_tree, notebook_tree}
-use Rattle.nb_model.specs.Record.{set_pair, set_field, set_within}
+use Rattle.jtext.specs.Edit.{set_pair, set_field, set_within}
 use Rattle.nb_model.proofs.Tautologies.{and_parts, not_or}
 use Rattle.nb_model.proofs.PreparedLaws.{no_repeat}
 use Rattle.nb_model.proofs.DepthLaws.{all-set_pair, all-found, no_fields}
-use Rattle.nb_model.proofs.TreeLaws.{object_is, list_is, items_keyed, pairs_keyed, first_keyed, pair_keyed, found_keyed, pairs_with}
+use Rattle.jtext.proofs.Trees.{object_is, list_is, items_keyed, pairs_keyed, first_keyed, pair_keyed, found_keyed}
+use Rattle.nb_model.proofs.TreeLaws.{pairs_with}
 use Rattle.nb_model.proofs.CellValues.{Values, prose_pairs, all-map, all-unmap, top_pairs}
 
 -- ---- lists

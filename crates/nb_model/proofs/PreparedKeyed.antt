@@ -7,7 +7,7 @@ use Rattle.jtext.specs.Keyed.{Keyed}
 use Rattle.nb_model.specs.declared.cell.Cell.{Cell}
 use Rattle.nb_model.specs.declared.notebook.Notebook.{Notebook}
 use Rattle.nb_model.specs.Tree.{cell_tree, notebook_tree}
-use Rattle.nb_model.specs.Record.{set_field}
+use Rattle.jtext.specs.Edit.{set_field}
 use Rattle.nb_model.specs.Kind.{is_code}
 use Rattle.nb_model.specs.Prepared.{pending_mark, cleared_cell, prepared_cell, prepared_notebook}
 use Rattle.nb_model.proofs.TreeLaws.{pairs_with}

@@ -21,7 +21,7 @@ use Rattle.nb_model.specs.Values.{is_count, is_id_text}
 use Rattle.nb_model.specs.Valid as valid
 use Rattle.nb_model.specs.Reading.{value_at, kind_named, cell_of, notebook_of}
 use Rattle.nb_model.specs.Tree.{optional_pair, count_tree, pairs_of_kind, outputs_of_kind, attachments_of_kind, cell_tree, notebook_tree}
-use Rattle.nb_model.specs.Record.{set_pair, set_field}
+use Rattle.jtext.specs.Edit.{set_pair, set_field}
 use Rattle.nb_model.specs.Kind.{is_code}
 use Rattle.nb_model.specs.Prepared.{pending_mark, prepared_cell, prepared_notebook}
 use Rattle.nb_model.proofs.Tautologies.{and_parts}

@@ -11,7 +11,8 @@ use Rattle.nb_model.specs.declared.kind.Kind.TheVariants as kind
 use Rattle.nb_model.specs.Reading.{value_at, cell_of, notebook_of}
 use Rattle.nb_model.specs.Tree.{optional_pair, count_tree, cell_tree, notebook_tree}
 use Rattle.nb_model.proofs.DepthLaws.{all-found}
-use Rattle.nb_model.proofs.TreeLaws.{first_keyed, pairs_with}
+use Rattle.jtext.proofs.Trees.{first_keyed}
+use Rattle.nb_model.proofs.TreeLaws.{pairs_with}
 use Rattle.nb_model.proofs.CellValues.{Values, prose_pairs}
 use Rattle.nb_model.proofs.KeyedLemmas.{fields_keyed, keyed_items, keyed_value, cell_keyed, notebook_keyed}
 

@@ -1,23 +1,22 @@
 -- A notebook after a run, or a part of one, is valid and keyed where it was before.
 use Rattle.std.proofs.Common.{◌≡◌, ℕ, suc, ◌≤◌, Bool, true, false, ◌&&◌, List, [], ◌∷◌, map, Option, Some, None, refl, sym, ap, ap₂, ◌∙◌, inl, inr, subst, arith}
 use Rattle.std.specs.Prelude.{codes, unwrap_or}
-use Rattle.std.specs.List.{All, AllByRecursion, AllZip, list_all}
+use Rattle.std.specs.List.{AllByRecursion, AllZip, list_all}
 use Rattle.std.specs.Str.{bytes_eq}
 use Rattle.std.proofs.lemmas.List.Elements.{recursion_from_All}
 use Rattle.jtext.specs.declared.json.Json.{Json}
 use Rattle.jtext.specs.declared.json.Json.TheVariants as json
 use Rattle.jtext.specs.Depth.{depth}
-use Rattle.jtext.specs.Find.{field, fields}
+use Rattle.jtext.specs.Find.{field}
 use Rattle.jtext.specs.Keyed as keyed
 use Rattle.jtext.specs.Keyed.{Keyed}
-use Rattle.jtext.specs.Look.{is_object, absent_or, is_strings}
+use Rattle.jtext.specs.Look.{absent_or}
 use Rattle.jtext.proofs.Depths.{depth-Arr, depth-Null, depth-Num, highest-le}
 use Rattle.nb_model.specs.declared.kind.Kind.{Kind}
 use Rattle.nb_model.specs.declared.kind.Kind.TheVariants as kind
 use Rattle.nb_model.specs.declared.cell.Cell.{Cell}
 use Rattle.nb_model.specs.declared.notebook.Notebook.{Notebook}
-use Rattle.nb_model.specs.Keys.{may_have}
-use Rattle.nb_model.specs.Record.{set_pair, set_field, set_within}
+use Rattle.jtext.specs.Edit.{set_field, set_within}
 use Rattle.nb_model.specs.Run as run
 use Rattle.nb_model.specs.Run.{IsMarkKey, IsMarked, IsFitOutput, IsRunCellOf, IsRunOf}
 use Rattle.nb_model.specs.Tree.{count_tree, cell_tree, notebook_tree}

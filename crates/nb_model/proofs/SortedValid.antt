@@ -18,7 +18,7 @@ use Rattle.nb_model.specs.Values.{is_count, is_id_text}
 use Rattle.nb_model.specs.Valid as valid
 use Rattle.nb_model.specs.Valid.{Valid}
 use Rattle.nb_model.proofs.PreparedLaws.{and_eq, no_repeat, ids_are}
-use Rattle.nb_model.proofs.TreeLaws.{first_keyed}
+use Rattle.jtext.proofs.Trees.{first_keyed}
 use Rattle.jtext.proofs.SpelledKeyed.{spells_keyed}
 use Rattle.nb_model.specs.Schema.{notebook_keys, prose_cell_keys, code_cell_keys, stream_required, display_required, result_required, error_required, output_keys}
 use Rattle.nb_model.proofs.SortedTrees.{Stays, object_sorted, list_sorted, string_sorted, number_sorted, null_sorted, field_sorted, has-stays, may_have-stays, has_only-stays, items-stay, items_of_sorted, values-stay, depth_stays}

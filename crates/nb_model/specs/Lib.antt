@@ -6,7 +6,6 @@ pub mod Tree
 pub mod Lines
 pub mod Kind
 pub mod Tags
-pub mod Record
 pub mod Reading
 pub mod Pointer
 pub mod Places

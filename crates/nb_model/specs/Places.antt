@@ -2,7 +2,7 @@
 -- A value of the wrong kind is named itself. Then, within an object: what decides its kind, a missing key
 -- (which names the object), the first unknown key, and the values of its keys in the order below. That there
 -- is a fault exactly where a tree isn't valid, is the law `faulty_where_invalid`.
-use Rattle.std.specs.Prelude.{ℕ, Bool, not, ◌||◌, if◌then◌else◌, List, [], ◌∷◌, Option, Some, None, is_some, is_none, position, find, codes, slice_get, option_and_then}
+use Rattle.std.specs.Prelude.{ℕ, Bool, not, ◌||◌, if◌then◌else◌, List, [], Option, Some, None, is_some, is_none, position, find, codes, slice_get, option_and_then}
 use Rattle.std.specs.Option.{option_or}
 use Rattle.std.specs.List.{list_any, list_all}
 use Rattle.std.specs.Str.{bytes_eq}

@@ -5,7 +5,7 @@ use Rattle.jtext.specs.declared.json.Json.{Json}
 use Rattle.jtext.specs.declared.json.Json.TheVariants as json
 use Rattle.nb_model.specs.declared.cell.Cell.{Cell}
 use Rattle.nb_model.specs.declared.notebook.Notebook.{Notebook}
-use Rattle.nb_model.specs.Record.{set_field, set_within}
+use Rattle.jtext.specs.Edit.{set_field, set_within}
 use Rattle.nb_model.specs.Kind.{is_code}
 
 -- the mark of a cell that waits

@@ -8,7 +8,7 @@ use Rattle.jtext.specs.Depth.{depth}
 use Rattle.jtext.specs.Keyed.{Keyed}
 use Rattle.nb_model.specs.declared.cell.Cell.{Cell}
 use Rattle.nb_model.specs.declared.notebook.Notebook.{Notebook}
-use Rattle.nb_model.specs.Record.{set_field, set_within}
+use Rattle.jtext.specs.Edit.{set_field, set_within}
 use Rattle.nb_model.specs.Tree.{count_tree}
 use Rattle.nb_model.specs.Values.{is_count}
 use Rattle.nb_model.specs.Valid.{is_output}

@@ -15,7 +15,7 @@ use std::alloc::Global;
 pub(crate) fn notebook_of(alloc: Global, t: Json) -> Result<Notebook, NoMemory>
     ensures { IfOk result (λ n. n ≡ reading.notebook_of t) }
 {
-    let mut pairs = pairs_of(alloc, t);
+    let mut pairs = t.into_pairs(alloc);
     let metadata = or_null(take(&mut pairs, "metadata"));
     let items = items_of(alloc, take(&mut pairs, "cells"));
     Ok(Notebook {
@@ -37,7 +37,7 @@ fn cells_of(alloc: Global, items: Items) -> Result<Cells, NoMemory>
 fn cell_of(alloc: Global, c: Json) -> Cell
     ensures { result ≡ reading.cell_of c }
 {
-    let mut pairs = pairs_of(alloc, c);
+    let mut pairs = c.into_pairs(alloc);
     let kind = kind_of(alloc, take(&mut pairs, "cell_type"));
     let id = text_of(alloc, take(&mut pairs, "id"));
     let metadata = or_null(take(&mut pairs, "metadata"));
@@ -67,20 +67,11 @@ fn take(pairs: &mut Fields, key: &str) -> Option<Json>
     }
 }
 
-pub(crate) fn place_of(pairs: &[(Text, Json)], key: &str) -> Option<usize>
+fn place_of(pairs: &[(Text, Json)], key: &str) -> Option<usize>
     ensures place { result ≡ position (λ p. bytes_eq p.0 key.now) pairs.now }
     ensures within { IfSome result (λ i. i < length pairs.now) }
 {
     pairs.iter().position(|p| p.0.as_str() == key)
-}
-
-pub(crate) fn pairs_of(alloc: Global, t: Json) -> Fields
-    ensures { result ≡ fields t }
-{
-    match t {
-        Json::Obj(fields) => fields,
-        _ => Fields::new(alloc),
-    }
 }
 
 fn or_null(v: Option<Json>) -> Json
@@ -95,32 +86,22 @@ fn or_null(v: Option<Json>) -> Json
 fn items_of(alloc: Global, v: Option<Json>) -> Items
     ensures { result ≡ look.items (unwrap_or v json.Null) }
 {
-    match or_null(v) {
-        Json::Arr(items) => items,
-        _ => Items::new(alloc),
-    }
+    or_null(v).into_items(alloc)
 }
 
 fn text_of(alloc: Global, v: Option<Json>) -> Text
     ensures { result ≡ unwrap_or (option_and_then look.string v) [] }
 {
-    let Some(v) = v else {
-        return Text::new(alloc);
-    };
-    match v {
-        Json::Str(text) => text,
-        _ => Text::new(alloc),
+    match v.and_then(|v| v.into_text()) {
+        Some(text) => text,
+        None => Text::new(alloc),
     }
 }
 
 fn number_of(v: Option<Json>) -> Option<NumText>
     ensures { result ≡ option_and_then look.number v }
 {
-    let v = v?;
-    match v {
-        Json::Num(text) => Some(text),
-        _ => None,
-    }
+    v?.into_number()
 }
 
 fn kind_of(alloc: Global, v: Option<Json>) -> Kind

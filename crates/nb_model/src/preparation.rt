@@ -2,10 +2,9 @@
 ghost use Rattle.std.specs.Prelude.{◌≡◌, map, IfOk};
 ghost use Rattle.nb_model.specs.Prepared as preparation;
 
-use crate::record::{set_field, set_within};
 use crate::source::is_code;
 use crate::{Cell, Cells, Notebook};
-use jtext::{Fields, Items, Json, NoMemory, Text};
+use jtext::{Items, Json, NoMemory, object, pair, set_field, set_within, text_pair};
 use std::alloc::Global;
 
 /// The notebook with the outputs and counts of code cells cleared, each cell marked as pending, and
@@ -68,11 +67,8 @@ fn clear(alloc: Global, mut c: Cell) -> Cell
 fn pending_mark(alloc: Global) -> Result<Json, NoMemory>
     ensures { IfOk result (λ r. r ≡ preparation.pending_mark) }
 {
-    let mut mark = Fields::new(alloc);
-    mark.push((Text::of(alloc, "exception")?, Json::Null))?;
-    mark.push((
-        Text::of(alloc, "status")?,
-        Json::Str(Text::of(alloc, "pending")?),
-    ))?;
-    Ok(Json::Obj(mark))
+    let exception = pair(alloc, "exception", Json::Null)?;
+    let status = text_pair(alloc, "status", "pending")?;
+    let mark = object(alloc, [exception, status])?;
+    Ok(mark)
 }

@@ -66,7 +66,7 @@ fn joined_text(alloc: Global, v: &Json) -> Result<Text, NoMemory>
     ensures { IfOk result (λ text. text ≡ planned.joined_text v.now) }
 {
     match v {
-        Json::Str(text) => Text::of(alloc, text.as_str()),
+        Json::Str(text) => text.copy(alloc),
         Json::Arr(items) => joined_items(alloc, items.as_slice()),
         _ => Ok(Text::new(alloc)),
     }

@@ -11,8 +11,8 @@ use Rattle.nb_model.proofs.parts.cell_of.Goals as goal
 pub returns : goal.returns
 returns c =
     let t = c.args.c in
-    let ps = c.pairs_of-pairs.result in
-    let is = c.pairs_of-pairs.ensures in
+    let ps = c.into_pairs-pairs.result in
+    let is = c.into_pairs-pairs.ensures in
     let d1 : c.take.new.pairs ≡ without_all (codes "cell_type" ∷ []) ps = c.take.ensures.rest in
     let d2 : c.take-2.new.pairs ≡ without_all (codes "cell_type" ∷ codes "id" ∷ []) ps = c.take-2.ensures.rest ∙ ap (pairs_without (codes "id")) d1 in
     let d3 : c.take-3.new.pairs ≡ without_all (codes "cell_type" ∷ codes "id" ∷ codes "metadata" ∷ []) ps = c.take-3.ensures.rest ∙ ap (pairs_without (codes "metadata")) d2 in
