@@ -1,5 +1,5 @@
 -- A generated notebook is valid, and none of its objects has a key twice.
-use Rattle.std.proofs.Common.{◌≡◌, ℕ, zero, suc, ◌+◌, ◌<◌, ◌≤◌, ◌^◌, ◌%◌, Bool, true, false, ◌&&◌, ◌||◌, not, List, [], ◌∷◌, ◌++◌, length, map, drop, refl, sym, ap, ap₂, ◌∙◌, arith, codes, rules}
+use Rattle.std.proofs.Common.{◌≡◌, ℕ, zero, suc, ◌+◌, ◌<◌, ◌≤◌, ◌^◌, ◌%◌, true, false, ◌&&◌, ◌||◌, not, List, [], ◌∷◌, ◌++◌, length, map, drop, refl, sym, ap, ap₂, ◌∙◌, arith, codes, rules}
 use Rattle.std.proofs.lemmas.Bool.{le-leb}
 use Rattle.std.proofs.lemmas.Bool.Decides.{nat_tests}
 use Rattle.std.proofs.lemmas.Fmt.{decimal_is_IsNumeral_wide, decimal_by_steps_wide, length-decimal-le_wide}
@@ -19,8 +19,6 @@ use Rattle.jtext.specs.Look.{is_string, is_list, items}
 use Rattle.jtext.proofs.Depths.{depth-Arr, depth-Str, highest-le}
 use Rattle.jtext.proofs.Keys.{not_equal}
 use Rattle.nb_model.specs.declared.kind.Kind.TheVariants as kind
-use Rattle.nb_model.specs.declared.cell.Cell.{Cell}
-use Rattle.nb_model.specs.declared.notebook.Notebook.{Notebook}
 use Rattle.nb_model.specs.Tree.{cell_tree, notebook_tree}
 use Rattle.nb_model.specs.Valid.{is_metadata, is_cell_metadata, Valid}
 use Rattle.nb_model.specs.Values.{is_id_byte, is_id_text}

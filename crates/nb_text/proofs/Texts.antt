@@ -1,6 +1,6 @@
 -- The lines of cells and notebooks, put together.
 use Rattle.std.proofs.Common.{◌≡◌, ℕ, ◌<◌, List, [], ◌∷◌, ◌++◌, length, map, replicate, refl, sym, ap, ◌∙◌, append_assoc, append-nil, arith, codes, Option, Some, None, suc, ◌+◌, take, get_or}
-use Rattle.std.proofs.lemmas.List.{length-take, map-append}
+use Rattle.std.proofs.lemmas.List.{map-append}
 use Rattle.std.proofs.lemmas.Simd.{map-map}
 use Rattle.std.proofs.Math.Seq.{take-suc}
 use Rattle.jtext.specs.declared.json.Json.{Json}
@@ -15,7 +15,7 @@ use Rattle.nb_model.specs.declared.kind.Kind.TheVariants as kind
 use Rattle.nb_model.specs.declared.notebook.Notebook.{Notebook}
 use Rattle.nb_model.specs.Tree.{cell_tree, notebook_tree, optional_pair, pairs_of_kind, outputs_of_kind, attachments_of_kind}
 use Rattle.nb_text.specs.Notebooks.{cell_lines, cells_line, rest_text, notebook_text}
-use Rattle.nb_text.specs.Lines.{line, named_line}
+use Rattle.nb_text.specs.Lines.{line_start, line, named_line}
 use Rattle.nb_text.specs.Cells.{cell_text, sorted_pairs, pairs_of, common_pairs}
 
 abbrev pub Pair : Type 0
@@ -23,12 +23,14 @@ Pair = List ℕ × Json
 
 -- ---- lines
 
--- what a line begins with
-abbrev pub front : List ℕ → List ℕ → List ℕ
-front margin key = 10 ∷ (margin ++ (quoted key ++ 58 ∷ 32 ∷ []))
+pub from_start : (margin key value : List ℕ) → named_line margin key value ≡ line_start margin key ++ value
+from_start margin key value =
+    ap (λ l. 10 ∷ l) (ap (λ l. margin ++ l) (sym (append_assoc (quoted key) (58 ∷ 32 ∷ []) value)) ∙ sym (append_assoc margin (quoted key ++ 58 ∷ 32 ∷ []) value))
 
-pub from_front : (margin key value : List ℕ) → named_line margin key value ≡ front margin key ++ value
-from_front margin key value = ap (λ l. 10 ∷ l) (ap (λ l. margin ++ l) (sym (append_assoc (quoted key) (58 ∷ 32 ∷ []) value)) ∙ sym (append_assoc margin (quoted key ++ 58 ∷ 32 ∷ []) value))
+-- a line from its start and its value
+pub line_done : (margin out o n key value : List ℕ) → o ≡ out ++ line_start margin key → n ≡ o ++ value → n ≡ out ++ named_line margin key value
+line_done margin out o n key value starts ends =
+    ends ∙ ap (λ l. l ++ value) starts ∙ append_assoc out (line_start margin key) value ∙ ap (λ l. out ++ l) (sym (from_start margin key value))
 
 -- the first of an object's lines
 pub first_line : (margin out o : List ℕ) (p : List ℕ × Json) → o ≡ out ++ line margin p → o ≡ out ++ indented_fields margin (p ∷ [])
@@ -57,12 +59,12 @@ line_before margin out o c n p q qs one comma others =
 brackets_line : (margin out o1 o2 o3 o4 key inner : List ℕ) → o1 ≡ out ++ named_line margin key (91 ∷ []) → o2 ≡ o1 ++ inner → o3 ≡ o2 ++ 10 ∷ margin
     → o4 ≡ o3 ++ 93 ∷ [] → o4 ≡ out ++ named_line margin key (91 ∷ (inner ++ on_line margin (93 ∷ [])))
 brackets_line margin out o1 o2 o3 o4 key inner opens items closes last =
-    let start : o1 ≡ out ++ (front margin key ++ 91 ∷ []) = opens ∙ ap (λ l. out ++ l) (from_front margin key (91 ∷ [])) in
+    let start : o1 ≡ out ++ (line_start margin key ++ 91 ∷ []) = opens ∙ ap (λ l. out ++ l) (from_start margin key (91 ∷ [])) in
     last ∙ ap (λ l. l ++ 93 ∷ []) (closes ∙ ap (λ l. l ++ 10 ∷ margin) (items ∙ ap (λ l. l ++ inner) start))
-    ∙ append_assoc ((out ++ (front margin key ++ 91 ∷ [])) ++ inner) (10 ∷ margin) (93 ∷ [])
-    ∙ append_assoc (out ++ (front margin key ++ 91 ∷ [])) inner (on_line margin (93 ∷ []))
-    ∙ append_assoc out (front margin key ++ 91 ∷ []) (inner ++ on_line margin (93 ∷ []))
-    ∙ ap (λ l. out ++ l) (append_assoc (front margin key) (91 ∷ []) (inner ++ on_line margin (93 ∷ [])) ∙ sym (from_front margin key (91 ∷ (inner ++ on_line margin (93 ∷ [])))))
+    ∙ append_assoc ((out ++ (line_start margin key ++ 91 ∷ [])) ++ inner) (10 ∷ margin) (93 ∷ [])
+    ∙ append_assoc (out ++ (line_start margin key ++ 91 ∷ [])) inner (on_line margin (93 ∷ []))
+    ∙ append_assoc out (line_start margin key ++ 91 ∷ []) (inner ++ on_line margin (93 ∷ []))
+    ∙ ap (λ l. out ++ l) (append_assoc (line_start margin key) (91 ∷ []) (inner ++ on_line margin (93 ∷ [])) ∙ sym (from_start margin key (91 ∷ (inner ++ on_line margin (93 ∷ [])))))
 
 -- the line of a list that has items
 pub list_line : (margin out o1 o2 o3 o4 key : List ℕ) (xs : List Json) → 0 < length xs → o1 ≡ out ++ named_line margin key (91 ∷ []) → o2 ≡ o1 ++ indented_items (further margin) xs

@@ -4,7 +4,7 @@ ghost use Rattle.jtext.specs.Indent.{indented_fields};
 ghost use Rattle.std.specs.Str.{IsUtf8};
 ghost use Rattle.nb_text.specs.Cells.{cell_text, sorted_pairs, common_pairs, prose_pairs, code_pairs, count_line, outputs_line};
 
-use crate::lines::{new_line, put_items, put_line, put_pair, put_string};
+use crate::lines::{new_line, put_items, put_line, put_pair, put_text_pair};
 use jtext::{Bytes, Json, NoMemory, Text};
 use nb_model::{Cell, Kind};
 use std::alloc::Global;
@@ -69,9 +69,9 @@ fn put_common(alloc: Global, out: &mut Bytes, kind: &str, cell: &Cell) -> Result
     ensures { OnOk result (out.new
         ≡ out.old ++ indented_fields (replicate 3 32) (common_pairs kind.now cell.now)) }
 {
-    put_string(alloc, out, 3, "cell_type", kind)?;
+    put_text_pair(alloc, out, 3, "cell_type", kind)?;
     out.add(b",")?;
-    put_string(alloc, out, 3, "id", cell.id.as_str())?;
+    put_text_pair(alloc, out, 3, "id", cell.id.as_str())?;
     out.add(b",")?;
     put_pair(alloc, out, 3, "metadata", &cell.metadata)?;
     out.add(b",")?;
@@ -83,11 +83,11 @@ fn put_code(alloc: Global, out: &mut Bytes, cell: &Cell) -> Result<(), NoMemory>
     ensures { OnOk result (out.new
         ≡ out.old ++ indented_fields (replicate 3 32) (code_pairs cell.now)) }
 {
-    put_string(alloc, out, 3, "cell_type", "code")?;
+    put_text_pair(alloc, out, 3, "cell_type", "code")?;
     out.add(b",")?;
     put_count(alloc, out, cell)?;
     out.add(b",")?;
-    put_string(alloc, out, 3, "id", cell.id.as_str())?;
+    put_text_pair(alloc, out, 3, "id", cell.id.as_str())?;
     out.add(b",")?;
     put_pair(alloc, out, 3, "metadata", &cell.metadata)?;
     out.add(b",")?;

@@ -4,7 +4,7 @@ ghost use Rattle.std.specs.Fmt.{decimal};
 ghost use Rattle.jtext.specs.declared.json.Json.TheVariants as json;
 ghost use Rattle.nb_text.specs.Generated as generated;
 
-use jtext::{Fields, Items, Json, NoMemory, Text};
+use jtext::{Fields, Items, Json, NoMemory, Text, object, pair, text_pair};
 use nb_model::{Cell, Cells, Kind, Notebook};
 use std::alloc::Global;
 
@@ -77,19 +77,16 @@ fn numbered(alloc: Global, front: &str, i: u32) -> Result<Text, NoMemory>
 fn kernel(alloc: Global) -> Result<Json, NoMemory>
     ensures { IfOk result (λ t. t ≡ generated.kernel) }
 {
-    let mut metadata = Fields::new(alloc);
-    metadata.push((Text::of(alloc, "kernelspec")?, kernelspec(alloc)?))?;
-    Ok(Json::Obj(metadata))
+    let spec = pair(alloc, "kernelspec", kernelspec(alloc)?)?;
+    let metadata = object(alloc, [spec])?;
+    Ok(metadata)
 }
 
 fn kernelspec(alloc: Global) -> Result<Json, NoMemory>
     ensures { IfOk result (λ t. t ≡ generated.kernelspec) }
 {
-    let mut fields = Fields::new(alloc);
-    fields.push((
-        Text::of(alloc, "display_name")?,
-        Json::Str(Text::of(alloc, "Toy")?),
-    ))?;
-    fields.push((Text::of(alloc, "name")?, Json::Str(Text::of(alloc, "toy")?)))?;
-    Ok(Json::Obj(fields))
+    let shown = text_pair(alloc, "display_name", "Toy")?;
+    let name = text_pair(alloc, "name", "toy")?;
+    let spec = object(alloc, [shown, name])?;
+    Ok(spec)
 }

@@ -1,4 +1,4 @@
-use Rattle.std.proofs.Common.{◌++◌, map, arith}
+use Rattle.std.proofs.Common.{map, arith}
 use Rattle.std.proofs.lemmas.Bool.Decides.{nat_tests}
 use Rattle.nb_text.specs.Cells.{cell_text}
 use Rattle.nb_text.proofs.Texts.{texts_line, some_items}
