@@ -1,5 +1,5 @@
 -- The id of the new cell is fresh among the ids of the others, and its number the least from 1.
-use Rattle.std.proofs.Common.{◌≡◌, ℕ, zero, suc, ◌+◌, ◌<◌, ◌≤◌, ◌^◌, true, false, List, ◌++◌, length, map, sym, ap, ◌∙◌, inl, inr, arith, codes}
+use Rattle.std.proofs.Common.{◌≡◌, ℕ, zero, suc, ◌+◌, ◌<◌, ◌≤◌, ◌^◌, true, false, List, ◌++◌, length, sym, ap, ◌∙◌, inl, inr, arith, codes}
 use Rattle.std.specs.Prelude.{Contains}
 use Rattle.std.specs.List.{list_any}
 use Rattle.std.specs.Str.{bytes_eq}
@@ -9,7 +9,7 @@ use Rattle.std.proofs.lemmas.Map.Views.{list_any-from_Contains, Contains-from_an
 use Rattle.std.proofs.lemmas.Slice.Eq.{bytes_eq-Decides}
 use Rattle.jtext.specs.declared.json.Json.{Json}
 use Rattle.nb_model.specs.declared.cell.Cell.{Cell}
-use Rattle.nb_params.specs.Fresh.{IsLeastFree, IsFreshId, IsInserted}
+use Rattle.nb_params.specs.Fresh.{IsFreshId, IsInserted}
 use Rattle.nb_params.specs.Injected.{numbered_id, free_from, fresh_id, ids, with_parameters}
 use Rattle.nb_params.proofs.FreshIds.{number_free}
 use Rattle.nb_params.proofs.Placements.{placed, length-ids_rest}

@@ -5,7 +5,7 @@ use Rattle.jtext.specs.declared.json.Json.{Json}
 use Rattle.jtext.specs.declared.json.Json.TheVariants as json
 use Rattle.nb_model.specs.declared.cell.Cell.{Cell}
 use Rattle.nb_model.specs.declared.notebook.Notebook.{Notebook}
-use Rattle.nb_model.specs.Record.{set_within}
+use Rattle.jtext.specs.Edit.{set_within}
 use Rattle.nb_model.specs.Kind.{is_code}
 use Rattle.nb_params.specs.Injected.{hidden_cell, with_parameters, parameters_cell, fresh_id, ids, recorded_metadata, parametrised_notebook, injected_notebook}
 use Rattle.nb_model.proofs.CellValues.{Values, metadata_in, with_metadata}

@@ -16,7 +16,7 @@ use Rattle.nb_model.specs.Valid.{is_output, is_cell_metadata, are_attachments, i
 use Rattle.nb_params.specs.Python.{python}
 use Rattle.nb_model.specs.Tree.{cell_tree, notebook_tree}
 use Rattle.nb_model.specs.Reading.{value_at}
-use Rattle.nb_model.specs.Record.{set_field, set_within}
+use Rattle.jtext.specs.Edit.{set_field, set_within}
 use Rattle.nb_model.specs.Kind.{is_code}
 use Rattle.nb_params.specs.Injected.{hidden_cell, parameters_cell, fresh_id, ids, parametrised_notebook, injected_notebook}
 use Rattle.nb_model.proofs.Tautologies.{and_parts}

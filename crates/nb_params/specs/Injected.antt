@@ -1,25 +1,23 @@
--- A notebook with parameters injected, as Papermill does it: the new cell, the record of the parameters, and hidden sources for a report.
-use Rattle.std.specs.Prelude.{ℕ, zero, suc, ◌+◌, Bool, true, false, List, [], ◌∷◌, ◌++◌, map, take, drop, length, codes, ◌||◌, if◌then◌else◌, Option, Some, None, unwrap_or, option_and_then, position}
+-- A notebook with parameters injected, as Papermill does it: the new cell, the record of the parameters, and
+-- hidden sources for a report.
+use Rattle.std.specs.Prelude.{ℕ, zero, suc, ◌+◌, Bool, true, List, [], ◌∷◌, ◌++◌, map, take, drop, length, codes, ◌||◌, if◌then◌else◌, Option, Some, None, unwrap_or, option_and_then, position}
 use Rattle.std.specs.List.{list_any}
 use Rattle.std.specs.Str.{bytes_eq}
 use Rattle.std.specs.Fmt.{decimal}
 use Rattle.jtext.specs.declared.json.Json.{Json}
 use Rattle.jtext.specs.declared.json.Json.TheVariants as json
-use Rattle.jtext.specs.Find.{field, fields}
-use Rattle.jtext.specs.Look.{items, string}
-use Rattle.nb_model.specs.declared.kind.Kind.{Kind}
+use Rattle.jtext.specs.Find.{field}
+use Rattle.jtext.specs.Look.{string}
 use Rattle.nb_model.specs.declared.kind.Kind.TheVariants as kind
 use Rattle.nb_model.specs.declared.cell.Cell.{Cell}
 use Rattle.nb_model.specs.declared.notebook.Notebook.{Notebook}
-use Rattle.nb_model.specs.Keys.{is_text, has}
 use Rattle.nb_model.specs.Lines.{lines_tree}
 use Rattle.nb_params.specs.Python.{python}
+use Rattle.jtext.specs.Edit.{set_within}
+use Rattle.nb_model.specs.Kind.{is_code}
+use Rattle.nb_model.specs.Tags.{is_tagged}
 
 -- ---- what is asked of a notebook
-
--- the cell has this tag
-abbrev pub is_tagged : List ℕ → Cell → Bool
-is_tagged tag c = has (codes "tags") (λ v. list_any (is_text tag) (items v)) c.metadata
 
 -- the string under a key of the object under another key
 abbrev pub string_within : List ℕ → List ℕ → Json → Option (List ℕ)
@@ -47,20 +45,28 @@ free_from (suc steps) n ids = if list_any (bytes_eq (numbered_id n)) ids then fr
 
 -- an id that none of these is; as many steps as there are ids always find one
 abbrev pub fresh_id : List (List ℕ) → List ℕ
-fresh_id ids = if list_any (bytes_eq (codes "injected-parameters")) ids then numbered_id (free_from (length ids) 1 ids) else codes "injected-parameters"
+fresh_id ids =
+    if list_any (bytes_eq (codes "injected-parameters")) ids then numbered_id (free_from (length ids) 1 ids)
+    else codes "injected-parameters"
+
+-- its metadata: the tag by which it is found again
+abbrev pub parameters_metadata : Json
+parameters_metadata =
+    json.Obj ((codes "tags", json.Arr (json.Str (codes "injected-parameters") ∷ [])) ∷ [])
 
 -- the cell of the parameters
 abbrev pub parameters_cell : List ℕ → List (List ℕ × Json) → Cell
 parameters_cell id ps = record {
   kind = kind.Code;
   id = id;
-  metadata = json.Obj ((codes "tags", json.Arr (json.Str (codes "injected-parameters") ∷ [])) ∷ []);
+  metadata = parameters_metadata;
   source = lines_tree (python ps);
   attachments = None;
   outputs = [];
   count = None;
 }
 
+-- the ids of the cells
 abbrev pub ids : List Cell → List (List ℕ)
 ids cells = map (λ c. c.id) cells
 
@@ -72,7 +78,8 @@ placed_after (Some i) ps cells = take (i + 1) cells ++ parameters_cell (fresh_id
 -- in the place of this cell, or after the cell with defaults, or first
 abbrev pub placed_at : Option ℕ → List (List ℕ × Json) → List Cell → List Cell
 placed_at None ps cells = placed_after (position (is_tagged (codes "parameters")) cells) ps cells
-placed_at (Some i) ps cells = take i cells ++ parameters_cell (fresh_id (ids (take i cells ++ drop (i + 1) cells))) ps ∷ drop (i + 1) cells
+placed_at (Some i) ps cells =
+    take i cells ++ parameters_cell (fresh_id (ids (take i cells ++ drop (i + 1) cells))) ps ∷ drop (i + 1) cells
 
 -- the cells with the new one: it replaces the first one that an earlier injection made
 abbrev pub with_parameters : List (List ℕ × Json) → List Cell → List Cell
@@ -80,39 +87,30 @@ with_parameters ps cells = placed_at (position (is_tagged (codes "injected-param
 
 -- ---- records in metadata
 
--- the pairs with this value under the key, in its place or last
-abbrev pub set_pair : List ℕ → Json → List (List ℕ × Json) → List (List ℕ × Json)
-set_pair key v [] = (key, v) ∷ []
-set_pair key v (p ∷ ps) = if bytes_eq p.0 key then (p.0, v) ∷ ps else p ∷ set_pair key v ps
-
--- the object with this value under the key; what is no object becomes one
-abbrev pub set_field : List ℕ → Json → Json → Json
-set_field key v t = json.Obj (set_pair key v (fields t))
-
--- the object with this value under a key of the object under another key
-abbrev pub set_within : List ℕ → List ℕ → Json → Json → Json
-set_within outer key v t = set_field outer (set_field key v (unwrap_or (field t outer) json.Null)) t
-
 -- the notebook's metadata with the record of the parameters
 abbrev pub recorded_metadata : List (List ℕ × Json) → Json → Json
 recorded_metadata ps metadata = set_within (codes "papermill") (codes "parameters") (json.Obj ps) metadata
 
-abbrev pub is_code : Kind → Bool
-is_code kind.Raw = false
-is_code kind.Markdown = false
-is_code kind.Code = true
-
 -- a code cell with its source hidden, for a report
 abbrev pub hidden_cell : Cell → Cell
-hidden_cell c = if is_code c.kind then record c { metadata = set_within (codes "jupyter") (codes "source_hidden") (json.Bool true) c.metadata } else c
+hidden_cell c =
+    if is_code c.kind
+    then record c { metadata = set_within (codes "jupyter") (codes "source_hidden") (json.Bool true) c.metadata }
+    else c
 
 -- ---- the injected notebook
 
 -- with these parameters, if there are any
 abbrev pub parametrised_notebook : Notebook → List (List ℕ × Json) → Notebook
 parametrised_notebook n [] = n
-parametrised_notebook n (p ∷ ps) = record { metadata = recorded_metadata (p ∷ ps) n.metadata; cells = with_parameters (p ∷ ps) n.cells }
+parametrised_notebook n (p ∷ ps) = record {
+  metadata = recorded_metadata (p ∷ ps) n.metadata;
+  cells = with_parameters (p ∷ ps) n.cells;
+}
 
 -- the injected notebook, for a report or not
 abbrev pub injected_notebook : Notebook → List (List ℕ × Json) → Bool → Notebook
-injected_notebook n ps report = if report then record (parametrised_notebook n ps) { cells = map hidden_cell (parametrised_notebook n ps).cells } else parametrised_notebook n ps
+injected_notebook n ps report =
+    if report
+    then record (parametrised_notebook n ps) { cells = map hidden_cell (parametrised_notebook n ps).cells }
+    else parametrised_notebook n ps

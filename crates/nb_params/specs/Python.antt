@@ -6,13 +6,15 @@ use Rattle.jtext.specs.declared.json.Json.{Json}
 use Rattle.jtext.specs.declared.json.Json.TheOpen.{Json-F}
 use Rattle.jtext.specs.declared.json.Json.TheFolds.{fold-Json}
 
--- the lower-case hexadecimal digits of a number below 16^2, 16^4 and 16^8
+-- the lower-case hexadecimal digits of a number below 16^2
 abbrev pub two_digits : ℕ → List ℕ
 two_digits n = digit_char (n / 16 % 16) ∷ digit_char (n % 16) ∷ []
 
+-- the digits of a number below 16^4
 abbrev pub four_digits : ℕ → List ℕ
 four_digits n = two_digits (n / 256) ++ two_digits n
 
+-- the digits of a number below 16^8
 abbrev pub eight_digits : ℕ → List ℕ
 eight_digits n = four_digits (n / 65536) ++ four_digits n
 

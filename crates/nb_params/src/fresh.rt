@@ -31,7 +31,8 @@ fn has_id(cells: &[Cell], id: &str) -> bool
 }
 
 fn ids_of(alloc: Global, cells: &[Cell]) -> Result<BTreeSet<String>, NoMemory>
-    ensures { IfOk result (λ ids. (q : Plain ℕ) → contains_text ids q ≡ list_any (bytes_eq q) (injected.ids cells.now)) }
+    ensures { IfOk result (λ ids. (q : Plain ℕ)
+        → contains_text ids q ≡ list_any (bytes_eq q) (injected.ids cells.now)) }
 {
     let mut ids = BTreeSet::new(alloc);
     for cell in cells {
@@ -43,7 +44,9 @@ fn ids_of(alloc: Global, cells: &[Cell]) -> Result<BTreeSet<String>, NoMemory>
 /// The id with the least number from 1 that isn't taken, after at most so many that are.
 fn least_free(alloc: Global, taken: &BTreeSet<String>, steps: usize) -> Result<Text, NoMemory>
     requires { steps < 2 ^ 63 }
-    ensures { IfOk result (λ id. (ids : Plain (Plain ℕ)) → ((q : Plain ℕ) → contains_text taken.now q ≡ list_any (bytes_eq q) ids) → id ≡ injected.numbered_id (injected.free_from steps 1 ids)) }
+    ensures { IfOk result (λ id. (ids : Plain (Plain ℕ))
+        → ((q : Plain ℕ) → contains_text taken.now q ≡ list_any (bytes_eq q) ids)
+        → id ≡ injected.numbered_id (injected.free_from steps 1 ids)) }
 {
     for i in 0..steps {
         let id = numbered_id(alloc, i + 1)?;

@@ -2,8 +2,8 @@
 ghost use Rattle.std.specs.Prelude.{◌≡◌, IfOk, map};
 ghost use Rattle.nb_params.specs.Injected as injected;
 
-use jtext::{Json, NoMemory};
-use nb_model::{Cell, Cells, Kind, set_within};
+use jtext::{Json, NoMemory, set_within};
+use nb_model::{Cell, Cells, Kind};
 use std::alloc::Global;
 
 /// The cells with the source of each code cell hidden (`metadata.jupyter.source_hidden`).

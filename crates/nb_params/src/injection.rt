@@ -1,5 +1,6 @@
 //! Parameters injected into a notebook.
 ghost use Rattle.std.specs.Prelude.{◌≡◌, IfOk, IfErr, position, false, length, ◌≤◌};
+ghost use Rattle.nb_model.specs.Tags as tags;
 ghost use Rattle.nb_params.specs.Injected as injected;
 ghost use Rattle.nb_params.specs.Placing.{with_cell, place_after};
 ghost use Rattle.nb_params.specs.Refused.{is_refused, Refuses};
@@ -9,8 +10,8 @@ use crate::fresh::fresh_id;
 use crate::hiding::hide_all;
 use crate::language::{has_translator, language};
 use crate::new_cell::parameters_cell;
-use jtext::{Fields, Json, NoMemory, Text, copy};
-use nb_model::{Cell, Cells, Notebook, set_within, tagged};
+use jtext::{Fields, Json, NoMemory, Text, copy_fields, set_within};
+use nb_model::{Cell, Cells, Notebook, tagged};
 use std::alloc::Global;
 
 /// Injects the parameters, if there are any, and hides the sources of all code cells for a report.
@@ -59,7 +60,7 @@ fn with_parameters(alloc: Global, n: Notebook, params: &Fields) -> Result<Notebo
     }) }
 {
     let Notebook { metadata, cells } = n;
-    let values = copy_pairs(alloc, params)?;
+    let values = copy_fields(alloc, params.as_slice())?;
     let metadata = set_within(
         alloc,
         "papermill",
@@ -111,17 +112,7 @@ fn place_after(cells: &[Cell]) -> usize
 }
 
 fn place_of(cells: &[Cell], tag: &str) -> Option<usize>
-    ensures { result ≡ position (injected.is_tagged tag.now) cells.now }
+    ensures { result ≡ position (tags.is_tagged tag.now) cells.now }
 {
     cells.iter().position(|cell| tagged(cell, tag))
-}
-
-fn copy_pairs(alloc: Global, params: &Fields) -> Result<Fields, NoMemory>
-    ensures { IfOk result (λ r. r ≡ params.now) }
-{
-    let mut out = Fields::new(alloc);
-    for (name, value) in params.as_slice() {
-        out.push((Text::of(alloc, name.as_str())?, copy(alloc, value)?))?;
-    }
-    Ok(out)
 }

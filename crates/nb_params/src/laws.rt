@@ -19,8 +19,8 @@ pub fn fresh_id_is_least()
         → IsFreshId taken (fresh_id taken) }
 {}
 
-/// The cells with the parameters are the old ones, or all but one, and the new cell among them, whose
-/// id is fresh.
+/// The cells with the parameters are the old ones, or all but one, and the new cell among them,
+/// whose id is fresh.
 pub fn parameters_are_inserted()
     ensures { (ps : Plain (Plain ℕ × tree.Json)) (cells : Plain cell.Cell)
         → length cells < 10 ^ 44 → IsInserted ps cells (with_parameters ps cells) }
