@@ -9,9 +9,9 @@ use Rattle.jtext.specs.Depth.{depth}
 use Rattle.jtext.specs.Find.{fields}
 use Rattle.jtext.specs.Look.{is_object, is_list, items}
 use Rattle.jtext.proofs.Depths.{depth-Arr, depth-Obj, depth-Num, depth-Str, highest-le, highest-all}
-use Rattle.nb_model.specs.Record.{set_field}
+use Rattle.jtext.specs.Edit.{set_field}
 use Rattle.nb_model.proofs.DepthLaws.{object_within, values_within, field_set_within}
-use Rattle.nb_model.proofs.TreeLaws.{object_is, list_is}
+use Rattle.jtext.proofs.Trees.{object_is, list_is}
 use Rattle.nb_migrate.specs.Raised.{is_older, new_id, raised_cell, raised_from, raised_cells, raised_pair, raised_object, raised_tree}
 
 -- an object is one level at least, and so is a list

@@ -8,10 +8,10 @@ use Rattle.jtext.specs.Look.{is_object, is_list, items}
 use Rattle.jtext.specs.Grammar.{Lacks, Distinct}
 use Rattle.jtext.specs.Keyed as keyed
 use Rattle.jtext.specs.Keyed.{Keyed, AllKeyed}
-use Rattle.nb_model.specs.Record.{set_field}
+use Rattle.jtext.specs.Edit.{set_field}
 use Rattle.nb_model.proofs.CellValues.{Values}
 use Rattle.nb_model.proofs.KeyedLemmas.{pairs_of, fields_keyed, keyed_items, keyed-set_field}
-use Rattle.nb_model.proofs.TreeLaws.{first_keyed}
+use Rattle.jtext.proofs.Trees.{first_keyed}
 use Rattle.nb_migrate.specs.Raised.{is_older, new_id, raised_cell, raised_from, raised_cells, raised_pair, raised_object, raised_tree}
 
 cell_keyed : (i : ℕ) (v : Json) → Keyed v → Keyed (raised_cell i v)

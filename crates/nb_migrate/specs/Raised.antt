@@ -7,7 +7,7 @@ use Rattle.jtext.specs.declared.json.Json.TheVariants as json
 use Rattle.jtext.specs.Find.{fields}
 use Rattle.jtext.specs.Look.{is_object, is_list, items}
 use Rattle.nb_model.specs.Keys.{has, is_number}
-use Rattle.nb_model.specs.Record.{set_field}
+use Rattle.jtext.specs.Edit.{set_field}
 
 -- a minor version below 5
 abbrev pub is_older_minor : Json → Bool

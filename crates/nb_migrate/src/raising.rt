@@ -4,8 +4,7 @@ ghost use Rattle.jtext.specs.declared.json.Json.TheVariants as json;
 ghost use Rattle.nb_model.specs.Keys as keys;
 ghost use Rattle.nb_migrate.specs.Raised as raising;
 
-use jtext::{Fields, Items, Json, NoMemory, NumText, Text, field};
-use nb_model::set_field;
+use jtext::{Fields, Items, Json, NoMemory, NumText, Text, field, set_field};
 use std::alloc::Global;
 
 /// The tree as one of 4.5, where it is of format 4.0 to 4.4; any other as it is.
