@@ -9,10 +9,10 @@ use Rattle.jtext.specs.Depth.{depth}
 use Rattle.jtext.specs.Find.{fields}
 use Rattle.jtext.specs.Look.{is_object, is_list, items}
 use Rattle.jtext.proofs.Depths.{depth-Arr, depth-Obj, depth-Num, depth-Str, highest-le, highest-all}
-use Rattle.nb_model.specs.Injected.{set_field}
+use Rattle.jtext.specs.Edit.{set_field}
 use Rattle.nb_model.proofs.DepthLaws.{object_within, values_within, field_set_within}
-use Rattle.nb_model.proofs.TreeLaws.{object_is, list_is}
-use Rattle.nb_migrate.specs.Raised.{is_older, new_id, raised_cell, raised_from, raised_cells, raised_pair, raised_object, raised}
+use Rattle.jtext.proofs.Trees.{object_is, list_is}
+use Rattle.nb_migrate.specs.Raised.{is_older, new_id, raised_cell, raised_from, raised_cells, raised_pair, raised_object, raised_tree}
 
 -- an object is one level at least, and so is a list
 some_object : (n : ℕ) (t : Json) → is_object t ≡ true → depth t ≤ n → 1 ≤ n
@@ -79,6 +79,6 @@ whole_within n t h =
     object zero is small = let some = some_object 0 t is small in absurd (omega (arith, some))
     object (suc m) is small = object_within m (map raised_pair (fields t)) (pairs_within m (fields t) (values_within m (fields t) (subst (λ u. depth u ≤ suc m) (object_is t is) small)))
 
-pub no_deeper : (t : Json) → depth (raised t) ≤ depth t
+pub no_deeper : (t : Json) → depth (raised_tree t) ≤ depth t
 no_deeper t =
     elim (is_older t) as (λ b. depth (cond b (raised_object t) t) ≤ depth t) [ true ↦ whole_within (depth t) t (omega arith) | false ↦ omega arith ]

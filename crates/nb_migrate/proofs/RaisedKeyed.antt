@@ -8,11 +8,11 @@ use Rattle.jtext.specs.Look.{is_object, is_list, items}
 use Rattle.jtext.specs.Grammar.{Lacks, Distinct}
 use Rattle.jtext.specs.Keyed as keyed
 use Rattle.jtext.specs.Keyed.{Keyed, AllKeyed}
-use Rattle.nb_model.specs.Injected.{set_field}
+use Rattle.jtext.specs.Edit.{set_field}
 use Rattle.nb_model.proofs.CellValues.{Values}
 use Rattle.nb_model.proofs.KeyedLemmas.{pairs_of, fields_keyed, keyed_items, keyed-set_field}
-use Rattle.nb_model.proofs.TreeLaws.{first_keyed}
-use Rattle.nb_migrate.specs.Raised.{is_older, new_id, raised_cell, raised_from, raised_cells, raised_pair, raised_object, raised}
+use Rattle.jtext.proofs.Trees.{first_keyed}
+use Rattle.nb_migrate.specs.Raised.{is_older, new_id, raised_cell, raised_from, raised_cells, raised_pair, raised_object, raised_tree}
 
 cell_keyed : (i : ℕ) (v : Json) → Keyed v → Keyed (raised_cell i v)
 cell_keyed i v k =
@@ -71,5 +71,5 @@ object_keyed t k =
       | false ↦ k
     ]
 
-pub raised_keyed : (t : Json) → Keyed t → Keyed (raised t)
+pub raised_keyed : (t : Json) → Keyed t → Keyed (raised_tree t)
 raised_keyed t k = elim (is_older t) as (λ b. Keyed (cond b (raised_object t) t)) [ true ↦ object_keyed t k | false ↦ k ]

@@ -7,11 +7,12 @@ use Rattle.jtext.specs.declared.json.Json.TheVariants as json
 use Rattle.jtext.specs.Find.{fields}
 use Rattle.jtext.specs.Look.{is_object, is_list, items}
 use Rattle.nb_model.specs.Keys.{has, is_number}
-use Rattle.nb_model.specs.Injected.{set_field}
+use Rattle.jtext.specs.Edit.{set_field}
 
 -- a minor version below 5
 abbrev pub is_older_minor : Json → Bool
-is_older_minor v = is_number (codes "0") v || is_number (codes "1") v || is_number (codes "2") v || is_number (codes "3") v || is_number (codes "4") v
+is_older_minor v =
+    is_number (codes "0") v || is_number (codes "1") v || is_number (codes "2") v || is_number (codes "3") v || is_number (codes "4") v
 
 -- an object whose version is 4.0 to 4.4
 abbrev pub is_older : Json → Bool
@@ -34,6 +35,7 @@ raised_from i (v ∷ vs) = raised_cell i v ∷ raised_from (i + 1) vs
 abbrev pub raised_cells : Json → Json
 raised_cells v = if is_list v then json.Arr (raised_from 0 (items v)) else v
 
+-- the pair with the key `cells` or `nbformat_minor`; any other stays
 abbrev pub raised_pair : List ℕ × Json → List ℕ × Json
 raised_pair p =
     if bytes_eq p.0 (codes "cells") then (p.0, raised_cells p.1)
@@ -45,5 +47,5 @@ abbrev pub raised_object : Json → Json
 raised_object t = if is_object t then json.Obj (map raised_pair (fields t)) else t
 
 -- a tree of 4.0 to 4.4 as one of 4.5; any other as it is
-abbrev pub raised : Json → Json
-raised t = if is_older t then raised_object t else t
+abbrev pub raised_tree : Json → Json
+raised_tree t = if is_older t then raised_object t else t

@@ -5,7 +5,5 @@
 pub mod laws;
 mod migration;
 mod raising;
-#[cfg(test)]
-mod tests;
 
 pub use migration::of_any;

@@ -2,15 +2,14 @@
 ghost use Rattle.std.specs.Prelude.{◌≡◌, IfOk, map, codes};
 ghost use Rattle.jtext.specs.declared.json.Json.TheVariants as json;
 ghost use Rattle.nb_model.specs.Keys as keys;
-ghost use Rattle.nb_migrate.specs.Raised as spec;
+ghost use Rattle.nb_migrate.specs.Raised as raising;
 
-use jtext::{Fields, Items, Json, NoMemory, NumText, Text, field};
-use nb_model::set_field;
+use jtext::{Fields, Items, Json, NoMemory, NumText, Text, field, set_field};
 use std::alloc::Global;
 
 /// The tree as one of 4.5, where it is of format 4.0 to 4.4; any other as it is.
-pub(crate) fn raised(alloc: Global, t: Json) -> Result<Json, NoMemory>
-    ensures { IfOk result (λ r. r ≡ spec.raised t) }
+pub(crate) fn raise(alloc: Global, t: Json) -> Result<Json, NoMemory>
+    ensures { IfOk result (λ r. r ≡ raising.raised_tree t) }
 {
     if is_older(&t) {
         raised_object(alloc, t)
@@ -20,14 +19,14 @@ pub(crate) fn raised(alloc: Global, t: Json) -> Result<Json, NoMemory>
 }
 
 fn is_older(t: &Json) -> bool
-    ensures { result ≡ spec.is_older t.now }
+    ensures { result ≡ raising.is_older t.now }
 {
     field(t, "nbformat").is_some_and(|v| is_number(v, "4"))
         && field(t, "nbformat_minor").is_some_and(|v| is_older_minor(v))
 }
 
 fn is_older_minor(v: &Json) -> bool
-    ensures { result ≡ spec.is_older_minor v.now }
+    ensures { result ≡ raising.is_older_minor v.now }
 {
     is_number(v, "0")
         || is_number(v, "1")
@@ -46,7 +45,7 @@ fn is_number(v: &Json, text: &str) -> bool
 }
 
 fn raised_object(alloc: Global, t: Json) -> Result<Json, NoMemory>
-    ensures { IfOk result (λ r. r ≡ spec.raised_object t) }
+    ensures { IfOk result (λ r. r ≡ raising.raised_object t) }
 {
     match t {
         Json::Obj(pairs) => {
@@ -58,7 +57,7 @@ fn raised_object(alloc: Global, t: Json) -> Result<Json, NoMemory>
 }
 
 fn raised_pairs(alloc: Global, pairs: Fields) -> Result<Fields, NoMemory>
-    ensures { IfOk result (λ r. r ≡ map spec.raised_pair pairs) }
+    ensures { IfOk result (λ r. r ≡ map raising.raised_pair pairs) }
 {
     let mut out = Fields::new(alloc);
     for pair in pairs.into_vec() {
@@ -68,7 +67,7 @@ fn raised_pairs(alloc: Global, pairs: Fields) -> Result<Fields, NoMemory>
 }
 
 fn raised_pair(alloc: Global, pair: (Text, Json)) -> Result<(Text, Json), NoMemory>
-    ensures { IfOk result (λ r. r ≡ spec.raised_pair pair) }
+    ensures { IfOk result (λ r. r ≡ raising.raised_pair pair) }
 {
     let (key, value) = pair;
     if key.as_str() == "cells" {
@@ -89,7 +88,7 @@ fn five(alloc: Global) -> Result<Json, NoMemory>
 }
 
 fn raised_cells(alloc: Global, v: Json) -> Result<Json, NoMemory>
-    ensures { IfOk result (λ r. r ≡ spec.raised_cells v) }
+    ensures { IfOk result (λ r. r ≡ raising.raised_cells v) }
 {
     match v {
         Json::Arr(items) => {
@@ -101,7 +100,7 @@ fn raised_cells(alloc: Global, v: Json) -> Result<Json, NoMemory>
 }
 
 fn raised_items(alloc: Global, items: Items) -> Result<Items, NoMemory>
-    ensures { IfOk result (λ r. r ≡ spec.raised_from 0 items) }
+    ensures { IfOk result (λ r. r ≡ raising.raised_from 0 items) }
 {
     let mut out = Items::new(alloc);
     for item in items.into_vec() {
@@ -112,7 +111,7 @@ fn raised_items(alloc: Global, items: Items) -> Result<Items, NoMemory>
 }
 
 fn raised_cell(alloc: Global, i: usize, v: Json) -> Result<Json, NoMemory>
-    ensures { IfOk result (λ r. r ≡ spec.raised_cell i v) }
+    ensures { IfOk result (λ r. r ≡ raising.raised_cell i v) }
 {
     if matches!(&v, Json::Obj(_)) {
         let id = Json::Str(new_id(alloc, i)?);
@@ -123,7 +122,7 @@ fn raised_cell(alloc: Global, i: usize, v: Json) -> Result<Json, NoMemory>
 }
 
 fn new_id(alloc: Global, i: usize) -> Result<Text, NoMemory>
-    ensures { IfOk result (λ id. id ≡ spec.new_id i) }
+    ensures { IfOk result (λ id. id ≡ raising.new_id i) }
 {
     let id = format!(in alloc; "cell-{i}")?;
     Ok(Text::of_string(id))

@@ -1,5 +1,5 @@
 -- What holds of the value of each pair of a cell or a notebook, when its metadata changes or its outputs are taken out.
-use Rattle.std.proofs.Common.{ℕ, List, [], ◌∷◌, ◌++◌, map, None, codes}
+use Rattle.std.proofs.Common.{ℕ, List, [], ◌∷◌, ◌++◌, map, Option, None, codes}
 use Rattle.std.specs.List.{AllByRecursion}
 use Rattle.jtext.specs.declared.json.Json.{Json}
 use Rattle.jtext.specs.declared.json.Json.TheVariants as json
@@ -7,7 +7,7 @@ use Rattle.nb_model.specs.declared.kind.Kind.{Kind}
 use Rattle.nb_model.specs.declared.kind.Kind.TheVariants as kind
 use Rattle.nb_model.specs.declared.cell.Cell.{Cell}
 use Rattle.nb_model.specs.declared.notebook.Notebook.{Notebook}
-use Rattle.nb_model.specs.Tree.{optional, cell_tree}
+use Rattle.nb_model.specs.Tree.{optional_pair, count_tree, cell_tree}
 use Rattle.nb_model.proofs.TreeLaws.{pairs_with}
 
 -- the pairs of a cell of text, but for its attachments
@@ -19,7 +19,7 @@ abbrev pub top_pairs : Notebook → List (List ℕ × Json)
 top_pairs n = (codes "cells", json.Arr (map cell_tree n.cells)) ∷ (codes "metadata", n.metadata) ∷ (codes "nbformat", json.Num (codes "4")) ∷ (codes "nbformat_minor", json.Num (codes "5")) ∷ []
 
 abbrev attached : Cell → List (List ℕ × Json)
-attached c = optional (codes "attachments") c.attachments
+attached c = optional_pair (codes "attachments") c.attachments
 
 module _ (Q : Json → Type 0) where
   -- it holds of the value of each pair
@@ -44,11 +44,16 @@ module _ (Q : Json → Type 0) where
   with_metadata kind.Markdown c m q all = under (attached c) (prose_pairs (codes "markdown") c c.metadata) (prose_pairs (codes "markdown") c m) (λ h. (h.0, (h.1.0, (q, h.1.1.1)))) all
   with_metadata kind.Code c m q all = (all.0, (all.1.0, (all.1.1.0, (q, all.1.1.1.1))))
 
+  -- with other outputs and another count
+  pub with_outputs : (k : Kind) (c : Cell) (os : List Json) (n : Option (List ℕ)) → Q (count_tree n) → Q (json.Arr os)
+      → Values (pairs_with k c) → Values (pairs_with k (record c { outputs = os; count = n }))
+  with_outputs kind.Raw c os n count outputs all = all
+  with_outputs kind.Markdown c os n count outputs all = all
+  with_outputs kind.Code c os n count outputs all = (all.0, (count, (all.1.1.0, (all.1.1.1.0, (outputs, all.1.1.1.1.1)))))
+
   -- without outputs and count
   pub emptied : (k : Kind) (c : Cell) → Q json.Null → Q (json.Arr []) → Values (pairs_with k c) → Values (pairs_with k (record c { outputs = []; count = None }))
-  emptied kind.Raw c null none all = all
-  emptied kind.Markdown c null none all = all
-  emptied kind.Code c null none all = (all.0, (null, (all.1.1.0, (all.1.1.1.0, (none, all.1.1.1.1.1)))))
+  emptied k c null none all = with_outputs k c [] None null none all
 
 -- ---- lists of trees
 

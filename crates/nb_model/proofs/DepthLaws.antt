@@ -19,10 +19,12 @@ use Rattle.nb_model.specs.declared.cell.Cell.{Cell}
 use Rattle.nb_model.specs.declared.notebook.Notebook.{Notebook}
 use Rattle.nb_model.specs.Valid.{is_notebook}
 use Rattle.nb_model.specs.Reading.{notebook_of}
-use Rattle.nb_model.specs.Tree.{optional, pairs_of_kind, outputs_of_kind, attachments_of_kind, cell_tree, notebook_tree}
-use Rattle.nb_model.specs.Injected.{set_pair, set_field, set_within, is_code}
-use Rattle.nb_model.specs.Prepared.{pending, prepared_cell, prepared}
-use Rattle.nb_model.proofs.TreeLaws.{notebook_same, object_is}
+use Rattle.nb_model.specs.Tree.{optional_pair, pairs_of_kind, outputs_of_kind, attachments_of_kind, cell_tree, notebook_tree}
+use Rattle.jtext.specs.Edit.{set_pair, set_field, set_within}
+use Rattle.nb_model.specs.Kind.{is_code}
+use Rattle.nb_model.specs.Prepared.{pending_mark, prepared_cell, prepared_notebook}
+use Rattle.jtext.proofs.Trees.{object_is}
+use Rattle.nb_model.proofs.TreeLaws.{notebook_same}
 
 -- ---- the order of keys doesn't matter
 
@@ -93,7 +95,7 @@ set_within_within m outer key v t h d =
     let inner = all-found (λ u. depth u ≤ suc m) outer (fields t) (null_within (suc m)) (fields_within (suc m) t h) in
     field_set_within (suc m) outer (set_field key v (unwrap_or (field t outer) json.Null)) t h (field_set_within m key v (unwrap_or (field t outer) json.Null) inner d)
 
-pending_within : depth pending ≤ 1
+pending_within : depth pending_mark ≤ 1
 pending_within =
     let e = depth-Str (codes "pending") in
     object_within 0 ((codes "exception", json.Null) ∷ (codes "status", json.Str (codes "pending")) ∷ []) (null_within 0, (omega (arith, e), tt))
@@ -101,14 +103,14 @@ pending_within =
 -- ---- a prepared cell
 
 abbrev prepared_with : Kind → Cell → Cell
-prepared_with k c = record (cond (is_code k) (record c { outputs = []; count = None }) c) { metadata = set_field (codes "papermill") pending c.metadata }
+prepared_with k c = record (cond (is_code k) (record c { outputs = []; count = None }) c) { metadata = set_field (codes "papermill") pending_mark c.metadata }
 
 abbrev pairs_with : Kind → Cell → List (List ℕ × Json)
 pairs_with k c = attachments_of_kind k c ++ (pairs_of_kind k c
     ++ ((codes "id", json.Str c.id) ∷ (codes "metadata", c.metadata) ∷ (outputs_of_kind k c ++ (codes "source", c.source) ∷ [])))
 
-mark_within : (m : Json) → depth m ≤ 125 → depth (set_field (codes "papermill") pending m) ≤ 125
-mark_within m h = let d = pending_within in field_set_within 124 (codes "papermill") pending m h (omega (arith, d))
+mark_within : (m : Json) → depth m ≤ 125 → depth (set_field (codes "papermill") pending_mark m) ≤ 125
+mark_within m h = let d = pending_within in field_set_within 124 (codes "papermill") pending_mark m h (omega (arith, d))
 
 abbrev Within : List (List ℕ × Json) → Type 0
 Within ps = AllByRecursion (λ p. depth p.1 ≤ 125) ps
@@ -116,8 +118,8 @@ Within ps = AllByRecursion (λ p. depth p.1 ≤ 125) ps
 empty_within : depth (json.Arr []) ≤ 125
 empty_within = let e = depth-Arr [] in omega (arith, e)
 
-prose_within : (type id source m : Json) (o : Option Json) → Within (optional (codes "attachments") o ++ ((codes "cell_type", type) ∷ (codes "id", id) ∷ (codes "metadata", m) ∷ (codes "source", source) ∷ []))
-    → Within (optional (codes "attachments") o ++ ((codes "cell_type", type) ∷ (codes "id", id) ∷ (codes "metadata", set_field (codes "papermill") pending m) ∷ (codes "source", source) ∷ []))
+prose_within : (type id source m : Json) (o : Option Json) → Within (optional_pair (codes "attachments") o ++ ((codes "cell_type", type) ∷ (codes "id", id) ∷ (codes "metadata", m) ∷ (codes "source", source) ∷ []))
+    → Within (optional_pair (codes "attachments") o ++ ((codes "cell_type", type) ∷ (codes "id", id) ∷ (codes "metadata", set_field (codes "papermill") pending_mark m) ∷ (codes "source", source) ∷ []))
 prose_within type id source m None all = (all.0, (all.1.0, (mark_within m all.1.1.0, all.1.1.1)))
 prose_within type id source m (Some v) all = (all.0, (all.1.0, (all.1.1.0, (mark_within m all.1.1.1.0, all.1.1.1.1))))
 
@@ -148,7 +150,7 @@ within_list xs all = let e = depth-Arr xs in let h = highest-le 126 xs all in om
 abbrev top_pairs : List Cell → Json → List (List ℕ × Json)
 top_pairs cs m = (codes "cells", json.Arr (map cell_tree cs)) ∷ (codes "metadata", m) ∷ (codes "nbformat", json.Num (codes "4")) ∷ (codes "nbformat_minor", json.Num (codes "5")) ∷ []
 
-pub prepared_within : (n : Notebook) → depth (notebook_tree n) ≤ 128 → depth (notebook_tree (prepared n)) ≤ 128
+pub prepared_within : (n : Notebook) → depth (notebook_tree n) ≤ 128 → depth (notebook_tree (prepared_notebook n)) ≤ 128
 prepared_within n h =
     let all = values_within 127 (top_pairs n.cells n.metadata) h in
     object_within 127 (top_pairs (map prepared_cell n.cells) (set_within (codes "papermill") (codes "exception") json.Null n.metadata))

@@ -15,15 +15,16 @@ use Rattle.jtext.specs.declared.json.Json.TheVariants as json
 use Rattle.jtext.specs.Find.{field, fields}
 use Rattle.jtext.specs.Look.{is_object, is_list, items, string, is_string, there_and, absent_or, is_strings}
 use Rattle.nb_model.specs.declared.nb_fault.NbFault.TheVariants as fault
-use Rattle.nb_model.specs.Keys.{is_text, is_number, has, may_have, has_only}
+use Rattle.nb_model.specs.Keys.{is_text, is_number, has, may_have, has_only, has_version}
 use Rattle.jtext.specs.Bundle.{is_multiline, is_bundle, is_json_type}
+use Rattle.nb_model.specs.Schema.{notebook_keys, kernelspec_required, prose_cell_keys, code_cell_keys, stream_required, display_required, result_required, error_required, output_keys}
 use Rattle.nb_model.specs.Values.{is_count}
 use Rattle.nb_model.specs.Valid as valid
 use Rattle.nb_model.specs.Reading.{value_at}
-use Rattle.nb_model.specs.Pointer.{unless, under_key, under_item}
+use Rattle.nb_model.specs.Pointer.{place_unless, under_key, under_item}
 use Rattle.nb_model.specs.Places as place
-use Rattle.nb_model.specs.Faults.{has_version, repeated_id, fault_within, fault_of}
-use Rattle.nb_model.proofs.RegroupedTests.{two_keys, result_keys, error_keys, prose_keys, code_keys, notebook_keys, kernelspec_keys, one_key, and_left, version_first, one_more, one_taken}
+use Rattle.nb_model.specs.Faults.{repeated_id, fault_within, fault_of}
+use Rattle.nb_model.proofs.RegroupedTests.{two_keys, result_keys, error_keys, prose_keys, code_keys, top_level_keys, kernelspec_keys, one_key, and_left, version_first, one_more, one_taken}
 use Rattle.nb_model.proofs.Tautologies.{always, same, from_same, and_parts}
 
 -- ---- parts of a place
@@ -53,7 +54,7 @@ none-if : {A : Type 0} (b : Bool) (o : Option A) (x : A) → is_none (cond b o (
 none-if true o x = refl
 none-if false o x = refl
 
-none-unless : (b : Bool) → is_none (unless b) ≡ b
+none-unless : (b : Bool) → is_none (place_unless b) ≡ b
 none-unless true = refl
 none-unless false = refl
 
@@ -108,7 +109,7 @@ has-split : (key : List ℕ) (test : Json → Bool) (t : Json) → has key test 
 has-split key test t = elim (field t key) as (λ o. there_and test o ≡ (is_some o && absent_or test o)) [ None ↦ refl | Some v ↦ refl ]
 
 none-value : (key : List ℕ) (test : Json → Bool) (t : Json) → is_none (place.of_value key test t) ≡ may_have key test t
-none-value key test t = none-map _ (unless (may_have key test t)) ∙ none-unless (may_have key test t)
+none-value key test t = none-map _ (place_unless (may_have key test t)) ∙ none-unless (may_have key test t)
 
 none-within : (key : List ℕ) (f : Json → Option (List ℕ)) (test : Json → Bool) (t : Json) → ((v : Json) → is_none (f v) ≡ test v) → is_none (place.within_value key f t) ≡ may_have key test t
 none-within key f test t h =
@@ -116,7 +117,7 @@ none-within key f test t h =
 
 none-keys : (required known : List (List ℕ)) (t : Json) → is_none (place.of_keys required known t) ≡ (place.has_all required t && has_only known t)
 none-keys required known t =
-    none-or (unless (place.has_all required t)) _
+    none-or (place_unless (place.has_all required t)) _
     ∙ and_eq (none-unless (place.has_all required t)) (none-pairs (λ p. list_any (λ key. bytes_eq p.0 key) known) (λ p. under_key p.0 (Some [])) (fields t) (λ p e. refl))
 
 value_tells : (key : List ℕ) (test : Json → Bool) (t : Json) → Tells (place.of_value key test t) (may_have key test t)
@@ -169,8 +170,8 @@ one_text key a b o ne =
 
 stream-none : (o : Json) → has (codes "output_type") (is_text (codes "stream")) o ≡ true → is_none (place.of_stream o) ≡ valid.is_stream o
 stream-none o s =
-    (tells-or (keys_tell (codes "name" ∷ codes "text" ∷ []) (codes "output_type" ∷ codes "name" ∷ codes "text" ∷ []) o) (tells-or (value_tells (codes "name") is_string o) (within_tells (codes "text") place.of_multiline is_multiline o multiline-none))).is
-    ∙ two_keys (is_some (field o (codes "name"))) (is_some (field o (codes "text"))) (has_only (codes "output_type" ∷ codes "name" ∷ codes "text" ∷ []) o) (may_have (codes "name") is_string o) (may_have (codes "text") is_multiline o)
+    (tells-or (keys_tell stream_required (output_keys stream_required) o) (tells-or (value_tells (codes "name") is_string o) (within_tells (codes "text") place.of_multiline is_multiline o multiline-none))).is
+    ∙ two_keys (is_some (field o (codes "name"))) (is_some (field o (codes "text"))) (has_only (output_keys stream_required) o) (may_have (codes "name") is_string o) (may_have (codes "text") is_multiline o)
     ∙ sym (and_eq (and_eq (and_eq s refl) (has-split (codes "name") is_string o)) (has-split (codes "text") is_multiline o))
 
 data-none : (o : Json) → is_none (place.of_data o) ≡ (may_have (codes "data") is_bundle o && may_have (codes "metadata") is_object o)
@@ -181,20 +182,20 @@ data_tells o = record { is = data-none o }
 
 display-none : (o : Json) → has (codes "output_type") (is_text (codes "display_data")) o ≡ true → is_none (place.of_display o) ≡ valid.is_display o
 display-none o s =
-    (tells-or (keys_tell (codes "data" ∷ codes "metadata" ∷ []) (codes "output_type" ∷ codes "data" ∷ codes "metadata" ∷ []) o) (data_tells o)).is
-    ∙ two_keys (is_some (field o (codes "data"))) (is_some (field o (codes "metadata"))) (has_only (codes "output_type" ∷ codes "data" ∷ codes "metadata" ∷ []) o) (may_have (codes "data") is_bundle o) (may_have (codes "metadata") is_object o)
+    (tells-or (keys_tell display_required (output_keys display_required) o) (data_tells o)).is
+    ∙ two_keys (is_some (field o (codes "data"))) (is_some (field o (codes "metadata"))) (has_only (output_keys display_required) o) (may_have (codes "data") is_bundle o) (may_have (codes "metadata") is_object o)
     ∙ sym (and_eq (and_eq (and_eq s refl) (has-split (codes "data") is_bundle o)) (has-split (codes "metadata") is_object o))
 
 result-none : (o : Json) → has (codes "output_type") (is_text (codes "execute_result")) o ≡ true → is_none (place.of_result o) ≡ valid.is_result o
 result-none o s =
-    (tells-or (keys_tell (codes "data" ∷ codes "metadata" ∷ codes "execution_count" ∷ []) (codes "output_type" ∷ codes "data" ∷ codes "metadata" ∷ codes "execution_count" ∷ []) o) (tells-or (data_tells o) (value_tells (codes "execution_count") is_count o))).is
-    ∙ result_keys (is_some (field o (codes "data"))) (is_some (field o (codes "metadata"))) (is_some (field o (codes "execution_count"))) (has_only (codes "output_type" ∷ codes "data" ∷ codes "metadata" ∷ codes "execution_count" ∷ []) o) (may_have (codes "data") is_bundle o) (may_have (codes "metadata") is_object o) (may_have (codes "execution_count") is_count o)
+    (tells-or (keys_tell result_required (output_keys result_required) o) (tells-or (data_tells o) (value_tells (codes "execution_count") is_count o))).is
+    ∙ result_keys (is_some (field o (codes "data"))) (is_some (field o (codes "metadata"))) (is_some (field o (codes "execution_count"))) (has_only (output_keys result_required) o) (may_have (codes "data") is_bundle o) (may_have (codes "metadata") is_object o) (may_have (codes "execution_count") is_count o)
     ∙ sym (and_eq (and_eq (and_eq (and_eq s refl) (has-split (codes "data") is_bundle o)) (has-split (codes "metadata") is_object o)) (has-split (codes "execution_count") is_count o))
 
 error-none : (o : Json) → has (codes "output_type") (is_text (codes "error")) o ≡ true → is_none (place.of_error o) ≡ valid.is_error o
 error-none o s =
-    (tells-or (keys_tell (codes "ename" ∷ codes "evalue" ∷ codes "traceback" ∷ []) (codes "output_type" ∷ codes "ename" ∷ codes "evalue" ∷ codes "traceback" ∷ []) o) (tells-or (value_tells (codes "ename") is_string o) (tells-or (value_tells (codes "evalue") is_string o) (within_tells (codes "traceback") place.of_strings is_strings o strings-none)))).is
-    ∙ error_keys (is_some (field o (codes "ename"))) (is_some (field o (codes "evalue"))) (is_some (field o (codes "traceback"))) (has_only (codes "output_type" ∷ codes "ename" ∷ codes "evalue" ∷ codes "traceback" ∷ []) o) (may_have (codes "ename") is_string o) (may_have (codes "evalue") is_string o) (may_have (codes "traceback") is_strings o)
+    (tells-or (keys_tell error_required (output_keys error_required) o) (tells-or (value_tells (codes "ename") is_string o) (tells-or (value_tells (codes "evalue") is_string o) (within_tells (codes "traceback") place.of_strings is_strings o strings-none)))).is
+    ∙ error_keys (is_some (field o (codes "ename"))) (is_some (field o (codes "evalue"))) (is_some (field o (codes "traceback"))) (has_only (output_keys error_required) o) (may_have (codes "ename") is_string o) (may_have (codes "evalue") is_string o) (may_have (codes "traceback") is_strings o)
     ∙ sym (and_eq (and_eq (and_eq (and_eq s refl) (has-split (codes "ename") is_string o)) (has-split (codes "evalue") is_string o)) (has-split (codes "traceback") is_strings o))
 
 -- the flag of a kind that it isn't
@@ -293,15 +294,15 @@ keys_there required known c e = record { is = none-keys (codes "cell_type" ∷ r
 
 prose-none : (c : Json) → has (codes "cell_type") is_prose_name c ≡ true → is_none (place.of_prose_cell c) ≡ valid.is_prose_cell c
 prose-none c s =
-    (tells-or (keys_there (codes "id" ∷ codes "metadata" ∷ codes "source" ∷ []) (codes "cell_type" ∷ codes "id" ∷ codes "metadata" ∷ codes "source" ∷ codes "attachments" ∷ []) c (there (codes "cell_type") is_prose_name c s)) (tells-or (common_tells c) (within_tells (codes "attachments") place.of_attachments valid.are_attachments c attachments-none))).is
-    ∙ prose_keys (is_some (field c (codes "id"))) (is_some (field c (codes "metadata"))) (is_some (field c (codes "source"))) (has_only (codes "cell_type" ∷ codes "id" ∷ codes "metadata" ∷ codes "source" ∷ codes "attachments" ∷ []) c) (may_have (codes "id") valid.is_id c) (may_have (codes "metadata") valid.is_cell_metadata c) (may_have (codes "source") is_multiline c) (may_have (codes "attachments") valid.are_attachments c)
+    (tells-or (keys_there (codes "id" ∷ codes "metadata" ∷ codes "source" ∷ []) prose_cell_keys c (there (codes "cell_type") is_prose_name c s)) (tells-or (common_tells c) (within_tells (codes "attachments") place.of_attachments valid.are_attachments c attachments-none))).is
+    ∙ prose_keys (is_some (field c (codes "id"))) (is_some (field c (codes "metadata"))) (is_some (field c (codes "source"))) (has_only prose_cell_keys c) (may_have (codes "id") valid.is_id c) (may_have (codes "metadata") valid.is_cell_metadata c) (may_have (codes "source") is_multiline c) (may_have (codes "attachments") valid.are_attachments c)
     ∙ sym (and_eq (and_eq (and_eq s refl) (common-split c)) refl)
 
 code-none : (c : Json) → has (codes "cell_type") (is_text (codes "code")) c ≡ true → is_none (place.of_code_cell c) ≡ valid.is_code_cell c
 code-none c s =
-    (tells-or (keys_there (codes "id" ∷ codes "metadata" ∷ codes "source" ∷ codes "outputs" ∷ codes "execution_count" ∷ []) (codes "cell_type" ∷ codes "id" ∷ codes "metadata" ∷ codes "source" ∷ codes "outputs" ∷ codes "execution_count" ∷ []) c (there (codes "cell_type") (is_text (codes "code")) c s))
+    (tells-or (keys_there (codes "id" ∷ codes "metadata" ∷ codes "source" ∷ codes "outputs" ∷ codes "execution_count" ∷ []) code_cell_keys c (there (codes "cell_type") (is_text (codes "code")) c s))
     (tells-or (common_tells c) (tells-or (value_tells (codes "execution_count") is_count c) (within_tells (codes "outputs") place.of_outputs valid.are_outputs c outputs-none)))).is
-    ∙ code_keys (is_some (field c (codes "id"))) (is_some (field c (codes "metadata"))) (is_some (field c (codes "source"))) (is_some (field c (codes "outputs"))) (is_some (field c (codes "execution_count"))) (has_only (codes "cell_type" ∷ codes "id" ∷ codes "metadata" ∷ codes "source" ∷ codes "outputs" ∷ codes "execution_count" ∷ []) c) (may_have (codes "id") valid.is_id c) (may_have (codes "metadata") valid.is_cell_metadata c) (may_have (codes "source") is_multiline c) (may_have (codes "outputs") valid.are_outputs c) (may_have (codes "execution_count") is_count c)
+    ∙ code_keys (is_some (field c (codes "id"))) (is_some (field c (codes "metadata"))) (is_some (field c (codes "source"))) (is_some (field c (codes "outputs"))) (is_some (field c (codes "execution_count"))) (has_only code_cell_keys c) (may_have (codes "id") valid.is_id c) (may_have (codes "metadata") valid.is_cell_metadata c) (may_have (codes "source") is_multiline c) (may_have (codes "outputs") valid.are_outputs c) (may_have (codes "execution_count") is_count c)
     ∙ sym (and_eq (and_eq (and_eq (and_eq s refl) (common-split c)) (has-split (codes "outputs") valid.are_outputs c)) (has-split (codes "execution_count") is_count c))
 
 prose_false : (c : Json) → has (codes "cell_type") is_prose_name c ≡ false → valid.is_prose_cell c ≡ false
@@ -350,13 +351,13 @@ cells-none v = none-if (is_list v) _ [] ∙ ap (λ b. is_list v && b) (at_item p
 
 -- ---- the notebook
 
-unless_tells : (b : Bool) → Tells (unless b) b
+unless_tells : (b : Bool) → Tells (place_unless b) b
 unless_tells b = record { is = none-unless b }
 
 kernelspec-none : (v : Json) → is_none (place.of_kernelspec v) ≡ valid.is_kernelspec v
 kernelspec-none v =
     none-if (is_object v) _ []
-    ∙ ap (λ b. is_object v && b) (tells-or (unless_tells (place.has_all (codes "name" ∷ codes "display_name" ∷ []) v)) (tells-or (value_tells (codes "name") is_string v) (value_tells (codes "display_name") is_string v))).is
+    ∙ ap (λ b. is_object v && b) (tells-or (unless_tells (place.has_all kernelspec_required v)) (tells-or (value_tells (codes "name") is_string v) (value_tells (codes "display_name") is_string v))).is
     ∙ kernelspec_keys (is_object v) (is_some (field v (codes "name"))) (is_some (field v (codes "display_name"))) (may_have (codes "name") is_string v) (may_have (codes "display_name") is_string v)
     ∙ sym (and_eq (and_eq {x = is_object v} refl (has-split (codes "name") is_string v)) (has-split (codes "display_name") is_string v))
 
@@ -412,12 +413,12 @@ cells-split t =
     [ None ↦ refl | Some v ↦ refl ]
 
 top_keys : (t : Json) → is_some (field t (codes "nbformat")) ≡ true → is_some (field t (codes "nbformat_minor")) ≡ true
-    → Tells (place.of_keys (codes "metadata" ∷ codes "nbformat" ∷ codes "nbformat_minor" ∷ codes "cells" ∷ []) (codes "metadata" ∷ codes "nbformat" ∷ codes "nbformat_minor" ∷ codes "cells" ∷ []) t) ((is_some (field t (codes "metadata")) && (true && (true && (is_some (field t (codes "cells")) && true)))) && has_only (codes "metadata" ∷ codes "nbformat" ∷ codes "nbformat_minor" ∷ codes "cells" ∷ []) t)
+    → Tells (place.of_keys notebook_keys notebook_keys t) ((is_some (field t (codes "metadata")) && (true && (true && (is_some (field t (codes "cells")) && true)))) && has_only notebook_keys t)
 top_keys t a b =
-    record { is = none-keys (codes "metadata" ∷ codes "nbformat" ∷ codes "nbformat_minor" ∷ codes "cells" ∷ []) (codes "metadata" ∷ codes "nbformat" ∷ codes "nbformat_minor" ∷ codes "cells" ∷ []) t ∙ ap₂ (λ x y. (is_some (field t (codes "metadata")) && (x && (y && (is_some (field t (codes "cells")) && true)))) && has_only (codes "metadata" ∷ codes "nbformat" ∷ codes "nbformat_minor" ∷ codes "cells" ∷ []) t) a b }
+    record { is = none-keys notebook_keys notebook_keys t ∙ ap₂ (λ x y. (is_some (field t (codes "metadata")) && (x && (y && (is_some (field t (codes "cells")) && true)))) && has_only notebook_keys t) a b }
 
 notebook_tells : (t : Json) → is_some (field t (codes "nbformat")) ≡ true → is_some (field t (codes "nbformat_minor")) ≡ true
-    → Tells (option_map (λ p. fault.Shape p) (place.of_notebook t)) (((is_some (field t (codes "metadata")) && (true && (true && (is_some (field t (codes "cells")) && true)))) && has_only (codes "metadata" ∷ codes "nbformat" ∷ codes "nbformat_minor" ∷ codes "cells" ∷ []) t)
+    → Tells (option_map (λ p. fault.Shape p) (place.of_notebook t)) (((is_some (field t (codes "metadata")) && (true && (true && (is_some (field t (codes "cells")) && true)))) && has_only notebook_keys t)
     && (may_have (codes "metadata") valid.is_metadata t && may_have (codes "cells") are_shaped t))
 notebook_tells t a b =
     record {
@@ -433,7 +434,7 @@ within-none : (t : Json) → is_object t ≡ true → has_version t ≡ true →
 within-none t o v =
     let h = and_parts (has (codes "nbformat") (is_number (codes "4")) t) (has (codes "nbformat_minor") (is_number (codes "5")) t) v in
     (tells-or (notebook_tells t (there (codes "nbformat") (is_number (codes "4")) t h.0) (there (codes "nbformat_minor") (is_number (codes "5")) t h.1)) (ids_tell t)).is
-    ∙ notebook_keys (is_some (field t (codes "metadata"))) (is_some (field t (codes "cells"))) (has_only (codes "metadata" ∷ codes "nbformat" ∷ codes "nbformat_minor" ∷ codes "cells" ∷ []) t) (may_have (codes "metadata") valid.is_metadata t) (may_have (codes "cells") are_shaped t) (valid.ids_differ (items (value_at (codes "cells") t)))
+    ∙ top_level_keys (is_some (field t (codes "metadata"))) (is_some (field t (codes "cells"))) (has_only notebook_keys t) (may_have (codes "metadata") valid.is_metadata t) (may_have (codes "cells") are_shaped t) (valid.ids_differ (items (value_at (codes "cells") t)))
     ∙ sym (and_eq (and_eq (and_eq (and_eq (and_eq o refl) h.0) h.1) (has-split (codes "metadata") valid.is_metadata t)) (cells-split t))
 
 no_object : (t : Json) → is_object t ≡ false → valid.is_notebook t ≡ false
@@ -441,8 +442,8 @@ no_object t e = and_eq (and_eq (and_eq (and_eq (and_eq e refl) refl) refl) refl)
 
 no_version : (t : Json) → has_version t ≡ false → valid.is_notebook t ≡ false
 no_version t e =
-    version_first (is_object t) (has_only (codes "metadata" ∷ codes "nbformat" ∷ codes "nbformat_minor" ∷ codes "cells" ∷ []) t) (has (codes "nbformat") (is_number (codes "4")) t) (has (codes "nbformat_minor") (is_number (codes "5")) t) (has (codes "metadata") valid.is_metadata t) (has (codes "cells") valid.are_cells t)
-    ∙ ap (λ b. b && (((is_object t && (has_only (codes "metadata" ∷ codes "nbformat" ∷ codes "nbformat_minor" ∷ codes "cells" ∷ []) t)) && has (codes "metadata") valid.is_metadata t) && has (codes "cells") valid.are_cells t)) e
+    version_first (is_object t) (has_only notebook_keys t) (has (codes "nbformat") (is_number (codes "4")) t) (has (codes "nbformat_minor") (is_number (codes "5")) t) (has (codes "metadata") valid.is_metadata t) (has (codes "cells") valid.are_cells t)
+    ∙ ap (λ b. b && (((is_object t && (has_only notebook_keys t)) && has (codes "metadata") valid.is_metadata t) && has (codes "cells") valid.are_cells t)) e
 
 -- a tree has no fault where it is a notebook, and one where it isn't
 pub fault-none : (t : Json) → is_none (fault_of t) ≡ valid.is_notebook t

@@ -8,13 +8,13 @@ use Rattle.jtext.specs.declared.json.Json.{Json}
 use Rattle.jtext.specs.Find.{find}
 use Rattle.jtext.specs.Grammar.{Lacks, Distinct}
 use Rattle.jtext.specs.Sorting.{byte_order, insert_sorted, by_key}
-use Rattle.nb_model.specs.Tree.{optional}
+use Rattle.nb_model.specs.Tree.{optional_pair}
 use Rattle.nb_model.proofs.Tautologies.{and_parts}
 
 -- the pairs with these keys, in this order
 abbrev pub chosen : List (List ℕ) → List (List ℕ × Json) → List (List ℕ × Json)
 chosen [] ps = []
-chosen (k ∷ ks) ps = optional k (find k ps) ++ chosen ks ps
+chosen (k ∷ ks) ps = optional_pair k (find k ps) ++ chosen ks ps
 
 -- each of these keys comes after k
 abbrev pub above : List ℕ → List (List ℕ) → Bool
@@ -51,7 +51,7 @@ insert-first : (p : List ℕ × Json) (ks : List (List ℕ)) (ps : List (List �
     → insert_sorted (λ a b. byte_order a.0 b.0) p (chosen ks ps) ≡ p ∷ chosen ks ps
 insert-first p [] ps e = refl
 insert-first p (j ∷ js) ps e =
-    elim (find j ps) as (λ o. insert_sorted (λ a b. byte_order a.0 b.0) p (optional j o ++ chosen js ps) ≡ p ∷ (optional j o ++ chosen js ps)) [
+    elim (find j ps) as (λ o. insert_sorted (λ a b. byte_order a.0 b.0) p (optional_pair j o ++ chosen js ps) ≡ p ∷ (optional_pair j o ++ chosen js ps)) [
       | None ↦ insert-first p js ps (rest_above p.0 j js e)
       | Some v ↦ cond-false (is_gt (byte_order p.0 j)) ((j, v) ∷ insert_sorted (λ a b. byte_order a.0 b.0) p (chosen js ps)) (p ∷ (j, v) ∷ chosen js ps) (first_above p.0 j js e).less
     ]
@@ -59,7 +59,7 @@ insert-first p (j ∷ js) ps e =
 skip : (p : List ℕ × Json) (ks : List (List ℕ)) (ps : List (List ℕ × Json)) → above p.0 ks ≡ true → chosen ks (p ∷ ps) ≡ chosen ks ps
 skip p [] ps e = refl
 skip p (j ∷ js) ps e =
-    ap₂ (λ o l. optional j o ++ l) (cond-false (bytes_eq p.0 j) (Some p.1) (find j ps) (first_above p.0 j js e).differs) (skip p js ps (rest_above p.0 j js e))
+    ap₂ (λ o l. optional_pair j o ++ l) (cond-false (bytes_eq p.0 j) (Some p.1) (find j ps) (first_above p.0 j js e).differs) (skip p js ps (rest_above p.0 j js e))
 
 among_above : (q k : List ℕ) (ks : List (List ℕ)) → above k ks ≡ true → list_any (λ j. bytes_eq q j) ks ≡ true → is_gt (byte_order q k) ≡ true
 among_above q k [] e h = cc
@@ -78,18 +78,18 @@ insert-chosen p (k ∷ ks) ps u h none =
       | inl t ↦
           let e : p.0 ≡ k = (bytes_eq-Decides p.0 k).0 t in
           let high : above p.0 ks ≡ true = ap (λ x. above x ks) e ∙ both.0 in
-          ap (λ o. insert_sorted (λ a b. byte_order a.0 b.0) p (optional k o ++ chosen ks ps)) (ap (λ x. find x ps) (sym e) ∙ none) ∙ insert-first p ks ps high
-          ∙ ap (λ x. (x, p.1) ∷ chosen ks ps) e ∙ sym (ap₂ (λ o l. optional k o ++ l) (cond-true (bytes_eq p.0 k) (Some p.1) (find k ps) t) (skip p ks ps high))
+          ap (λ o. insert_sorted (λ a b. byte_order a.0 b.0) p (optional_pair k o ++ chosen ks ps)) (ap (λ x. find x ps) (sym e) ∙ none) ∙ insert-first p ks ps high
+          ∙ ap (λ x. (x, p.1) ∷ chosen ks ps) e ∙ sym (ap₂ (λ o l. optional_pair k o ++ l) (cond-true (bytes_eq p.0 k) (Some p.1) (find k ps) t) (skip p ks ps high))
       | inr f ↦
           let among : list_any (λ j. bytes_eq p.0 j) ks ≡ true = ap (λ b. b || list_any (λ j. bytes_eq p.0 j) ks) (sym f) ∙ h in
           let more = insert-chosen p ks ps both.1 among none in
-          let into : insert_sorted (λ a b. byte_order a.0 b.0) p (chosen (k ∷ ks) ps) ≡ optional k (find k ps) ++ chosen ks (p ∷ ps) =
-          elim (find k ps) as (λ o. insert_sorted (λ a b. byte_order a.0 b.0) p (optional k o ++ chosen ks ps) ≡ optional k o ++ chosen ks (p ∷ ps)) [
+          let into : insert_sorted (λ a b. byte_order a.0 b.0) p (chosen (k ∷ ks) ps) ≡ optional_pair k (find k ps) ++ chosen ks (p ∷ ps) =
+          elim (find k ps) as (λ o. insert_sorted (λ a b. byte_order a.0 b.0) p (optional_pair k o ++ chosen ks ps) ≡ optional_pair k o ++ chosen ks (p ∷ ps)) [
             | None ↦ more
             | Some v ↦ cond-true (is_gt (byte_order p.0 k)) ((k, v) ∷ insert_sorted (λ a b. byte_order a.0 b.0) p (chosen ks ps)) (p ∷ (k, v) ∷ chosen ks ps) (among_above p.0 k ks both.0 among)
                 ∙ ap (λ l. (k, v) ∷ l) more
           ] in
-          into ∙ sym (ap (λ o. optional k o ++ chosen ks (p ∷ ps)) (cond-false (bytes_eq p.0 k) (Some p.1) (find k ps) f))
+          into ∙ sym (ap (λ o. optional_pair k o ++ chosen ks (p ∷ ps)) (cond-false (bytes_eq p.0 k) (Some p.1) (find k ps) f))
     ]
 
 -- ---- all pairs
@@ -115,7 +115,7 @@ pub by_key-again : (ks : List (List ℕ)) (ps : List (List ℕ × Json)) → up 
 by_key-again [] ps u = refl
 by_key-again (k ∷ ks) ps u =
     let both = and_parts (above k ks) (up ks) u in
-    elim (find k ps) as (λ o. by_key (optional k o ++ chosen ks ps) ≡ optional k o ++ chosen ks ps) [
+    elim (find k ps) as (λ o. by_key (optional_pair k o ++ chosen ks ps) ≡ optional_pair k o ++ chosen ks ps) [
       | None ↦ by_key-again ks ps both.1
       | Some v ↦ ap (insert_sorted (λ a b. byte_order a.0 b.0) (k, v)) (by_key-again ks ps both.1) ∙ insert-first (k, v) ks ps both.0
     ]
@@ -128,4 +128,4 @@ AllFound (q ∷ qs) ps = (find q.0 ps ≡ Some q.1) × AllFound qs ps
 
 pub chosen-found : (qs ps : List (List ℕ × Json)) → AllFound qs ps → chosen (map (λ q. q.0) qs) ps ≡ qs
 chosen-found [] ps all = refl
-chosen-found (q ∷ qs) ps all = ap₂ (λ o l. optional q.0 o ++ l) all.0 (chosen-found qs ps all.1)
+chosen-found (q ∷ qs) ps all = ap₂ (λ o l. optional_pair q.0 o ++ l) all.0 (chosen-found qs ps all.1)

@@ -17,12 +17,13 @@ use Rattle.nb_model.specs.declared.kind.Kind.{Kind}
 use Rattle.nb_model.specs.declared.kind.Kind.TheVariants as kind
 use Rattle.nb_model.specs.declared.cell.Cell.{Cell}
 use Rattle.nb_model.specs.declared.notebook.Notebook.{Notebook}
-use Rattle.nb_model.specs.Tree.{optional, cell_tree, notebook_tree}
-use Rattle.nb_model.specs.Injected.{set_pair, set_field, set_within}
+use Rattle.nb_model.specs.Tree.{optional_pair, cell_tree, notebook_tree}
+use Rattle.jtext.specs.Edit.{set_pair, set_field, set_within}
 use Rattle.nb_model.proofs.Tautologies.{and_parts, not_or}
 use Rattle.nb_model.proofs.PreparedLaws.{no_repeat}
 use Rattle.nb_model.proofs.DepthLaws.{all-set_pair, all-found, no_fields}
-use Rattle.nb_model.proofs.TreeLaws.{object_is, list_is, items_keyed, pairs_keyed, first_keyed, pair_keyed, found_keyed, pairs_with}
+use Rattle.jtext.proofs.Trees.{object_is, list_is, items_keyed, pairs_keyed, first_keyed, pair_keyed, found_keyed}
+use Rattle.nb_model.proofs.TreeLaws.{pairs_with}
 use Rattle.nb_model.proofs.CellValues.{Values, prose_pairs, all-map, all-unmap, top_pairs}
 
 -- ---- lists
@@ -39,7 +40,7 @@ each_of : (xs : List Json) → AllKeyed xs → AllByRecursion Keyed xs
 each_of [] k = tt
 each_of (x ∷ xs) k = let h = first_keyed x xs k in (h.0, each_of xs h.1)
 
-items_of : (xs : List Json) → AllByRecursion Keyed xs → AllKeyed xs
+pub items_of : (xs : List Json) → AllByRecursion Keyed xs → AllKeyed xs
 items_of [] all = keyed.none
 items_of (x ∷ xs) all = keyed.more x xs all.0 (items_of xs all.1)
 
@@ -109,7 +110,7 @@ keyed_items t k =
 
 -- ---- cells
 
-distinct_prose : (name : List ℕ) (c : Cell) (o : Option Json) → Distinct (optional (codes "attachments") o ++ prose_pairs name c c.metadata)
+distinct_prose : (name : List ℕ) (c : Cell) (o : Option Json) → Distinct (optional_pair (codes "attachments") o ++ prose_pairs name c c.metadata)
 distinct_prose name c None = distinct_from (prose_pairs name c c.metadata) refl
 distinct_prose name c (Some v) = distinct_from ((codes "attachments", v) ∷ prose_pairs name c c.metadata) refl
 

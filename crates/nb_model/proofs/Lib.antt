@@ -9,6 +9,8 @@ pub mod TreeLaws
 pub mod PreparedLaws
 pub mod DepthLaws
 pub mod CellValues
+pub mod PlanLaws
+pub mod RunLaws
 pub mod KeyedLemmas
 pub mod PreparedKeyed
 pub mod ReadKeyed

@@ -1,5 +1,5 @@
 -- Pairs of which one is taken out.
-use Rattle.std.proofs.Common.{◌≡◌, ℕ, zero, suc, ◌+◌, ◌<◌, Bool, true, false, cond, ◌||◌, List, [], ◌∷◌, ◌++◌, Option, Some, None, Result, Ok, Err, IfOk, length, take, drop, get_or, set, slice_get, refl, sym, ap, ◌∙◌, inl, inr, arith}
+use Rattle.std.proofs.Common.{◌≡◌, ℕ, zero, suc, ◌+◌, ◌<◌, Bool, true, false, cond, ◌||◌, List, [], ◌∷◌, ◌++◌, Option, Some, None, length, take, drop, get_or, refl, sym, ap, ◌∙◌, inl, inr, arith}
 use Rattle.std.specs.List.{list_any, remove, position, position_from}
 use Rattle.std.specs.Str.{bytes_eq}
 use Rattle.std.proofs.lemmas.Bool.{cases_Bool, cond-true, cond-false}
@@ -9,8 +9,7 @@ use Rattle.std.proofs.lemmas.Slice.Eq.{bytes_eq-Decides}
 use Rattle.jtext.specs.declared.json.Json.{Json}
 use Rattle.jtext.specs.declared.json.Json.TheVariants as json
 use Rattle.jtext.specs.Find.{find}
-use Rattle.nb_model.specs.Pairs.{without}
-use Rattle.nb_model.specs.Injected.{set_pair}
+use Rattle.nb_model.specs.Pairs.{pairs_without}
 use Rattle.nb_model.specs.declared.kind.Kind.{Kind}
 use Rattle.nb_model.specs.declared.cell.Cell.{Cell}
 use Rattle.nb_model.specs.declared.notebook.Notebook.{Notebook}
@@ -20,44 +19,29 @@ use Rattle.nb_model.specs.declared.notebook.Notebook.{Notebook}
 nothing : List ℕ × Json
 nothing = ([], json.Null)
 
-value_at : (key : List ℕ) (ps : List (List ℕ × Json)) (i : ℕ) (p : List ℕ × Json) → bytes_eq (get_or ps i nothing).0 key ≡ true
-    → ((k : ℕ) → k < i → bytes_eq (get_or ps k nothing).0 key ≡ false) → slice_get ps i ≡ Some p → find key ps ≡ Some p.1
-value_at key [] i p here none e = cc
-value_at key (q ∷ qs) zero p here none e = cond-true (bytes_eq q.0 key) (Some q.1) (find key qs) here ∙ (let same : q ≡ p = cc in ap (λ r. Some r.1) same)
-value_at key (q ∷ qs) (suc i) p here none e =
-    cond-false (bytes_eq q.0 key) (Some q.1) (find key qs) (none 0 (omega arith)) ∙ value_at key qs i p here (λ k below. none (suc k) (omega arith)) e
-
 rest_at : (key : List ℕ) (ps : List (List ℕ × Json)) (i : ℕ) → i < length ps → bytes_eq (get_or ps i nothing).0 key ≡ true
-    → ((k : ℕ) → k < i → bytes_eq (get_or ps k nothing).0 key ≡ false) → take i ps ++ drop (suc i) ps ≡ without key ps
+    → ((k : ℕ) → k < i → bytes_eq (get_or ps k nothing).0 key ≡ false) → take i ps ++ drop (suc i) ps ≡ pairs_without key ps
 rest_at key [] i lt here none = absurd (omega arith)
-rest_at key (q ∷ qs) zero lt here none = sym (cond-true (bytes_eq q.0 key) qs (q ∷ without key qs) here)
+rest_at key (q ∷ qs) zero lt here none = sym (cond-true (bytes_eq q.0 key) qs (q ∷ pairs_without key qs) here)
 rest_at key (q ∷ qs) (suc i) lt here none =
     ap (λ l. q ∷ l) (rest_at key qs i (omega arith) here (λ k below. none (suc k) (omega arith)))
-    ∙ sym (cond-false (bytes_eq q.0 key) qs (q ∷ without key qs) (none 0 (omega arith)))
+    ∙ sym (cond-false (bytes_eq q.0 key) qs (q ∷ pairs_without key qs) (none 0 (omega arith)))
 
-pub find-at : (key : List ℕ) (ps : List (List ℕ × Json)) (i : ℕ) (p : List ℕ × Json) → position (λ q. bytes_eq q.0 key) ps ≡ Some i → slice_get ps i ≡ Some p
-    → find key ps ≡ Some p.1
-find-at key ps i p e at = let is = position-Some (λ q. bytes_eq q.0 key) ps i nothing e in value_at key ps i p is.1 is.2 at
-
-pub without-at : (key : List ℕ) (ps : List (List ℕ × Json)) (i : ℕ) → position (λ q. bytes_eq q.0 key) ps ≡ Some i → remove ps i ≡ without key ps
+pub without-at : (key : List ℕ) (ps : List (List ℕ × Json)) (i : ℕ) → position (λ q. bytes_eq q.0 key) ps ≡ Some i → remove ps i ≡ pairs_without key ps
 without-at key ps i e = let is = position-Some (λ q. bytes_eq q.0 key) ps i nothing e in rest_at key ps i is.0 is.1 is.2
 
 not_first : {A : Type 0} (b : Bool) (i : A) (r : Option A) → cond b (Some i) r ≡ None → (b ≡ false) × (r ≡ None)
 not_first true i r e = cc
 not_first false i r e = (refl, e)
 
-absent_from : (key : List ℕ) (ps : List (List ℕ × Json)) (i : ℕ) → position_from (λ q. bytes_eq q.0 key) i ps ≡ None → (find key ps ≡ None) × (without key ps ≡ ps)
-absent_from key [] i e = (refl, refl)
+absent_from : (key : List ℕ) (ps : List (List ℕ × Json)) (i : ℕ) → position_from (λ q. bytes_eq q.0 key) i ps ≡ None → pairs_without key ps ≡ ps
+absent_from key [] i e = refl
 absent_from key (q ∷ qs) i e =
     let h = not_first (bytes_eq q.0 key) i (position_from (λ q. bytes_eq q.0 key) (i + 1) qs) e in
-    let more = absent_from key qs (i + 1) h.1 in
-    (cond-false (bytes_eq q.0 key) (Some q.1) (find key qs) h.0 ∙ more.0, cond-false (bytes_eq q.0 key) qs (q ∷ without key qs) h.0 ∙ ap (λ l. q ∷ l) more.1)
+    cond-false (bytes_eq q.0 key) qs (q ∷ pairs_without key qs) h.0 ∙ ap (λ l. q ∷ l) (absent_from key qs (i + 1) h.1)
 
-pub find-none : (key : List ℕ) (ps : List (List ℕ × Json)) → position (λ q. bytes_eq q.0 key) ps ≡ None → find key ps ≡ None
-find-none key ps e = (absent_from key ps 0 (sym (position_from-zero (λ q. bytes_eq q.0 key) ps) ∙ e)).0
-
-pub without-none : (key : List ℕ) (ps : List (List ℕ × Json)) → position (λ q. bytes_eq q.0 key) ps ≡ None → ps ≡ without key ps
-without-none key ps e = sym (absent_from key ps 0 (sym (position_from-zero (λ q. bytes_eq q.0 key) ps) ∙ e)).1
+pub without-none : (key : List ℕ) (ps : List (List ℕ × Json)) → position (λ q. bytes_eq q.0 key) ps ≡ None → ps ≡ pairs_without key ps
+without-none key ps e = sym (absent_from key ps 0 (sym (position_from-zero (λ q. bytes_eq q.0 key) ps) ∙ e))
 
 -- ---- the other keys
 
@@ -65,18 +49,18 @@ other : (xs ys zs : List ℕ) → bytes_eq xs ys ≡ true → bytes_eq ys zs ≡
 other xs ys zs same ne = let e = (bytes_eq-Decides xs ys).0 same in ap (λ l. bytes_eq l zs) e ∙ ne
 
 -- another key is found as before
-pub find-without : (k key : List ℕ) (ps : List (List ℕ × Json)) → bytes_eq key k ≡ false → find k (without key ps) ≡ find k ps
+pub find-without : (k key : List ℕ) (ps : List (List ℕ × Json)) → bytes_eq key k ≡ false → find k (pairs_without key ps) ≡ find k ps
 find-without k key [] ne = refl
 find-without k key (p ∷ ps) ne =
     elim (cases_Bool (bytes_eq p.0 key)) [
-      | inl t ↦ ap (find k) (cond-true (bytes_eq p.0 key) ps (p ∷ without key ps) t) ∙ sym (cond-false (bytes_eq p.0 k) (Some p.1) (find k ps) (other p.0 key k t ne))
-      | inr f ↦ ap (find k) (cond-false (bytes_eq p.0 key) ps (p ∷ without key ps) f) ∙ ap (λ o. cond (bytes_eq p.0 k) (Some p.1) o) (find-without k key ps ne)
+      | inl t ↦ ap (find k) (cond-true (bytes_eq p.0 key) ps (p ∷ pairs_without key ps) t) ∙ sym (cond-false (bytes_eq p.0 k) (Some p.1) (find k ps) (other p.0 key k t ne))
+      | inr f ↦ ap (find k) (cond-false (bytes_eq p.0 key) ps (p ∷ pairs_without key ps) f) ∙ ap (λ o. cond (bytes_eq p.0 k) (Some p.1) o) (find-without k key ps ne)
     ]
 
 -- the pairs with each of these taken out in turn
 abbrev pub without_all : List (List ℕ) → List (List ℕ × Json) → List (List ℕ × Json)
 without_all [] ps = ps
-without_all (key ∷ keys) ps = without_all keys (without key ps)
+without_all (key ∷ keys) ps = without_all keys (pairs_without key ps)
 
 split_or : (a b : Bool) → (a || b) ≡ false → (a ≡ false) × (b ≡ false)
 split_or false b e = (refl, e)
@@ -86,30 +70,7 @@ pub find-without_all : (k : List ℕ) (keys : List (List ℕ)) (ps : List (List 
 find-without_all k [] ps ne = refl
 find-without_all k (key ∷ keys) ps ne =
     let h = split_or (bytes_eq key k) (list_any (λ q. bytes_eq q k) keys) ne in
-    find-without_all k keys (without key ps) h.1 ∙ find-without k key ps h.0
-
--- ---- a value put under a key
-
-set_at : (key : List ℕ) (v : Json) (ps : List (List ℕ × Json)) (i : ℕ) → i < length ps → bytes_eq (get_or ps i nothing).0 key ≡ true
-    → ((k : ℕ) → k < i → bytes_eq (get_or ps k nothing).0 key ≡ false) → set ps i (key, v) ≡ set_pair key v ps
-set_at key v [] i lt here none = absurd (omega arith)
-set_at key v (q ∷ qs) zero lt here none =
-    ap (λ k. (k, v) ∷ qs) (sym ((bytes_eq-Decides q.0 key).0 here)) ∙ sym (cond-true (bytes_eq q.0 key) ((q.0, v) ∷ qs) (q ∷ set_pair key v qs) here)
-set_at key v (q ∷ qs) (suc i) lt here none =
-    ap (λ l. q ∷ l) (set_at key v qs i (omega arith) here (λ k below. none (suc k) (omega arith)))
-    ∙ sym (cond-false (bytes_eq q.0 key) ((q.0, v) ∷ qs) (q ∷ set_pair key v qs) (none 0 (omega arith)))
-
-pub set_pair-at : (key : List ℕ) (v : Json) (ps : List (List ℕ × Json)) (i : ℕ) → position (λ q. bytes_eq q.0 key) ps ≡ Some i → set ps i (key, v) ≡ set_pair key v ps
-set_pair-at key v ps i e = let is = position-Some (λ q. bytes_eq q.0 key) ps i nothing e in set_at key v ps i is.0 is.1 is.2
-
-added_from : (key : List ℕ) (v : Json) (ps : List (List ℕ × Json)) (i : ℕ) → position_from (λ q. bytes_eq q.0 key) i ps ≡ None → ps ++ (key, v) ∷ [] ≡ set_pair key v ps
-added_from key v [] i e = refl
-added_from key v (q ∷ qs) i e =
-    let h = not_first (bytes_eq q.0 key) i (position_from (λ q. bytes_eq q.0 key) (i + 1) qs) e in
-    ap (λ l. q ∷ l) (added_from key v qs (i + 1) h.1) ∙ sym (cond-false (bytes_eq q.0 key) ((q.0, v) ∷ qs) (q ∷ set_pair key v qs) h.0)
-
-pub set_pair-none : (key : List ℕ) (v : Json) (ps : List (List ℕ × Json)) → position (λ q. bytes_eq q.0 key) ps ≡ None → ps ++ (key, v) ∷ [] ≡ set_pair key v ps
-set_pair-none key v ps e = added_from key v ps 0 (sym (position_from-zero (λ q. bytes_eq q.0 key) ps) ∙ e)
+    find-without_all k keys (pairs_without key ps) h.1 ∙ find-without k key ps h.0
 
 -- ---- records of parts
 
@@ -120,13 +81,3 @@ same_cell ek ei em es ea eo en = cc
 
 pub same_notebook : {m m' : Json} {cs cs' : List Cell} → m ≡ m' → cs ≡ cs' → ◌≡◌ {A = Notebook} (record { metadata = m; cells = cs }) (record { metadata = m'; cells = cs' })
 same_notebook em ec = cc
-
-pub ok_eq : {T E : Type 0} (r : Result T E) (y z : T) → IfOk r (λ v. v ≡ y) → y ≡ z → IfOk r (λ v. v ≡ z)
-ok_eq (Ok x) y z e q = e ∙ q
-ok_eq (Err x) y z e q = tt
-
--- an object of two pairs, pushed one after the other
-pub two_pairs : (m n o : List (List ℕ × Json)) (a b a' b' : List ℕ) (x y y' : Json) → m ≡ [] → n ≡ m ++ (a, x) ∷ [] → o ≡ n ++ (b, y) ∷ [] → a ≡ a' → b ≡ b' → y ≡ y'
-    → json.Obj o ≡ json.Obj ((a', x) ∷ (b', y') ∷ [])
-two_pairs m n o a b a' b' x y y' em en eo ea eb ey =
-    ap json.Obj (eo ∙ ap (λ l. l ++ (b, y) ∷ []) (en ∙ ap (λ l. l ++ (a, x) ∷ []) em) ∙ ap (λ k. (k, x) ∷ (b, y) ∷ []) ea ∙ ap (λ k. (a', x) ∷ (k, y) ∷ []) eb ∙ ap (λ v. (a', x) ∷ (b', v) ∷ []) ey)

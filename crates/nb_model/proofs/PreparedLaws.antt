@@ -16,12 +16,14 @@ use Rattle.nb_model.specs.declared.cell.Cell.{Cell}
 use Rattle.nb_model.specs.declared.notebook.Notebook.{Notebook}
 use Rattle.nb_model.specs.Keys.{is_text, is_number, has, may_have, has_only}
 use Rattle.jtext.specs.Bundle.{is_multiline}
+use Rattle.nb_model.specs.Schema.{notebook_keys, prose_cell_keys, code_cell_keys}
 use Rattle.nb_model.specs.Values.{is_count, is_id_text}
 use Rattle.nb_model.specs.Valid as valid
 use Rattle.nb_model.specs.Reading.{value_at, kind_named, cell_of, notebook_of}
-use Rattle.nb_model.specs.Tree.{optional, count_tree, pairs_of_kind, outputs_of_kind, attachments_of_kind, cell_tree, notebook_tree}
-use Rattle.nb_model.specs.Injected.{set_pair, set_field, is_code}
-use Rattle.nb_model.specs.Prepared.{pending, prepared_cell, prepared}
+use Rattle.nb_model.specs.Tree.{optional_pair, count_tree, pairs_of_kind, outputs_of_kind, attachments_of_kind, cell_tree, notebook_tree}
+use Rattle.jtext.specs.Edit.{set_pair, set_field}
+use Rattle.nb_model.specs.Kind.{is_code}
+use Rattle.nb_model.specs.Prepared.{pending_mark, prepared_cell, prepared_notebook}
 use Rattle.nb_model.proofs.Tautologies.{and_parts}
 
 pub and_eq : {a b x y : Bool} → a ≡ x → b ≡ y → (a && b) ≡ (x && y)
@@ -88,7 +90,7 @@ abbrev pairs_with : Kind → Cell → List (List ℕ × Json)
 pairs_with k c = attachments_of_kind k c ++ (pairs_of_kind k c
     ++ ((codes "id", json.Str c.id) ∷ (codes "metadata", c.metadata) ∷ (outputs_of_kind k c ++ (codes "source", c.source) ∷ [])))
 
-count_is : (o : Option (List ℕ)) → is_count (count_tree o) ≡ count_fits o
+pub count_is : (o : Option (List ℕ)) → is_count (count_tree o) ≡ count_fits o
 count_is None = ap (λ b. b || there_and is_whole_text (number json.Null)) null_Null
 count_is (Some s) = ap₂ (λ b o. b || there_and is_whole_text o) (null_Num s) (number_Num s)
 
@@ -115,7 +117,7 @@ code_tree c =
     let no_prose : valid.is_prose_cell (json.Obj qs) ≡ false =
     and_eq (and_eq (and_eq (has_at (codes "cell_type") is_prose_name qs (json.Str (codes "code")) refl ∙ prose_name (codes "code")) refl) refl) refl in
     let is_code_cell : valid.is_code_cell (json.Obj qs) ≡ kind_fits kind.Code c =
-    and_eq (and_eq (and_eq (and_eq (has_at (codes "cell_type") (is_text (codes "code")) qs (json.Str (codes "code")) refl ∙ text_is (codes "code") (codes "code")) (only_at (codes "cell_type" ∷ codes "id" ∷ codes "metadata" ∷ codes "source" ∷ codes "outputs" ∷ codes "execution_count" ∷ []) qs refl))
+    and_eq (and_eq (and_eq (and_eq (has_at (codes "cell_type") (is_text (codes "code")) qs (json.Str (codes "code")) refl ∙ text_is (codes "code") (codes "code")) (only_at code_cell_keys qs refl))
     (common_at qs c refl refl refl)) (has_at (codes "outputs") valid.are_outputs qs (json.Arr c.outputs) refl ∙ outputs_is c.outputs))
     (has_at (codes "execution_count") is_count qs (count_tree c.count) refl ∙ count_is c.count) in
     and_eq (object_Obj qs) (ap₂ (λ a b. a || b) no_prose is_code_cell)
@@ -126,7 +128,7 @@ or_false false = refl
 
 -- a cell of text, with its pairs as they are for its attachments
 abbrev prose_pairs : List ℕ → Cell → Option Json → List (List ℕ × Json)
-prose_pairs name c o = optional (codes "attachments") o ++ ((codes "cell_type", json.Str name) ∷ (codes "id", json.Str c.id) ∷ (codes "metadata", c.metadata) ∷ (codes "source", c.source) ∷ [])
+prose_pairs name c o = optional_pair (codes "attachments") o ++ ((codes "cell_type", json.Str name) ∷ (codes "id", json.Str c.id) ∷ (codes "metadata", c.metadata) ∷ (codes "source", c.source) ∷ [])
 
 prose_tree : (name : List ℕ) (c : Cell) (o : Option Json) → (bytes_eq name (codes "raw") || bytes_eq name (codes "markdown")) ≡ true → bytes_eq name (codes "code") ≡ false
     → valid.is_cell (json.Obj (prose_pairs name c o)) ≡ (common_fits c && absent_or valid.are_attachments o)
@@ -134,15 +136,15 @@ prose_tree name c o named other =
     let qs = prose_pairs name c o in
     let type : find (codes "cell_type") qs ≡ Some (json.Str name) =
     elim o as (λ q. find (codes "cell_type") (prose_pairs name c q) ≡ Some (json.Str name)) [ None ↦ refl | Some v ↦ refl ] in
-    let known : list_all (λ p. list_any (λ key. bytes_eq p.0 key) (codes "cell_type" ∷ codes "id" ∷ codes "metadata" ∷ codes "source" ∷ codes "attachments" ∷ [])) qs ≡ true =
-    elim o as (λ q. list_all (λ p. list_any (λ key. bytes_eq p.0 key) (codes "cell_type" ∷ codes "id" ∷ codes "metadata" ∷ codes "source" ∷ codes "attachments" ∷ [])) (prose_pairs name c q) ≡ true) [ None ↦ refl | Some v ↦ refl ] in
+    let known : list_all (λ p. list_any (λ key. bytes_eq p.0 key) prose_cell_keys) qs ≡ true =
+    elim o as (λ q. list_all (λ p. list_any (λ key. bytes_eq p.0 key) prose_cell_keys) (prose_pairs name c q) ≡ true) [ None ↦ refl | Some v ↦ refl ] in
     let attached : find (codes "attachments") qs ≡ o =
     elim o as (λ q. find (codes "attachments") (prose_pairs name c q) ≡ q) [ None ↦ refl | Some v ↦ refl ] in
     let id : find (codes "id") qs ≡ Some (json.Str c.id) = elim o as (λ q. find (codes "id") (prose_pairs name c q) ≡ Some (json.Str c.id)) [ None ↦ refl | Some v ↦ refl ] in
     let metadata : find (codes "metadata") qs ≡ Some c.metadata = elim o as (λ q. find (codes "metadata") (prose_pairs name c q) ≡ Some c.metadata) [ None ↦ refl | Some v ↦ refl ] in
     let source : find (codes "source") qs ≡ Some c.source = elim o as (λ q. find (codes "source") (prose_pairs name c q) ≡ Some c.source) [ None ↦ refl | Some v ↦ refl ] in
     let is_prose_cell : valid.is_prose_cell (json.Obj qs) ≡ (common_fits c && absent_or valid.are_attachments o) =
-    and_eq (and_eq (and_eq (has_at (codes "cell_type") is_prose_name qs (json.Str name) type ∙ prose_name name ∙ named) (only_at (codes "cell_type" ∷ codes "id" ∷ codes "metadata" ∷ codes "source" ∷ codes "attachments" ∷ []) qs known)) (common_at qs c id metadata source))
+    and_eq (and_eq (and_eq (has_at (codes "cell_type") is_prose_name qs (json.Str name) type ∙ prose_name name ∙ named) (only_at prose_cell_keys qs known)) (common_at qs c id metadata source))
     (may_at (codes "attachments") valid.are_attachments qs o attached) in
     let no_code : valid.is_code_cell (json.Obj qs) ≡ false =
     and_eq (and_eq (and_eq (and_eq (has_at (codes "cell_type") (is_text (codes "code")) qs (json.Str name) type ∙ text_is (codes "code") name ∙ other) refl) refl) refl) refl in
@@ -206,7 +208,7 @@ top_pairs n = (codes "cells", json.Arr (map cell_tree n.cells)) ∷ (codes "meta
 pub notebook_tree-fits : (n : Notebook) → valid.is_notebook (notebook_tree n) ≡ notebook_fits n
 notebook_tree-fits n =
     let qs = top_pairs n in
-    and_eq (and_eq (and_eq (and_eq (and_eq (object_Obj qs) (only_at (codes "metadata" ∷ codes "nbformat" ∷ codes "nbformat_minor" ∷ codes "cells" ∷ []) qs refl))
+    and_eq (and_eq (and_eq (and_eq (and_eq (object_Obj qs) (only_at notebook_keys qs refl))
     (has_at (codes "nbformat") (is_number (codes "4")) qs (json.Num (codes "4")) refl ∙ number_is (codes "4") (codes "4")))
     (has_at (codes "nbformat_minor") (is_number (codes "5")) qs (json.Num (codes "5")) refl ∙ number_is (codes "5") (codes "5")))
     (has_at (codes "metadata") valid.is_metadata qs n.metadata refl))
@@ -235,17 +237,21 @@ cell_metadata_kept key v m other e =
     let h = and_parts (is_object m) (may_have (codes "tags") is_strings m) e in
     and_eq (object_Obj (set_pair key v (fields m))) (ap (absent_or is_strings) (field-set_other (codes "tags") key v m other) ∙ h.1)
 
-pub metadata_kept : (v m : Json) → valid.is_metadata m ≡ true → valid.is_metadata (set_field (codes "papermill") v m) ≡ true
-metadata_kept v m e =
+pub metadata_kept_at : (key : List ℕ) (v m : Json) → bytes_eq key (codes "kernelspec") ≡ false → bytes_eq key (codes "language_info") ≡ false
+    → valid.is_metadata m ≡ true → valid.is_metadata (set_field key v m) ≡ true
+metadata_kept_at key v m kernel language e =
     let h = and_parts (is_object m && may_have (codes "kernelspec") valid.is_kernelspec m) (may_have (codes "language_info") valid.is_language_info m) e in
     let g = and_parts (is_object m) (may_have (codes "kernelspec") valid.is_kernelspec m) h.0 in
-    and_eq (and_eq (object_Obj (set_pair (codes "papermill") v (fields m))) (ap (absent_or valid.is_kernelspec) (field-set_other (codes "kernelspec") (codes "papermill") v m refl) ∙ g.1))
-    (ap (absent_or valid.is_language_info) (field-set_other (codes "language_info") (codes "papermill") v m refl) ∙ h.1)
+    and_eq (and_eq (object_Obj (set_pair key v (fields m))) (ap (absent_or valid.is_kernelspec) (field-set_other (codes "kernelspec") key v m kernel) ∙ g.1))
+    (ap (absent_or valid.is_language_info) (field-set_other (codes "language_info") key v m language) ∙ h.1)
+
+pub metadata_kept : (v m : Json) → valid.is_metadata m ≡ true → valid.is_metadata (set_field (codes "papermill") v m) ≡ true
+metadata_kept v m e = metadata_kept_at (codes "papermill") v m refl refl e
 
 -- ---- the prepared notebook
 
 abbrev prepared_with : Kind → Cell → Cell
-prepared_with k c = record (cond (is_code k) (record c { outputs = []; count = None }) c) { metadata = set_field (codes "papermill") pending c.metadata }
+prepared_with k c = record (cond (is_code k) (record c { outputs = []; count = None }) c) { metadata = set_field (codes "papermill") pending_mark c.metadata }
 
 pub common_kept : (c : Cell) (m : Json) → valid.is_cell_metadata m ≡ true → common_fits c ≡ true → (is_id_text c.id && valid.is_cell_metadata m && is_multiline c.source) ≡ true
 common_kept c m is e =
@@ -261,14 +267,14 @@ metadata_of c e =
 kind_kept : (k : Kind) (c : Cell) → kind_fits k c ≡ true → kind_fits k (prepared_with k c) ≡ true
 kind_kept kind.Raw c e =
     let h = and_parts (common_fits c) (absent_or valid.are_attachments c.attachments) e in
-    and_eq (common_kept c (set_field (codes "papermill") pending c.metadata) (cell_metadata_kept (codes "papermill") pending c.metadata refl (metadata_of c h.0)) h.0) h.1
+    and_eq (common_kept c (set_field (codes "papermill") pending_mark c.metadata) (cell_metadata_kept (codes "papermill") pending_mark c.metadata refl (metadata_of c h.0)) h.0) h.1
 kind_kept kind.Markdown c e =
     let h = and_parts (common_fits c) (absent_or valid.are_attachments c.attachments) e in
-    and_eq (common_kept c (set_field (codes "papermill") pending c.metadata) (cell_metadata_kept (codes "papermill") pending c.metadata refl (metadata_of c h.0)) h.0) h.1
+    and_eq (common_kept c (set_field (codes "papermill") pending_mark c.metadata) (cell_metadata_kept (codes "papermill") pending_mark c.metadata refl (metadata_of c h.0)) h.0) h.1
 kind_kept kind.Code c e =
     let h = and_parts (common_fits c && list_all valid.is_output c.outputs) (count_fits c.count) e in
     let g = and_parts (common_fits c) (list_all valid.is_output c.outputs) h.0 in
-    and_eq (and_eq (common_kept c (set_field (codes "papermill") pending c.metadata) (cell_metadata_kept (codes "papermill") pending c.metadata refl (metadata_of c g.0)) g.0) refl) refl
+    and_eq (and_eq (common_kept c (set_field (codes "papermill") pending_mark c.metadata) (cell_metadata_kept (codes "papermill") pending_mark c.metadata refl (metadata_of c g.0)) g.0) refl) refl
 
 -- the kind and the id stay
 kind_stays : (c : Cell) → (prepared_cell c).kind ≡ c.kind
@@ -288,15 +294,15 @@ ids_stay : (cs : List Cell) → map (λ c. c.id) (map prepared_cell cs) ≡ map 
 ids_stay [] = refl
 ids_stay (c ∷ cs) = ap₂ (λ i is. i ∷ is) (id_stays c) (ids_stay cs)
 
-prepared_fits : (n : Notebook) → notebook_fits n ≡ true → notebook_fits (prepared n) ≡ true
+prepared_fits : (n : Notebook) → notebook_fits n ≡ true → notebook_fits (prepared_notebook n) ≡ true
 prepared_fits n e =
     let h = and_parts (valid.is_metadata n.metadata) (list_all cell_fits n.cells && no_repeat (map (λ c. c.id) n.cells)) e in
     let g = and_parts (list_all cell_fits n.cells) (no_repeat (map (λ c. c.id) n.cells)) h.1 in
     and_eq (metadata_kept (set_field (codes "exception") json.Null (unwrap_or (field n.metadata (codes "papermill")) json.Null)) n.metadata h.0)
     (and_eq (cells_kept n.cells g.0) (ap no_repeat (ids_stay n.cells) ∙ g.1))
 
-pub prepared_valid : (n : Notebook) → valid.is_notebook (notebook_tree n) ≡ true → valid.is_notebook (notebook_tree (prepared n)) ≡ true
-prepared_valid n e = notebook_tree-fits (prepared n) ∙ prepared_fits n (sym (notebook_tree-fits n) ∙ e)
+pub prepared_valid : (n : Notebook) → valid.is_notebook (notebook_tree n) ≡ true → valid.is_notebook (notebook_tree (prepared_notebook n)) ≡ true
+prepared_valid n e = notebook_tree-fits (prepared_notebook n) ∙ prepared_fits n (sym (notebook_tree-fits n) ∙ e)
 
 -- ---- the notebook that a tree is
 
@@ -339,7 +345,7 @@ found_value key test c e = elim (field c key) as (λ o. there_and test o ≡ tru
 read_code : (c : Json) → valid.is_code_cell c ≡ true → cell_fits (cell_of c) ≡ true
 read_code c e =
     let K = has (codes "cell_type") (is_text (codes "code")) c in
-    let N = has_only (codes "cell_type" ∷ codes "id" ∷ codes "metadata" ∷ codes "source" ∷ codes "outputs" ∷ codes "execution_count" ∷ []) c in
+    let N = has_only code_cell_keys c in
     let M = valid.has_common c in
     let U = has (codes "outputs") valid.are_outputs c in
     let h1 = and_parts (((K && N) && M) && U) (has (codes "execution_count") is_count c) e in
@@ -356,7 +362,7 @@ read_code c e =
 read_prose : (c : Json) → valid.is_prose_cell c ≡ true → cell_fits (cell_of c) ≡ true
 read_prose c e =
     let K = has (codes "cell_type") is_prose_name c in
-    let N = has_only (codes "cell_type" ∷ codes "id" ∷ codes "metadata" ∷ codes "source" ∷ codes "attachments" ∷ []) c in
+    let N = has_only prose_cell_keys c in
     let M = valid.has_common c in
     let h1 = and_parts ((K && N) && M) (may_have (codes "attachments") valid.are_attachments c) e in
     let h2 = and_parts (K && N) M h1.0 in
@@ -389,7 +395,7 @@ read_ids (x ∷ xs) = ap (λ is. valid.id_of x ∷ is) (read_ids xs)
 pub read_valid : (t : Json) → valid.is_notebook t ≡ true → valid.is_notebook (notebook_tree (notebook_of t)) ≡ true
 read_valid t e =
     let O = is_object t in
-    let N = has_only (codes "metadata" ∷ codes "nbformat" ∷ codes "nbformat_minor" ∷ codes "cells" ∷ []) t in
+    let N = has_only notebook_keys t in
     let V = has (codes "nbformat") (is_number (codes "4")) t in
     let W = has (codes "nbformat_minor") (is_number (codes "5")) t in
     let M = has (codes "metadata") valid.is_metadata t in

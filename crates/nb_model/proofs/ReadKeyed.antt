@@ -9,16 +9,17 @@ use Rattle.jtext.specs.Look.{items}
 use Rattle.nb_model.specs.declared.kind.Kind.{Kind}
 use Rattle.nb_model.specs.declared.kind.Kind.TheVariants as kind
 use Rattle.nb_model.specs.Reading.{value_at, cell_of, notebook_of}
-use Rattle.nb_model.specs.Tree.{optional, count_tree, cell_tree, notebook_tree}
+use Rattle.nb_model.specs.Tree.{optional_pair, count_tree, cell_tree, notebook_tree}
 use Rattle.nb_model.proofs.DepthLaws.{all-found}
-use Rattle.nb_model.proofs.TreeLaws.{first_keyed, pairs_with}
+use Rattle.jtext.proofs.Trees.{first_keyed}
+use Rattle.nb_model.proofs.TreeLaws.{pairs_with}
 use Rattle.nb_model.proofs.CellValues.{Values, prose_pairs}
 use Rattle.nb_model.proofs.KeyedLemmas.{fields_keyed, keyed_items, keyed_value, cell_keyed, notebook_keyed}
 
 value_keyed : (key : List ℕ) (t : Json) → Keyed t → Keyed (value_at key t)
 value_keyed key t k = all-found Keyed key (fields t) keyed.null (fields_keyed t k).0
 
-attached : (c : Json) → Keyed c → (o : Option Json) → field c (codes "attachments") ≡ o → (rest : List (List ℕ × Json)) → Values Keyed rest → Values Keyed (optional (codes "attachments") o ++ rest)
+attached : (c : Json) → Keyed c → (o : Option Json) → field c (codes "attachments") ≡ o → (rest : List (List ℕ × Json)) → Values Keyed rest → Values Keyed (optional_pair (codes "attachments") o ++ rest)
 attached c k None e rest all = all
 attached c k (Some v) e rest all = (keyed_value (codes "attachments") c v k e, all)
 
@@ -26,7 +27,7 @@ count_keyed : (o : Option (List ℕ)) → Keyed (count_tree o)
 count_keyed None = keyed.null
 count_keyed (Some s) = keyed.number s
 
-prose_values : (name : List ℕ) (c : Json) → Keyed c → Values Keyed (optional (codes "attachments") (cell_of c).attachments ++ prose_pairs name (cell_of c) (cell_of c).metadata)
+prose_values : (name : List ℕ) (c : Json) → Keyed c → Values Keyed (optional_pair (codes "attachments") (cell_of c).attachments ++ prose_pairs name (cell_of c) (cell_of c).metadata)
 prose_values name c k =
     attached c k (field c (codes "attachments")) refl (prose_pairs name (cell_of c) (cell_of c).metadata)
     (keyed.text name, (keyed.text (cell_of c).id, (value_keyed (codes "metadata") c k, (value_keyed (codes "source") c k, tt))))

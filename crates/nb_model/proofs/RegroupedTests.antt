@@ -29,8 +29,8 @@ code_keys n1 n2 n3 n4 n5 k m1 m2 m3 m4 m5 =
     (always 11 (λ n1 n2 n3 n4 n5 k m1 m2 m3 m4 m5. same (((true && (n1 && (n2 && (n3 && (n4 && (n5 && true)))))) && k) && ((m1 && (m2 && m3)) && (m5 && m4)))
     ((((true && k) && ((n1 && m1) && (n2 && m2) && (n3 && m3))) && (n4 && m4)) && (n5 && m5))) refl n1 n2 n3 n4 n5 k m1 m2 m3 m4 m5)
 
-pub notebook_keys : (n1 n2 k m1 m2 d : Bool) → ((((n1 && (true && (true && (n2 && true)))) && k) && (m1 && m2)) && d) ≡ (((((true && k) && true) && true) && (n1 && m1)) && (n2 && (m2 && d)))
-notebook_keys n1 n2 k m1 m2 d =
+pub top_level_keys : (n1 n2 k m1 m2 d : Bool) → ((((n1 && (true && (true && (n2 && true)))) && k) && (m1 && m2)) && d) ≡ (((((true && k) && true) && true) && (n1 && m1)) && (n2 && (m2 && d)))
+top_level_keys n1 n2 k m1 m2 d =
     from_same ((((n1 && (true && (true && (n2 && true)))) && k) && (m1 && m2)) && d) (((((true && k) && true) && true) && (n1 && m1)) && (n2 && (m2 && d)))
     (always 6 (λ n1 n2 k m1 m2 d. same ((((n1 && (true && (true && (n2 && true)))) && k) && (m1 && m2)) && d) (((((true && k) && true) && true) && (n1 && m1)) && (n2 && (m2 && d)))) refl n1 n2 k m1 m2 d)
 

@@ -1,14 +1,13 @@
 -- What is found in a tree whose pairs were sorted by their keys.
-use Rattle.std.proofs.Common.{◌≡◌, ◌≢◌, ℕ, ◌+◌, Bool, true, false, ◌&&◌, List, [], ◌∷◌, map, Option, Some, None, refl, sym, ap, ap₂, ◌∙◌, inl, inr, cond, is_gt, rules}
+use Rattle.std.proofs.Common.{◌≡◌, ◌≢◌, ℕ, ◌+◌, Bool, true, false, ◌&&◌, List, [], ◌∷◌, map, Option, Some, None, refl, sym, ap, ap₂, ◌∙◌, inl, inr, cond, is_gt}
 use Rattle.std.specs.Prelude.{option_map}
 use Rattle.std.specs.List.{list_any, list_all}
 use Rattle.std.specs.Str.{bytes_eq}
 use Rattle.std.proofs.lemmas.Bool.{cases_Bool, cond-true, cond-false}
 use Rattle.std.proofs.lemmas.List.Folds.{list_all-map}
 use Rattle.std.proofs.lemmas.Slice.Eq.{bytes_eq-Decides}
-use Rattle.jtext.specs.declared.json.Json.{Json, out-Json, roll-Json, roll-out-Json, the_lemmas}
+use Rattle.jtext.specs.declared.json.Json.{Json, out-Json, roll-Json, roll-out-Json}
 use Rattle.jtext.specs.declared.json.Json.TheOpen.{Json-F}
-use Rattle.jtext.specs.declared.json.Json.TheVariants as json
 use Rattle.jtext.specs.declared.json.Json.TheVariants.{rolls-Obj, rolls-Arr, rolls-Str, rolls-Num, rolls-Bool, rolls-Null}
 use Rattle.jtext.specs.Depth.{depth, highest, highest_of_pairs}
 use Rattle.jtext.specs.Find.{find, field, fields, fields_of}
@@ -23,25 +22,11 @@ use Rattle.jtext.proofs.Sorts.{all-sort_by, sort_by-map}
 use Rattle.nb_model.specs.Keys.{has, may_have, has_only}
 use Rattle.nb_model.proofs.DepthLaws.{highest-by_key}
 use Rattle.nb_model.proofs.PreparedLaws.{and_eq}
-use Rattle.nb_model.proofs.TreeLaws.{first_keyed, pair_keyed, open_Null, open_Bool, open_Num, open_Str, open_Arr, open_Obj, sorted-Arr, sorted-Obj}
+use Rattle.jtext.proofs.Trees.{first_keyed, pair_keyed, open_Null, open_Bool, open_Num, open_Str, open_Arr, open_Obj}
+use Rattle.jtext.proofs.SortedTrees.{with_sorted, sorted-Null, sorted-Bool, sorted-Num, sorted-Str, sorted-Arr, sorted-Obj, distinct-map}
 use Rattle.nb_model.proofs.KeyedLemmas.{fields_keyed, pairs_of, keyed_value, keyed_items}
 
-abbrev with_sorted : List ℕ × Json → List ℕ × Json
-with_sorted p = (p.0, sorted p.1)
-
 -- ---- one level
-
-sorted-Null : sorted json.Null ≡ json.Null
-sorted-Null = search (rules, the_lemmas)
-
-sorted-Bool : (b : Bool) → sorted (json.Bool b) ≡ json.Bool b
-sorted-Bool b = search (rules, the_lemmas)
-
-sorted-Num : (s : List ℕ) → sorted (json.Num s) ≡ json.Num s
-sorted-Num s = search (rules, the_lemmas)
-
-sorted-Str : (s : List ℕ) → sorted (json.Str s) ≡ json.Str s
-sorted-Str s = search (rules, the_lemmas)
 
 abbrev sorted_layer : Json-F Json → Json-F Json
 sorted_layer Json-F.Null = Json-F.Null
@@ -137,14 +122,6 @@ find-map key [] = refl
 find-map key (p ∷ ps) =
     ap (λ o. cond (bytes_eq p.0 key) (Some (sorted p.1)) o) (find-map key ps)
     ∙ (elim (bytes_eq p.0 key) as (λ b. cond b (Some (sorted p.1)) (option_map sorted (find key ps)) ≡ option_map sorted (cond b (Some p.1) (find key ps))) [ true ↦ refl | false ↦ refl ])
-
-lacks-map : (key : List ℕ) (ps : List (List ℕ × Json)) → Lacks key ps → Lacks key (map with_sorted ps)
-lacks-map key [] l = tt
-lacks-map key (p ∷ ps) l = (l.0, lacks-map key ps l.1)
-
-distinct-map : (ps : List (List ℕ × Json)) → Distinct ps → Distinct (map with_sorted ps)
-distinct-map [] d = tt
-distinct-map (p ∷ ps) d = (lacks-map p.0 ps d.0, distinct-map ps d.1)
 
 pub field_sorted : (key : List ℕ) (t : Json) → Keyed t → field (sorted t) key ≡ option_map sorted (field t key)
 field_sorted key t k = ap (find key) (fields_sorted t) ∙ find-by_key key (map with_sorted (fields t)) (distinct-map (fields t) (fields_keyed t k).1) ∙ find-map key (fields t)

@@ -18,8 +18,9 @@ use Rattle.nb_model.specs.Values.{is_count, is_id_text}
 use Rattle.nb_model.specs.Valid as valid
 use Rattle.nb_model.specs.Valid.{Valid}
 use Rattle.nb_model.proofs.PreparedLaws.{and_eq, no_repeat, ids_are}
-use Rattle.nb_model.proofs.TreeLaws.{first_keyed}
+use Rattle.jtext.proofs.Trees.{first_keyed}
 use Rattle.jtext.proofs.SpelledKeyed.{spells_keyed}
+use Rattle.nb_model.specs.Schema.{notebook_keys, prose_cell_keys, code_cell_keys, stream_required, display_required, result_required, error_required, output_keys}
 use Rattle.nb_model.proofs.SortedTrees.{Stays, object_sorted, list_sorted, string_sorted, number_sorted, null_sorted, field_sorted, has-stays, may_have-stays, has_only-stays, items-stay, items_of_sorted, values-stay, depth_stays}
 
 or_eq : {a b x y : Bool} → a ≡ x → b ≡ y → (a || b) ≡ (x || y)
@@ -55,24 +56,24 @@ bundle-stays t k = and_eq (object_sorted t) (values-stay (λ key v. is_json_type
 
 stream-stays : Stays valid.is_stream
 stream-stays t k =
-    and_eq (and_eq (and_eq (has-stays (codes "output_type") (is_text (codes "stream")) (text-stays (codes "stream")) t k) (has_only-stays (codes "output_type" ∷ codes "name" ∷ codes "text" ∷ []) t k))
+    and_eq (and_eq (and_eq (has-stays (codes "output_type") (is_text (codes "stream")) (text-stays (codes "stream")) t k) (has_only-stays (output_keys stream_required) t k))
     (has-stays (codes "name") is_string string-stays t k)) (has-stays (codes "text") is_multiline multiline-stays t k)
 
 display-stays : Stays valid.is_display
 display-stays t k =
-    and_eq (and_eq (and_eq (has-stays (codes "output_type") (is_text (codes "display_data")) (text-stays (codes "display_data")) t k) (has_only-stays (codes "output_type" ∷ codes "data" ∷ codes "metadata" ∷ []) t k))
+    and_eq (and_eq (and_eq (has-stays (codes "output_type") (is_text (codes "display_data")) (text-stays (codes "display_data")) t k) (has_only-stays (output_keys display_required) t k))
     (has-stays (codes "data") is_bundle bundle-stays t k)) (has-stays (codes "metadata") is_object object-stays t k)
 
 result-stays : Stays valid.is_result
 result-stays t k =
     and_eq (and_eq (and_eq (and_eq (has-stays (codes "output_type") (is_text (codes "execute_result")) (text-stays (codes "execute_result")) t k)
-    (has_only-stays (codes "output_type" ∷ codes "data" ∷ codes "metadata" ∷ codes "execution_count" ∷ []) t k)) (has-stays (codes "data") is_bundle bundle-stays t k))
+    (has_only-stays (output_keys result_required) t k)) (has-stays (codes "data") is_bundle bundle-stays t k))
     (has-stays (codes "metadata") is_object object-stays t k)) (has-stays (codes "execution_count") is_count count-stays t k)
 
 error-stays : Stays valid.is_error
 error-stays t k =
     and_eq (and_eq (and_eq (and_eq (has-stays (codes "output_type") (is_text (codes "error")) (text-stays (codes "error")) t k)
-    (has_only-stays (codes "output_type" ∷ codes "ename" ∷ codes "evalue" ∷ codes "traceback" ∷ []) t k)) (has-stays (codes "ename") is_string string-stays t k))
+    (has_only-stays (output_keys error_required) t k)) (has-stays (codes "ename") is_string string-stays t k))
     (has-stays (codes "evalue") is_string string-stays t k)) (has-stays (codes "traceback") is_strings strings-stay t k)
 
 output-stays : Stays valid.is_output
@@ -99,12 +100,12 @@ attachments-stay t k = and_eq (object_sorted t) (values-stay (λ key v. is_bundl
 prose_cell-stays : Stays valid.is_prose_cell
 prose_cell-stays t k =
     and_eq (and_eq (and_eq (has-stays (codes "cell_type") (λ v. is_text (codes "raw") v || is_text (codes "markdown") v) (λ v h. or_eq (text-stays (codes "raw") v h) (text-stays (codes "markdown") v h)) t k)
-    (has_only-stays (codes "cell_type" ∷ codes "id" ∷ codes "metadata" ∷ codes "source" ∷ codes "attachments" ∷ []) t k)) (common-stays t k)) (may_have-stays (codes "attachments") valid.are_attachments attachments-stay t k)
+    (has_only-stays prose_cell_keys t k)) (common-stays t k)) (may_have-stays (codes "attachments") valid.are_attachments attachments-stay t k)
 
 code_cell-stays : Stays valid.is_code_cell
 code_cell-stays t k =
     and_eq (and_eq (and_eq (and_eq (has-stays (codes "cell_type") (is_text (codes "code")) (text-stays (codes "code")) t k)
-    (has_only-stays (codes "cell_type" ∷ codes "id" ∷ codes "metadata" ∷ codes "source" ∷ codes "outputs" ∷ codes "execution_count" ∷ []) t k)) (common-stays t k))
+    (has_only-stays code_cell_keys t k)) (common-stays t k))
     (has-stays (codes "outputs") valid.are_outputs outputs-stay t k)) (has-stays (codes "execution_count") is_count count-stays t k)
 
 cell-stays : Stays valid.is_cell
@@ -141,7 +142,7 @@ metadata-stays t k =
 
 pub notebook-stays : Stays valid.is_notebook
 notebook-stays t k =
-    and_eq (and_eq (and_eq (and_eq (and_eq (object_sorted t) (has_only-stays (codes "metadata" ∷ codes "nbformat" ∷ codes "nbformat_minor" ∷ codes "cells" ∷ []) t k))
+    and_eq (and_eq (and_eq (and_eq (and_eq (object_sorted t) (has_only-stays notebook_keys t k))
     (has-stays (codes "nbformat") (is_number (codes "4")) (number-stays (codes "4")) t k)) (has-stays (codes "nbformat_minor") (is_number (codes "5")) (number-stays (codes "5")) t k))
     (has-stays (codes "metadata") valid.is_metadata metadata-stays t k)) (has-stays (codes "cells") valid.are_cells cells-stay t k)
 
@@ -150,3 +151,7 @@ read_valid t u s k v is =
     let same : sorted t ≡ u = one_tree (sorted t) u (print t) (indented_text t s k) is in
     let again : Valid (sorted t) = record { notebook = notebook-stays t k ∙ v.notebook; within = subst (λ n. n ≤ 128) (sym (depth_stays t k)) v.within } in
     (subst Valid same again, spells_keyed u (print t) is)
+
+-- what is read of the indented text of a tree, is the tree with its pairs sorted
+pub read_sorted : (t u : Json) → Sound t → Keyed t → Spells u (print t) → u ≡ sorted t
+read_sorted t u s k is = sym (one_tree (sorted t) u (print t) (indented_text t s k) is)

@@ -16,7 +16,7 @@ use Rattle.nb_model.specs.declared.kind.Kind.{Kind}
 use Rattle.nb_model.specs.declared.kind.Kind.TheVariants as kind
 use Rattle.nb_model.specs.declared.cell.Cell.{Cell}
 use Rattle.nb_model.specs.declared.notebook.Notebook.{Notebook}
-use Rattle.nb_model.specs.Tree.{optional, count_tree, cell_tree, notebook_tree}
+use Rattle.nb_model.specs.Tree.{optional_pair, count_tree, cell_tree, notebook_tree}
 use Rattle.nb_model.proofs.Tautologies.{and_parts}
 use Rattle.nb_model.proofs.TreeLaws.{pairs_with}
 use Rattle.nb_model.proofs.CellValues.{Values, prose_pairs, top_pairs}
@@ -50,7 +50,7 @@ record IsSound (c : Cell) : Type 0 where
   outputs : AllSound c.outputs
   count : IfSome c.count (λ s. IsNumber s)
 
-prose_sound : (name : List ℕ) (c : Cell) (o : Option Json) → IsUtf8 name → IfSome o (λ v. Sound v) → IsSound c → PairsSound (optional (codes "attachments") o ++ prose_pairs name c c.metadata)
+prose_sound : (name : List ℕ) (c : Cell) (o : Option Json) → IsUtf8 name → IfSome o (λ v. Sound v) → IsSound c → PairsSound (optional_pair (codes "attachments") o ++ prose_pairs name c c.metadata)
 prose_sound name c None u a s = pairs_from (prose_pairs name c c.metadata) refl (sound.text name u, (sound.text c.id s.id, (s.metadata, (s.source, tt))))
 prose_sound name c (Some v) u a s =
     pairs_from ((codes "attachments", v) ∷ prose_pairs name c c.metadata) refl (a, (sound.text name u, (sound.text c.id s.id, (s.metadata, (s.source, tt)))))

@@ -1,79 +1,37 @@
 -- The tree of the notebook that a tree is, is that tree but for the order of keys.
-use Rattle.std.proofs.Common.{◌≡◌, ℕ, Bool, true, false, ◌&&◌, ◌||◌, List, [], ◌∷◌, ◌++◌, map, Option, Some, None, refl, sym, ap, ap₂, ◌∙◌, inl, inr, subst, rules}
+use Rattle.std.proofs.Common.{◌≡◌, ℕ, Bool, true, false, ◌&&◌, ◌||◌, List, [], ◌∷◌, ◌++◌, map, Option, Some, None, refl, sym, ap, ap₂, ◌∙◌, inl, inr, rules}
 use Rattle.std.specs.Prelude.{codes, unwrap_or, option_and_then}
 use Rattle.std.specs.List.{list_any, list_all}
 use Rattle.std.specs.Str.{bytes_eq}
-use Rattle.std.proofs.lemmas.Bool.{cases_Bool, cond-true, cond-false}
+use Rattle.std.proofs.lemmas.Bool.{cases_Bool}
 use Rattle.std.proofs.lemmas.Slice.Eq.{bytes_eq-Decides}
 use Rattle.jtext.specs.declared.json.Json.{Json, out-Json, roll-out-Json, roll-Json, the_lemmas}
 use Rattle.jtext.specs.declared.json.Json.TheOpen.{Json-F}
 use Rattle.jtext.specs.declared.json.Json.TheVariants as json
 use Rattle.jtext.specs.declared.json.Json.TheVariants.{rolls-Obj, rolls-Arr, rolls-Str, rolls-Num, rolls-Null}
-use Rattle.jtext.specs.Find.{find, field, fields, fields_of}
+use Rattle.jtext.specs.Find.{field, fields}
 use Rattle.jtext.specs.Grammar.{Distinct}
-use Rattle.jtext.specs.Keyed as keyed
-use Rattle.jtext.specs.Keyed.{Keyed, AllKeyed, PairsKeyed}
+use Rattle.jtext.specs.Keyed.{Keyed, AllKeyed}
 use Rattle.jtext.specs.Sorting.{byte_order, by_key, sorted}
 use Rattle.jtext.specs.Indent.{bracketed, named, further, indented, print}
-use Rattle.jtext.specs.Look.{is_object, is_object_layer, is_list, is_list_layer, items, items_layer, string, string_layer, number, number_layer, is_null_layer, there_and, is_whole_text}
+use Rattle.jtext.specs.Look.{is_object, is_list, items, string, string_layer, number, number_layer, is_null_layer, there_and, is_whole_text}
 use Rattle.jtext.proofs.Sorts.{sort_by-map}
 use Rattle.nb_model.specs.declared.kind.Kind.{Kind}
 use Rattle.nb_model.specs.declared.kind.Kind.TheVariants as kind
 use Rattle.nb_model.specs.declared.cell.Cell.{Cell}
 use Rattle.nb_model.specs.Keys.{is_text, is_number, has}
 use Rattle.jtext.specs.Bundle.{is_multiline}
+use Rattle.jtext.proofs.SortedTrees.{sorted-Arr, sorted-Obj}
+use Rattle.jtext.proofs.Trees.{object_is, list_is, text_is, number_is, open_Str, items_keyed, pairs_keyed, first_keyed, found_keyed}
+use Rattle.nb_model.specs.Schema.{notebook_keys, prose_cell_keys, code_cell_keys}
 use Rattle.nb_model.specs.Values.{is_count}
 use Rattle.nb_model.specs.Valid as valid
 use Rattle.nb_model.specs.Reading.{value_at, cell_of, notebook_of, kind_named}
-use Rattle.nb_model.specs.Tree.{optional, count_tree, pairs_of_kind, outputs_of_kind, attachments_of_kind, cell_tree, notebook_tree}
+use Rattle.nb_model.specs.Tree.{optional_pair, count_tree, pairs_of_kind, outputs_of_kind, attachments_of_kind, cell_tree, notebook_tree}
 use Rattle.nb_model.proofs.Tautologies.{always, same, from_same, and_parts}
 use Rattle.nb_model.proofs.KeyOrders.{chosen, by_key-chosen, by_key-again, chosen-found}
 
 -- ---- a value by its kind
-
-object_layer : (l : Json-F Json) → is_object_layer l ≡ true → roll-Json l ≡ json.Obj (fields_of l)
-object_layer Json-F.Null e = cc
-object_layer (Json-F.Bool b) e = cc
-object_layer (Json-F.Num s) e = cc
-object_layer (Json-F.Str s) e = cc
-object_layer (Json-F.Arr xs) e = cc
-object_layer (Json-F.Obj ps) e = rolls-Obj ps
-
-pub object_is : (t : Json) → is_object t ≡ true → t ≡ json.Obj (fields t)
-object_is t e = sym (roll-out-Json t) ∙ object_layer (out-Json t) e
-
-list_layer : (l : Json-F Json) → is_list_layer l ≡ true → roll-Json l ≡ json.Arr (items_layer l)
-list_layer Json-F.Null e = cc
-list_layer (Json-F.Bool b) e = cc
-list_layer (Json-F.Num s) e = cc
-list_layer (Json-F.Str s) e = cc
-list_layer (Json-F.Arr xs) e = rolls-Arr xs
-list_layer (Json-F.Obj ps) e = cc
-
-pub list_is : (t : Json) → is_list t ≡ true → t ≡ json.Arr (items t)
-list_is t e = sym (roll-out-Json t) ∙ list_layer (out-Json t) e
-
-text_layer : (l : Json-F Json) (s : List ℕ) → string_layer l ≡ Some s → roll-Json l ≡ json.Str s
-text_layer Json-F.Null s e = cc
-text_layer (Json-F.Bool b) s e = cc
-text_layer (Json-F.Num n) s e = cc
-text_layer (Json-F.Str r) s e = let h : r ≡ s = cc in rolls-Str r ∙ ap json.Str h
-text_layer (Json-F.Arr xs) s e = cc
-text_layer (Json-F.Obj ps) s e = cc
-
-text_is : (t : Json) (s : List ℕ) → string t ≡ Some s → t ≡ json.Str s
-text_is t s e = sym (roll-out-Json t) ∙ text_layer (out-Json t) s e
-
-number_is_layer : (l : Json-F Json) (s : List ℕ) → number_layer l ≡ Some s → roll-Json l ≡ json.Num s
-number_is_layer Json-F.Null s e = cc
-number_is_layer (Json-F.Bool b) s e = cc
-number_is_layer (Json-F.Num n) s e = let h : n ≡ s = cc in rolls-Num n ∙ ap json.Num h
-number_is_layer (Json-F.Str r) s e = cc
-number_is_layer (Json-F.Arr xs) s e = cc
-number_is_layer (Json-F.Obj ps) s e = cc
-
-number_is : (t : Json) (s : List ℕ) → number t ≡ Some s → t ≡ json.Num s
-number_is t s e = sym (roll-out-Json t) ∙ number_is_layer (out-Json t) s e
 
 count_layer : (l : Json-F Json) → (is_null_layer l || there_and is_whole_text (number_layer l)) ≡ true → roll-Json l ≡ count_tree (number_layer l)
 count_layer Json-F.Null e = rolls-Null
@@ -106,96 +64,33 @@ exact_id v e =
     let p = there_is _ (string v) e in
     text_is v p.0 p.1 ∙ ap (λ o. json.Str (unwrap_or o [])) (sym p.1)
 
--- ---- distinct keys
-
-pub open_Null : out-Json json.Null ≡ Json-F.Null
-open_Null = search (rules, the_lemmas)
-
-pub open_Bool : (b : Bool) → out-Json (json.Bool b) ≡ Json-F.Bool b
-open_Bool b = search (rules, the_lemmas)
-
-pub open_Num : (s : List ℕ) → out-Json (json.Num s) ≡ Json-F.Num s
-open_Num s = search (rules, the_lemmas)
-
-pub open_Str : (s : List ℕ) → out-Json (json.Str s) ≡ Json-F.Str s
-open_Str s = search (rules, the_lemmas)
-
-pub open_Arr : (xs : List Json) → out-Json (json.Arr xs) ≡ Json-F.Arr xs
-open_Arr xs = search (rules, the_lemmas)
-
-pub open_Obj : (ps : List (List ℕ × Json)) → out-Json (json.Obj ps) ≡ Json-F.Obj ps
-open_Obj ps = search (rules, the_lemmas)
-
-as_array : (t : Json) (u : Json-F Json) (xs : List Json) → out-Json t ≡ u → t ≡ json.Arr xs → u ≡ Json-F.Arr xs
-as_array t u xs o e = sym o ∙ ap out-Json e ∙ open_Arr xs
-
-as_object : (t : Json) (u : Json-F Json) (ps : List (List ℕ × Json)) → out-Json t ≡ u → t ≡ json.Obj ps → u ≡ Json-F.Obj ps
-as_object t u ps o e = sym o ∙ ap out-Json e ∙ open_Obj ps
-
-same_items : (xs ys : List Json) → ◌≡◌ {A = Json-F Json} (Json-F.Arr xs) (Json-F.Arr ys) → xs ≡ ys
-same_items xs ys e = cc
-
-same_pairs : (ps qs : List (List ℕ × Json)) → ◌≡◌ {A = Json-F Json} (Json-F.Obj ps) (Json-F.Obj qs) → ps ≡ qs
-same_pairs ps qs e = cc
-
-pub items_keyed : (t : Json) (xs : List Json) → Keyed t → t ≡ json.Arr xs → AllKeyed xs
-items_keyed _ xs keyed.null e = let h = as_array _ _ xs open_Null e in cc
-items_keyed _ xs (keyed.boolean b) e = let h = as_array _ _ xs (open_Bool b) e in cc
-items_keyed _ xs (keyed.number s) e = let h = as_array _ _ xs (open_Num s) e in cc
-items_keyed _ xs (keyed.text s) e = let h = as_array _ _ xs (open_Str s) e in cc
-items_keyed _ xs (keyed.array ys all) e = subst AllKeyed (same_items ys xs (as_array _ _ xs (open_Arr ys) e)) all
-items_keyed _ xs (keyed.object ps all d) e = let h = as_array _ _ xs (open_Obj ps) e in cc
-
-pub pairs_keyed : (t : Json) (ps : List (List ℕ × Json)) → Keyed t → t ≡ json.Obj ps → PairsKeyed ps × Distinct ps
-pairs_keyed _ ps keyed.null e = let h = as_object _ _ ps open_Null e in cc
-pairs_keyed _ ps (keyed.boolean b) e = let h = as_object _ _ ps (open_Bool b) e in cc
-pairs_keyed _ ps (keyed.number s) e = let h = as_object _ _ ps (open_Num s) e in cc
-pairs_keyed _ ps (keyed.text s) e = let h = as_object _ _ ps (open_Str s) e in cc
-pairs_keyed _ ps (keyed.array ys all) e = let h = as_object _ _ ps (open_Arr ys) e in cc
-pairs_keyed _ ps (keyed.object qs all d) e = let same = same_pairs qs ps (as_object _ _ ps (open_Obj qs) e) in (subst PairsKeyed same all, subst Distinct same d)
-
-pub first_keyed : (x : Json) (xs : List Json) → AllKeyed (x ∷ xs) → Keyed x × AllKeyed xs
-first_keyed _ _ (keyed.more x xs k all) = (k, all)
-
-pub pair_keyed : (p : List ℕ × Json) (ps : List (List ℕ × Json)) → PairsKeyed (p ∷ ps) → Keyed p.1 × PairsKeyed ps
-pair_keyed _ _ (keyed.pair key value ps k all) = (k, all)
-
-pub found_keyed : (key : List ℕ) (ps : List (List ℕ × Json)) (v : Json) → PairsKeyed ps → find key ps ≡ Some v → Keyed v
-found_keyed key [] v all e = cc
-found_keyed key (p ∷ ps) v all e =
-    let h = pair_keyed p ps all in
-    elim (cases_Bool (bytes_eq p.0 key)) [
-      | inl t ↦ let s : ◌≡◌ {A = Option Json} (Some p.1) (Some v) = sym (cond-true (bytes_eq p.0 key) (Some p.1) (find key ps) t) ∙ e in let i : p.1 ≡ v = cc in subst Keyed i h.0
-      | inr f ↦ found_keyed key ps v h.1 (sym (cond-false (bytes_eq p.0 key) (Some p.1) (find key ps) f) ∙ e)
-    ]
-
 -- ---- keys in order
 
 code_order : (b0 b1 b2 b3 b4 b5 : Bool) → (b0 || (b1 || (b2 || (b3 || (b4 || (b5 || false)))))) ≡ (b0 || (b5 || (b1 || (b2 || (b4 || (b3 || false))))))
 code_order b0 b1 b2 b3 b4 b5 = from_same (b0 || (b1 || (b2 || (b3 || (b4 || (b5 || false)))))) (b0 || (b5 || (b1 || (b2 || (b4 || (b3 || false)))))) (always 6 (λ b0 b1 b2 b3 b4 b5. same (b0 || (b1 || (b2 || (b3 || (b4 || (b5 || false)))))) (b0 || (b5 || (b1 || (b2 || (b4 || (b3 || false))))))) refl b0 b1 b2 b3 b4 b5)
 
-code_order_known : (ps : List (List ℕ × Json)) → list_all (λ p. list_any (λ k. bytes_eq p.0 k) (codes "cell_type" ∷ codes "id" ∷ codes "metadata" ∷ codes "source" ∷ codes "outputs" ∷ codes "execution_count" ∷ [])) ps ≡ true → list_all (λ p. list_any (λ k. bytes_eq p.0 k) (codes "cell_type" ∷ codes "execution_count" ∷ codes "id" ∷ codes "metadata" ∷ codes "outputs" ∷ codes "source" ∷ [])) ps ≡ true
+code_order_known : (ps : List (List ℕ × Json)) → list_all (λ p. list_any (λ k. bytes_eq p.0 k) code_cell_keys) ps ≡ true → list_all (λ p. list_any (λ k. bytes_eq p.0 k) (codes "cell_type" ∷ codes "execution_count" ∷ codes "id" ∷ codes "metadata" ∷ codes "outputs" ∷ codes "source" ∷ [])) ps ≡ true
 code_order_known [] e = refl
 code_order_known (p ∷ ps) e =
-    let h = and_parts (list_any (λ k. bytes_eq p.0 k) (codes "cell_type" ∷ codes "id" ∷ codes "metadata" ∷ codes "source" ∷ codes "outputs" ∷ codes "execution_count" ∷ [])) (list_all (λ q. list_any (λ k. bytes_eq q.0 k) (codes "cell_type" ∷ codes "id" ∷ codes "metadata" ∷ codes "source" ∷ codes "outputs" ∷ codes "execution_count" ∷ [])) ps) e in
+    let h = and_parts (list_any (λ k. bytes_eq p.0 k) code_cell_keys) (list_all (λ q. list_any (λ k. bytes_eq q.0 k) code_cell_keys) ps) e in
     ap₂ (λ a b. a && b) (sym (code_order (bytes_eq p.0 (codes "cell_type")) (bytes_eq p.0 (codes "id")) (bytes_eq p.0 (codes "metadata")) (bytes_eq p.0 (codes "source")) (bytes_eq p.0 (codes "outputs")) (bytes_eq p.0 (codes "execution_count"))) ∙ h.0) (code_order_known ps h.1)
 
 prose_order : (b0 b1 b2 b3 b4 : Bool) → (b0 || (b1 || (b2 || (b3 || (b4 || false))))) ≡ (b4 || (b0 || (b1 || (b2 || (b3 || false)))))
 prose_order b0 b1 b2 b3 b4 = from_same (b0 || (b1 || (b2 || (b3 || (b4 || false))))) (b4 || (b0 || (b1 || (b2 || (b3 || false))))) (always 5 (λ b0 b1 b2 b3 b4. same (b0 || (b1 || (b2 || (b3 || (b4 || false))))) (b4 || (b0 || (b1 || (b2 || (b3 || false)))))) refl b0 b1 b2 b3 b4)
 
-prose_order_known : (ps : List (List ℕ × Json)) → list_all (λ p. list_any (λ k. bytes_eq p.0 k) (codes "cell_type" ∷ codes "id" ∷ codes "metadata" ∷ codes "source" ∷ codes "attachments" ∷ [])) ps ≡ true → list_all (λ p. list_any (λ k. bytes_eq p.0 k) (codes "attachments" ∷ codes "cell_type" ∷ codes "id" ∷ codes "metadata" ∷ codes "source" ∷ [])) ps ≡ true
+prose_order_known : (ps : List (List ℕ × Json)) → list_all (λ p. list_any (λ k. bytes_eq p.0 k) prose_cell_keys) ps ≡ true → list_all (λ p. list_any (λ k. bytes_eq p.0 k) (codes "attachments" ∷ codes "cell_type" ∷ codes "id" ∷ codes "metadata" ∷ codes "source" ∷ [])) ps ≡ true
 prose_order_known [] e = refl
 prose_order_known (p ∷ ps) e =
-    let h = and_parts (list_any (λ k. bytes_eq p.0 k) (codes "cell_type" ∷ codes "id" ∷ codes "metadata" ∷ codes "source" ∷ codes "attachments" ∷ [])) (list_all (λ q. list_any (λ k. bytes_eq q.0 k) (codes "cell_type" ∷ codes "id" ∷ codes "metadata" ∷ codes "source" ∷ codes "attachments" ∷ [])) ps) e in
+    let h = and_parts (list_any (λ k. bytes_eq p.0 k) prose_cell_keys) (list_all (λ q. list_any (λ k. bytes_eq q.0 k) prose_cell_keys) ps) e in
     ap₂ (λ a b. a && b) (sym (prose_order (bytes_eq p.0 (codes "cell_type")) (bytes_eq p.0 (codes "id")) (bytes_eq p.0 (codes "metadata")) (bytes_eq p.0 (codes "source")) (bytes_eq p.0 (codes "attachments"))) ∙ h.0) (prose_order_known ps h.1)
 
 top_order : (b0 b1 b2 b3 : Bool) → (b0 || (b1 || (b2 || (b3 || false)))) ≡ (b3 || (b0 || (b1 || (b2 || false))))
 top_order b0 b1 b2 b3 = from_same (b0 || (b1 || (b2 || (b3 || false)))) (b3 || (b0 || (b1 || (b2 || false)))) (always 4 (λ b0 b1 b2 b3. same (b0 || (b1 || (b2 || (b3 || false)))) (b3 || (b0 || (b1 || (b2 || false))))) refl b0 b1 b2 b3)
 
-top_order_known : (ps : List (List ℕ × Json)) → list_all (λ p. list_any (λ k. bytes_eq p.0 k) (codes "metadata" ∷ codes "nbformat" ∷ codes "nbformat_minor" ∷ codes "cells" ∷ [])) ps ≡ true → list_all (λ p. list_any (λ k. bytes_eq p.0 k) (codes "cells" ∷ codes "metadata" ∷ codes "nbformat" ∷ codes "nbformat_minor" ∷ [])) ps ≡ true
+top_order_known : (ps : List (List ℕ × Json)) → list_all (λ p. list_any (λ k. bytes_eq p.0 k) notebook_keys) ps ≡ true → list_all (λ p. list_any (λ k. bytes_eq p.0 k) (codes "cells" ∷ codes "metadata" ∷ codes "nbformat" ∷ codes "nbformat_minor" ∷ [])) ps ≡ true
 top_order_known [] e = refl
 top_order_known (p ∷ ps) e =
-    let h = and_parts (list_any (λ k. bytes_eq p.0 k) (codes "metadata" ∷ codes "nbformat" ∷ codes "nbformat_minor" ∷ codes "cells" ∷ [])) (list_all (λ q. list_any (λ k. bytes_eq q.0 k) (codes "metadata" ∷ codes "nbformat" ∷ codes "nbformat_minor" ∷ codes "cells" ∷ [])) ps) e in
+    let h = and_parts (list_any (λ k. bytes_eq p.0 k) notebook_keys) (list_all (λ q. list_any (λ k. bytes_eq q.0 k) notebook_keys) ps) e in
     ap₂ (λ a b. a && b) (sym (top_order (bytes_eq p.0 (codes "metadata")) (bytes_eq p.0 (codes "nbformat")) (bytes_eq p.0 (codes "nbformat_minor")) (bytes_eq p.0 (codes "cells"))) ∙ h.0) (top_order_known ps h.1)
 
 -- ---- the pairs of a cell
@@ -239,7 +134,7 @@ record IsCell (c : Json) : Type 0 where
 code_is : (c : Json) → is_object c ≡ true → valid.is_code_cell c ≡ true → IsCell c
 code_is c o e =
     let K = has (codes "cell_type") (is_text (codes "code")) c in
-    let N = list_all (λ p. list_any (λ key. bytes_eq p.0 key) (codes "cell_type" ∷ codes "id" ∷ codes "metadata" ∷ codes "source" ∷ codes "outputs" ∷ codes "execution_count" ∷ [])) (fields c) in
+    let N = list_all (λ p. list_any (λ key. bytes_eq p.0 key) code_cell_keys) (fields c) in
     let M = valid.has_common c in
     let U = has (codes "outputs") valid.are_outputs c in
     let h1 = and_parts (((K && N) && M) && U) (has (codes "execution_count") is_count c) e in
@@ -263,7 +158,7 @@ code_is c o e =
     }
 
 prose_named : (c : Json) → is_object c ≡ true → (k : Kind) (name : List ℕ) → kind_named name ≡ k → chosen (codes "attachments" ∷ codes "cell_type" ∷ codes "id" ∷ codes "metadata" ∷ codes "source" ∷ []) (fields c) ≡ pairs_with k (cell_of c)
-    → field c (codes "cell_type") ≡ Some (json.Str name) → list_all (λ p. list_any (λ key. bytes_eq p.0 key) (codes "cell_type" ∷ codes "id" ∷ codes "metadata" ∷ codes "source" ∷ codes "attachments" ∷ [])) (fields c) ≡ true → IsCell c
+    → field c (codes "cell_type") ≡ Some (json.Str name) → list_all (λ p. list_any (λ key. bytes_eq p.0 key) prose_cell_keys) (fields c) ≡ true → IsCell c
 prose_named c o k name named found type known =
     record {
       object = object_is c o;
@@ -274,7 +169,7 @@ prose_named c o k name named found type known =
 prose_is : (c : Json) → is_object c ≡ true → valid.is_prose_cell c ≡ true → IsCell c
 prose_is c o e =
     let K = has (codes "cell_type") (λ v. is_text (codes "raw") v || is_text (codes "markdown") v) c in
-    let N = list_all (λ p. list_any (λ key. bytes_eq p.0 key) (codes "cell_type" ∷ codes "id" ∷ codes "metadata" ∷ codes "source" ∷ codes "attachments" ∷ [])) (fields c) in
+    let N = list_all (λ p. list_any (λ key. bytes_eq p.0 key) prose_cell_keys) (fields c) in
     let M = valid.has_common c in
     let h1 = and_parts ((K && N) && M) _ e in
     let h2 = and_parts (K && N) M h1.0 in
@@ -286,13 +181,13 @@ prose_is c o e =
       | inl r ↦
           let type : field c (codes "cell_type") ≡ Some (json.Str (codes "raw")) = t.0 ∙ ap Some (exact_text (codes "raw") v r) in
           prose_named c o kind.Raw (codes "raw") refl
-          (ap (λ l. optional (codes "attachments") (field c (codes "attachments")) ++ l)
+          (ap (λ l. optional_pair (codes "attachments") (field c (codes "attachments")) ++ l)
           (chosen-found ((codes "cell_type", json.Str (codes "raw")) ∷ (codes "id", json.Str (valid.id_of c)) ∷ (codes "metadata", value_at (codes "metadata") c) ∷ (codes "source", value_at (codes "source") c) ∷ []) (fields c)
           (type, (is.id, (is.metadata, (is.source, tt)))))) type h3.1
       | inr nr ↦
           let type : field c (codes "cell_type") ≡ Some (json.Str (codes "markdown")) = t.0 ∙ ap Some (exact_text (codes "markdown") v (ap (λ b. b || is_text (codes "markdown") v) (sym nr) ∙ t.1)) in
           prose_named c o kind.Markdown (codes "markdown") refl
-          (ap (λ l. optional (codes "attachments") (field c (codes "attachments")) ++ l)
+          (ap (λ l. optional_pair (codes "attachments") (field c (codes "attachments")) ++ l)
           (chosen-found ((codes "cell_type", json.Str (codes "markdown")) ∷ (codes "id", json.Str (valid.id_of c)) ∷ (codes "metadata", value_at (codes "metadata") c) ∷ (codes "source", value_at (codes "source") c) ∷ []) (fields c)
           (type, (is.id, (is.metadata, (is.source, tt)))))) type h3.1
     ]
@@ -334,7 +229,7 @@ module _ {A : Type 0} (F : Json → A) (G : List (List ℕ × A) → A) (H : Lis
   pub notebook_same : (t : Json) → valid.is_notebook t ≡ true → Keyed t → F (notebook_tree (notebook_of t)) ≡ F t
   notebook_same t e k =
       let O = is_object t in
-      let N = list_all (λ p. list_any (λ key. bytes_eq p.0 key) (codes "metadata" ∷ codes "nbformat" ∷ codes "nbformat_minor" ∷ codes "cells" ∷ [])) (fields t) in
+      let N = list_all (λ p. list_any (λ key. bytes_eq p.0 key) notebook_keys) (fields t) in
       let V = has (codes "nbformat") (is_number (codes "4")) t in
       let W = has (codes "nbformat_minor") (is_number (codes "5")) t in
       let M = has (codes "metadata") valid.is_metadata t in
@@ -367,12 +262,6 @@ module _ {A : Type 0} (F : Json → A) (G : List (List ℕ × A) → A) (H : Lis
       ∙ ap (λ ps. G (map with_F ps)) (sym pairs ∙ sym (by_key-chosen ks (fields t) refl pk.1 (top_order_known (fields t) h5.1))) ∙ sym (of_object (fields t)) ∙ sym (ap F object)
 
 -- ---- sorted trees and indented texts
-
-pub sorted-Arr : (xs : List Json) → sorted (json.Arr xs) ≡ json.Arr (map sorted xs)
-sorted-Arr xs = search (rules, the_lemmas)
-
-pub sorted-Obj : (ps : List (List ℕ × Json)) → sorted (json.Obj ps) ≡ json.Obj (by_key (map (λ p. (p.0, sorted p.1)) ps))
-sorted-Obj ps = search (rules, the_lemmas)
 
 pub sorted_same : (t : Json) → valid.is_notebook t ≡ true → Keyed t → sorted (notebook_tree (notebook_of t)) ≡ sorted t
 sorted_same = notebook_same sorted json.Obj json.Arr sorted-Obj sorted-Arr

@@ -1,5 +1,6 @@
--- The fault of a tree that is no notebook of nbformat 4.5: its version, else where its shape fails, else the first id that an earlier cell has.
-use Rattle.std.specs.Prelude.{◌≡◌, ℕ, Bool, ◌&&◌, if◌then◌else◌, List, [], ◌∷◌, Option, Some, None, option_map, codes}
+-- The fault of a tree that is no notebook of nbformat 4.5: its version, else where its shape fails, else the
+-- first id that an earlier cell has.
+use Rattle.std.specs.Prelude.{◌≡◌, ℕ, if◌then◌else◌, List, [], ◌∷◌, Option, Some, None, option_map, codes}
 use Rattle.std.specs.Option.{option_or}
 use Rattle.std.specs.List.{list_any}
 use Rattle.std.specs.Str.{bytes_eq}
@@ -7,23 +8,23 @@ use Rattle.jtext.specs.declared.json.Json.{Json}
 use Rattle.jtext.specs.Look.{is_object, items}
 use Rattle.nb_model.specs.declared.nb_fault.NbFault.{NbFault}
 use Rattle.nb_model.specs.declared.nb_fault.NbFault.TheVariants as fault
-use Rattle.nb_model.specs.Keys.{is_number, has}
+use Rattle.nb_model.specs.Keys.{has_version}
 use Rattle.nb_model.specs.Valid.{id_of}
 use Rattle.nb_model.specs.Reading.{value_at}
 use Rattle.nb_model.specs.Places.{of_notebook}
 
--- `nbformat` and `nbformat_minor` are those of 4.5
-abbrev pub has_version : Json → Bool
-has_version t = has (codes "nbformat") (is_number (codes "4")) t && has (codes "nbformat_minor") (is_number (codes "5")) t
-
 -- the first id that is among those before it, which these are and the ones on the way
 abbrev pub repeated_id : List (List ℕ) → List Json → Option (List ℕ)
 repeated_id earlier [] = None
-repeated_id earlier (c ∷ cs) = if list_any (λ e. bytes_eq e (id_of c)) earlier then Some (id_of c) else repeated_id (id_of c ∷ earlier) cs
+repeated_id earlier (c ∷ cs) =
+    if list_any (λ e. bytes_eq e (id_of c)) earlier then Some (id_of c)
+    else repeated_id (id_of c ∷ earlier) cs
 
 -- of an object that has its version
 abbrev pub fault_within : Json → Option NbFault
-fault_within t = option_or (option_map (λ p. fault.Shape p) (of_notebook t)) (option_map (λ id. fault.SameId id) (repeated_id [] (items (value_at (codes "cells") t))))
+fault_within t =
+    option_or (option_map (λ p. fault.Shape p) (of_notebook t))
+    (option_map (λ id. fault.SameId id) (repeated_id [] (items (value_at (codes "cells") t))))
 
 -- the fault of a tree
 abbrev pub fault_of : Json → Option NbFault

@@ -4,6 +4,6 @@ use Rattle.std.specs.Str.{bytes_eq}
 use Rattle.jtext.specs.declared.json.Json.{Json}
 
 -- the pairs but for the first one with that key
-abbrev pub without : List ℕ → List (List ℕ × Json) → List (List ℕ × Json)
-without key [] = []
-without key (p ∷ ps) = if bytes_eq p.0 key then ps else p ∷ without key ps
+abbrev pub pairs_without : List ℕ → List (List ℕ × Json) → List (List ℕ × Json)
+pairs_without key [] = []
+pairs_without key (p ∷ ps) = if bytes_eq p.0 key then ps else p ∷ pairs_without key ps

@@ -8,20 +8,22 @@ use Rattle.jtext.specs.declared.json.Json.{Json}
 use Rattle.jtext.specs.Look.{items, string}
 use Rattle.nb_model.specs.declared.cell.Cell.{Cell}
 use Rattle.nb_model.specs.declared.notebook.Notebook.{Notebook}
-use Rattle.nb_model.specs.Injected.{is_tagged, is_code}
+use Rattle.nb_model.specs.Tags.{is_tagged}
+use Rattle.nb_model.specs.Kind.{is_code}
 
 -- the text of a string, and the empty text of another value
 abbrev pub text_of : Json → List ℕ
 text_of v = unwrap_or (string v) []
 
 -- what a multiline string means: its text, or its lines joined
-abbrev pub joined : Json → List ℕ
-joined v = text_of v ++ flat_map text_of (items v)
+abbrev pub joined_text : Json → List ℕ
+joined_text v = text_of v ++ flat_map text_of (items v)
 
 -- the source of a cell as one text
 abbrev pub code : Cell → List ℕ
-code c = joined c.source
+code c = joined_text c.source
 
+-- each character of the text is white space
 abbrev pub is_blank : List ℕ → Bool
 is_blank text = list_all is_white_space (chars text)
 

@@ -5,20 +5,20 @@ use Rattle.std.specs.Str.{chars}
 use Rattle.std.specs.Fmt.{decimal}
 
 -- what stands in a token for a character of a key
-abbrev pub escaped : ℕ → List ℕ
-escaped c = if c == 126 then codes "~0" else if c == 47 then codes "~1" else encode_utf8 c
+abbrev pub escaped_char : ℕ → List ℕ
+escaped_char c = if c == 126 then codes "~0" else if c == 47 then codes "~1" else encode_utf8 c
 
 -- the token of a key
 unfoldable pub key_token : List ℕ → List ℕ
-key_token key = codes "/" ++ flat_map escaped (chars key)
+key_token key = codes "/" ++ flat_map escaped_char (chars key)
 
 -- the token of an item, counted from 0
 unfoldable pub item_token : ℕ → List ℕ
 item_token i = codes "/" ++ decimal i
 
 -- the value itself, unless the test holds of it
-abbrev pub unless : Bool → Option (List ℕ)
-unless holds = if holds then None else Some []
+abbrev pub place_unless : Bool → Option (List ℕ)
+place_unless holds = if holds then None else Some []
 
 -- a place in the value under this key, seen from its object
 abbrev pub under_key : List ℕ → Option (List ℕ) → Option (List ℕ)

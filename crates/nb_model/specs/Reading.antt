@@ -17,7 +17,10 @@ value_at key t = unwrap_or (field t key) json.Null
 
 -- the kind that `cell_type` names
 abbrev pub kind_named : List ℕ → Kind
-kind_named name = if bytes_eq name (codes "code") then kind.Code else if bytes_eq name (codes "markdown") then kind.Markdown else kind.Raw
+kind_named name =
+    if bytes_eq name (codes "code") then kind.Code
+    else if bytes_eq name (codes "markdown") then kind.Markdown
+    else kind.Raw
 
 -- the cell of a tree
 abbrev pub cell_of : Json → Cell
@@ -33,4 +36,7 @@ cell_of c = record {
 
 -- the notebook of a tree
 abbrev pub notebook_of : Json → Notebook
-notebook_of t = record { metadata = value_at (codes "metadata") t; cells = map cell_of (items (value_at (codes "cells") t)) }
+notebook_of t = record {
+  metadata = value_at (codes "metadata") t;
+  cells = map cell_of (items (value_at (codes "cells") t));
+}

@@ -14,9 +14,9 @@ kind_name kind.Markdown = codes "markdown"
 kind_name kind.Code = codes "code"
 
 -- the pair of a value that may be absent
-abbrev pub optional : List ℕ → Option Json → List (List ℕ × Json)
-optional key None = []
-optional key (Some v) = (key, v) ∷ []
+abbrev pub optional_pair : List ℕ → Option Json → List (List ℕ × Json)
+optional_pair key None = []
+optional_pair key (Some v) = (key, v) ∷ []
 
 -- a count, or `null`
 abbrev pub count_tree : Option (List ℕ) → Json
@@ -27,7 +27,8 @@ count_tree (Some s) = json.Num s
 abbrev pub pairs_of_kind : Kind → Cell → List (List ℕ × Json)
 pairs_of_kind kind.Raw c = (codes "cell_type", json.Str (kind_name kind.Raw)) ∷ []
 pairs_of_kind kind.Markdown c = (codes "cell_type", json.Str (kind_name kind.Markdown)) ∷ []
-pairs_of_kind kind.Code c = (codes "cell_type", json.Str (kind_name kind.Code)) ∷ (codes "execution_count", count_tree c.count) ∷ []
+pairs_of_kind kind.Code c =
+    (codes "cell_type", json.Str (kind_name kind.Code)) ∷ (codes "execution_count", count_tree c.count) ∷ []
 
 -- `outputs`, of a code cell alone
 abbrev pub outputs_of_kind : Kind → Cell → List (List ℕ × Json)
@@ -37,14 +38,15 @@ outputs_of_kind kind.Code c = (codes "outputs", json.Arr c.outputs) ∷ []
 
 -- `attachments`, of the other kinds, where the cell has them
 abbrev pub attachments_of_kind : Kind → Cell → List (List ℕ × Json)
-attachments_of_kind kind.Raw c = optional (codes "attachments") c.attachments
-attachments_of_kind kind.Markdown c = optional (codes "attachments") c.attachments
+attachments_of_kind kind.Raw c = optional_pair (codes "attachments") c.attachments
+attachments_of_kind kind.Markdown c = optional_pair (codes "attachments") c.attachments
 attachments_of_kind kind.Code c = []
 
 -- the tree of a cell
 abbrev pub cell_tree : Cell → Json
 cell_tree c = json.Obj (attachments_of_kind c.kind c ++ (pairs_of_kind c.kind c
-    ++ ((codes "id", json.Str c.id) ∷ (codes "metadata", c.metadata) ∷ (outputs_of_kind c.kind c ++ (codes "source", c.source) ∷ []))))
+    ++ ((codes "id", json.Str c.id) ∷ (codes "metadata", c.metadata)
+    ∷ (outputs_of_kind c.kind c ++ (codes "source", c.source) ∷ []))))
 
 -- the tree of a notebook
 abbrev pub notebook_tree : Notebook → Json

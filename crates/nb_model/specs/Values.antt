@@ -9,8 +9,10 @@ use Rattle.jtext.specs.Look.{is_null, is_whole_text, number, there_and}
 abbrev pub is_count : Json → Bool
 is_count v = is_null v || there_and is_whole_text (number v)
 
+-- a byte that an id may have
 abbrev pub is_id_byte : ℕ → Bool
-is_id_byte c = (nat_le 97 c && nat_le c 122) || (nat_le 65 c && nat_le c 90) || is_ascii_digit c || (c == 45) || (c == 95)
+is_id_byte c =
+    (nat_le 97 c && nat_le c 122) || (nat_le 65 c && nat_le c 90) || is_ascii_digit c || (c == 45) || (c == 95)
 
 -- `cell_id`: 1 to 64 of the characters `a-z A-Z 0-9 - _`
 abbrev pub is_id_text : List ℕ → Bool

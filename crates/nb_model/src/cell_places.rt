@@ -1,19 +1,21 @@
 //! Where cells fail the schema of nbformat 4.5.
 ghost use Rattle.std.specs.Prelude.{◌≡◌, not, option_map, option_and_then, position, slice_get, IfOk, ◌∷◌, [], codes, ◌||◌};
+ghost use Rattle.nb_model.specs.Schema as schema;
 ghost use Rattle.nb_model.specs.Valid as valid;
 ghost use Rattle.nb_model.specs.Pointer as pointer;
-ghost use Rattle.nb_model.specs.Places as spec;
+ghost use Rattle.nb_model.specs.Places as places;
 
+use crate::key_lists;
 use crate::output_places::{count_place, outputs_place};
 use crate::places::{keys_place, value_place};
-use crate::pointer::{under_item, under_key};
+use crate::pointer::{under_item, under_key, within};
 use crate::validity::{is_cell, is_id, is_text};
 use crate::value_places::{attachments_place, multiline_place, strings_place};
 use jtext::{Items, Json, NoMemory, Text, field};
 use std::alloc::Global;
 
 pub(crate) fn cells_place(alloc: Global, v: &Json) -> Result<Option<Text>, NoMemory>
-    ensures { IfOk result (λ r. r ≡ spec.of_cells v.now) }
+    ensures { IfOk result (λ r. r ≡ places.of_cells v.now) }
 {
     match v {
         Json::Arr(items) => items_place(alloc, items),
@@ -22,7 +24,7 @@ pub(crate) fn cells_place(alloc: Global, v: &Json) -> Result<Option<Text>, NoMem
 }
 
 fn items_place(alloc: Global, items: &Items) -> Result<Option<Text>, NoMemory>
-    ensures { IfOk result (λ r. r ≡ spec.within_items valid.is_cell spec.of_cell items.now) }
+    ensures { IfOk result (λ r. r ≡ places.within_items valid.is_cell places.of_cell items.now) }
 {
     match first_no_cell(items) {
         Some(i) => item_place(alloc, items, i),
@@ -37,7 +39,8 @@ fn first_no_cell(items: &Items) -> Option<usize>
 }
 
 fn item_place(alloc: Global, items: &Items, i: usize) -> Result<Option<Text>, NoMemory>
-    ensures { IfOk result (λ r. r ≡ pointer.under_item i (option_and_then spec.of_cell (slice_get items.now i))) }
+    ensures { IfOk result (λ r. r
+        ≡ pointer.under_item i (option_and_then places.of_cell (slice_get items.now i))) }
 {
     match items.get(i) {
         Some(c) => under_item(alloc, i, cell_place(alloc, c)?),
@@ -46,7 +49,7 @@ fn item_place(alloc: Global, items: &Items, i: usize) -> Result<Option<Text>, No
 }
 
 fn cell_place(alloc: Global, c: &Json) -> Result<Option<Text>, NoMemory>
-    ensures { IfOk result (λ r. r ≡ spec.of_cell c.now) }
+    ensures { IfOk result (λ r. r ≡ places.of_cell c.now) }
 {
     if c.is_object() {
         by_kind(alloc, c)
@@ -57,7 +60,7 @@ fn cell_place(alloc: Global, c: &Json) -> Result<Option<Text>, NoMemory>
 
 /// An object by its `cell_type`.
 fn by_kind(alloc: Global, c: &Json) -> Result<Option<Text>, NoMemory>
-    ensures { IfOk result (λ r. r ≡ spec.by_kind c.now) }
+    ensures { IfOk result (λ r. r ≡ places.by_kind c.now) }
 {
     if field(c, "cell_type").is_some_and(|v| is_text(v, "raw") || is_text(v, "markdown")) {
         return prose_cell_place(alloc, c);
@@ -72,7 +75,7 @@ fn by_kind(alloc: Global, c: &Json) -> Result<Option<Text>, NoMemory>
 }
 
 fn prose_cell_place(alloc: Global, c: &Json) -> Result<Option<Text>, NoMemory>
-    ensures { IfOk result (λ r. r ≡ spec.of_prose_cell c.now) }
+    ensures { IfOk result (λ r. r ≡ places.of_prose_cell c.now) }
 {
     let keys = prose_keys(alloc, c)?;
     let common = common_place(alloc, c)?;
@@ -80,7 +83,7 @@ fn prose_cell_place(alloc: Global, c: &Json) -> Result<Option<Text>, NoMemory>
 }
 
 fn code_cell_place(alloc: Global, c: &Json) -> Result<Option<Text>, NoMemory>
-    ensures { IfOk result (λ r. r ≡ spec.of_code_cell c.now) }
+    ensures { IfOk result (λ r. r ≡ places.of_code_cell c.now) }
 {
     let keys = code_keys(alloc, c)?;
     let common = common_place(alloc, c)?;
@@ -90,7 +93,7 @@ fn code_cell_place(alloc: Global, c: &Json) -> Result<Option<Text>, NoMemory>
 
 /// The values that every cell has.
 fn common_place(alloc: Global, c: &Json) -> Result<Option<Text>, NoMemory>
-    ensures { IfOk result (λ r. r ≡ spec.of_common c.now) }
+    ensures { IfOk result (λ r. r ≡ places.of_common c.now) }
 {
     let id = id_place(alloc, c)?;
     let metadata = within_metadata(alloc, c)?;
@@ -98,13 +101,13 @@ fn common_place(alloc: Global, c: &Json) -> Result<Option<Text>, NoMemory>
 }
 
 fn id_place(alloc: Global, c: &Json) -> Result<Option<Text>, NoMemory>
-    ensures { IfOk result (λ r. r ≡ spec.of_value (codes "id") valid.is_id c.now) }
+    ensures { IfOk result (λ r. r ≡ places.of_value (codes "id") valid.is_id c.now) }
 {
     value_place(alloc, "id", field(c, "id").is_none_or(|v| is_id(v)))
 }
 
 fn metadata_place(alloc: Global, v: &Json) -> Result<Option<Text>, NoMemory>
-    ensures { IfOk result (λ r. r ≡ spec.of_cell_metadata v.now) }
+    ensures { IfOk result (λ r. r ≡ places.of_cell_metadata v.now) }
 {
     if v.is_object() {
         within_tags(alloc, v)
@@ -114,68 +117,53 @@ fn metadata_place(alloc: Global, v: &Json) -> Result<Option<Text>, NoMemory>
 }
 
 fn within_tags(alloc: Global, t: &Json) -> Result<Option<Text>, NoMemory>
-    ensures { IfOk result (λ r. r ≡ spec.within_value (codes "tags") spec.of_strings t.now) }
+    ensures { IfOk result (λ r. r ≡ places.within_value (codes "tags") places.of_strings t.now) }
 {
-    match field(t, "tags") {
-        Some(v) => under_key(alloc, "tags", strings_place(alloc, v)?),
-        None => Ok(None),
-    }
+    within!(alloc, t, "tags", strings_place)
 }
 
 fn within_metadata(alloc: Global, t: &Json) -> Result<Option<Text>, NoMemory>
-    ensures { IfOk result (λ r. r ≡ spec.within_value (codes "metadata") spec.of_cell_metadata t.now) }
+    ensures { IfOk result (λ r. r
+        ≡ places.within_value (codes "metadata") places.of_cell_metadata t.now) }
 {
-    match field(t, "metadata") {
-        Some(v) => under_key(alloc, "metadata", metadata_place(alloc, v)?),
-        None => Ok(None),
-    }
+    within!(alloc, t, "metadata", metadata_place)
 }
 
 fn within_source(alloc: Global, t: &Json) -> Result<Option<Text>, NoMemory>
-    ensures { IfOk result (λ r. r ≡ spec.within_value (codes "source") spec.of_multiline t.now) }
+    ensures { IfOk result (λ r. r
+        ≡ places.within_value (codes "source") places.of_multiline t.now) }
 {
-    match field(t, "source") {
-        Some(v) => under_key(alloc, "source", multiline_place(alloc, v)?),
-        None => Ok(None),
-    }
+    within!(alloc, t, "source", multiline_place)
 }
 
 fn within_attachments(alloc: Global, t: &Json) -> Result<Option<Text>, NoMemory>
-    ensures { IfOk result (λ r. r ≡ spec.within_value (codes "attachments") spec.of_attachments t.now) }
+    ensures { IfOk result (λ r. r
+        ≡ places.within_value (codes "attachments") places.of_attachments t.now) }
 {
-    match field(t, "attachments") {
-        Some(v) => under_key(alloc, "attachments", attachments_place(alloc, v)?),
-        None => Ok(None),
-    }
+    within!(alloc, t, "attachments", attachments_place)
 }
 
 fn within_outputs(alloc: Global, t: &Json) -> Result<Option<Text>, NoMemory>
-    ensures { IfOk result (λ r. r ≡ spec.within_value (codes "outputs") spec.of_outputs t.now) }
+    ensures { IfOk result (λ r. r ≡ places.within_value (codes "outputs") places.of_outputs t.now) }
 {
-    match field(t, "outputs") {
-        Some(v) => under_key(alloc, "outputs", outputs_place(alloc, v)?),
-        None => Ok(None),
-    }
+    within!(alloc, t, "outputs", outputs_place)
 }
 
 fn prose_keys(alloc: Global, t: &Json) -> Result<Option<Text>, NoMemory>
-    ensures { IfOk result (λ r. r ≡ spec.of_keys (codes "cell_type" ∷ codes "id" ∷ codes "metadata" ∷ codes "source" ∷ []) (codes "cell_type" ∷ codes "id" ∷ codes "metadata" ∷ codes "source" ∷ codes "attachments" ∷ []) t.now) }
+    ensures { IfOk result (λ r. r
+        ≡ places.of_keys schema.prose_cell_required schema.prose_cell_keys t.now) }
 {
-    let required = ["cell_type", "id", "metadata", "source"];
-    let known = ["cell_type", "id", "metadata", "source", "attachments"];
-    keys_place(alloc, t, &required, &known)
+    keys_place(
+        alloc,
+        t,
+        &key_lists::PROSE_CELL_REQUIRED,
+        &key_lists::PROSE_CELL,
+    )
 }
 
 fn code_keys(alloc: Global, t: &Json) -> Result<Option<Text>, NoMemory>
-    ensures { IfOk result (λ r. r ≡ spec.of_keys (codes "cell_type" ∷ codes "id" ∷ codes "metadata" ∷ codes "source" ∷ codes "outputs" ∷ codes "execution_count" ∷ []) (codes "cell_type" ∷ codes "id" ∷ codes "metadata" ∷ codes "source" ∷ codes "outputs" ∷ codes "execution_count" ∷ []) t.now) }
+    ensures { IfOk result (λ r. r
+        ≡ places.of_keys schema.code_cell_keys schema.code_cell_keys t.now) }
 {
-    let keys = [
-        "cell_type",
-        "id",
-        "metadata",
-        "source",
-        "outputs",
-        "execution_count",
-    ];
-    keys_place(alloc, t, &keys, &keys)
+    keys_place(alloc, t, &key_lists::CODE_CELL, &key_lists::CODE_CELL)
 }

@@ -5,6 +5,7 @@
 mod accept;
 mod cell;
 mod cell_places;
+mod key_lists;
 mod kind;
 pub mod laws;
 mod multiline;
@@ -15,11 +16,8 @@ mod parts;
 mod places;
 mod pointer;
 mod preparation;
-mod record;
 mod schedule;
 mod source;
-#[cfg(test)]
-mod tests;
 mod validity;
 mod value_places;
 
@@ -30,7 +28,6 @@ pub use multiline::split_lines;
 pub use nb_fault::NbFault;
 pub use notebook::Notebook;
 pub use preparation::prepare;
-pub use record::{set_field, set_within};
 pub use schedule::{Plan, plan};
 pub use source::{code, tagged};
 pub use validity::is_valid;

@@ -23,11 +23,12 @@ pub fn split_lines(alloc: Global, text: &str) -> Result<Json, NoMemory>
     Ok(Json::Arr(lines))
 }
 
-// The place after the first line end.
+/// The place after the first line end.
 fn line_end(text: &str) -> Option<usize>
     ensures within { IfSome result (λ n. (0 < n) × (n ≤ length text.now)) }
     ensures boundary { IfSome result (λ n. IsCharBoundary text.now n) }
-    ensures first { IfSome result (λ n. lines_of text.now ≡ take n text.now ∷ lines_of (drop n text.now)) }
+    ensures first { IfSome result (λ n. lines_of text.now
+        ≡ take n text.now ∷ lines_of (drop n text.now)) }
     ensures last { IfNone result (0 < length text.now → lines_of text.now ≡ text.now ∷ []) }
 {
     match newline(text.as_bytes()) {

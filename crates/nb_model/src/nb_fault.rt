@@ -2,6 +2,8 @@
 ghost use Rattle.std.specs.Prelude.{◌≡◌};
 
 use jtext::{NoMemory, Text};
+use std::error::Error;
+use std::fmt;
 
 /// What is wrong with a tree, or that memory was refused.
 #[derive(Debug, Drop)]
@@ -25,3 +27,18 @@ impl From<NoMemory> for NbFault {
         NbFault::NoMemory
     }
 }
+
+impl fmt::Display for NbFault {
+    fn fmt<W: fmt::Write>(&self, f: &mut fmt::Formatter<W>) -> fmt::Result {
+        match self {
+            NbFault::Version => f.write_str("not nbformat 4.5: version"),
+            NbFault::Shape { pointer } => {
+                write!(f, "not nbformat 4.5: shape at {}", pointer.as_str())
+            }
+            NbFault::SameId { id } => write!(f, "not nbformat 4.5: same id {}", id.as_str()),
+            NbFault::NoMemory => f.write_str("out of memory"),
+        }
+    }
+}
+
+impl Error for NbFault {}

@@ -1,19 +1,21 @@
 //! Where outputs fail the schema of nbformat 4.5.
 ghost use Rattle.std.specs.Prelude.{◌≡◌, not, option_map, option_and_then, position, slice_get, IfOk, ◌∷◌, [], codes};
+ghost use Rattle.nb_model.specs.Schema as schema;
 ghost use Rattle.nb_model.specs.Values as values;
 ghost use Rattle.nb_model.specs.Valid as valid;
 ghost use Rattle.nb_model.specs.Pointer as pointer;
-ghost use Rattle.nb_model.specs.Places as spec;
+ghost use Rattle.nb_model.specs.Places as places;
 
+use crate::key_lists;
 use crate::places::{keys_place, string_place, value_place};
-use crate::pointer::{under_item, under_key};
+use crate::pointer::{under_item, under_key, within};
 use crate::validity::{has_type, is_count, is_output};
 use crate::value_places::{bundle_place, multiline_place, strings_place};
 use jtext::{Items, Json, NoMemory, Text, field};
 use std::alloc::Global;
 
 pub(crate) fn outputs_place(alloc: Global, v: &Json) -> Result<Option<Text>, NoMemory>
-    ensures { IfOk result (λ r. r ≡ spec.of_outputs v.now) }
+    ensures { IfOk result (λ r. r ≡ places.of_outputs v.now) }
 {
     match v {
         Json::Arr(items) => items_place(alloc, items),
@@ -22,7 +24,8 @@ pub(crate) fn outputs_place(alloc: Global, v: &Json) -> Result<Option<Text>, NoM
 }
 
 fn items_place(alloc: Global, items: &Items) -> Result<Option<Text>, NoMemory>
-    ensures { IfOk result (λ r. r ≡ spec.within_items valid.is_output spec.of_output items.now) }
+    ensures { IfOk result (λ r. r
+        ≡ places.within_items valid.is_output places.of_output items.now) }
 {
     match first_no_output(items) {
         Some(i) => item_place(alloc, items, i),
@@ -37,7 +40,8 @@ fn first_no_output(items: &Items) -> Option<usize>
 }
 
 fn item_place(alloc: Global, items: &Items, i: usize) -> Result<Option<Text>, NoMemory>
-    ensures { IfOk result (λ r. r ≡ pointer.under_item i (option_and_then spec.of_output (slice_get items.now i))) }
+    ensures { IfOk result (λ r. r
+        ≡ pointer.under_item i (option_and_then places.of_output (slice_get items.now i))) }
 {
     match items.get(i) {
         Some(o) => under_item(alloc, i, output_place(alloc, o)?),
@@ -46,7 +50,7 @@ fn item_place(alloc: Global, items: &Items, i: usize) -> Result<Option<Text>, No
 }
 
 fn output_place(alloc: Global, o: &Json) -> Result<Option<Text>, NoMemory>
-    ensures { IfOk result (λ r. r ≡ spec.of_output o.now) }
+    ensures { IfOk result (λ r. r ≡ places.of_output o.now) }
 {
     if o.is_object() {
         by_type(alloc, o)
@@ -57,7 +61,7 @@ fn output_place(alloc: Global, o: &Json) -> Result<Option<Text>, NoMemory>
 
 /// An object by its `output_type`.
 fn by_type(alloc: Global, o: &Json) -> Result<Option<Text>, NoMemory>
-    ensures { IfOk result (λ r. r ≡ spec.by_type o.now) }
+    ensures { IfOk result (λ r. r ≡ places.by_type o.now) }
 {
     if has_type(o, "stream") {
         return stream_place(alloc, o);
@@ -78,7 +82,7 @@ fn by_type(alloc: Global, o: &Json) -> Result<Option<Text>, NoMemory>
 }
 
 fn stream_place(alloc: Global, o: &Json) -> Result<Option<Text>, NoMemory>
-    ensures { IfOk result (λ r. r ≡ spec.of_stream o.now) }
+    ensures { IfOk result (λ r. r ≡ places.of_stream o.now) }
 {
     let keys = stream_keys(alloc, o)?;
     let name = string_place(alloc, o, "name")?;
@@ -86,14 +90,14 @@ fn stream_place(alloc: Global, o: &Json) -> Result<Option<Text>, NoMemory>
 }
 
 fn display_place(alloc: Global, o: &Json) -> Result<Option<Text>, NoMemory>
-    ensures { IfOk result (λ r. r ≡ spec.of_display o.now) }
+    ensures { IfOk result (λ r. r ≡ places.of_display o.now) }
 {
     let keys = display_keys(alloc, o)?;
     Ok(keys.or(data_place(alloc, o)?))
 }
 
 fn data_place(alloc: Global, o: &Json) -> Result<Option<Text>, NoMemory>
-    ensures { IfOk result (λ r. r ≡ spec.of_data o.now) }
+    ensures { IfOk result (λ r. r ≡ places.of_data o.now) }
 {
     let data = within_data(alloc, o)?;
     let is_object = field(o, "metadata").is_none_or(|v| v.is_object());
@@ -101,7 +105,7 @@ fn data_place(alloc: Global, o: &Json) -> Result<Option<Text>, NoMemory>
 }
 
 fn result_place(alloc: Global, o: &Json) -> Result<Option<Text>, NoMemory>
-    ensures { IfOk result (λ r. r ≡ spec.of_result o.now) }
+    ensures { IfOk result (λ r. r ≡ places.of_result o.now) }
 {
     let keys = result_keys(alloc, o)?;
     let data = data_place(alloc, o)?;
@@ -110,14 +114,15 @@ fn result_place(alloc: Global, o: &Json) -> Result<Option<Text>, NoMemory>
 
 /// The value of `execution_count`.
 pub(crate) fn count_place(alloc: Global, t: &Json) -> Result<Option<Text>, NoMemory>
-    ensures { IfOk result (λ r. r ≡ spec.of_value (codes "execution_count") values.is_count t.now) }
+    ensures { IfOk result (λ r. r
+        ≡ places.of_value (codes "execution_count") values.is_count t.now) }
 {
     let is_count = field(t, "execution_count").is_none_or(|v| is_count(v));
     value_place(alloc, "execution_count", is_count)
 }
 
 fn error_place(alloc: Global, o: &Json) -> Result<Option<Text>, NoMemory>
-    ensures { IfOk result (λ r. r ≡ spec.of_error o.now) }
+    ensures { IfOk result (λ r. r ≡ places.of_error o.now) }
 {
     let keys = error_keys(alloc, o)?;
     let name = string_place(alloc, o, "ename")?;
@@ -126,60 +131,44 @@ fn error_place(alloc: Global, o: &Json) -> Result<Option<Text>, NoMemory>
 }
 
 fn within_text(alloc: Global, t: &Json) -> Result<Option<Text>, NoMemory>
-    ensures { IfOk result (λ r. r ≡ spec.within_value (codes "text") spec.of_multiline t.now) }
+    ensures { IfOk result (λ r. r ≡ places.within_value (codes "text") places.of_multiline t.now) }
 {
-    match field(t, "text") {
-        Some(v) => under_key(alloc, "text", multiline_place(alloc, v)?),
-        None => Ok(None),
-    }
+    within!(alloc, t, "text", multiline_place)
 }
 
 fn within_data(alloc: Global, t: &Json) -> Result<Option<Text>, NoMemory>
-    ensures { IfOk result (λ r. r ≡ spec.within_value (codes "data") spec.of_bundle t.now) }
+    ensures { IfOk result (λ r. r ≡ places.within_value (codes "data") places.of_bundle t.now) }
 {
-    match field(t, "data") {
-        Some(v) => under_key(alloc, "data", bundle_place(alloc, v)?),
-        None => Ok(None),
-    }
+    within!(alloc, t, "data", bundle_place)
 }
 
 fn within_traceback(alloc: Global, t: &Json) -> Result<Option<Text>, NoMemory>
-    ensures { IfOk result (λ r. r ≡ spec.within_value (codes "traceback") spec.of_strings t.now) }
+    ensures { IfOk result (λ r. r
+        ≡ places.within_value (codes "traceback") places.of_strings t.now) }
 {
-    match field(t, "traceback") {
-        Some(v) => under_key(alloc, "traceback", strings_place(alloc, v)?),
-        None => Ok(None),
-    }
+    within!(alloc, t, "traceback", strings_place)
 }
 
 fn stream_keys(alloc: Global, t: &Json) -> Result<Option<Text>, NoMemory>
-    ensures { IfOk result (λ r. r ≡ spec.of_keys (codes "name" ∷ codes "text" ∷ []) (codes "output_type" ∷ codes "name" ∷ codes "text" ∷ []) t.now) }
+    ensures { IfOk result (λ r. r ≡ places.of_output_keys schema.stream_required t.now) }
 {
-    let required = ["name", "text"];
-    let known = ["output_type", "name", "text"];
-    keys_place(alloc, t, &required, &known)
+    keys_place(alloc, t, &key_lists::STREAM_REQUIRED, &key_lists::STREAM)
 }
 
 fn display_keys(alloc: Global, t: &Json) -> Result<Option<Text>, NoMemory>
-    ensures { IfOk result (λ r. r ≡ spec.of_keys (codes "data" ∷ codes "metadata" ∷ []) (codes "output_type" ∷ codes "data" ∷ codes "metadata" ∷ []) t.now) }
+    ensures { IfOk result (λ r. r ≡ places.of_output_keys schema.display_required t.now) }
 {
-    let required = ["data", "metadata"];
-    let known = ["output_type", "data", "metadata"];
-    keys_place(alloc, t, &required, &known)
+    keys_place(alloc, t, &key_lists::DISPLAY_REQUIRED, &key_lists::DISPLAY)
 }
 
 fn result_keys(alloc: Global, t: &Json) -> Result<Option<Text>, NoMemory>
-    ensures { IfOk result (λ r. r ≡ spec.of_keys (codes "data" ∷ codes "metadata" ∷ codes "execution_count" ∷ []) (codes "output_type" ∷ codes "data" ∷ codes "metadata" ∷ codes "execution_count" ∷ []) t.now) }
+    ensures { IfOk result (λ r. r ≡ places.of_output_keys schema.result_required t.now) }
 {
-    let required = ["data", "metadata", "execution_count"];
-    let known = ["output_type", "data", "metadata", "execution_count"];
-    keys_place(alloc, t, &required, &known)
+    keys_place(alloc, t, &key_lists::RESULT_REQUIRED, &key_lists::RESULT)
 }
 
 fn error_keys(alloc: Global, t: &Json) -> Result<Option<Text>, NoMemory>
-    ensures { IfOk result (λ r. r ≡ spec.of_keys (codes "ename" ∷ codes "evalue" ∷ codes "traceback" ∷ []) (codes "output_type" ∷ codes "ename" ∷ codes "evalue" ∷ codes "traceback" ∷ []) t.now) }
+    ensures { IfOk result (λ r. r ≡ places.of_output_keys schema.error_required t.now) }
 {
-    let required = ["ename", "evalue", "traceback"];
-    let known = ["output_type", "ename", "evalue", "traceback"];
-    keys_place(alloc, t, &required, &known)
+    keys_place(alloc, t, &key_lists::ERROR_REQUIRED, &key_lists::ERROR)
 }

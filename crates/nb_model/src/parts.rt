@@ -4,8 +4,8 @@ ghost use Rattle.std.specs.Str.{bytes_eq};
 ghost use Rattle.jtext.specs.Find.{find, fields};
 ghost use Rattle.jtext.specs.declared.json.Json.TheVariants as json;
 ghost use Rattle.jtext.specs.Look as look;
-ghost use Rattle.nb_model.specs.Pairs.{without};
-ghost use Rattle.nb_model.specs.Reading as spec;
+ghost use Rattle.nb_model.specs.Pairs.{pairs_without};
+ghost use Rattle.nb_model.specs.Reading as reading;
 
 use crate::{Cell, Cells, Kind, Notebook};
 use jtext::{Fields, Items, Json, NoMemory, NumText, Text};
@@ -13,9 +13,9 @@ use std::alloc::Global;
 
 /// The notebook of a tree. Where a part is missing or of another kind, it is as if empty.
 pub(crate) fn notebook_of(alloc: Global, t: Json) -> Result<Notebook, NoMemory>
-    ensures { IfOk result (λ n. n ≡ spec.notebook_of t) }
+    ensures { IfOk result (λ n. n ≡ reading.notebook_of t) }
 {
-    let mut pairs = pairs_of(alloc, t);
+    let mut pairs = t.into_pairs(alloc);
     let metadata = or_null(take(&mut pairs, "metadata"));
     let items = items_of(alloc, take(&mut pairs, "cells"));
     Ok(Notebook {
@@ -25,7 +25,7 @@ pub(crate) fn notebook_of(alloc: Global, t: Json) -> Result<Notebook, NoMemory>
 }
 
 fn cells_of(alloc: Global, items: Items) -> Result<Cells, NoMemory>
-    ensures { IfOk result (λ cells. cells ≡ map spec.cell_of items) }
+    ensures { IfOk result (λ cells. cells ≡ map reading.cell_of items) }
 {
     let mut cells = Cells::new(alloc);
     for item in items.into_vec() {
@@ -35,9 +35,9 @@ fn cells_of(alloc: Global, items: Items) -> Result<Cells, NoMemory>
 }
 
 fn cell_of(alloc: Global, c: Json) -> Cell
-    ensures { result ≡ spec.cell_of c }
+    ensures { result ≡ reading.cell_of c }
 {
-    let mut pairs = pairs_of(alloc, c);
+    let mut pairs = c.into_pairs(alloc);
     let kind = kind_of(alloc, take(&mut pairs, "cell_type"));
     let id = text_of(alloc, take(&mut pairs, "id"));
     let metadata = or_null(take(&mut pairs, "metadata"));
@@ -59,7 +59,7 @@ fn cell_of(alloc: Global, c: Json) -> Cell
 /// Takes the first pair with that key out.
 fn take(pairs: &mut Fields, key: &str) -> Option<Json>
     ensures value { result ≡ find key.now pairs.old }
-    ensures rest { pairs.new ≡ without key.now pairs.old }
+    ensures rest { pairs.new ≡ pairs_without key.now pairs.old }
 {
     match place_of(pairs.as_slice(), key) {
         Some(i) => Some(pairs.take(i).1),
@@ -67,20 +67,11 @@ fn take(pairs: &mut Fields, key: &str) -> Option<Json>
     }
 }
 
-pub(crate) fn place_of(pairs: &[(Text, Json)], key: &str) -> Option<usize>
+fn place_of(pairs: &[(Text, Json)], key: &str) -> Option<usize>
     ensures place { result ≡ position (λ p. bytes_eq p.0 key.now) pairs.now }
     ensures within { IfSome result (λ i. i < length pairs.now) }
 {
     pairs.iter().position(|p| p.0.as_str() == key)
-}
-
-pub(crate) fn pairs_of(alloc: Global, t: Json) -> Fields
-    ensures { result ≡ fields t }
-{
-    match t {
-        Json::Obj(fields) => fields,
-        _ => Fields::new(alloc),
-    }
 }
 
 fn or_null(v: Option<Json>) -> Json
@@ -95,42 +86,32 @@ fn or_null(v: Option<Json>) -> Json
 fn items_of(alloc: Global, v: Option<Json>) -> Items
     ensures { result ≡ look.items (unwrap_or v json.Null) }
 {
-    match or_null(v) {
-        Json::Arr(items) => items,
-        _ => Items::new(alloc),
-    }
+    or_null(v).into_items(alloc)
 }
 
 fn text_of(alloc: Global, v: Option<Json>) -> Text
     ensures { result ≡ unwrap_or (option_and_then look.string v) [] }
 {
-    let Some(v) = v else {
-        return Text::new(alloc);
-    };
-    match v {
-        Json::Str(text) => text,
-        _ => Text::new(alloc),
+    match v.and_then(|v| v.into_text()) {
+        Some(text) => text,
+        None => Text::new(alloc),
     }
 }
 
 fn number_of(v: Option<Json>) -> Option<NumText>
     ensures { result ≡ option_and_then look.number v }
 {
-    let v = v?;
-    match v {
-        Json::Num(text) => Some(text),
-        _ => None,
-    }
+    v?.into_number()
 }
 
 fn kind_of(alloc: Global, v: Option<Json>) -> Kind
-    ensures { result ≡ spec.kind_named (unwrap_or (option_and_then look.string v) []) }
+    ensures { result ≡ reading.kind_named (unwrap_or (option_and_then look.string v) []) }
 {
     kind_named(text_of(alloc, v).as_str())
 }
 
 fn kind_named(name: &str) -> Kind
-    ensures { result ≡ spec.kind_named name.now }
+    ensures { result ≡ reading.kind_named name.now }
 {
     if name == "code" {
         Kind::Code

@@ -6,11 +6,13 @@ ghost use Rattle.std.specs.List.{list_any, list_all};
 ghost use Rattle.std.specs.Str.{bytes_eq};
 ghost use Rattle.jtext.specs.Find.{field, fields};
 ghost use Rattle.jtext.specs.Look as look;
+ghost use Rattle.nb_model.specs.Schema as schema;
 ghost use Rattle.nb_model.specs.Pointer as pointer;
-ghost use Rattle.nb_model.specs.Places as spec;
+ghost use Rattle.nb_model.specs.Places as places;
 
 use crate::cell_places::cells_place;
-use crate::pointer::{under_item, under_key, unless};
+use crate::key_lists;
+use crate::pointer::{place_unless, under_key, within};
 use crate::validity::is_among;
 use jtext::{Json, NoMemory, Text, field};
 use std::alloc::Global;
@@ -25,7 +27,8 @@ fn has_all(t: &Json, keys: &[&str]) -> bool
 
 /// The first key that isn't known.
 fn unknown_key(alloc: Global, t: &Json, known: &[&str]) -> Result<Option<Text>, NoMemory>
-    ensures { IfOk result (λ r. r ≡ option_and_then (λ p. pointer.under_key p.0 (Some [])) (find (λ p. not (list_any (λ k. bytes_eq p.0 k.now) known.now)) (fields t.now))) }
+    ensures { IfOk result (λ r. r
+        ≡ places.of_unknown (λ q. list_any (λ k. bytes_eq q k.now) known.now) (fields t.now)) }
 {
     unknown_place(alloc, t.pairs(), known)
 }
@@ -35,7 +38,8 @@ fn unknown_place(
     pairs: &[(Text, Json)],
     known: &[&str],
 ) -> Result<Option<Text>, NoMemory>
-    ensures { IfOk result (λ r. r ≡ option_and_then (λ p. pointer.under_key p.0 (Some [])) (find (λ p. not (list_any (λ k. bytes_eq p.0 k.now) known.now)) pairs.now)) }
+    ensures { IfOk result (λ r. r
+        ≡ places.of_unknown (λ q. list_any (λ k. bytes_eq q k.now) known.now) pairs.now) }
 {
     match first_unknown(pairs, known) {
         Some(pair) => under_key(alloc, pair.0.as_str(), Some(Text::new(alloc))),
@@ -44,7 +48,8 @@ fn unknown_place(
 }
 
 fn first_unknown<'a>(pairs: &'a [(Text, Json)], known: &[&str]) -> Option<&'a (Text, Json)>
-    ensures { option_map (λ p. p.now) result ≡ find (λ p. not (list_any (λ k. bytes_eq p.0 k.now) known.now)) pairs.now }
+    ensures { option_map (λ p. p.now) result
+        ≡ find (λ p. not (list_any (λ k. bytes_eq p.0 k.now) known.now)) pairs.now }
 {
     pairs.iter().find(|p| !is_among(p.0.as_str(), known))
 }
@@ -56,8 +61,9 @@ pub(crate) fn keys_place(
     required: &[&str],
     known: &[&str],
 ) -> Result<Option<Text>, NoMemory>
-    ensures { IfOk result (λ r. r ≡ option_or (pointer.unless (list_all (λ k. is_some (field t.now k.now)) required.now))
-        (option_and_then (λ p. pointer.under_key p.0 (Some [])) (find (λ p. not (list_any (λ k. bytes_eq p.0 k.now) known.now)) (fields t.now)))) }
+    ensures { IfOk result (λ r. r
+        ≡ option_or (pointer.place_unless (list_all (λ k. is_some (field t.now k.now)) required.now))
+        (places.of_unknown (λ q. list_any (λ k. bytes_eq q k.now) known.now) (fields t.now))) }
 {
     if has_all(t, required) {
         unknown_key(alloc, t, known)
@@ -68,14 +74,14 @@ pub(crate) fn keys_place(
 
 /// The value of a key, where a test failed.
 pub(crate) fn value_place(alloc: Global, key: &str, holds: bool) -> Result<Option<Text>, NoMemory>
-    ensures { IfOk result (λ r. r ≡ pointer.under_key key.now (pointer.unless holds)) }
+    ensures { IfOk result (λ r. r ≡ pointer.under_key key.now (pointer.place_unless holds)) }
 {
-    under_key(alloc, key, unless(alloc, holds))
+    under_key(alloc, key, place_unless(alloc, holds))
 }
 
 /// The value of a key that must be a string.
 pub(crate) fn string_place(alloc: Global, t: &Json, key: &str) -> Result<Option<Text>, NoMemory>
-    ensures { IfOk result (λ r. r ≡ spec.of_value key.now look.is_string t.now) }
+    ensures { IfOk result (λ r. r ≡ places.of_value key.now look.is_string t.now) }
 {
     value_place(alloc, key, field(t, key).is_none_or(|v| v.is_string()))
 }
@@ -84,7 +90,7 @@ pub(crate) fn string_place(alloc: Global, t: &Json, key: &str) -> Result<Option<
 
 /// An object that has its version.
 pub(crate) fn notebook_place(alloc: Global, t: &Json) -> Result<Option<Text>, NoMemory>
-    ensures { IfOk result (λ r. r ≡ spec.of_notebook t.now) }
+    ensures { IfOk result (λ r. r ≡ places.of_notebook t.now) }
 {
     let keys = notebook_keys(alloc, t)?;
     if keys.is_some() {
@@ -94,32 +100,27 @@ pub(crate) fn notebook_place(alloc: Global, t: &Json) -> Result<Option<Text>, No
 }
 
 fn notebook_keys(alloc: Global, t: &Json) -> Result<Option<Text>, NoMemory>
-    ensures { IfOk result (λ r. r ≡ spec.of_keys (codes "metadata" ∷ codes "nbformat" ∷ codes "nbformat_minor" ∷ codes "cells" ∷ []) (codes "metadata" ∷ codes "nbformat" ∷ codes "nbformat_minor" ∷ codes "cells" ∷ []) t.now) }
+    ensures { IfOk result (λ r. r
+        ≡ places.of_keys schema.notebook_keys schema.notebook_keys t.now) }
 {
-    let keys = ["metadata", "nbformat", "nbformat_minor", "cells"];
-    keys_place(alloc, t, &keys, &keys)
+    keys_place(alloc, t, &key_lists::NOTEBOOK, &key_lists::NOTEBOOK)
 }
 
 fn within_cells(alloc: Global, t: &Json) -> Result<Option<Text>, NoMemory>
-    ensures { IfOk result (λ r. r ≡ spec.within_value (codes "cells") spec.of_cells t.now) }
+    ensures { IfOk result (λ r. r ≡ places.within_value (codes "cells") places.of_cells t.now) }
 {
-    match field(t, "cells") {
-        Some(v) => under_key(alloc, "cells", cells_place(alloc, v)?),
-        None => Ok(None),
-    }
+    within!(alloc, t, "cells", cells_place)
 }
 
 fn within_metadata(alloc: Global, t: &Json) -> Result<Option<Text>, NoMemory>
-    ensures { IfOk result (λ r. r ≡ spec.within_value (codes "metadata") spec.of_metadata t.now) }
+    ensures { IfOk result (λ r. r
+        ≡ places.within_value (codes "metadata") places.of_metadata t.now) }
 {
-    match field(t, "metadata") {
-        Some(v) => under_key(alloc, "metadata", metadata_place(alloc, v)?),
-        None => Ok(None),
-    }
+    within!(alloc, t, "metadata", metadata_place)
 }
 
 fn metadata_place(alloc: Global, v: &Json) -> Result<Option<Text>, NoMemory>
-    ensures { IfOk result (λ r. r ≡ spec.of_metadata v.now) }
+    ensures { IfOk result (λ r. r ≡ places.of_metadata v.now) }
 {
     if !v.is_object() {
         return Ok(Some(Text::new(alloc)));
@@ -128,42 +129,38 @@ fn metadata_place(alloc: Global, v: &Json) -> Result<Option<Text>, NoMemory>
 }
 
 fn within_kernelspec(alloc: Global, t: &Json) -> Result<Option<Text>, NoMemory>
-    ensures { IfOk result (λ r. r ≡ spec.within_value (codes "kernelspec") spec.of_kernelspec t.now) }
+    ensures { IfOk result (λ r. r
+        ≡ places.within_value (codes "kernelspec") places.of_kernelspec t.now) }
 {
-    match field(t, "kernelspec") {
-        Some(v) => under_key(alloc, "kernelspec", kernelspec_place(alloc, v)?),
-        None => Ok(None),
-    }
+    within!(alloc, t, "kernelspec", kernelspec_place)
 }
 
 fn kernelspec_place(alloc: Global, v: &Json) -> Result<Option<Text>, NoMemory>
-    ensures { IfOk result (λ r. r ≡ spec.of_kernelspec v.now) }
+    ensures { IfOk result (λ r. r ≡ places.of_kernelspec v.now) }
 {
     if !v.is_object() {
         return Ok(Some(Text::new(alloc)));
     }
-    if !has_all(v, &["name", "display_name"]) {
+    if !has_all(v, &key_lists::KERNELSPEC_REQUIRED) {
         return Ok(Some(Text::new(alloc)));
     }
     Ok(string_place(alloc, v, "name")?.or(string_place(alloc, v, "display_name")?))
 }
 
 fn within_language_info(alloc: Global, t: &Json) -> Result<Option<Text>, NoMemory>
-    ensures { IfOk result (λ r. r ≡ spec.within_value (codes "language_info") spec.of_language_info t.now) }
+    ensures { IfOk result (λ r. r
+        ≡ places.within_value (codes "language_info") places.of_language_info t.now) }
 {
-    match field(t, "language_info") {
-        Some(v) => under_key(alloc, "language_info", language_info_place(alloc, v)?),
-        None => Ok(None),
-    }
+    within!(alloc, t, "language_info", language_info_place)
 }
 
 fn language_info_place(alloc: Global, v: &Json) -> Result<Option<Text>, NoMemory>
-    ensures { IfOk result (λ r. r ≡ spec.of_language_info v.now) }
+    ensures { IfOk result (λ r. r ≡ places.of_language_info v.now) }
 {
     if !v.is_object() {
         return Ok(Some(Text::new(alloc)));
     }
-    if !has_all(v, &["name"]) {
+    if !has_all(v, &key_lists::LANGUAGE_INFO_REQUIRED) {
         return Ok(Some(Text::new(alloc)));
     }
     string_place(alloc, v, "name")

@@ -1,14 +1,26 @@
 //! JSON pointers (RFC 6901) to the place of a fault, put together from within.
 ghost use Rattle.std.specs.Prelude.{◌≡◌, ◌++◌, IfOk, OnOk, string_bytes, flat_map};
 ghost use Rattle.std.specs.Str.{chars};
-ghost use Rattle.nb_model.specs.Pointer as spec;
+ghost use Rattle.nb_model.specs.Pointer as pointers;
 
 use jtext::{NoMemory, Text};
 use std::alloc::Global;
 
+/// The place within the value of a key, where the object has that key.
+macro_rules! within {
+    ($alloc:expr, $t:expr, $key:expr, $place:ident) => {
+        match field($t, $key) {
+            Some(v) => under_key($alloc, $key, $place($alloc, v)?),
+            None => Ok(None),
+        }
+    };
+}
+
+pub(crate) use within;
+
 /// The value itself, unless the test holds of it.
-pub(crate) fn unless(alloc: Global, holds: bool) -> Option<Text>
-    ensures { result ≡ spec.unless holds }
+pub(crate) fn place_unless(alloc: Global, holds: bool) -> Option<Text>
+    ensures { result ≡ pointers.place_unless holds }
 {
     if holds { None } else { Some(Text::new(alloc)) }
 }
@@ -20,7 +32,7 @@ pub(crate) fn under_key(
     key: &str,
     place: Option<Text>,
 ) -> Result<Option<Text>, NoMemory>
-    ensures { IfOk result (λ r. r ≡ spec.under_key key.now place) }
+    ensures { IfOk result (λ r. r ≡ pointers.under_key key.now place) }
 {
     let Some(inner) = place else {
         return Ok(None);
@@ -38,7 +50,7 @@ pub(crate) fn under_item(
     i: usize,
     place: Option<Text>,
 ) -> Result<Option<Text>, NoMemory>
-    ensures { IfOk result (λ r. r ≡ spec.under_item i place) }
+    ensures { IfOk result (λ r. r ≡ pointers.under_item i place) }
 {
     let Some(inner) = place else {
         return Ok(None);
@@ -49,7 +61,8 @@ pub(crate) fn under_item(
 }
 
 fn push_escaped(pointer: &mut String, key: &str) -> Result<(), NoMemory>
-    ensures { OnOk result (string_bytes pointer.new ≡ string_bytes pointer.old ++ flat_map spec.escaped (chars key.now)) }
+    ensures { OnOk result (string_bytes pointer.new
+        ≡ string_bytes pointer.old ++ flat_map pointers.escaped_char (chars key.now)) }
 {
     for c in key.chars() {
         push_char(pointer, c)?;
@@ -58,7 +71,8 @@ fn push_escaped(pointer: &mut String, key: &str) -> Result<(), NoMemory>
 }
 
 fn push_char(pointer: &mut String, c: char) -> Result<(), NoMemory>
-    ensures { OnOk result (string_bytes pointer.new ≡ string_bytes pointer.old ++ spec.escaped c) }
+    ensures { OnOk result (string_bytes pointer.new
+        ≡ string_bytes pointer.old ++ pointers.escaped_char c) }
 {
     match c {
         '~' => pointer.push_str("~0")?,

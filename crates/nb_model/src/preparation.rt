@@ -1,17 +1,17 @@
 //! A notebook before it is run.
 ghost use Rattle.std.specs.Prelude.{◌≡◌, map, IfOk};
-ghost use Rattle.nb_model.specs.Prepared as spec;
+ghost use Rattle.nb_model.specs.Prepared as preparation;
 
-use crate::record::{set_field, set_within};
 use crate::source::is_code;
 use crate::{Cell, Cells, Notebook};
-use jtext::{Fields, Items, Json, NoMemory, Text};
+use jtext::{Items, Json, NoMemory, object, pair, set_field, set_within, text_pair};
 use std::alloc::Global;
 
-/// The notebook with the outputs and counts of code cells cleared, each cell marked as pending, and no exception on record.
+/// The notebook with the outputs and counts of code cells cleared, each cell marked as pending, and
+/// no exception on record.
 /// Without memory the notebook is gone.
 pub fn prepare(alloc: Global, n: Notebook) -> Result<Notebook, NoMemory>
-    ensures { IfOk result (λ r. r ≡ spec.prepared n) }
+    ensures { IfOk result (λ r. r ≡ preparation.prepared_notebook n) }
 {
     let Notebook { metadata, cells } = n;
     let metadata = set_within(alloc, "papermill", "exception", Json::Null, metadata)?;
@@ -20,7 +20,7 @@ pub fn prepare(alloc: Global, n: Notebook) -> Result<Notebook, NoMemory>
 }
 
 fn prepare_cells(alloc: Global, cells: Cells) -> Result<Cells, NoMemory>
-    ensures { IfOk result (λ r. r ≡ map spec.prepared_cell cells) }
+    ensures { IfOk result (λ r. r ≡ map preparation.prepared_cell cells) }
 {
     let mut prepared = Cells::new(alloc);
     for c in cells.into_vec() {
@@ -30,7 +30,7 @@ fn prepare_cells(alloc: Global, cells: Cells) -> Result<Cells, NoMemory>
 }
 
 fn prepare_cell(alloc: Global, c: Cell) -> Result<Cell, NoMemory>
-    ensures { IfOk result (λ r. r ≡ spec.prepared_cell c) }
+    ensures { IfOk result (λ r. r ≡ preparation.prepared_cell c) }
 {
     let Cell {
         kind,
@@ -41,7 +41,7 @@ fn prepare_cell(alloc: Global, c: Cell) -> Result<Cell, NoMemory>
         outputs,
         count,
     } = clear(alloc, c);
-    let metadata = set_field(alloc, "papermill", pending(alloc)?, metadata)?;
+    let metadata = set_field(alloc, "papermill", pending_mark(alloc)?, metadata)?;
     Ok(Cell {
         kind,
         id,
@@ -54,7 +54,7 @@ fn prepare_cell(alloc: Global, c: Cell) -> Result<Cell, NoMemory>
 }
 
 fn clear(alloc: Global, mut c: Cell) -> Cell
-    ensures { result ≡ spec.cleared c }
+    ensures { result ≡ preparation.cleared_cell c }
 {
     if is_code(c.kind) {
         c.outputs = Items::new(alloc);
@@ -64,14 +64,11 @@ fn clear(alloc: Global, mut c: Cell) -> Cell
 }
 
 /// The mark of a cell that waits.
-fn pending(alloc: Global) -> Result<Json, NoMemory>
-    ensures { IfOk result (λ r. r ≡ spec.pending) }
+fn pending_mark(alloc: Global) -> Result<Json, NoMemory>
+    ensures { IfOk result (λ r. r ≡ preparation.pending_mark) }
 {
-    let mut mark = Fields::new(alloc);
-    mark.push((Text::of(alloc, "exception")?, Json::Null))?;
-    mark.push((
-        Text::of(alloc, "status")?,
-        Json::Str(Text::of(alloc, "pending")?),
-    ))?;
-    Ok(Json::Obj(mark))
+    let exception = pair(alloc, "exception", Json::Null)?;
+    let status = text_pair(alloc, "status", "pending")?;
+    let mark = object(alloc, [exception, status])?;
+    Ok(mark)
 }

@@ -1,6 +1,6 @@
 //! `Plan`, the cells that are executed, and how it is made.
 ghost use Rattle.std.specs.Prelude.{◌≡◌, ◌<◌, ◌^◌, length, IfOk};
-ghost use Rattle.nb_model.specs.Planned as spec;
+ghost use Rattle.nb_model.specs.Planned as planned;
 
 use crate::Notebook;
 use crate::source::is_planned;
@@ -14,7 +14,7 @@ pub type Plan = List<u32>;
 /// There are fewer than 2^32 cells.
 pub fn plan(alloc: Global, n: &Notebook) -> Result<Plan, NoMemory>
     requires { length n.now.cells < 2 ^ 32 }
-    ensures { IfOk result (λ plan. plan ≡ spec.plan n.now) }
+    ensures { IfOk result (λ plan. plan ≡ planned.plan n.now) }
 {
     let mut plan = Plan::new(alloc);
     for (i, cell) in n.cells.as_slice().iter().enumerate() {

@@ -5,8 +5,9 @@ ghost use Rattle.std.specs.Str.{chars};
 ghost use Rattle.unicode.specs.Binary.{is_white_space};
 ghost use Rattle.jtext.specs.Look as look;
 ghost use Rattle.nb_model.specs.Keys as keys;
-ghost use Rattle.nb_model.specs.Injected as injected;
-ghost use Rattle.nb_model.specs.Planned as spec;
+ghost use Rattle.nb_model.specs.Kind as kinds;
+ghost use Rattle.nb_model.specs.Planned as planned;
+ghost use Rattle.nb_model.specs.Tags as tags;
 
 use crate::validity::is_text;
 use crate::{Cell, Kind};
@@ -16,21 +17,21 @@ use unicode::properties::is_white_space;
 
 /// The source of a cell as one text: a string, or its lines joined.
 pub fn code(alloc: Global, c: &Cell) -> Result<Text, NoMemory>
-    ensures { IfOk result (λ text. text ≡ spec.code c.now) }
+    ensures { IfOk result (λ text. text ≡ planned.code c.now) }
 {
-    joined(alloc, &c.source)
+    joined_text(alloc, &c.source)
 }
 
 /// Whether the cell has this tag.
 pub fn tagged(c: &Cell, tag: &str) -> bool
-    ensures { result ≡ injected.is_tagged tag.now c.now }
+    ensures { result ≡ tags.is_tagged tag.now c.now }
 {
     field(&c.metadata, "tags").is_some_and(|tags| any_text(tags.items(), tag))
 }
 
 /// Whether the cell is to be executed.
 pub(crate) fn is_planned(alloc: Global, c: &Cell) -> Result<bool, NoMemory>
-    ensures { IfOk result (λ b. b ≡ spec.is_planned c.now) }
+    ensures { IfOk result (λ b. b ≡ planned.is_planned c.now) }
 {
     if !is_code(c.kind) {
         return Ok(false);
@@ -40,7 +41,7 @@ pub(crate) fn is_planned(alloc: Global, c: &Cell) -> Result<bool, NoMemory>
 }
 
 pub(crate) fn is_code(kind: Kind) -> bool
-    ensures { result ≡ injected.is_code kind }
+    ensures { result ≡ kinds.is_code kind }
 {
     match kind {
         Kind::Raw => false,
@@ -50,7 +51,7 @@ pub(crate) fn is_code(kind: Kind) -> bool
 }
 
 fn is_blank(text: &str) -> bool
-    ensures { result ≡ spec.is_blank text.now }
+    ensures { result ≡ planned.is_blank text.now }
 {
     text.chars().all(|c| is_white_space(c))
 }
@@ -61,18 +62,18 @@ fn any_text(items: &[Json], text: &str) -> bool
     items.iter().any(|x| is_text(x, text))
 }
 
-fn joined(alloc: Global, v: &Json) -> Result<Text, NoMemory>
-    ensures { IfOk result (λ text. text ≡ spec.joined v.now) }
+fn joined_text(alloc: Global, v: &Json) -> Result<Text, NoMemory>
+    ensures { IfOk result (λ text. text ≡ planned.joined_text v.now) }
 {
     match v {
-        Json::Str(text) => Text::of(alloc, text.as_str()),
+        Json::Str(text) => text.copy(alloc),
         Json::Arr(items) => joined_items(alloc, items.as_slice()),
         _ => Ok(Text::new(alloc)),
     }
 }
 
 fn joined_items(alloc: Global, items: &[Json]) -> Result<Text, NoMemory>
-    ensures { IfOk result (λ text. text ≡ flat_map spec.text_of items.now) }
+    ensures { IfOk result (λ text. text ≡ flat_map planned.text_of items.now) }
 {
     let mut text = String::new(alloc);
     for item in items {
@@ -82,7 +83,7 @@ fn joined_items(alloc: Global, items: &[Json]) -> Result<Text, NoMemory>
 }
 
 fn text_of(v: &Json) -> &str
-    ensures { result.now ≡ spec.text_of v.now }
+    ensures { result.now ≡ planned.text_of v.now }
 {
     match v {
         Json::Str(text) => text.as_str(),

@@ -5,10 +5,12 @@ ghost use Rattle.std.specs.Str.{bytes_eq};
 ghost use Rattle.jtext.specs.Find.{fields};
 ghost use Rattle.jtext.specs.Look as look;
 ghost use Rattle.jtext.specs.Bundle.{is_bundle};
+ghost use Rattle.nb_model.specs.Schema as schema;
 ghost use Rattle.nb_model.specs.Keys as keys;
 ghost use Rattle.nb_model.specs.Values as values;
 ghost use Rattle.nb_model.specs.Valid as valid;
 
+use crate::key_lists;
 use jtext::{Json, Text, field, is_bundle, is_multiline, is_whole_text, string_at};
 
 /// Whether the tree is a notebook of format 4.5, however deep it is nested.
@@ -18,19 +20,19 @@ pub fn is_valid(t: &Json) -> bool
 {
     t.is_object()
         && has_notebook_keys(t)
-        && has_format(t)
+        && has_version(t)
         && field(t, "metadata").is_some_and(|v| is_metadata(v))
         && field(t, "cells").is_some_and(|v| are_cells(v))
 }
 
 fn has_notebook_keys(t: &Json) -> bool
-    ensures { result ≡ keys.has_only (codes "metadata" ∷ codes "nbformat" ∷ codes "nbformat_minor" ∷ codes "cells" ∷ []) t.now }
+    ensures { result ≡ keys.has_only schema.notebook_keys t.now }
 {
-    has_only(t, &["metadata", "nbformat", "nbformat_minor", "cells"])
+    has_only(t, &key_lists::NOTEBOOK)
 }
 
-pub(crate) fn has_format(t: &Json) -> bool
-    ensures { result ≡ (keys.has (codes "nbformat") (keys.is_number (codes "4")) t.now && keys.has (codes "nbformat_minor") (keys.is_number (codes "5")) t.now) }
+pub(crate) fn has_version(t: &Json) -> bool
+    ensures { result ≡ keys.has_version t.now }
 {
     field(t, "nbformat").is_some_and(|v| is_number(v, "4"))
         && field(t, "nbformat_minor").is_some_and(|v| is_number(v, "5"))
@@ -89,9 +91,9 @@ pub(crate) fn is_prose_cell(c: &Json) -> bool
 }
 
 fn has_prose_keys(c: &Json) -> bool
-    ensures { result ≡ keys.has_only (codes "cell_type" ∷ codes "id" ∷ codes "metadata" ∷ codes "source" ∷ codes "attachments" ∷ []) c.now }
+    ensures { result ≡ keys.has_only schema.prose_cell_keys c.now }
 {
-    has_only(c, &["cell_type", "id", "metadata", "source", "attachments"])
+    has_only(c, &key_lists::PROSE_CELL)
 }
 
 pub(crate) fn is_code_cell(c: &Json) -> bool
@@ -105,19 +107,9 @@ pub(crate) fn is_code_cell(c: &Json) -> bool
 }
 
 fn has_code_keys(c: &Json) -> bool
-    ensures { result ≡ keys.has_only (codes "cell_type" ∷ codes "id" ∷ codes "metadata" ∷ codes "source" ∷ codes "outputs" ∷ codes "execution_count" ∷ []) c.now }
+    ensures { result ≡ keys.has_only schema.code_cell_keys c.now }
 {
-    has_only(
-        c,
-        &[
-            "cell_type",
-            "id",
-            "metadata",
-            "source",
-            "outputs",
-            "execution_count",
-        ],
-    )
+    has_only(c, &key_lists::CODE_CELL)
 }
 
 fn has_common(c: &Json) -> bool
@@ -211,7 +203,7 @@ pub(crate) fn is_stream(o: &Json) -> bool
     ensures { result ≡ valid.is_stream o.now }
 {
     has_type(o, "stream")
-        && has_only(o, &["output_type", "name", "text"])
+        && has_only(o, &key_lists::STREAM)
         && has_string(o, "name")
         && field(o, "text").is_some_and(|v| is_multiline(v))
 }
@@ -219,11 +211,13 @@ pub(crate) fn is_stream(o: &Json) -> bool
 pub(crate) fn is_display(o: &Json) -> bool
     ensures { result ≡ valid.is_display o.now }
 {
-    has_type(o, "display_data") && has_only(o, &["output_type", "data", "metadata"]) && has_data(o)
+    has_type(o, "display_data") && has_only(o, &key_lists::DISPLAY) && has_data(o)
 }
 
 fn has_data(o: &Json) -> bool
-    ensures { result ≡ (keys.has (codes "data") is_bundle o.now && keys.has (codes "metadata") look.is_object o.now) }
+    ensures { result
+        ≡ (keys.has (codes "data") is_bundle o.now
+        && keys.has (codes "metadata") look.is_object o.now) }
 {
     field(o, "data").is_some_and(|v| is_bundle(v))
         && field(o, "metadata").is_some_and(|v| v.is_object())
@@ -233,7 +227,7 @@ pub(crate) fn is_result(o: &Json) -> bool
     ensures { result ≡ valid.is_result o.now }
 {
     has_type(o, "execute_result")
-        && has_only(o, &["output_type", "data", "metadata", "execution_count"])
+        && has_only(o, &key_lists::RESULT)
         && has_data(o)
         && field(o, "execution_count").is_some_and(|v| is_count(v))
 }
@@ -242,7 +236,7 @@ pub(crate) fn is_error(o: &Json) -> bool
     ensures { result ≡ valid.is_error o.now }
 {
     has_type(o, "error")
-        && has_only(o, &["output_type", "ename", "evalue", "traceback"])
+        && has_only(o, &key_lists::ERROR)
         && has_string(o, "ename")
         && has_string(o, "evalue")
         && field(o, "traceback").is_some_and(|v| v.is_strings())

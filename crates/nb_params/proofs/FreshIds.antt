@@ -14,7 +14,7 @@ use Rattle.std.specs.List.{AllByRecursion, IsDistinct, list_any, list_all}
 use Rattle.std.specs.Str.{bytes_eq}
 use Rattle.std.specs.Str.Parse.{digits_value}
 use Rattle.jtext.proofs.Keys.{not_equal}
-use Rattle.nb_model.specs.Injected.{numbered, free_from, fresh_id}
+use Rattle.nb_params.specs.Injected.{numbered_id, free_from, fresh_id}
 use Rattle.nb_model.specs.Values.{is_id_byte, is_id_text}
 use Rattle.nb_model.proofs.PreparedLaws.{and_eq}
 
@@ -23,26 +23,26 @@ use Rattle.nb_model.proofs.PreparedLaws.{and_eq}
 abbrev first : List ℕ
 first = codes "injected-parameters"
 
-numbered_injective : (m n : ℕ) → m < 10 ^ 64 → n < 10 ^ 64 → numbered m ≡ numbered n → m ≡ n
+numbered_injective : (m n : ℕ) → m < 10 ^ 64 → n < 10 ^ 64 → numbered_id m ≡ numbered_id n → m ≡ n
 numbered_injective m n hm hn e =
     sym (decimal_is_IsNumeral_wide m hm).1 ∙ ap (λ s. digits_value 10 (drop 20 s)) e ∙ (decimal_is_IsNumeral_wide n hn).1
 
-numbers_differ : (m n : ℕ) → n < 10 ^ 64 → m < n → bytes_eq (numbered m) (numbered n) ≡ false
-numbers_differ m n h lt = not_equal (numbered m) (numbered n) (λ e. let same : m ≡ n = numbered_injective m n (omega arith) h (sym e) in absurd (omega arith))
+numbers_differ : (m n : ℕ) → n < 10 ^ 64 → m < n → bytes_eq (numbered_id m) (numbered_id n) ≡ false
+numbers_differ m n h lt = not_equal (numbered_id m) (numbered_id n) (λ e. let same : m ≡ n = numbered_injective m n (omega arith) h (sym e) in absurd (omega arith))
 
-first_differs : (n : ℕ) → bytes_eq first (numbered n) ≡ false
+first_differs : (n : ℕ) → bytes_eq first (numbered_id n) ≡ false
 first_differs n = refl
 
 -- so many ids, numbered from n on
 abbrev names : ℕ → ℕ → List (List ℕ)
 names zero n = []
-names (suc k) n = numbered n ∷ names k (n + 1)
+names (suc k) n = numbered_id n ∷ names k (n + 1)
 
 length-names : (k n : ℕ) → length (names k n) ≡ k
 length-names zero n = refl
 length-names (suc k) n = ap suc (length-names k (n + 1))
 
-later_differ : (k m n : ℕ) → m < n → n + k ≤ 10 ^ 64 → AllByRecursion (λ y. bytes_eq (numbered m) y ≡ false) (names k n)
+later_differ : (k m n : ℕ) → m < n → n + k ≤ 10 ^ 64 → AllByRecursion (λ y. bytes_eq (numbered_id m) y ≡ false) (names k n)
 later_differ zero m n lt h = tt
 later_differ (suc k) m n lt h = (numbers_differ m n (omega arith) lt, later_differ k m (n + 1) (omega arith) (omega arith))
 
@@ -57,9 +57,9 @@ first_absent (suc k) n = (first_differs n, first_absent k (n + 1))
 
 -- ---- the search
 
-record Free (from steps at : ℕ) (ids : List (List ℕ)) : Type 0 where
-  free : list_any (bytes_eq (numbered at)) ids ≡ false
-  below : at < from + steps
+pub record Free (from steps at : ℕ) (ids : List (List ℕ)) : Type 0 where
+  pub free : list_any (bytes_eq (numbered_id at)) ids ≡ false
+  pub below : at < from + steps
 
 abbrev AllTaken : List (List ℕ) → List (List ℕ) → Type 0
 AllTaken ids xs = AllByRecursion (λ x. list_any (bytes_eq x) ids ≡ true) xs
@@ -67,16 +67,16 @@ AllTaken ids xs = AllByRecursion (λ x. list_any (bytes_eq x) ids ≡ true) xs
 search_ends : (steps n : ℕ) (ids : List (List ℕ)) → Free n steps (free_from steps n ids) ids ⊎ AllTaken ids (names steps n)
 search_ends zero n ids = inr tt
 search_ends (suc k) n ids =
-    elim (cases_Bool (list_any (bytes_eq (numbered n)) ids)) [
+    elim (cases_Bool (list_any (bytes_eq (numbered_id n)) ids)) [
       | inl t ↦
-          let next : free_from (suc k) n ids ≡ free_from k (n + 1) ids = cond-true (list_any (bytes_eq (numbered n)) ids) (free_from k (n + 1) ids) n t in
+          let next : free_from (suc k) n ids ≡ free_from k (n + 1) ids = cond-true (list_any (bytes_eq (numbered_id n)) ids) (free_from k (n + 1) ids) n t in
           elim (search_ends k (n + 1) ids) [
-            | inl f ↦ inl (record { free = ap (λ i. list_any (bytes_eq (numbered i)) ids) next ∙ f.free; below = omega arith })
+            | inl f ↦ inl (record { free = ap (λ i. list_any (bytes_eq (numbered_id i)) ids) next ∙ f.free; below = omega arith })
             | inr all ↦ inr (t, all)
           ]
       | inr f ↦
-          let here : free_from (suc k) n ids ≡ n = cond-false (list_any (bytes_eq (numbered n)) ids) (free_from k (n + 1) ids) n f in
-          inl (record { free = ap (λ i. list_any (bytes_eq (numbered i)) ids) here ∙ f; below = omega arith })
+          let here : free_from (suc k) n ids ≡ n = cond-false (list_any (bytes_eq (numbered_id n)) ids) (free_from k (n + 1) ids) n f in
+          inl (record { free = ap (λ i. list_any (bytes_eq (numbered_id i)) ids) here ∙ f; below = omega arith })
     ]
 
 taken_among : (ids xs : List (List ℕ)) → AllTaken ids xs → (q : List ℕ) → list_any (bytes_eq q) xs ≡ true → list_any (bytes_eq q) ids ≡ true
@@ -88,7 +88,7 @@ taken_among ids (x ∷ xs) all q h =
     ]
 
 -- the first id and one more for each of these ids can't all be among them
-number_free : (ids : List (List ℕ)) → length ids < 10 ^ 44 → list_any (bytes_eq first) ids ≡ true → Free 1 (length ids) (free_from (length ids) 1 ids) ids
+pub number_free : (ids : List (List ℕ)) → length ids < 10 ^ 44 → list_any (bytes_eq first) ids ≡ true → Free 1 (length ids) (free_from (length ids) 1 ids) ids
 number_free ids h taken =
     elim (search_ends (length ids) 1 ids) [
       | inl found ↦ found
@@ -102,8 +102,8 @@ number_free ids h taken =
 pub fresh_id-free : (ids : List (List ℕ)) → length ids < 10 ^ 44 → list_any (bytes_eq (fresh_id ids)) ids ≡ false
 fresh_id-free ids h =
     elim (cases_Bool (list_any (bytes_eq first) ids)) [
-      | inl t ↦ ap (λ i. list_any (bytes_eq i) ids) (cond-true (list_any (bytes_eq first) ids) (numbered (free_from (length ids) 1 ids)) first t) ∙ (number_free ids h t).free
-      | inr f ↦ ap (λ i. list_any (bytes_eq i) ids) (cond-false (list_any (bytes_eq first) ids) (numbered (free_from (length ids) 1 ids)) first f) ∙ f
+      | inl t ↦ ap (λ i. list_any (bytes_eq i) ids) (cond-true (list_any (bytes_eq first) ids) (numbered_id (free_from (length ids) 1 ids)) first t) ∙ (number_free ids h t).free
+      | inr f ↦ ap (λ i. list_any (bytes_eq i) ids) (cond-false (list_any (bytes_eq first) ids) (numbered_id (free_from (length ids) 1 ids)) first f) ∙ f
     ]
 
 -- ---- the form of ids
@@ -115,17 +115,17 @@ decimal_in_id : (n : ℕ) → n < 10 ^ 64 → list_all is_id_byte (decimal n) �
 decimal_in_id = decimal_by_steps_wide (λ n ds. list_all is_id_byte ds ≡ true) (λ n h. ap (λ b. b && true) (digit_in_id n h))
     (λ n ds h all. list_all-append is_id_byte ds ((48 + n % 10) ∷ []) ∙ ap₂ (λ a b. a && (b && true)) all (digit_in_id (n % 10) (omega arith)))
 
-numbered_is_id : (n : ℕ) → n < 10 ^ 44 → is_id_text (numbered n) ≡ true
+numbered_is_id : (n : ℕ) → n < 10 ^ 44 → is_id_text (numbered_id n) ≡ true
 numbered_is_id n h =
     let short = length-decimal-le_wide 44 n (omega arith) h (omega arith) in
     let long = length-append (codes "injected-parameters-") (decimal n) in
-    and_eq (and_eq (le-leb 1 (length (numbered n)) (omega arith)) (le-leb (length (numbered n)) 64 (omega arith))) (decimal_in_id n (omega arith))
+    and_eq (and_eq (le-leb 1 (length (numbered_id n)) (omega arith)) (le-leb (length (numbered_id n)) 64 (omega arith))) (decimal_in_id n (omega arith))
 
 pub fresh_id-is_id : (ids : List (List ℕ)) → length ids < 10 ^ 44 → is_id_text (fresh_id ids) ≡ true
 fresh_id-is_id ids h =
     elim (cases_Bool (list_any (bytes_eq first) ids)) [
       | inl t ↦
           let found = number_free ids h t in
-          ap is_id_text (cond-true (list_any (bytes_eq first) ids) (numbered (free_from (length ids) 1 ids)) first t) ∙ numbered_is_id (free_from (length ids) 1 ids) (omega arith)
-      | inr f ↦ ap is_id_text (cond-false (list_any (bytes_eq first) ids) (numbered (free_from (length ids) 1 ids)) first f)
+          ap is_id_text (cond-true (list_any (bytes_eq first) ids) (numbered_id (free_from (length ids) 1 ids)) first t) ∙ numbered_is_id (free_from (length ids) 1 ids) (omega arith)
+      | inr f ↦ ap is_id_text (cond-false (list_any (bytes_eq first) ids) (numbered_id (free_from (length ids) 1 ids)) first f)
     ]

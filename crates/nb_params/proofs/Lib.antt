@@ -6,3 +6,4 @@ pub mod Placements
 pub mod InjectedCells
 pub mod InjectedValid
 pub mod InjectedKeyed
+mod FreshLaws

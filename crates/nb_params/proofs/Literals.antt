@@ -1,5 +1,5 @@
 use Rattle.std.proofs.Common.{ℕ, List, ◌≡◌, ◌++◌, ◌∷◌, [], map, refl, ap, ◌∙◌, append_assoc, flat_map}
-use Rattle.nb_model.specs.Python.{literal_char}
+use Rattle.nb_params.specs.Python.{literal_char}
 
 -- each item as it is
 pub map_same : {A : Type 0} (xs : List A) → map (λ x. x) xs ≡ xs

@@ -6,7 +6,8 @@ use Rattle.std.specs.List.{AllByRecursion, list_any, position}
 use Rattle.std.specs.Str.{bytes_eq}
 use Rattle.jtext.specs.declared.json.Json.{Json}
 use Rattle.nb_model.specs.declared.cell.Cell.{Cell}
-use Rattle.nb_model.specs.Injected.{is_tagged, with_parameters, placed_at, placed_after, parameters_cell, fresh_id, ids}
+use Rattle.nb_model.specs.Tags.{is_tagged}
+use Rattle.nb_params.specs.Injected.{with_parameters, placed_at, placed_after, parameters_cell, fresh_id, ids}
 use Rattle.nb_model.proofs.PreparedLaws.{no_repeat}
 use Rattle.nb_model.proofs.Tautologies.{and_parts, not_or}
 use Rattle.nb_params.proofs.Ids.{turned}

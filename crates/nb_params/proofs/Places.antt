@@ -3,8 +3,9 @@ use Rattle.std.proofs.lemmas.List.Quantifiers.{position-Some}
 use Rattle.std.specs.List.{position, remove}
 use Rattle.jtext.specs.declared.json.Json.{Json}
 use Rattle.nb_model.specs.declared.cell.Cell.{Cell}
-use Rattle.nb_model.specs.Injected.{is_tagged, with_parameters, placed_at, placed_after, parameters_cell, fresh_id, ids}
-use Rattle.nb_params.specs.Placing.{with_cell, after, place_after}
+use Rattle.nb_model.specs.Tags.{is_tagged}
+use Rattle.nb_params.specs.Injected.{with_parameters, placed_at, placed_after, parameters_cell, fresh_id, ids}
+use Rattle.nb_params.specs.Placing.{with_cell, place_behind, place_after}
 
 -- the first i items, and what follows them
 pub take_front : {A : Type 0} (xs ys : List A) (i : ℕ) → i < length xs → take i (take i xs ++ ys) ≡ take i xs
@@ -31,6 +32,6 @@ replaced ps cells rest new i d at is e =
 pub added : (ps : List (List ℕ × Json)) (cells new : List Cell) (at : ℕ) → position (is_tagged (codes "injected-parameters")) cells ≡ None → at ≡ place_after cells → new ≡ with_cell at ps cells → new ≡ with_parameters ps cells
 added ps cells new at absent is e = e ∙ ap (λ n. with_cell n ps cells) is ∙ by_place (position (is_tagged (codes "parameters")) cells) ∙ sym (ap (λ o. placed_at o ps cells) absent)
   where
-    by_place : (o : Option ℕ) → with_cell (after o) ps cells ≡ placed_after o ps cells
+    by_place : (o : Option ℕ) → with_cell (place_behind o) ps cells ≡ placed_after o ps cells
     by_place None = refl
     by_place (Some i) = refl

@@ -1,3 +1,6 @@
+pub mod Python
+pub mod Injected
+pub mod Fresh
 pub mod Escape
 pub mod Pairs
 pub mod Refused

@@ -2,6 +2,8 @@
 ghost use Rattle.std.specs.Prelude.{◌≡◌};
 
 use jtext::{NoMemory, Text};
+use std::error::Error;
+use std::fmt;
 
 /// Why parameters are not injected.
 #[derive(Debug, Drop)]
@@ -24,3 +26,16 @@ impl From<NoMemory> for InjectFault {
         InjectFault::NoMemory
     }
 }
+
+impl fmt::Display for InjectFault {
+    fn fmt<W: fmt::Write>(&self, f: &mut fmt::Formatter<W>) -> fmt::Result {
+        match self {
+            InjectFault::NoTranslator { language } => {
+                write!(f, "cannot inject into {}", language.as_str())
+            }
+            InjectFault::NoMemory => f.write_str("out of memory"),
+        }
+    }
+}
+
+impl Error for InjectFault {}

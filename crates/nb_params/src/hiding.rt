@@ -1,24 +1,24 @@
 //! Hidden sources, for a report.
 ghost use Rattle.std.specs.Prelude.{◌≡◌, IfOk, map};
-ghost use Rattle.nb_model.specs.Injected as spec;
+ghost use Rattle.nb_params.specs.Injected as injected;
 
-use jtext::{Json, NoMemory};
-use nb_model::{Cell, Cells, Kind, set_within};
+use jtext::{Json, NoMemory, set_within};
+use nb_model::{Cell, Cells, Kind};
 use std::alloc::Global;
 
 /// The cells with the source of each code cell hidden (`metadata.jupyter.source_hidden`).
-pub(crate) fn all_hidden(alloc: Global, cells: Cells) -> Result<Cells, NoMemory>
-    ensures { IfOk result (λ r. r ≡ map spec.hidden cells) }
+pub(crate) fn hide_all(alloc: Global, cells: Cells) -> Result<Cells, NoMemory>
+    ensures { IfOk result (λ r. r ≡ map injected.hidden_cell cells) }
 {
     let mut out = Cells::new(alloc);
     for cell in cells.into_vec() {
-        out.push(hidden(alloc, cell)?)?;
+        out.push(hide(alloc, cell)?)?;
     }
     Ok(out)
 }
 
-fn hidden(alloc: Global, mut cell: Cell) -> Result<Cell, NoMemory>
-    ensures { IfOk result (λ r. r ≡ spec.hidden cell) }
+fn hide(alloc: Global, mut cell: Cell) -> Result<Cell, NoMemory>
+    ensures { IfOk result (λ r. r ≡ injected.hidden_cell cell) }
 {
     match cell.kind {
         Kind::Code => {

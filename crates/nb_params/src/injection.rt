@@ -1,17 +1,17 @@
 //! Parameters injected into a notebook.
-ghost use Rattle.std.specs.Prelude.{◌≡◌, ◌⊎◌, ◌∷◌, [], IfOk, IfErr, position, false, true, length, ◌≤◌};
-ghost use Rattle.nb_model.specs.Injected as spec;
+ghost use Rattle.std.specs.Prelude.{◌≡◌, IfOk, IfErr, position, false, length, ◌≤◌};
+ghost use Rattle.nb_model.specs.Tags as tags;
+ghost use Rattle.nb_params.specs.Injected as injected;
 ghost use Rattle.nb_params.specs.Placing.{with_cell, place_after};
-ghost use Rattle.nb_params.specs.Refused.{is_refused};
-ghost use Rattle.nb_params.specs.declared.fault.InjectFault.TheVariants as fault;
+ghost use Rattle.nb_params.specs.Refused.{is_refused, Refuses};
 
 use crate::InjectFault;
 use crate::fresh::fresh_id;
-use crate::hiding::all_hidden;
+use crate::hiding::hide_all;
 use crate::language::{has_translator, language};
 use crate::new_cell::parameters_cell;
-use jtext::{Fields, Json, NoMemory, Text, copy};
-use nb_model::{Cell, Cells, Notebook, set_within, tagged};
+use jtext::{Fields, Json, NoMemory, Text, copy_fields, set_within};
+use nb_model::{Cell, Cells, Notebook, tagged};
 use std::alloc::Global;
 
 /// Injects the parameters, if there are any, and hides the sources of all code cells for a report.
@@ -23,25 +23,25 @@ pub fn inject(
     params: &Fields,
     report: bool,
 ) -> Result<Notebook, InjectFault>
-    ensures injected { IfOk result (λ m. m ≡ spec.injected n params.now report) }
+    ensures injected { IfOk result (λ m. m ≡ injected.injected_notebook n params.now report) }
     // Refused is exactly the notebook whose language has no translator, where there is a parameter.
     ensures taken { IfOk result (λ m. is_refused n params.now ≡ false) }
-    ensures refused { IfErr result (λ e. (e ≡ fault.NoMemory) ⊎ ((is_refused n params.now ≡ true) × (e ≡ fault.NoTranslator (spec.language n)))) }
+    ensures refused { IfErr result (λ e. Refuses n params.now e) }
 {
-    let n = parametrised(alloc, n, params)?;
+    let n = parametrise(alloc, n, params)?;
     if report {
         let Notebook { metadata, cells } = n;
-        let cells = all_hidden(alloc, cells)?;
+        let cells = hide_all(alloc, cells)?;
         Ok(Notebook { metadata, cells })
     } else {
         Ok(n)
     }
 }
 
-fn parametrised(alloc: Global, n: Notebook, params: &Fields) -> Result<Notebook, InjectFault>
-    ensures made { IfOk result (λ m. m ≡ spec.parametrised n params.now) }
+fn parametrise(alloc: Global, n: Notebook, params: &Fields) -> Result<Notebook, InjectFault>
+    ensures parametrised { IfOk result (λ m. m ≡ injected.parametrised_notebook n params.now) }
     ensures taken { IfOk result (λ m. is_refused n params.now ≡ false) }
-    ensures refused { IfErr result (λ e. (e ≡ fault.NoMemory) ⊎ ((is_refused n params.now ≡ true) × (e ≡ fault.NoTranslator (spec.language n)))) }
+    ensures refused { IfErr result (λ e. Refuses n params.now e) }
 {
     if params.len() == 0 {
         return Ok(n);
@@ -54,10 +54,13 @@ fn parametrised(alloc: Global, n: Notebook, params: &Fields) -> Result<Notebook,
 }
 
 fn with_parameters(alloc: Global, n: Notebook, params: &Fields) -> Result<Notebook, NoMemory>
-    ensures { IfOk result (λ m. m ≡ record { metadata = spec.recorded params.now n.metadata; cells = spec.with_parameters params.now n.cells }) }
+    ensures { IfOk result (λ m. m ≡ record {
+      metadata = injected.recorded_metadata params.now n.metadata;
+      cells = injected.with_parameters params.now n.cells;
+    }) }
 {
     let Notebook { metadata, cells } = n;
-    let values = copied(alloc, params)?;
+    let values = copy_fields(alloc, params.as_slice())?;
     let metadata = set_within(
         alloc,
         "papermill",
@@ -65,12 +68,12 @@ fn with_parameters(alloc: Global, n: Notebook, params: &Fields) -> Result<Notebo
         Json::Obj(values),
         metadata,
     )?;
-    let cells = placed(alloc, cells, params)?;
+    let cells = place_parameters(alloc, cells, params)?;
     Ok(Notebook { metadata, cells })
 }
 
-fn placed(alloc: Global, mut cells: Cells, params: &Fields) -> Result<Cells, NoMemory>
-    ensures { IfOk result (λ r. r ≡ spec.with_parameters params.now cells) }
+fn place_parameters(alloc: Global, mut cells: Cells, params: &Fields) -> Result<Cells, NoMemory>
+    ensures { IfOk result (λ r. r ≡ injected.with_parameters params.now cells) }
 {
     match place_of(cells.as_slice(), "injected-parameters") {
         Some(i) => {
@@ -109,17 +112,7 @@ fn place_after(cells: &[Cell]) -> usize
 }
 
 fn place_of(cells: &[Cell], tag: &str) -> Option<usize>
-    ensures { result ≡ position (spec.is_tagged tag.now) cells.now }
+    ensures { result ≡ position (tags.is_tagged tag.now) cells.now }
 {
     cells.iter().position(|cell| tagged(cell, tag))
-}
-
-fn copied(alloc: Global, params: &Fields) -> Result<Fields, NoMemory>
-    ensures { IfOk result (λ r. r ≡ params.now) }
-{
-    let mut out = Fields::new(alloc);
-    for (name, value) in params.as_slice() {
-        out.push((Text::of(alloc, name.as_str())?, copy(alloc, value)?))?;
-    }
-    Ok(out)
 }

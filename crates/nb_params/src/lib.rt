@@ -11,8 +11,6 @@ pub mod laws;
 mod literal;
 mod new_cell;
 mod source;
-#[cfg(test)]
-mod tests;
 
 pub use fault::InjectFault;
 pub use injection::inject;

@@ -2,7 +2,7 @@
 ghost use Rattle.std.specs.Prelude.{◌≡◌, ◌++◌, ◌∷◌, [], ◌<◌, ◌^◌, ◌||◌, ◌&&◌, OnOk, string_bytes, flat_map, nat_le};
 ghost use Rattle.std.specs.Char.{digit_char};
 ghost use Rattle.std.specs.Str.{chars};
-ghost use Rattle.nb_model.specs.Python.{literal, literal_char, two_digits, four_digits};
+ghost use Rattle.nb_params.specs.Python.{literal, literal_char, two_digits, four_digits};
 ghost use Rattle.nb_params.specs.Escape.{escape};
 
 use jtext::NoMemory;

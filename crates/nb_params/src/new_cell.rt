@@ -1,16 +1,16 @@
 //! The cell that is injected.
-ghost use Rattle.std.specs.Prelude.{◌≡◌, ◌∷◌, [], IfOk, codes};
+ghost use Rattle.std.specs.Prelude.{◌≡◌, ◌∷◌, [], IfOk};
 ghost use Rattle.jtext.specs.declared.json.Json.TheVariants as json;
-ghost use Rattle.nb_model.specs.Injected as spec;
+ghost use Rattle.nb_params.specs.Injected as injected;
 
 use crate::source::python;
-use jtext::{Fields, Items, Json, NoMemory, Text};
+use jtext::{Fields, Items, Json, NoMemory, Text, object, pair, string};
 use nb_model::{Cell, Kind, split_lines};
 use std::alloc::Global;
 
 /// The code cell that sets the parameters, tagged `injected-parameters`.
 pub(crate) fn parameters_cell(alloc: Global, id: Text, params: &Fields) -> Result<Cell, NoMemory>
-    ensures { IfOk result (λ c. c ≡ spec.parameters_cell id params.now) }
+    ensures { IfOk result (λ c. c ≡ injected.parameters_cell id params.now) }
 {
     let text = python(alloc, params)?;
     let source = split_lines(alloc, text.as_str())?;
@@ -27,18 +27,13 @@ pub(crate) fn parameters_cell(alloc: Global, id: Text, params: &Fields) -> Resul
 }
 
 fn metadata(alloc: Global) -> Result<Json, NoMemory>
-    ensures { IfOk result (λ t. t ≡ json.Obj ((codes "tags", json.Arr (json.Str (codes "injected-parameters") ∷ [])) ∷ [])) }
+    ensures { IfOk result (λ t. t ≡ injected.parameters_metadata) }
 {
     let tag = string(alloc, "injected-parameters")?;
     let tags = list_of(alloc, tag)?;
-    let metadata = object_of(alloc, "tags", tags)?;
+    let tags = pair(alloc, "tags", tags)?;
+    let metadata = object(alloc, [tags])?;
     Ok(metadata)
-}
-
-fn string(alloc: Global, text: &str) -> Result<Json, NoMemory>
-    ensures { IfOk result (λ t. t ≡ json.Str text.now) }
-{
-    Ok(Json::Str(Text::of(alloc, text)?))
 }
 
 /// The list with this one item.
@@ -47,13 +42,4 @@ fn list_of(alloc: Global, item: Json) -> Result<Json, NoMemory>
 {
     let items = vec![in alloc; item]?;
     Ok(Json::Arr(Items::of_vec(items)))
-}
-
-/// The object with this one pair.
-fn object_of(alloc: Global, key: &str, value: Json) -> Result<Json, NoMemory>
-    ensures { IfOk result (λ t. t ≡ json.Obj ((key.now, value) ∷ [])) }
-{
-    let pair = (Text::of(alloc, key)?, value);
-    let pairs = vec![in alloc; pair]?;
-    Ok(Json::Obj(Fields::of_vec(pairs)))
 }

@@ -1,15 +1,16 @@
 //! Parameters as Python source.
 ghost use Rattle.std.specs.Prelude.{◌≡◌, ◌++◌, ◌∷◌, OnOk, IfOk, map, string_bytes, flat_map};
-ghost use Rattle.nb_model.specs.Python as spec;
+ghost use Rattle.nb_params.specs.Python as sources;
 ghost use Rattle.nb_params.specs.Pairs.{pairs_source};
 
 use crate::literal::put_literal;
 use jtext::{Fields, Items, Json, NoMemory, Text};
 use std::alloc::Global;
 
-/// The parameters as source, in the form of Papermill's Python translator: a comment, then an assignment a line.
+/// The parameters as source, in the form of Papermill's Python translator: a comment, then an
+/// assignment a line.
 pub fn python(alloc: Global, params: &Fields) -> Result<Text, NoMemory>
-    ensures { IfOk result (λ t. t ≡ spec.python params.now) }
+    ensures { IfOk result (λ t. t ≡ sources.python params.now) }
 {
     let mut out = String::from_str(alloc, "# Parameters\n")?;
     for param in params.as_slice() {
@@ -19,7 +20,8 @@ pub fn python(alloc: Global, params: &Fields) -> Result<Text, NoMemory>
 }
 
 fn put_assignment(out: &mut String, param: &(Text, Json)) -> Result<(), NoMemory>
-    ensures { OnOk result (string_bytes out.new ≡ string_bytes out.old ++ spec.assignment param.now) }
+    ensures { OnOk result (string_bytes out.new
+        ≡ string_bytes out.old ++ sources.assignment param.now) }
 {
     let (name, value) = param;
     out.push_str(name.as_str())?;
@@ -31,7 +33,8 @@ fn put_assignment(out: &mut String, param: &(Text, Json)) -> Result<(), NoMemory
 
 #[cycle(put)]
 fn put_value(out: &mut String, t: &Json) -> Result<(), NoMemory>
-    ensures { OnOk result (string_bytes out.new ≡ string_bytes out.old ++ spec.value_source t.now) }
+    ensures { OnOk result (string_bytes out.new
+        ≡ string_bytes out.old ++ sources.value_source t.now) }
 {
     match t {
         Json::Null => out.push_str("None")?,
@@ -55,7 +58,8 @@ fn put_value(out: &mut String, t: &Json) -> Result<(), NoMemory>
 
 #[cycle(put)]
 fn put_items(out: &mut String, items: &Items) -> Result<(), NoMemory>
-    ensures { OnOk result (string_bytes out.new ≡ string_bytes out.old ++ spec.listed (map spec.value_source items.now)) }
+    ensures { OnOk result (string_bytes out.new
+        ≡ string_bytes out.old ++ sources.listed_source (map sources.value_source items.now)) }
 {
     for (i, item) in items.as_slice().iter().enumerate() {
         if i > 0 {

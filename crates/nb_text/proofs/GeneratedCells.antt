@@ -1,10 +1,6 @@
--- Lists that are put together item by item, and cells that are generated one after another.
-use Rattle.std.proofs.Common.{◌≡◌, ℕ, zero, suc, ◌+◌, List, [], ◌∷◌, ◌++◌, sym, ap, ◌∙◌, arith, add-zero, add-one}
+-- Cells that are generated one after another.
+use Rattle.std.proofs.Common.{◌≡◌, ℕ, zero, suc, ◌+◌, [], ◌∷◌, ◌++◌, sym, ap, ◌∙◌, arith, add-zero, add-one}
 use Rattle.nb_text.specs.Generated.{generated_cell, cells_from}
-
--- two items, put one after the other
-pub two_put : {X : Type 0} (p q r : List X) (a b : X) → p ≡ [] → q ≡ p ++ a ∷ [] → r ≡ q ++ b ∷ [] → r ≡ a ∷ b ∷ []
-two_put p q r a b ep eq er = er ∙ ap (λ l. l ++ b ∷ []) (eq ∙ ap (λ l. l ++ a ∷ []) ep)
 
 cells_push : (j n : ℕ) → cells_from j (suc n) ≡ cells_from j n ++ generated_cell (j + n) ∷ []
 cells_push j zero = ap (λ i. generated_cell i ∷ []) (sym (add-zero j))

@@ -1,2 +1,4 @@
-pub mod Texts
-pub mod GeneratedCells
+mod Texts
+mod SoundTexts
+mod GeneratedCells
+mod GeneratedValid

@@ -34,10 +34,13 @@ cells_from i (suc n) = generated_cell i ∷ cells_from (i + 1) n
 
 -- the kernel that runs them
 abbrev pub kernelspec : Json
-kernelspec = json.Obj ((codes "display_name", json.Str (codes "Toy")) ∷ (codes "name", json.Str (codes "toy")) ∷ [])
+kernelspec =
+    json.Obj ((codes "display_name", json.Str (codes "Toy")) ∷ (codes "name", json.Str (codes "toy")) ∷ [])
 
+-- the metadata of the notebook
 abbrev pub kernel : Json
 kernel = json.Obj ((codes "kernelspec", kernelspec) ∷ [])
 
-abbrev pub generated : ℕ → Notebook
-generated n = record { metadata = kernel; cells = cells_from 0 n }
+-- a notebook of so many cells
+abbrev pub generated_notebook : ℕ → Notebook
+generated_notebook n = record { metadata = kernel; cells = cells_from 0 n }

@@ -1,7 +1,12 @@
 -- The lines of an object in indented JSON text.
-use Rattle.std.specs.Prelude.{ℕ, List}
+use Rattle.std.specs.Prelude.{ℕ, List, [], ◌∷◌, ◌++◌}
 use Rattle.jtext.specs.declared.json.Json.{Json}
 use Rattle.jtext.specs.Indent.{on_line, named, indented}
+use Rattle.jtext.specs.Print.{quoted}
+
+-- what the line of a key begins with
+abbrev pub line_start : List ℕ → List ℕ → List ℕ
+line_start margin key = 10 ∷ (margin ++ (quoted key ++ 58 ∷ 32 ∷ []))
 
 -- the line of a key whose value is written so
 abbrev pub named_line : List ℕ → List ℕ → List ℕ → List ℕ

@@ -1,16 +1,25 @@
--- The lines of a notebook's cells in its text (nbformat 4.5).
-use Rattle.std.specs.Prelude.{ℕ, List, map, codes, replicate}
-use Rattle.jtext.specs.declared.json.Json.TheVariants as json
+-- The text of a notebook from the texts of its cells (nbformat 4.5, its keys sorted).
+use Rattle.std.specs.Prelude.{ℕ, List, [], ◌∷◌, ◌++◌, map, codes, replicate}
+use Rattle.jtext.specs.declared.json.Json.{Json}
 use Rattle.jtext.specs.Print.{joined}
-use Rattle.jtext.specs.Indent.{on_line, indented}
-use Rattle.nb_model.specs.declared.cell.Cell.{Cell}
-use Rattle.nb_model.specs.Tree.{cell_tree}
-use Rattle.nb_text.specs.Lines.{line}
+use Rattle.jtext.specs.Indent.{on_line, bracketed}
+use Rattle.nb_text.specs.Lines.{line, named_line}
 
--- cells, each on lines of its own
-abbrev pub cells_text : List Cell → List ℕ
-cells_text cells = joined (map (λ c. on_line (replicate 2 32) (indented (cell_tree c) (replicate 2 32))) cells)
+-- texts of cells, each on lines of its own, with a comma between
+abbrev pub cell_lines : List (List ℕ) → List ℕ
+cell_lines texts = joined (map (on_line (replicate 2 32)) texts)
 
--- the lines of the cells
-abbrev pub cells_line : List Cell → List ℕ
-cells_line cells = line (replicate 1 32) (codes "cells", json.Arr (map cell_tree cells))
+-- `cells`: the line of its key, and the cells between brackets
+abbrev pub cells_line : List (List ℕ) → List ℕ
+cells_line texts = named_line (replicate 1 32) (codes "cells") (bracketed 91 93 (replicate 1 32) texts)
+
+-- what stands after `cells`: `metadata`, `nbformat`, `nbformat_minor`, and the end
+abbrev pub rest_text : Json → List ℕ
+rest_text metadata =
+    44 ∷ (line (replicate 1 32) (codes "metadata", metadata)
+    ++ 44 ∷ (named_line (replicate 1 32) (codes "nbformat") (codes "4")
+    ++ 44 ∷ (named_line (replicate 1 32) (codes "nbformat_minor") (codes "5") ++ 10 ∷ 125 ∷ 10 ∷ [])))
+
+-- the text of a notebook with these metadata, whose cells have these texts
+abbrev pub notebook_text : Json → List (List ℕ) → List ℕ
+notebook_text metadata texts = 123 ∷ (cells_line texts ++ rest_text metadata)

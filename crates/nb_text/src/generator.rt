@@ -2,16 +2,17 @@
 ghost use Rattle.std.specs.Prelude.{◌≡◌, ◌≤◌, ◌++◌, ◌∷◌, [], IfOk, codes};
 ghost use Rattle.std.specs.Fmt.{decimal};
 ghost use Rattle.jtext.specs.declared.json.Json.TheVariants as json;
-ghost use Rattle.nb_text.specs.Generated as spec;
+ghost use Rattle.nb_text.specs.Generated as generated;
 
-use jtext::{Fields, Items, Json, NoMemory, Text};
+use jtext::{Fields, Items, Json, NoMemory, Text, object, pair, text_pair};
 use nb_model::{Cell, Cells, Kind, Notebook};
 use std::alloc::Global;
 
-/// A notebook of `n` cells, at most 200, for the toy kernel: they print, show, update and give results in turn.
+/// A notebook of `n` cells, at most 200, for the toy kernel: they print, show, update and give
+/// results in turn.
 pub fn generate(alloc: Global, n: u32) -> Result<Notebook, NoMemory>
     requires { n ≤ 200 }
-    ensures { IfOk result (λ book. book ≡ spec.generated n) }
+    ensures { IfOk result (λ book. book ≡ generated.generated_notebook n) }
 {
     Ok(Notebook {
         metadata: kernel(alloc)?,
@@ -20,7 +21,7 @@ pub fn generate(alloc: Global, n: u32) -> Result<Notebook, NoMemory>
 }
 
 fn cells(alloc: Global, n: u32) -> Result<Cells, NoMemory>
-    ensures { IfOk result (λ cells. cells ≡ spec.cells_from 0 n) }
+    ensures { IfOk result (λ cells. cells ≡ generated.cells_from 0 n) }
 {
     let mut cells = Cells::new(alloc);
     for i in 0..n {
@@ -31,7 +32,7 @@ fn cells(alloc: Global, n: u32) -> Result<Cells, NoMemory>
 
 /// The cell with this index.
 fn cell(alloc: Global, i: u32) -> Result<Cell, NoMemory>
-    ensures { IfOk result (λ c. c ≡ spec.generated_cell i) }
+    ensures { IfOk result (λ c. c ≡ generated.generated_cell i) }
 {
     Ok(Cell {
         kind: Kind::Code,
@@ -45,7 +46,7 @@ fn cell(alloc: Global, i: u32) -> Result<Cell, NoMemory>
 }
 
 fn line(alloc: Global, i: u32) -> Result<Json, NoMemory>
-    ensures { IfOk result (λ t. t ≡ json.Arr (json.Str (spec.verb i ++ decimal i) ∷ [])) }
+    ensures { IfOk result (λ t. t ≡ json.Arr (json.Str (generated.verb i ++ decimal i) ∷ [])) }
 {
     let mut lines = Items::new(alloc);
     lines.push(Json::Str(numbered(alloc, verb(i), i)?))?;
@@ -53,7 +54,7 @@ fn line(alloc: Global, i: u32) -> Result<Json, NoMemory>
 }
 
 fn verb(i: u32) -> &'static str
-    ensures { result.now ≡ spec.verb i }
+    ensures { result.now ≡ generated.verb i }
 {
     if i % 4 == 0 {
         "print "
@@ -74,21 +75,18 @@ fn numbered(alloc: Global, front: &str, i: u32) -> Result<Text, NoMemory>
 
 /// Metadata that name the toy kernel.
 fn kernel(alloc: Global) -> Result<Json, NoMemory>
-    ensures { IfOk result (λ t. t ≡ spec.kernel) }
+    ensures { IfOk result (λ t. t ≡ generated.kernel) }
 {
-    let mut metadata = Fields::new(alloc);
-    metadata.push((Text::of(alloc, "kernelspec")?, kernelspec(alloc)?))?;
-    Ok(Json::Obj(metadata))
+    let spec = pair(alloc, "kernelspec", kernelspec(alloc)?)?;
+    let metadata = object(alloc, [spec])?;
+    Ok(metadata)
 }
 
 fn kernelspec(alloc: Global) -> Result<Json, NoMemory>
-    ensures { IfOk result (λ t. t ≡ spec.kernelspec) }
+    ensures { IfOk result (λ t. t ≡ generated.kernelspec) }
 {
-    let mut fields = Fields::new(alloc);
-    fields.push((
-        Text::of(alloc, "display_name")?,
-        Json::Str(Text::of(alloc, "Toy")?),
-    ))?;
-    fields.push((Text::of(alloc, "name")?, Json::Str(Text::of(alloc, "toy")?)))?;
-    Ok(Json::Obj(fields))
+    let shown = text_pair(alloc, "display_name", "Toy")?;
+    let name = text_pair(alloc, "name", "toy")?;
+    let spec = object(alloc, [shown, name])?;
+    Ok(spec)
 }

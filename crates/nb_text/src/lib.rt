@@ -1,13 +1,14 @@
-//! The text of a notebook as Jupyter's own tools save it, and notebooks that are generated.
+//! The text of a notebook as Jupyter's own tools save it, whole or cell by cell, and notebooks that
+//! are generated.
 //! Notebooks and bytes only; it reads and writes no file.
 #![tactic(auto)]
 
-mod cell_text;
+mod cell_lines;
 mod generator;
+pub mod laws;
 mod lines;
 mod notebook_text;
-#[cfg(test)]
-mod tests;
 
+pub use cell_lines::cell_text;
 pub use generator::generate;
-pub use notebook_text::{text, text_with_capacity};
+pub use notebook_text::{join, text, text_with_capacity};

@@ -1,11 +1,10 @@
 //! The lines of an object or a list in indented text.
-ghost use Rattle.std.specs.Prelude.{◌≡◌, ◌++◌, ◌∷◌, [], replicate, OnOk, IfOk};
+ghost use Rattle.std.specs.Prelude.{◌≡◌, ◌++◌, ◌∷◌, replicate, OnOk};
 ghost use Rattle.jtext.specs.declared.json.Json.TheVariants as json;
-ghost use Rattle.jtext.specs.Indent.{indented, indented_items};
-ghost use Rattle.jtext.specs.Print.{quoted};
-ghost use Rattle.nb_text.specs.Lines.{line, named_line};
+ghost use Rattle.jtext.specs.Indent.{indented_items};
+ghost use Rattle.nb_text.specs.Lines.{line_start, line, named_line};
 
-use jtext::{Bytes, Json, NoMemory, Text, write_indented_at};
+use jtext::{Bytes, Json, NoMemory, put_indented, put_string};
 use std::alloc::Global;
 
 /// Appends the line of a pair, at so many spaces.
@@ -18,22 +17,25 @@ pub(crate) fn put_pair(
 ) -> Result<(), NoMemory>
     ensures { OnOk result (out.new ≡ out.old ++ line (replicate level 32) (key.now, value.now)) }
 {
-    let text = write_indented_at(alloc, value, level)?;
-    put_line(alloc, out, level, key, text.bytes())
+    put_name(alloc, out, level, key)?;
+    put_indented(alloc, out, level, value)?;
+    Ok(())
 }
 
 /// Appends the line of a pair whose value is a string.
-pub(crate) fn put_string(
+pub(crate) fn put_text_pair(
     alloc: Global,
     out: &mut Bytes,
     level: usize,
     key: &str,
     value: &str,
 ) -> Result<(), NoMemory>
-    ensures { OnOk result (out.new ≡ out.old ++ line (replicate level 32) (key.now, json.Str value.now)) }
+    ensures { OnOk result (out.new
+        ≡ out.old ++ line (replicate level 32) (key.now, json.Str value.now)) }
 {
-    let value = Json::Str(Text::of(alloc, value)?);
-    put_pair(alloc, out, level, key, &value)
+    put_name(alloc, out, level, key)?;
+    put_string(out, value)?;
+    Ok(())
 }
 
 /// Appends the line of a key with a value that is written so.
@@ -46,19 +48,19 @@ pub(crate) fn put_line(
 ) -> Result<(), NoMemory>
     ensures { OnOk result (out.new ≡ out.old ++ named_line (replicate level 32) key.now value.now) }
 {
-    let name = quoted(alloc, key)?;
-    new_line(alloc, out, level)?;
-    out.add(name.bytes())?;
-    out.add(b": ")?;
-    out.add(value)
+    put_name(alloc, out, level, key)?;
+    out.add(value)?;
+    Ok(())
 }
 
-fn quoted(alloc: Global, key: &str) -> Result<Bytes, NoMemory>
-    ensures { IfOk result (λ b. b ≡ quoted key.now) }
+/// Begins the line of a key.
+fn put_name(alloc: Global, out: &mut Bytes, level: usize, key: &str) -> Result<(), NoMemory>
+    ensures { OnOk result (out.new ≡ out.old ++ line_start (replicate level 32) key.now) }
 {
-    let key = Json::Str(Text::of(alloc, key)?);
-    let text = write_indented_at(alloc, &key, 0)?;
-    Ok(text)
+    new_line(alloc, out, level)?;
+    put_string(out, key)?;
+    out.add(b": ")?;
+    Ok(())
 }
 
 /// Appends the items of a list, each on a line of its own at so many spaces.
@@ -74,9 +76,8 @@ pub(crate) fn put_items(
         if i > 0 {
             out.add(b",")?;
         }
-        let text = write_indented_at(alloc, item, level)?;
         new_line(alloc, out, level)?;
-        out.add(text.bytes())?;
+        put_indented(alloc, out, level, item)?;
     }
     Ok(())
 }

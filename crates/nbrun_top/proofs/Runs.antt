@@ -4,8 +4,7 @@ use Rattle.std.proofs.lemmas.Grind.{common_steps}
 use Rattle.std.proofs.lemmas.List.{nil_from_length}
 use Rattle.std.specs.Prelude.{◌==◌}
 use Rattle.nb_model.specs.declared.notebook.Notebook.{Notebook}
-use Rattle.nb_model.specs.Injected.{language}
-use Rattle.nb_params.specs.Refused.{is_refused}
+use Rattle.nb_params.specs.Refused as refused
 use Rattle.nb_params.specs.declared.fault.InjectFault.{InjectFault}
 use Rattle.nb_params.specs.declared.fault.InjectFault.TheVariants as inject_fault
 use Rattle.words.specs.declared.ask.Ask.{Ask}
@@ -51,12 +50,9 @@ not_made_at output n e is before = subst (λ x. SavesAs output n before x before
 -- ---- the bytes of the input
 
 pub no_translator : (a : Ask) (n : Notebook) (f : InjectFault) (l : List ℕ) → f ≡ inject_fault.NoTranslator l
-    → (f ≡ inject_fault.NoMemory) ⊎ ((is_refused n a.params ≡ true) × (f ≡ inject_fault.NoTranslator (language n))) → (bytes : List ℕ) → IsNotebook bytes n → HasNoTranslator a bytes l
-no_translator a n f l is (inl memory) bytes read = cc
-no_translator a n f l is (inr why) bytes read = record { notebook = n; read = read; refused = why.0; named = same_language (sym is ∙ why.1) }
-  where
-    same_language : {k m : List ℕ} → inject_fault.NoTranslator k ≡ inject_fault.NoTranslator m → k ≡ m
-    same_language e = cc
+    → refused.Refuses n a.params f → (bytes : List ℕ) → IsNotebook bytes n → HasNoTranslator a bytes l
+no_translator a n f l is why bytes read =
+    let h = subst (refused.Refuses n a.params) is why in record { notebook = n; read = read; refused = h.0; named = h.1 }
 
 -- ---- by what the read answered
 

@@ -7,11 +7,10 @@ use Rattle.jtext.specs.Depth.{depth}
 use Rattle.jtext.specs.Refusal as json
 use Rattle.nb_model.specs.declared.notebook.Notebook.{Notebook}
 use Rattle.nb_model.specs.declared.nb_fault.NbFault.{NbFault}
-use Rattle.nb_model.specs.Valid.{is_notebook}
 use Rattle.nb_model.specs.Faults.{fault_of}
-use Rattle.nb_model.specs.Reading.{notebook_of}
-use Rattle.nb_model.specs.Injected.{injected, language}
-use Rattle.nb_migrate.specs.Raised.{raised}
+use Rattle.nb_params.specs.Injected.{injected_notebook, language}
+use Rattle.nb_migrate.specs.Raised.{raised_tree}
+use Rattle.nb_migrate.specs.Accepted.{Accepted, accepted_notebook}
 use Rattle.nb_params.specs.Refused.{is_refused}
 use Rattle.words.specs.declared.ask.Ask.{Ask}
 use Rattle.nbrun_top.specs.declared.end.End.{End}
@@ -26,8 +25,8 @@ pub record Gives (bytes : List ℕ) (t : Json) : Type 0 where
 pub record IsNotebook (bytes : List ℕ) (n : Notebook) : Type 0 where
   pub tree : Json
   pub gives : Gives bytes tree
-  pub valid : is_notebook (raised tree) ≡ true
-  pub is : n ≡ notebook_of (raised tree)
+  pub valid : Accepted tree
+  pub is : n ≡ accepted_notebook tree
 
 -- they spell no tree that is nested at most so deep, and this fault stands in them
 pub record IsNoJson (bytes : List ℕ) (f : JsonFault) : Type 0 where
@@ -38,7 +37,7 @@ pub record IsNoJson (bytes : List ℕ) (f : JsonFault) : Type 0 where
 pub record IsNoNotebook (bytes : List ℕ) (f : NbFault) : Type 0 where
   pub tree : Json
   pub gives : Gives bytes tree
-  pub fault : fault_of (raised tree) ≡ Some f
+  pub fault : fault_of (raised_tree tree) ≡ Some f
 
 -- they give a notebook in whose language the parameters can't be written
 pub record HasNoTranslator (a : Ask) (bytes language_name : List ℕ) : Type 0 where
@@ -52,7 +51,7 @@ pub record Accepts (a : Ask) (bytes : List ℕ) (n : Notebook) : Type 0 where
   pub notebook : Notebook
   pub read : IsNotebook bytes notebook
   pub taken : is_refused notebook a.params ≡ false
-  pub is : n ≡ injected notebook a.params a.report
+  pub is : n ≡ injected_notebook notebook a.params a.report
 
 -- why nothing is made of the bytes
 abbrev pub Refuses : Ask → List ℕ → End → Type 0

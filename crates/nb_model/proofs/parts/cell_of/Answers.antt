@@ -3,7 +3,7 @@ use Rattle.std.specs.Prelude.{codes, unwrap_or, option_and_then}
 use Rattle.jtext.specs.declared.json.Json.TheVariants as json
 use Rattle.jtext.specs.Find.{find, field}
 use Rattle.jtext.specs.Look.{items, string, number}
-use Rattle.nb_model.specs.Pairs.{without}
+use Rattle.nb_model.specs.Pairs.{pairs_without}
 use Rattle.nb_model.specs.Reading.{kind_named}
 use Rattle.nb_model.proofs.PairsLemmas.{without_all, find-without_all, same_cell}
 use Rattle.nb_model.proofs.parts.cell_of.Goals as goal
@@ -11,14 +11,14 @@ use Rattle.nb_model.proofs.parts.cell_of.Goals as goal
 pub returns : goal.returns
 returns c =
     let t = c.args.c in
-    let ps = c.pairs_of-pairs.result in
-    let is = c.pairs_of-pairs.ensures in
+    let ps = c.into_pairs-pairs.result in
+    let is = c.into_pairs-pairs.ensures in
     let d1 : c.take.new.pairs ≡ without_all (codes "cell_type" ∷ []) ps = c.take.ensures.rest in
-    let d2 : c.take-2.new.pairs ≡ without_all (codes "cell_type" ∷ codes "id" ∷ []) ps = c.take-2.ensures.rest ∙ ap (without (codes "id")) d1 in
-    let d3 : c.take-3.new.pairs ≡ without_all (codes "cell_type" ∷ codes "id" ∷ codes "metadata" ∷ []) ps = c.take-3.ensures.rest ∙ ap (without (codes "metadata")) d2 in
-    let d4 : c.take-4.new.pairs ≡ without_all (codes "cell_type" ∷ codes "id" ∷ codes "metadata" ∷ codes "source" ∷ []) ps = c.take-4.ensures.rest ∙ ap (without (codes "source")) d3 in
-    let d5 : c.take-attachments.new.pairs ≡ without_all (codes "cell_type" ∷ codes "id" ∷ codes "metadata" ∷ codes "source" ∷ codes "attachments" ∷ []) ps = c.take-attachments.ensures.rest ∙ ap (without (codes "attachments")) d4 in
-    let d6 : c.take-5.new.pairs ≡ without_all (codes "cell_type" ∷ codes "id" ∷ codes "metadata" ∷ codes "source" ∷ codes "attachments" ∷ codes "outputs" ∷ []) ps = c.take-5.ensures.rest ∙ ap (without (codes "outputs")) d5 in
+    let d2 : c.take-2.new.pairs ≡ without_all (codes "cell_type" ∷ codes "id" ∷ []) ps = c.take-2.ensures.rest ∙ ap (pairs_without (codes "id")) d1 in
+    let d3 : c.take-3.new.pairs ≡ without_all (codes "cell_type" ∷ codes "id" ∷ codes "metadata" ∷ []) ps = c.take-3.ensures.rest ∙ ap (pairs_without (codes "metadata")) d2 in
+    let d4 : c.take-4.new.pairs ≡ without_all (codes "cell_type" ∷ codes "id" ∷ codes "metadata" ∷ codes "source" ∷ []) ps = c.take-4.ensures.rest ∙ ap (pairs_without (codes "source")) d3 in
+    let d5 : c.take-attachments.new.pairs ≡ without_all (codes "cell_type" ∷ codes "id" ∷ codes "metadata" ∷ codes "source" ∷ codes "attachments" ∷ []) ps = c.take-attachments.ensures.rest ∙ ap (pairs_without (codes "attachments")) d4 in
+    let d6 : c.take-5.new.pairs ≡ without_all (codes "cell_type" ∷ codes "id" ∷ codes "metadata" ∷ codes "source" ∷ codes "attachments" ∷ codes "outputs" ∷ []) ps = c.take-5.ensures.rest ∙ ap (pairs_without (codes "outputs")) d5 in
     let v0 : c.take.result ≡ field t (codes "cell_type") = c.take.ensures.value ∙ ap (find (codes "cell_type")) is in
     let v1 : c.take-2.result ≡ field t (codes "id") = c.take-2.ensures.value ∙ ap (find (codes "id")) d1 ∙ find-without_all (codes "id") (codes "cell_type" ∷ []) ps refl ∙ ap (find (codes "id")) is in
     let v2 : c.take-3.result ≡ field t (codes "metadata") = c.take-3.ensures.value ∙ ap (find (codes "metadata")) d2 ∙ find-without_all (codes "metadata") (codes "cell_type" ∷ codes "id" ∷ []) ps refl ∙ ap (find (codes "metadata")) is in

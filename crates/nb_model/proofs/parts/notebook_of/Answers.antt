@@ -10,8 +10,8 @@ use Rattle.nb_model.proofs.parts.notebook_of.Goals as goal
 pub returns : goal.returns
 returns c =
     let t = c.args.t in
-    let ps = c.pairs_of-pairs.result in
-    let is = c.pairs_of-pairs.ensures in
+    let ps = c.into_pairs-pairs.result in
+    let is = c.into_pairs-pairs.ensures in
     let v0 : c.take.result ≡ field t (codes "metadata") = c.take.ensures.value ∙ ap (find (codes "metadata")) is in
     let v1 : c.take-2.result ≡ field t (codes "cells") =
     c.take-2.ensures.value ∙ ap (find (codes "cells")) c.take.ensures.rest ∙ find-without_all (codes "cells") (codes "metadata" ∷ []) ps refl ∙ ap (find (codes "cells")) is in

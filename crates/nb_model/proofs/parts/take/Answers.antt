@@ -1,7 +1,8 @@
 use Rattle.std.proofs.Common.{◌≡◌, Some, None, sym, ◌∙◌}
 use Rattle.std.specs.Prelude.{position}
 use Rattle.std.specs.Str.{bytes_eq}
-use Rattle.nb_model.proofs.PairsLemmas.{find-at, without-at, find-none, without-none}
+use Rattle.jtext.proofs.Edits.{find-at, find-none}
+use Rattle.nb_model.proofs.PairsLemmas.{without-at, without-none}
 use Rattle.nb_model.proofs.parts.take.Goals as goal
 
 pub returns-in-Some-clause-value : goal.returns-in-Some-clause-value

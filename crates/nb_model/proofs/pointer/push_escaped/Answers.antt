@@ -1,10 +1,10 @@
 use Rattle.std.proofs.Common.{◌++◌, string_bytes, flat_map, sym, ap, ◌∙◌, map-id}
 use Rattle.std.proofs.lemmas.Iterator.{YieldsList-from_chars}
 use Rattle.std.proofs.lemmas.Iterator.Consumers.{YieldsList-end}
-use Rattle.nb_model.specs.Pointer.{escaped}
+use Rattle.nb_model.specs.Pointer.{escaped_char}
 use Rattle.nb_model.proofs.pointer.push_escaped.Goals as goal
 
 pub returns : goal.returns
 returns c =
     let end = YieldsList-end (YieldsList-from_chars c.args.key.now c.utf8.key cc) c.loop-c.yielded _ c.loop-c.yielded_by _ _ c.in-None.is c.next.ensures.steps in
-    c.loop-c.invariant ∙ ap (λ x. string_bytes c.args.pointer.now ++ flat_map escaped x) (sym (map-id c.loop-c.yielded) ∙ end.0)
+    c.loop-c.invariant ∙ ap (λ x. string_bytes c.args.pointer.now ++ flat_map escaped_char x) (sym (map-id c.loop-c.yielded) ∙ end.0)

@@ -1,5 +1,5 @@
 use Rattle.std.proofs.Common.{sym, ◌∙◌}
-use Rattle.nb_model.specs.Injected.{ids}
+use Rattle.nb_params.specs.Injected.{ids}
 use Rattle.nb_params.proofs.Ids.{named_taken, named_free}
 use Rattle.nb_params.proofs.fresh.fresh_id.Goals as goal
 

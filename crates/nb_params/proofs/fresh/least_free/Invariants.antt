@@ -2,7 +2,7 @@ use Rattle.std.proofs.Common.{◌≡◌, ℕ, List, ◌-◌, ◌+◌}
 use Rattle.std.specs.List.{list_any}
 use Rattle.std.specs.Str.{bytes_eq}
 use Rattle.std.specs.BTreeSet.{contains_text}
-use Rattle.nb_model.specs.Injected.{free_from}
+use Rattle.nb_params.specs.Injected.{free_from}
 use Rattle.nb_params.proofs.fresh.least_free.Given as goal
 
 abbrev pub invariant-loop-i : goal.invariant-loop-i

@@ -1,5 +1,5 @@
 use Rattle.std.proofs.Common.{◌≡◌, ◌++◌, string_bytes, flat_map}
-use Rattle.nb_model.specs.Python.{literal_char}
+use Rattle.nb_params.specs.Python.{literal_char}
 use Rattle.nb_params.proofs.literal.put_literal.Given as goal
 
 abbrev pub invariant-loop-c : goal.invariant-loop-c

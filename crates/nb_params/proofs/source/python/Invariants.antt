@@ -1,5 +1,5 @@
 use Rattle.std.proofs.Common.{◌≡◌, ◌++◌, string_bytes, flat_map, take}
-use Rattle.nb_model.specs.Python.{assignment}
+use Rattle.nb_params.specs.Python.{assignment}
 use Rattle.nb_params.proofs.source.python.Given as goal
 
 abbrev pub invariant-loop-param : goal.invariant-loop-param
