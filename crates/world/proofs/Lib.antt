@@ -1,1 +1,4 @@
-mod Folders
+pub mod MomentsLemmas
+pub mod PartsLemmas
+pub mod PlaceLemmas
+pub mod TouchedLemmas

@@ -1,13 +1,14 @@
 pub mod Acked
+pub mod Calls
 pub mod Counts
 pub mod Disk
 pub mod Environment
-pub mod Folder
+pub mod Jobs
 pub mod Kernel
-pub mod Memory
 pub mod Moments
-pub mod Own
 pub mod Parts
 pub mod Places
+pub mod Save
 pub mod Told
 pub mod Touched
+pub mod Waits

@@ -2,7 +2,7 @@
 ghost use Rattle.std.specs.Prelude.{◌≡◌, ◌⊎◌, ◌∷◌, ◌+◌, ℕ, false, List};
 ghost use Rattle.world.specs.declared.entry.Entry.{Entry};
 ghost use Rattle.world.specs.Acked.{acked};
-ghost use Rattle.world.specs.Disk.{place, untouched};
+ghost use Rattle.world.specs.Disk.{place, untouched_place};
 ghost use Rattle.world.specs.Moments.{Since};
 ghost use Rattle.world.specs.Parts.{IsNotOf, OnDisk, OnWire, OnClock};
 ghost use Rattle.world.specs.Places.{status, time};
@@ -10,7 +10,7 @@ ghost use Rattle.world.specs.Touched.{Spares, touches, settles};
 
 /// A path that no entry creates, writes, syncs, renames or removes is as before the run, whatever folder is synced.
 pub fn untouched_paths_stay()
-    ensures { (path : List ℕ) (before after : List Entry) → Since (Spares path) before after → place before path ≡ untouched → place after path ≡ untouched }
+    ensures { (path : List ℕ) (before after : List Entry) → Since (Spares path) before after → place before path ≡ untouched_place → place after path ≡ untouched_place }
 {}
 
 /// An entry that neither names a path nor syncs its folder leaves all that is known of it.

@@ -1,0 +1,100 @@
+//! The journal as data.
+ghost use Rattle.std.specs.Prelude.{◌≡◌, ◌∷◌, IfOk, IsOkAnd};
+ghost use Rattle.world.specs.declared.entry.Entry.{Entry};
+ghost use Rattle.world.specs.Moments.{Told};
+ghost use Rattle.world_mem.specs.Memory.{told_of};
+
+use jtext::{Bytes, NoMemory, Text};
+use std::alloc::Global;
+use world::{Did, Entries, Entry, ReadFile};
+
+/// Adds an entry, or ends the telling where there is none or memory for it is refused.
+pub fn tell(journal: &mut Option<Entries>, entry: Result<Entry, NoMemory>)
+    ensures { Told (told_of journal.old) (told_of journal.new) (λ before after. IsOkAnd entry (λ e. after ≡ e ∷ before)) }
+{
+    let kept = match (journal.as_mut(), entry) {
+        (Some(entries), Ok(entry)) => entries.push(entry).is_ok(),
+        _ => false,
+    };
+    if !kept {
+        *journal = None;
+    }
+}
+
+/// The entry of a read of a file.
+pub fn read(alloc: Global, path: &Text, most: u64, found: &ReadFile) -> Result<Entry, NoMemory>
+    ensures { IfOk result (λ e. e ≡ Entry.Read path.now most found.now) }
+{
+    let found = match found {
+        ReadFile::Whole(bytes) => ReadFile::Whole(Bytes::of(alloc, bytes.bytes())?),
+        ReadFile::Big => ReadFile::Big,
+        ReadFile::Failed => ReadFile::Failed,
+        ReadFile::NoMemory => ReadFile::NoMemory,
+    };
+    let path = copied(alloc, path)?;
+    Ok(Entry::Read { path, most, found })
+}
+
+/// The entry of a create.
+pub fn created(alloc: Global, path: &Text, did: Did) -> Result<Entry, NoMemory>
+    ensures { IfOk result (λ e. e ≡ Entry.Created path.now did) }
+{
+    let path = copied(alloc, path)?;
+    Ok(Entry::Created { path, did })
+}
+
+/// The entry of a write to a file.
+pub fn wrote(alloc: Global, path: &Text, bytes: &[u8], did: Did) -> Result<Entry, NoMemory>
+    ensures { IfOk result (λ e. e ≡ Entry.Wrote path.now bytes.now did) }
+{
+    let path = copied(alloc, path)?;
+    let bytes = Bytes::of(alloc, bytes)?;
+    Ok(Entry::Wrote { path, bytes, did })
+}
+
+/// The entry of a sync of a file.
+pub fn synced(alloc: Global, path: &Text, did: Did) -> Result<Entry, NoMemory>
+    ensures { IfOk result (λ e. e ≡ Entry.Synced path.now did) }
+{
+    let path = copied(alloc, path)?;
+    Ok(Entry::Synced { path, did })
+}
+
+/// The entry of a rename.
+pub fn renamed(alloc: Global, from: &Text, to: &Text, did: Did) -> Result<Entry, NoMemory>
+    ensures { IfOk result (λ e. e ≡ Entry.Renamed from.now to.now did) }
+{
+    let from = copied(alloc, from)?;
+    let to = copied(alloc, to)?;
+    Ok(Entry::Renamed { from, to, did })
+}
+
+/// The entry of a sync of a folder.
+pub fn dir_synced(alloc: Global, dir: &Text, did: Did) -> Result<Entry, NoMemory>
+    ensures { IfOk result (λ e. e ≡ Entry.DirSynced dir.now did) }
+{
+    let dir = copied(alloc, dir)?;
+    Ok(Entry::DirSynced { dir, did })
+}
+
+/// The entry of a remove.
+pub fn removed(alloc: Global, path: &Text, did: Did) -> Result<Entry, NoMemory>
+    ensures { IfOk result (λ e. e ≡ Entry.Removed path.now did) }
+{
+    let path = copied(alloc, path)?;
+    Ok(Entry::Removed { path, did })
+}
+
+/// The entry of what was said.
+pub fn said(alloc: Global, bytes: &[u8], did: Did) -> Result<Entry, NoMemory>
+    ensures { IfOk result (λ e. e ≡ Entry.Said bytes.now did) }
+{
+    let bytes = Bytes::of(alloc, bytes)?;
+    Ok(Entry::Said { bytes, did })
+}
+
+fn copied(alloc: Global, text: &Text) -> Result<Text, NoMemory>
+    ensures { IfOk result (λ t. t ≡ text.now) }
+{
+    Text::of(alloc, text.as_str())
+}
