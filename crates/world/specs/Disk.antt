@@ -117,6 +117,10 @@ leaves journal path = (place journal path).options
 abbrev pub here_of : List Entry → List ℕ → Option Left
 here_of journal path = (place journal path).here
 
+-- a name that no folder's sync settles: what it names is unsure, absent or any
+abbrev pub IsUnsettled : Option Left → Type 0
+IsUnsettled here = (here ≡ None) ⊎ ((here ≡ Some left.Absent) ⊎ (here ≡ Some left.Any))
+
 -- it is one of these options
 abbrev pub Among : Left → List Left → Type 0
 Among o [] = ⊥

@@ -139,6 +139,21 @@ is_write p (made.Refused conn side.Write) = is_at p conn
 is_write p (made.PutFailed conn) = is_at p conn
 is_write p _ = false
 
+-- the entry may change how the connection at this place stands
+abbrev pub concerns : ℕ → Entry → Bool
+concerns p (made.Connected conn number how) = is_at p conn
+concerns p (made.Closed conn) = is_at p conn
+concerns p (made.Got conn room bytes) = is_at p conn
+concerns p (made.Dry conn) = is_at p conn
+concerns p (made.Ended conn by) = is_at p conn
+concerns p (made.Refused conn by) = is_at p conn
+concerns p (made.ReadFailed conn) = is_at p conn
+concerns p (made.Put conn bytes) = is_at p conn
+concerns p (made.Stuck conn) = is_at p conn
+concerns p (made.PutFailed conn) = is_at p conn
+concerns p (made.Waited ms reports did) = true
+concerns p _ = false
+
 -- no byte has passed on it since it was last begun
 abbrev pub IsUnused : ℕ → List Entry → Type 0
 IsUnused p past = ((status p past).put ≡ []) × ((status p past).got ≡ [])
