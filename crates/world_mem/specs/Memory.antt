@@ -1,5 +1,5 @@
 -- What a disk in memory keeps, does and answers.
-use Rattle.std.specs.Prelude.{◌≡◌, ◌==◌, ℕ, ◌+◌, ◌-◌, ◌^◌, ◌<◌, ◌≤◌, ◌||◌, min, List, [], ◌++◌, length, reverse, Bool, true, false, not, Option, Some, None, is_some, option_map, IsSomeAnd}
+use Rattle.std.specs.Prelude.{◌≡◌, ◌==◌, ℕ, ◌+◌, ◌-◌, ◌^◌, ◌<◌, ◌≤◌, ◌||◌, min, List, [], ◌++◌, length, Bool, true, false, not, Option, Some, None, is_some, option_map, IsSomeAnd}
 use Rattle.std.specs.List.{list_any}
 use Rattle.world.specs.declared.did.Did.{Did}
 use Rattle.world.specs.declared.did.Did.TheVariants as did
@@ -10,12 +10,8 @@ use Rattle.world.specs.declared.read_file.ReadFile.TheVariants as found
 use Rattle.world.specs.declared.entry.Entry.{Entry}
 use Rattle.world_mem.specs.declared.mem_disk.MemDisk.{MemDisk}
 use Rattle.world.specs.Counts.{Counts}
+use Rattle.world_mem.specs.Journals.{told_of}
 use Rattle.world_mem.specs.Folder.{file_at, has_file, Sets, Moves}
-
--- a journal that is kept with its oldest entry first, as contracts have it
-abbrev pub told_of : Option (List Entry) → Option (List Entry)
-told_of None = None
-told_of (Some entries) = Some (reverse entries)
 
 -- the journal of the disk
 abbrev pub journal_in : MemDisk → Option (List Entry)
