@@ -3,12 +3,13 @@ use Rattle.std.proofs.Common.{◌≡◌, ◌⊎◌, inl, inr, ℕ, List, [], ◌
 use Rattle.words.specs.declared.ask.Ask.{Ask}
 use Rattle.world.specs.declared.entry.Entry.{Entry}
 use Rattle.world.specs.declared.entry.Entry.TheVariants.{Read, Created, Synced}
-use Rattle.world.specs.declared.entry.Did.TheVariants.{Done}
-use Rattle.world.specs.declared.entry.ReadFile.TheVariants as found
+use Rattle.world.specs.declared.did.Did.TheVariants.{Done}
+use Rattle.world.specs.declared.read_file.ReadFile.TheVariants as found
 use Rattle.world.specs.declared.left.Left.TheVariants as left
 use Rattle.world.specs.Disk.{leaves}
 use Rattle.world.specs.Moments.{Since, start, more as later}
-use Rattle.world.specs.Parts.{OnDisk, OnSay, IsOf, place_since}
+use Rattle.world.specs.Parts.{OnDisk, OnSay, IsOf}
+use Rattle.world.proofs.PartsLemmas.{place_since}
 use Rattle.nb_model.specs.declared.notebook.Notebook.{Notebook}
 use Rattle.nbrun_top.specs.declared.end.End.{End}
 use Rattle.nbrun_top.specs.declared.end.End.TheVariants as end

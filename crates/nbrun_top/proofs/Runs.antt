@@ -16,8 +16,8 @@ use Rattle.words.specs.Asked.{asked}
 use Rattle.words.specs.Refusals.{refusal}
 use Rattle.world.specs.Counts.{Rose}
 use Rattle.world.specs.declared.entry.Entry.{Entry}
-use Rattle.world.specs.declared.entry.ReadFile.{ReadFile}
-use Rattle.world.specs.declared.entry.ReadFile.TheVariants as found
+use Rattle.world.specs.declared.read_file.ReadFile.{ReadFile}
+use Rattle.world.specs.declared.read_file.ReadFile.TheVariants as found
 use Rattle.nbrun_top.specs.declared.end.End.{End}
 use Rattle.nbrun_top.specs.declared.end.End.TheVariants as end
 use Rattle.nbrun_top.specs.declared.plain.SaveFault.TheVariants as fault

@@ -3,10 +3,10 @@ use Rattle.std.proofs.Common.{◌≡◌, ℕ, List, [], ◌∷◌, ◌++◌, tak
 use Rattle.std.proofs.lemmas.List.{take-append-drop, append-nil}
 use Rattle.world.specs.declared.entry.Entry.{Entry}
 use Rattle.world.specs.declared.entry.Entry.TheVariants.{Created, Wrote, Synced}
-use Rattle.world.specs.declared.entry.Did.TheVariants.{Done}
+use Rattle.world.specs.declared.did.Did.TheVariants.{Done}
 use Rattle.world.specs.declared.left.Left.TheVariants as left
 use Rattle.world.specs.Disk.{Place, place, leaves}
-use Rattle.world.specs.Own.{created_fresh, wrote_fresh, synced_whole}
+use Rattle.world.proofs.PlaceLemmas.{created_fresh, wrote_fresh, synced_whole}
 use Rattle.nbrun_top.specs.Plain.{Writes, none, more}
 
 -- the bytes that the file has are the text so far

@@ -10,10 +10,12 @@ use Rattle.words.specs.declared.command.Command.TheVariants as command
 use Rattle.words.specs.Paths.{are_apart, temporary_of, connection_of}
 use Rattle.words.proofs.JobPaths.{job_apart}
 use Rattle.world.specs.declared.entry.Entry.{Entry}
-use Rattle.world.specs.Disk.{Place, place, leaves, untouched}
-use Rattle.world.specs.Moments.{Since, start, more as later, since_at}
-use Rattle.world.specs.Own.{same_bytes}
-use Rattle.world.specs.Touched.{Spares, untouched_after, untouched_since}
+use Rattle.world.specs.Disk.{Place, place, leaves, untouched_place}
+use Rattle.world.specs.Moments.{Since, start, more as later}
+use Rattle.world.proofs.MomentsLemmas.{since_at}
+use Rattle.world.proofs.PlaceLemmas.{same_bytes}
+use Rattle.world.specs.Touched.{Spares}
+use Rattle.world.proofs.TouchedLemmas.{untouched_after, untouched_since}
 use Rattle.nbrun_top.specs.declared.end.End.{End}
 use Rattle.nbrun_top.specs.declared.plain.SaveFault.{SaveFault}
 use Rattle.nbrun_top.specs.declared.plain.SaveFault.TheVariants as fault
@@ -74,11 +76,11 @@ says_spare path s (said.refused f speech) = later (speech_spares path s speech) 
 
 -- ---- at every moment
 
-spared_moments : {path : List ℕ} {x y : List Entry} → place x path ≡ untouched → Since (Spares path) x y → Since (λ now. place now path ≡ untouched) x y
+spared_moments : {path : List ℕ} {x y : List Entry} → place x path ≡ untouched_place → Since (Spares path) x y → Since (λ now. place now path ≡ untouched_place) x y
 spared_moments e start = start
 spared_moments {path} e (later {past} {entry} since spares) = later (spared_moments e since) (untouched_after path entry (place past) spares (untouched_since since e))
 
-at_moment : (path : List ℕ) (journal : List Entry) → Since (λ now. place now path ≡ untouched) [] journal → IsUntouched path journal
+at_moment : (path : List ℕ) (journal : List Entry) → Since (λ now. place now path ≡ untouched_place) [] journal → IsUntouched path journal
 at_moment path journal since zero high =
     let whole : length journal - 0 ≡ length journal = omega arith in
     ap (λ n. leaves (drop n journal) path) whole ∙ ap (λ j. leaves j path) (drop-length journal)
@@ -86,7 +88,7 @@ at_moment path journal since (suc t) high = ap (λ p. Place.options p) (since_at
 
 pub untouched_paths : (words : List (List ℕ)) (code : ℕ) (failed : Type 0) (before after : List Entry) → Ended words code failed before after → before ≡ [] → (path : List ℕ) → IsOther words path → IsUntouched path after
 untouched_paths words code failed before after ended new path other =
-    at_moment path after (subst (λ b. Since (λ now. place now path ≡ untouched) b after) new
+    at_moment path after (subst (λ b. Since (λ now. place now path ≡ untouched_place) b after) new
     (spared_moments (ap (λ b. place b path) new) (says_spare path (ran_spares words path other ended.ran) ended.says)))
 
 -- ---- the input

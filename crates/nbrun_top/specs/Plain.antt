@@ -2,7 +2,7 @@
 use Rattle.std.specs.Prelude.{◌≡◌, ◌⊎◌, ℕ, List, [], ◌∷◌, take, drop, Result, Ok, Err}
 use Rattle.world.specs.declared.entry.Entry.{Entry}
 use Rattle.world.specs.declared.entry.Entry.TheVariants.{Created, Wrote, Synced}
-use Rattle.world.specs.declared.entry.Did.TheVariants.{Done, Failed}
+use Rattle.world.specs.declared.did.Did.TheVariants.{Done, Failed}
 use Rattle.nbrun_top.specs.declared.plain.SaveFault.{SaveFault}
 use Rattle.nbrun_top.specs.declared.plain.SaveFault.TheVariants as fault
 

@@ -8,8 +8,8 @@ use Rattle.words.specs.declared.usage.Usage.{Usage}
 use Rattle.words.specs.Refusals.{refusal}
 use Rattle.world.specs.declared.entry.Entry.{Entry}
 use Rattle.world.specs.declared.entry.Entry.TheVariants.{Read}
-use Rattle.world.specs.declared.entry.ReadFile.{ReadFile}
-use Rattle.world.specs.declared.entry.ReadFile.TheVariants as found
+use Rattle.world.specs.declared.read_file.ReadFile.{ReadFile}
+use Rattle.world.specs.declared.read_file.ReadFile.TheVariants as found
 use Rattle.world.specs.declared.left.Left.TheVariants as left
 use Rattle.world.specs.Disk.{leaves}
 use Rattle.world.specs.Moments.{upto}

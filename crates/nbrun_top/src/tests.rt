@@ -6,7 +6,7 @@ mod saves;
 use crate::{Limits, run};
 use jtext::{Bytes, Text};
 use std::test::Fail;
-use world::{Files, MemDisk, Sizes};
+use world_mem::{Files, MemDisk, Sizes};
 
 /// A disk that has the input, on which the call with this number fails.
 fn disk(rt: &HostRuntime, input: &[u8], fail: Option<u64>) -> Result<MemDisk, Fail> {

@@ -3,7 +3,7 @@ use Rattle.std.specs.Prelude.{ℕ, ◌+◌, ◌&&◌, List, [], ◌∷◌, Bool,
 use Rattle.std.specs.Str.{bytes_eq}
 use Rattle.world.specs.declared.entry.Entry.{Entry}
 use Rattle.world.specs.declared.entry.Entry.TheVariants as made
-use Rattle.world.specs.declared.entry.Did.TheVariants as did
+use Rattle.world.specs.declared.did.Did.TheVariants as did
 use Rattle.world.specs.Disk.{folder_of}
 
 -- an entry is the done rename from one path to the other

@@ -33,6 +33,7 @@ pub record NetCause (old new : Counts) (failed : Type 0) : Type 0 where
 -- a wait, which is counted
 pub record WaitCause (old new : Counts) (failed : Type 0) : Type 0 where
   pub others : new ≡ record old { net = new.net; waits = min (old.waits + 1) (2 ^ 64 - 1) }
+  pub waits : old.waits ≤ new.waits
   pub net : HasCause old.net new.net failed
 
 -- a start of a child
@@ -49,3 +50,17 @@ pub record RandCause (old new : Counts) (failed : Type 0) : Type 0 where
 pub record SayCause (old new : Counts) (failed : Type 0) : Type 0 where
   pub others : new ≡ record old { say = new.say }
   pub say : HasCause old.say new.say failed
+
+-- the counts of a world before and after a call are related by this rule
+abbrev pub CountsBy : {W : Type 0} → (Counts → Counts → Type 0 → Type 0) → (W → Counts) → W → W → Type 0 → Type 0
+CountsBy rule counts old new failed = rule (counts old) (counts new) failed
+
+-- calls of any parts: no count fell
+pub record CountsGrow (old new : Counts) : Type 0 where
+  pub disk : old.disk ≤ new.disk
+  pub net : old.net ≤ new.net
+  pub waits : old.waits ≤ new.waits
+  pub child : old.child ≤ new.child
+  pub rand : old.rand ≤ new.rand
+  pub say : old.say ≤ new.say
+  pub last : old.last ≤ new.last

@@ -1,7 +1,7 @@
 -- What a kernel in memory hands out, as the trait of the far end says it.
 use Rattle.std.specs.Prelude.{◌≡◌, ℕ, ◌≤◌, List, length, take, Bool, true, false}
-use Rattle.world.specs.declared.kernel_side.Give.{Give}
-use Rattle.world.specs.declared.kernel_side.Give.TheVariants as give
+use Rattle.world.specs.declared.give.Give.{Give}
+use Rattle.world.specs.declared.give.Give.TheVariants as give
 
 -- what stands ready on a channel for a buffer of some length
 pub data Given : Type 0 where

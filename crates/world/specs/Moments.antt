@@ -1,7 +1,5 @@
 -- What is said of each moment of a call. A journal has its newest entry first.
-use Rattle.std.specs.Prelude.{◌≡◌, ℕ, ◌-◌, ◌<◌, ◌≤◌, length, drop, List, ◌∷◌, Option, Some, None, IfSome, IsSomeAnd, refl}
-use Rattle.std.proofs.Common.{subst, sym, suc, arith, inl, inr}
-use Rattle.std.proofs.lemmas.Bool.{cases_lt}
+use Rattle.std.specs.Prelude.{◌≡◌, ℕ, ◌-◌, length, drop, List, ◌∷◌, Option, IfSome, IsSomeAnd}
 use Rattle.world.specs.declared.entry.Entry.{Entry}
 
 -- the journal after a call is that before it with more entries, and at each of them now, the journal up to and with it, had P
@@ -17,69 +15,6 @@ pub record Told (old new : Option (List Entry)) (R : List Entry → List Entry �
 abbrev pub Tells : Option (List Entry) → Option (List Entry) → Entry → Type 0
 Tells old new entry = Told old new (λ before after. after ≡ entry ∷ before)
 
-start_at : (j : Option (List Entry)) (R : List Entry → List Entry → Type 0) → ((before : List Entry) → R before before) → IfSome j (λ after. IsSomeAnd j (λ before. R before after))
-start_at None R r = tt
-start_at (Some x) R r = r x
-
-then_at : (i j k : Option (List Entry)) (R S T : List Entry → List Entry → Type 0) → IfSome j (λ y. IsSomeAnd i (λ x. R x y)) → IfSome k (λ z. IsSomeAnd j (λ y. S y z))
-    → ((x y z : List Entry) → R x y → S y z → T x z) → IfSome k (λ z. IsSomeAnd i (λ x. T x z))
-then_at i j None R S T r s both = tt
-then_at i None (Some z) R S T r s both = absurd s
-then_at None (Some y) (Some z) R S T r s both = absurd r
-then_at (Some x) (Some y) (Some z) R S T r s both = both x y z r s
-
--- nothing was called
-pub told_start : {j : Option (List Entry)} {R : List Entry → List Entry → Type 0} → ((before : List Entry) → R before before) → Told j j R
-told_start {j} {R} r = record { so = start_at j R r }
-
--- one call and then another
-pub told_then : {i j k : Option (List Entry)} {R S T : List Entry → List Entry → Type 0} → Told i j R → Told j k S → ((x y z : List Entry) → R x y → S y z → T x z) → Told i k T
-told_then {i} {j} {k} {R} {S} {T} r s both = record { so = then_at i j k R S T r.so s.so both }
-
--- some calls and then one
-pub told_one : {i j k : Option (List Entry)} {R T : List Entry → List Entry → Type 0} {entry : Entry} → Told i j R → Tells j k entry → ((x y : List Entry) → R x y → T x (entry ∷ y)) → Told i k T
-told_one {T = T} r s both = told_then r s (λ x y z a e. subst (λ w. T x w) (sym e) (both x y a))
-
--- one call alone
-pub tells_as : {j k : Option (List Entry)} {R : List Entry → List Entry → Type 0} {entry : Entry} → Tells j k entry → ((past : List Entry) → R past (entry ∷ past)) → Told j k R
-tells_as {R = R} {entry} s so = told_one (told_start {R = λ x y. x ≡ y} (λ x. refl)) s (λ x y e. subst (λ w. R x (entry ∷ w)) e (so x))
-
--- what follows of what was told
-pub told_as : {i j : Option (List Entry)} {R S : List Entry → List Entry → Type 0} → Told i j R → ((x y : List Entry) → R x y → S x y) → Told i j S
-told_as {i} {j} {R} {S} r turns = told_then (told_start {j = i} {R = λ x y. x ≡ y} (λ x. refl)) r (λ x y z e a. turns x z (subst (λ w. R w z) (sym e) a))
-
-both_at : (i j : Option (List Entry)) (R S : List Entry → List Entry → Type 0) → IfSome j (λ y. IsSomeAnd i (λ x. R x y)) → IfSome j (λ y. IsSomeAnd i (λ x. S x y)) → IfSome j (λ y. IsSomeAnd i (λ x. R x y × S x y))
-both_at i None R S r s = tt
-both_at None (Some y) R S r s = absurd r
-both_at (Some x) (Some y) R S r s = (r, s)
-
--- two facts of the same calls
-pub told_both : {i j : Option (List Entry)} {R S : List Entry → List Entry → Type 0} → Told i j R → Told i j S → Told i j (λ x y. R x y × S x y)
-told_both {i} {j} {R} {S} r s = record { so = both_at i j R S r.so s.so }
-
--- some moments and then others
-pub since_then : {P : List Entry → Type 0} {x y z : List Entry} → Since P x y → Since P y z → Since P x z
-since_then a start = a
-since_then a (more b p) = more (since_then a b) p
-
--- what follows at each moment
-pub since_as : {P Q : List Entry → Type 0} {x y : List Entry} → ((now : List Entry) → P now → Q now) → Since P x y → Since Q x y
-since_as turns start = start
-since_as turns (more {past} {entry} a p) = more (since_as turns a) (turns (entry ∷ past) p)
-
 -- the journal's first t entries
 abbrev pub upto : ℕ → List Entry → List Entry
 upto t journal = drop (length journal - t) journal
-
--- at each moment by its number
-pub since_at : {P : List Entry → Type 0} {before after : List Entry} → Since P before after → (t : ℕ) → length before < t → t ≤ length after → P (upto t after)
-since_at start t low high = absurd (omega arith)
-since_at {P} {before} (more {past} {entry} since p) t low high =
-    elim (cases_lt (length past) t) [
-      | inl above ↦
-          let k : length (entry ∷ past) - t ≡ 0 = omega arith in
-          subst (λ n. P (drop n (entry ∷ past))) (sym k) p
-      | inr below ↦
-          let k : length (entry ∷ past) - t ≡ suc (length past - t) = omega arith in
-          subst (λ n. P (drop n (entry ∷ past))) (sym k) (since_at since t low below)
-    ]

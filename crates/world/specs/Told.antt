@@ -1,21 +1,25 @@
 -- What each call adds to the journal, by its answer.
-use Rattle.std.specs.Prelude.{ℕ, ◌≤◌, ◌<◌, List, length, take, slice_get}
+use Rattle.std.specs.Prelude.{ℕ, ◌≤◌, ◌<◌, List, length, take, slice_get, Option}
 use Rattle.std.proofs.Common.{◌≢◌}
 use Rattle.world.specs.declared.entry.Entry.{Entry}
 use Rattle.world.specs.declared.entry.Entry.TheVariants as made
-use Rattle.world.specs.declared.entry.Conn.{Conn}
-use Rattle.world.specs.declared.entry.Side.TheVariants as side
-use Rattle.world.specs.declared.entry.Wrote.{Wrote}
-use Rattle.world.specs.declared.entry.Wrote.TheVariants.{Took, Failed}
-use Rattle.world.specs.declared.entry.Did.{Did}
-use Rattle.world.specs.declared.entry.Did.TheVariants as did
-use Rattle.world.specs.declared.wire.Got.{Got}
-use Rattle.world.specs.declared.wire.Got.TheVariants as got
-use Rattle.world.specs.declared.wire.Put.{Put}
-use Rattle.world.specs.declared.wire.Put.TheVariants as put
-use Rattle.world.specs.declared.entry.ReadFile.{ReadFile}
-use Rattle.world.specs.declared.entry.ReadFile.TheVariants as found
+use Rattle.world.specs.declared.conn.Conn.{Conn}
+use Rattle.world.specs.declared.side.Side.TheVariants as side
+use Rattle.world.specs.declared.wrote.Wrote.{Wrote}
+use Rattle.world.specs.declared.wrote.Wrote.TheVariants.{Took, Failed}
+use Rattle.world.specs.declared.did.Did.{Did}
+use Rattle.world.specs.declared.did.Did.TheVariants as did
+use Rattle.world.specs.declared.got.Got.{Got}
+use Rattle.world.specs.declared.got.Got.TheVariants as got
+use Rattle.world.specs.declared.put.Put.{Put}
+use Rattle.world.specs.declared.put.Put.TheVariants as put
+use Rattle.world.specs.declared.read_file.ReadFile.{ReadFile}
+use Rattle.world.specs.declared.read_file.ReadFile.TheVariants as found
 pub use Rattle.world.specs.Moments.{Tells}
+
+-- where a world tells its journal after a call, it told it before, and has this one entry more
+abbrev pub Adds : {W : Type 0} → (W → Option (List Entry)) → W → W → Entry → Type 0
+Adds journal old new entry = Tells (journal old) (journal new) entry
 
 -- the bytes that a write took, all of them where it failed
 abbrev pub taken_of : Wrote → List ℕ → List ℕ

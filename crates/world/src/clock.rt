@@ -1,7 +1,8 @@
 //! The clock.
-ghost use Rattle.std.specs.Prelude.{◌≡◌, ◌<◌, ◌≤◌, ◌^◌};
+ghost use Rattle.std.specs.Prelude.{◌≡◌, ◌<◌, ◌≤◌, ◌^◌, IfSome};
+ghost use Rattle.world.specs.Places.{time};
 ghost use Rattle.world.specs.declared.entry.Entry.{Entry};
-ghost use Rattle.world.specs.Told.{Tells};
+ghost use Rattle.world.specs.Told.{Adds};
 
 use crate::Journal;
 
@@ -11,11 +12,12 @@ pub trait Clock: Journal {
     fn now(&mut self) -> u64
         ensures bound { result < 2 ^ 47 }
         ensures later { (Self.counts self.old).last ≤ result }
-        ensures tells { Tells (Self.journal self.old) (Self.journal self.new) (Entry.Moment result) }
+        ensures tells { Adds Self.journal self.old self.new (Entry.Moment result) }
         ensures counts { Self.counts self.new ≡ record (Self.counts self.old) { last = result } };
 
-    /// What the last `now` gave, and 0 before the first.
+    /// What the last `now` gave, and 0 before the first: the journal's time, where it is told.
     fn last(&self) -> u64
         ensures bound { result < 2 ^ 47 }
-        ensures is { result ≡ (Self.counts self.now).last };
+        ensures is { result ≡ (Self.counts self.now).last }
+        ensures told { IfSome (Self.journal self.now) (λ past. result ≡ time past) };
 }

@@ -1,85 +1,6 @@
-//! What the journal holds of each call, and the answers that it repeats.
+//! What the journal holds of each call.
+use crate::{Conn, Connected, Did, ReadFile, Reports, Side};
 use jtext::{Bytes, Fields, List, Text, Texts};
-
-/// A channel of a kernel (Jupyter messaging 5.3).
-#[derive(Clone, Copy, Debug, Drop, PartialEq, Eq)]
-pub enum Chan {
-    /// Requests and their replies.
-    Shell,
-    /// Requests that may overtake those of the shell.
-    Control,
-    /// What the kernel publishes.
-    Iopub,
-    /// Pings and their echoes.
-    Heart,
-}
-
-/// Our connection to one channel of a job's kernel. The number of a job is below 16.
-#[derive(Clone, Copy, Debug, Drop, PartialEq, Eq)]
-pub struct Conn {
-    /// The job, from 0.
-    pub job: u8,
-    /// The channel of its kernel.
-    pub chan: Chan,
-}
-
-/// Which connections may go on. Connection `c` has the place `4 * job + chan`, the channels in the order of `Chan`.
-#[derive(Clone, Copy, Debug, Drop, PartialEq, Eq)]
-pub struct Reports {
-    /// Whether reading or writing may go on at each place.
-    pub ready: [bool; 64],
-}
-
-/// Whether a call succeeded.
-#[derive(Clone, Copy, Debug, Drop, PartialEq, Eq)]
-pub enum Did {
-    /// It did what was asked.
-    Done,
-    /// It failed, and its count of faults rose.
-    Failed,
-}
-
-/// What became of a piece that was to be written to a file or to be said.
-#[derive(Clone, Copy, Debug, Drop, PartialEq, Eq)]
-pub enum Wrote {
-    /// So many of its first bytes were taken, at least one.
-    Took(u32),
-    /// Nothing is known of any of them.
-    Failed,
-}
-
-/// What became of a connect.
-#[derive(Clone, Copy, Debug, Drop, PartialEq, Eq)]
-pub enum Connected {
-    /// The connection was begun.
-    Begun,
-    /// Nobody took it up. This is an answer and no fault.
-    Refused,
-    /// The call failed.
-    Failed,
-}
-
-/// Which call made an entry.
-#[derive(Clone, Copy, Debug, Drop, PartialEq, Eq)]
-pub enum Side {
-    /// A read of the connection.
-    Read,
-    /// A write to it.
-    Write,
-}
-
-/// What a read of a whole file answers.
-#[derive(Debug, Drop)]
-pub enum ReadFile {
-    /// The bytes of the file.
-    Whole(Bytes),
-    /// The file has more bytes than were allowed.
-    Big,
-    /// The read failed. An absent file is a failure.
-    Failed,
-    /// Memory for the bytes was refused.
-    NoMemory,
-}
 
 /// One call of the world and its answer.
 #[derive(Debug, Drop)]
@@ -214,9 +135,3 @@ pub enum Entry {
 
 /// Entries, the oldest first.
 pub type Entries = List<Entry>;
-
-/// Numbers or sizes in their order.
-pub type Sizes = List<u64>;
-
-/// Files by their paths.
-pub type Files = List<(Text, Bytes)>;

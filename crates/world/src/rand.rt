@@ -1,8 +1,8 @@
 //! The random source.
 ghost use Rattle.std.specs.Prelude.{◌≡◌};
 ghost use Rattle.world.specs.declared.entry.Entry.{Entry};
-ghost use Rattle.world.specs.Counts.{RandCause};
-ghost use Rattle.world.specs.Told.{Tells};
+ghost use Rattle.world.specs.Counts.{CountsBy, RandCause};
+ghost use Rattle.world.specs.Told.{Adds};
 
 use crate::Journal;
 
@@ -14,6 +14,6 @@ pub trait Rand: Journal {
 
     /// A random word, and `None` where the source failed.
     fn word(&mut self) -> Option<u64>
-        ensures tells { Tells (Self.journal self.old) (Self.journal self.new) (Entry.Word result) }
-        ensures cause { RandCause (Self.counts self.old) (Self.counts self.new) (result ≡ None) };
+        ensures tells { Adds Self.journal self.old self.new (Entry.Word result) }
+        ensures cause { CountsBy RandCause Self.counts self.old self.new (result ≡ None) };
 }

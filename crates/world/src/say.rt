@@ -1,8 +1,8 @@
 //! What is said to the user.
 ghost use Rattle.std.specs.Prelude.{◌≡◌, ◌<◌, length};
 ghost use Rattle.world.specs.declared.entry.Entry.{Entry};
-ghost use Rattle.world.specs.Counts.{SayCause};
-ghost use Rattle.world.specs.Told.{Tells, taken_of, did_of, TookSome};
+ghost use Rattle.world.specs.Counts.{CountsBy, SayCause};
+ghost use Rattle.world.specs.Told.{Adds, taken_of, did_of, TookSome};
 
 use crate::{Journal, Wrote};
 
@@ -16,7 +16,7 @@ pub trait Say: Journal {
     fn write(&mut self, piece: &[u8]) -> Wrote
         requires { 0 < length piece.now }
         ensures some { TookSome result piece.now }
-        ensures tells { Tells (Self.journal self.old) (Self.journal self.new)
+        ensures tells { Adds Self.journal self.old self.new
             (Entry.Said (taken_of result piece.now) (did_of result)) }
-        ensures cause { SayCause (Self.counts self.old) (Self.counts self.new) (result ≡ Wrote.Failed) };
+        ensures cause { CountsBy SayCause Self.counts self.old self.new (result ≡ Wrote.Failed) };
 }

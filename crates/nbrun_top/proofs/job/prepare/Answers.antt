@@ -1,5 +1,5 @@
-use Rattle.world.specs.Moments.{tells_as, told_then}
-use Rattle.world.specs.declared.entry.ReadFile.TheVariants as found
+use Rattle.world.proofs.MomentsLemmas.{tells_as, told_then}
+use Rattle.world.specs.declared.read_file.ReadFile.TheVariants as found
 use Rattle.nbrun_top.specs.declared.end.End.TheVariants as end
 use Rattle.nbrun_top.specs.Ran.{Prepares, cannot_read, too_large, no_memory_later, read_of}
 use Rattle.nbrun_top.proofs.Runs.{refused_at, not_accepted_at, saved_at}

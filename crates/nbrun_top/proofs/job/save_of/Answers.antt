@@ -1,5 +1,5 @@
 use Rattle.std.proofs.Common.{◌∙◌}
-use Rattle.world.specs.Moments.{told_start, told_as}
+use Rattle.world.proofs.MomentsLemmas.{told_start, told_as}
 use Rattle.nbrun_top.proofs.Runs.{saves_done, saves_not_written, saves_not_synced, not_made_at}
 use Rattle.nbrun_top.proofs.job.save_of.Goals as goal
 

@@ -1,7 +1,7 @@
 use Rattle.std.proofs.Common.{map, string_bytes, refl, ap}
 use Rattle.std.specs.Prelude.{not}
 use Rattle.words.specs.declared.command.Command.TheVariants as command
-use Rattle.world.specs.Moments.{told_start, told_as}
+use Rattle.world.proofs.MomentsLemmas.{told_start, told_as}
 use Rattle.nbrun_top.specs.Ran.{job}
 use Rattle.nbrun_top.proofs.Runs.{asks_for, asks_other, not_built_at, usage_at}
 use Rattle.nbrun_top.proofs.main_call.answered.Goals as goal

@@ -1,5 +1,5 @@
 use Rattle.std.proofs.Common.{map, string_bytes}
-use Rattle.world.specs.Moments.{told_as}
+use Rattle.world.proofs.MomentsLemmas.{told_as}
 use Rattle.world.specs.Counts.{Rose}
 use Rattle.nbrun_top.proofs.Ends.{delivered}
 use Rattle.nbrun_top.proofs.Heard.{heard_lines}

@@ -1,5 +1,5 @@
 use Rattle.std.proofs.Common.{map, string_bytes}
-use Rattle.world.specs.Moments.{told_then}
+use Rattle.world.proofs.MomentsLemmas.{told_then}
 use Rattle.nbrun_top.proofs.Runs.{said_text, ended_at}
 use Rattle.nbrun_top.proofs.main_call.status.Goals as goal
 

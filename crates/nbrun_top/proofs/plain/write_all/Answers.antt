@@ -1,6 +1,6 @@
 use Rattle.std.proofs.Common.{arith}
 use Rattle.std.proofs.lemmas.Grind.{common_steps}
-use Rattle.world.specs.Moments.{told_start, told_one}
+use Rattle.world.proofs.MomentsLemmas.{told_start, told_one}
 use Rattle.nbrun_top.specs.Plain.{none, more}
 use Rattle.nbrun_top.proofs.Rests.{whole_rest}
 use Rattle.nbrun_top.proofs.plain.write_all.Goals as goal

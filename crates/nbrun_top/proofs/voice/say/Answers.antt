@@ -1,6 +1,6 @@
 use Rattle.std.proofs.Common.{◌≤◌, refl, subst, arith}
 use Rattle.std.proofs.lemmas.Grind.{common_steps}
-use Rattle.world.specs.Moments.{told_start, told_one, told_as}
+use Rattle.world.proofs.MomentsLemmas.{told_start, told_one, told_as}
 use Rattle.nbrun_top.specs.Said.{Speech, none, more, whole, cut, refused}
 use Rattle.nbrun_top.proofs.Rests.{whole_rest}
 use Rattle.nbrun_top.proofs.Runs.{rose_from, no_rest}

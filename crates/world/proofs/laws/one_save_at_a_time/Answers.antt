@@ -1,4 +1,4 @@
-use Rattle.world.specs.Parts.{acked_grows}
+use Rattle.world.proofs.PartsLemmas.{acked_grows}
 use Rattle.world.proofs.laws.one_save_at_a_time.Goals as goal
 
 pub returns : goal.returns

@@ -1,4 +1,4 @@
-use Rattle.world.specs.Parts.{status_kept}
+use Rattle.world.proofs.PartsLemmas.{status_kept}
 use Rattle.world.proofs.laws.other_parts_change_no_connection.Goals as goal
 
 pub returns : goal.returns

@@ -1,4 +1,4 @@
-use Rattle.world.specs.Parts.{place_kept}
+use Rattle.world.proofs.PartsLemmas.{place_kept}
 use Rattle.world.proofs.laws.other_parts_change_no_file.Goals as goal
 
 pub returns : goal.returns

@@ -1,5 +1,5 @@
 use Rattle.world.specs.Disk.{place}
-use Rattle.world.specs.Touched.{after_spared}
+use Rattle.world.proofs.TouchedLemmas.{after_spared}
 use Rattle.world.proofs.laws.spared_paths_stay.Goals as goal
 
 pub returns : goal.returns

@@ -1,4 +1,4 @@
-use Rattle.world.specs.Touched.{untouched_since}
+use Rattle.world.proofs.TouchedLemmas.{untouched_since}
 use Rattle.world.proofs.laws.untouched_paths_stay.Goals as goal
 
 pub returns : goal.returns

@@ -1,0 +1,47 @@
+-- Small journals, computed by laws: what a crash leaves and how a connection stands after each.
+use Rattle.std.specs.Prelude.{ℕ, List, [], ◌∷◌, codes, true, false, replicate}
+use Rattle.world.specs.declared.chan.Chan.TheVariants.{Control}
+use Rattle.world.specs.declared.conn.Conn.{Conn}
+use Rattle.world.specs.declared.connected.Connected.TheVariants.{Begun}
+use Rattle.world.specs.declared.side.Side.TheVariants as side
+use Rattle.world.specs.declared.did.Did.TheVariants.{Done, Failed}
+use Rattle.world.specs.declared.entry.Entry.{Entry}
+use Rattle.world.specs.declared.entry.Entry.TheVariants as made
+
+-- a temporary file of one byte, synced and renamed to `d/o`
+abbrev pub renamed_save : List Entry
+renamed_save =
+    made.Renamed (codes "d/t") (codes "d/o") Done
+    ∷ made.Synced (codes "d/t") Done
+    ∷ made.Wrote (codes "d/t") (120 ∷ []) Done
+    ∷ made.Created (codes "d/t") Done
+    ∷ []
+
+-- the same with the sync of the folder
+abbrev pub whole_save : List Entry
+whole_save = made.DirSynced (codes "d") Done ∷ renamed_save
+
+-- the same where that sync failed
+abbrev pub unsynced_save : List Entry
+unsynced_save = made.DirSynced (codes "d") Failed ∷ renamed_save
+
+-- a file that was removed, and whose folder was synced
+abbrev pub synced_removal : List Entry
+synced_removal = made.DirSynced (codes "d") Done ∷ made.Removed (codes "d/o") Done ∷ []
+
+-- the control connection of the second job
+abbrev pub example_conn : Conn
+example_conn = record { job = 1; chan = Control }
+
+-- it was begun, reported by a wait, and read once
+abbrev pub read_journal : List Entry
+read_journal =
+    made.Got example_conn 10 (7 ∷ 8 ∷ [])
+    ∷ made.Waited 500 (record { ready = replicate 64 true }) Done
+    ∷ made.Connected example_conn 9000 Begun
+    ∷ made.Moment 3
+    ∷ []
+
+-- then it ended
+abbrev pub ended_journal : List Entry
+ended_journal = made.Ended example_conn side.Read ∷ made.Dry example_conn ∷ read_journal

@@ -1,0 +1,4 @@
+pub mod Folder
+pub mod Journals
+pub mod Memory
+pub mod Null
