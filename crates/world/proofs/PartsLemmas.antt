@@ -45,12 +45,14 @@ after_other (Removed path did) was other = absurd (other refl)
 after_other _ was other = refl
 
 -- only a call of the disk acknowledges a save
-pub acked_other : (from to : List ℕ) (entry : Entry) (past : List Entry) → part_of entry ≢ OnDisk → acked from to (entry ∷ past) ≡ acked from to past
+pub acked_other : (from to : List ℕ) (entry : Entry) (past : List Entry) → part_of entry ≢ OnDisk
+    → acked from to (entry ∷ past) ≡ acked from to past
 acked_other from to (DirSynced dir did) past other = absurd (other refl)
 acked_other from to _ past other = refl
 
 -- only a call on connections changes how one stands
-pub status_other : (p clock : ℕ) (entry : Entry) (was : Status) → part_of entry ≢ OnWire → status_after p clock entry was ≡ was
+pub status_other : (p clock : ℕ) (entry : Entry) (was : Status) → part_of entry ≢ OnWire
+    → status_after p clock entry was ≡ was
 status_other p clock (Connected conn port how) was other = absurd (other refl)
 status_other p clock (Closed conn) was other = absurd (other refl)
 status_other p clock (Got conn room bytes) was other = absurd (other refl)
@@ -77,7 +79,8 @@ place_kept start = refl
 place_kept (more {past} {entry} since not) = after_other entry (place past) not ∙ place_kept since
 
 -- how many saves were acknowledged
-pub acked_kept : (from to : List ℕ) {x y : List Entry} → Since (IsNotOf OnDisk) x y → acked from to y ≡ acked from to x
+pub acked_kept : (from to : List ℕ) {x y : List Entry} → Since (IsNotOf OnDisk) x y
+    → acked from to y ≡ acked from to x
 acked_kept from to start = refl
 acked_kept from to (more {past} {entry} since not) = acked_other from to entry past not ∙ acked_kept from to since
 
@@ -96,10 +99,12 @@ time_kept (more {past} {entry} since not) = time_other entry (time past) not ∙
 pub place_since : {part : Part} {x y : List Entry} → part ≢ OnDisk → Since (IsOf part) x y → place y ≡ place x
 place_since {part} other since = place_kept (since_as (is_not_of part OnDisk other) since)
 
-pub acked_since : {part : Part} (from to : List ℕ) {x y : List Entry} → part ≢ OnDisk → Since (IsOf part) x y → acked from to y ≡ acked from to x
+pub acked_since : {part : Part} (from to : List ℕ) {x y : List Entry} → part ≢ OnDisk → Since (IsOf part) x y
+    → acked from to y ≡ acked from to x
 acked_since {part} from to other since = acked_kept from to (since_as (is_not_of part OnDisk other) since)
 
-pub status_since : {part : Part} (p : ℕ) {x y : List Entry} → part ≢ OnWire → Since (IsOf part) x y → status p y ≡ status p x
+pub status_since : {part : Part} (p : ℕ) {x y : List Entry} → part ≢ OnWire → Since (IsOf part) x y
+    → status p y ≡ status p x
 status_since {part} p other since = status_kept p (since_as (is_not_of part OnWire other) since)
 
 pub time_since : {part : Part} {x y : List Entry} → part ≢ OnClock → Since (IsOf part) x y → time y ≡ time x
@@ -110,5 +115,6 @@ one_more true n = inr refl
 one_more false n = inl refl
 
 -- an entry acknowledges at most one save of a path
-pub acked_grows : (from to : List ℕ) (entry : Entry) (past : List Entry) → (acked from to (entry ∷ past) ≡ acked from to past) ⊎ (acked from to (entry ∷ past) ≡ acked from to past + 1)
+pub acked_grows : (from to : List ℕ) (entry : Entry) (past : List Entry)
+    → (acked from to (entry ∷ past) ≡ acked from to past) ⊎ (acked from to (entry ∷ past) ≡ acked from to past + 1)
 acked_grows from to entry past = one_more (is_acknowledging from to (entry ∷ past)) (acked from to past)

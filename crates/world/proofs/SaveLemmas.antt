@@ -1,5 +1,22 @@
 -- What a crash leaves during and after a save, and what other calls make of it.
-use Rattle.std.specs.Prelude.{◌≡◌, ◌⊎◌, ℕ, ◌+◌, List, [], ◌∷◌, ◌++◌, Bool, true, false, ◌&&◌, if◌then◌else◌, Some, None, refl}
+use Rattle.std.specs.Prelude.{
+  ◌≡◌,
+  ◌⊎◌,
+  ℕ,
+  ◌+◌,
+  List,
+  [],
+  ◌∷◌,
+  ◌++◌,
+  Bool,
+  true,
+  false,
+  ◌&&◌,
+  if◌then◌else◌,
+  Some,
+  None,
+  refl,
+}
 use Rattle.std.proofs.Common.{sym, ◌∙◌, ap, subst, inl, inr, arith}
 use Rattle.std.proofs.lemmas.Bool.{cond-false, cond-true}
 use Rattle.std.proofs.lemmas.Slice.Eq.{bytes_eq-Decides}
@@ -40,7 +57,8 @@ use Rattle.world.proofs.PlaceLemmas.{
 -- ---- the writes of a save
 
 -- the bytes since the create are those that were written
-pub writes_fresh : {path : List ℕ} {before : List Entry} {bytes : List ℕ} {past : List Entry} → Writes path before bytes past
+pub writes_fresh : {path : List ℕ} {before : List Entry} {bytes : List ℕ} {past : List Entry}
+    → Writes path before bytes past
     → (place past path).fresh ≡ Some bytes
 writes_fresh {path} {before = before} first = created_fresh path before
 writes_fresh {path} (later {bytes} {piece} {past} writes) = wrote_fresh path bytes piece past (writes_fresh writes)
@@ -145,7 +163,8 @@ save_moments from to text before after differ s =
 
 -- ---- syncs of a folder
 
-by_dir : (b : Bool) (d : Did) (p : Place) → place_in_synced_dir p Done ≡ p → (if b then place_in_synced_dir p d else p) ≡ p
+by_dir : (b : Bool) (d : Did) (p : Place) → place_in_synced_dir p Done ≡ p
+    → (if b then place_in_synced_dir p d else p) ≡ p
 by_dir true Done p e = e
 by_dir true Failed p e = refl
 by_dir false d p e = refl
@@ -185,7 +204,8 @@ pub removed_options : (path : List ℕ) (d : Did) (past : List Entry)
 removed_options path Done past = ap (λ p. Place.options p) (removed_own path Done past)
 removed_options path Failed past = ap (λ p. Place.options p) (removed_own path Failed past)
 
-pub created_options : (path : List ℕ) (d : Did) (past : List Entry) → leaves (Created path d ∷ past) path ≡ left.Any ∷ []
+pub created_options : (path : List ℕ) (d : Did) (past : List Entry)
+    → leaves (Created path d ∷ past) path ≡ left.Any ∷ []
 created_options path Done past = ap (λ p. Place.options p) (created_own path Done past)
 created_options path Failed past = ap (λ p. Place.options p) (created_own path Failed past)
 

@@ -1,5 +1,22 @@
 -- How an entry changes a connection: the one that it names, and every other.
-use Rattle.std.specs.Prelude.{◌≡◌, ◌==◌, ℕ, ◌+◌, ◌*◌, ◌<◌, List, ◌∷◌, ◌++◌, Bool, true, false, Option, Some, None, refl}
+use Rattle.std.specs.Prelude.{
+  ◌≡◌,
+  ◌==◌,
+  ℕ,
+  ◌+◌,
+  ◌*◌,
+  ◌<◌,
+  List,
+  ◌∷◌,
+  ◌++◌,
+  Bool,
+  true,
+  false,
+  Option,
+  Some,
+  None,
+  refl,
+}
 use Rattle.std.proofs.Common.{◌≢◌, ◌∙◌, ap, arith}
 use Rattle.std.proofs.lemmas.Bool.{cond-true, cond-false, eq-eqb, eqb-true, false_from_ne_true}
 use Rattle.world.specs.declared.chan.Chan.{Chan}

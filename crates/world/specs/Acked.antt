@@ -29,4 +29,5 @@ is_acknowledging from to (entry ∷ past) = syncs_folder to entry && is_renamed 
 -- how many saves of the path by a rename from the other were acknowledged
 abbrev pub acked : List ℕ → List ℕ → List Entry → ℕ
 acked from to [] = 0
-acked from to (entry ∷ past) = if is_acknowledging from to (entry ∷ past) then acked from to past + 1 else acked from to past
+acked from to (entry ∷ past) =
+    if is_acknowledging from to (entry ∷ past) then acked from to past + 1 else acked from to past

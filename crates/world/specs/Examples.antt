@@ -45,3 +45,19 @@ read_journal =
 -- then it ended
 abbrev pub ended_journal : List Entry
 ended_journal = made.Ended example_conn side.Read ∷ made.Dry example_conn ∷ read_journal
+
+-- then it was closed twice, with a moment between
+abbrev pub closed_journal : List Entry
+closed_journal =
+    made.Closed example_conn
+    ∷ made.Moment 9
+    ∷ made.Closed example_conn
+    ∷ ended_journal
+
+-- what came before its wait
+abbrev pub begun_journal : List Entry
+begun_journal = made.Connected example_conn 9000 Begun ∷ made.Moment 3 ∷ []
+
+-- a wait and the clock entry of the turn
+abbrev pub turn_journal : List Entry
+turn_journal = made.Moment 4 ∷ made.Waited 0 (record { ready = replicate 64 false }) Done ∷ []

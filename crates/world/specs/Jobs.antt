@@ -1,5 +1,20 @@
 -- The part of one job in the journal, its newest entry first.
-use Rattle.std.specs.Prelude.{◌≡◌, ◌==◌, ◌||◌, ℕ, List, [], ◌∷◌, length, Bool, false, Option, Some, None, if◌then◌else◌}
+use Rattle.std.specs.Prelude.{
+  ◌≡◌,
+  ◌==◌,
+  ◌||◌,
+  ℕ,
+  List,
+  [],
+  ◌∷◌,
+  length,
+  Bool,
+  false,
+  Option,
+  Some,
+  None,
+  if◌then◌else◌,
+}
 use Rattle.world.specs.declared.conn.Conn.{Conn}
 use Rattle.world.specs.declared.entry.Entry.{Entry}
 use Rattle.world.specs.declared.entry.Entry.TheVariants.{

@@ -2,7 +2,7 @@
 use Rattle.std.specs.Prelude.{◌≡◌, ℕ, ◌-◌, length, drop, List, ◌∷◌, Option, IfSome, IsSomeAnd}
 use Rattle.world.specs.declared.entry.Entry.{Entry}
 
--- the journal after a call is that before it with more entries, and at each of them now, the journal up to and with it, had P
+-- the journal after a call is that before it with more entries, and at each of them P held of the journal up to it
 pub data Since (P : List Entry → Type 0) (before : List Entry) : List Entry → Type 0 where
   start : Since P before before
   more : {past : List Entry} {entry : Entry} → Since P before past → P (entry ∷ past) → Since P before (entry ∷ past)

@@ -1,5 +1,26 @@
--- How each of the 64 connections stands, by the journal, its newest entry first. Connection `c` of job `j` has the place 4 * j + c.
-use Rattle.std.specs.Prelude.{◌≡◌, ◌==◌, ◌||◌, ℕ, ◌+◌, ◌*◌, List, [], ◌∷◌, ◌++◌, Bool, true, false, Option, Some, None, if◌then◌else◌, slice_get, unwrap_or}
+-- How each of the 64 connections stands, by the journal, its newest entry first.
+-- Connection `c` of job `j` has the place 4 * j + c.
+use Rattle.std.specs.Prelude.{
+  ◌≡◌,
+  ◌==◌,
+  ◌||◌,
+  ℕ,
+  ◌+◌,
+  ◌*◌,
+  List,
+  [],
+  ◌∷◌,
+  ◌++◌,
+  Bool,
+  true,
+  false,
+  Option,
+  Some,
+  None,
+  if◌then◌else◌,
+  slice_get,
+  unwrap_or,
+}
 use Rattle.world.specs.declared.chan.Chan.{Chan}
 use Rattle.world.specs.declared.chan.Chan.TheVariants.{Shell, Control, Iopub, Heart}
 use Rattle.world.specs.declared.conn.Conn.{Conn}

@@ -1,4 +1,4 @@
--- One save as the five calls that replace a file: create, writes, sync and rename of a temporary file, sync of the folder.
+-- One save: create, writes, sync and rename of a temporary file, and sync of the folder.
 use Rattle.std.specs.Prelude.{◌≡◌, ℕ, List, [], ◌∷◌, ◌++◌}
 use Rattle.world.specs.declared.entry.Entry.{Entry}
 use Rattle.world.specs.declared.entry.Entry.TheVariants.{Created, Wrote, Synced, Renamed, DirSynced}

@@ -19,7 +19,8 @@ pub trait Disk: Journal {
     fn read_file(&mut self, alloc: Global, path: &Text, most: u64) -> ReadFile
         ensures within { FoundWithin result most }
         ensures tells { Adds Self.journal self.old self.new (Entry.Read path.now most result) }
-        ensures cause { CountsBy DiskCause Self.counts self.old self.new (result ≡ ReadFile.Failed) };
+        ensures cause { CountsBy DiskCause Self.counts self.old self.new
+            (result ≡ ReadFile.Failed) };
 
     /// Makes an empty file, or empties the one that is there.
     fn create(&mut self, path: &Text) -> Did

@@ -31,7 +31,8 @@ pub trait KernelSide: Drop {
         requires bound { now < 2 ^ 47 }
         requires later { latest self.old ≤ now }
         ensures moment { latest self.new ≡ now }
-        ensures stands { IfOk result (λ _. StandsAfter (stands self.old) (stands self.new) (Ticked now)) };
+        ensures stands { IfOk result (λ _.
+            StandsAfter (stands self.old) (stands self.new) (Ticked now)) };
 
     /// Takes up a connection to a channel, or turns it away.
     fn accept(&mut self, chan: Chan, now: u64) -> bool
@@ -39,7 +40,8 @@ pub trait KernelSide: Drop {
         requires later { latest self.old ≤ now }
         ensures moment { latest self.new ≡ now }
         ensures answer { result ≡ accepts self.old chan now }
-        ensures stands { StandsAfter (stands self.old) (stands self.new) (Accepted chan now result) };
+        ensures stands { StandsAfter (stands self.old) (stands self.new)
+            (Accepted chan now result) };
 
     /// Takes bytes that came on a channel.
     fn take(&mut self, alloc: Global, chan: Chan, now: u64, piece: &[u8]) -> Result<(), NoMemory>

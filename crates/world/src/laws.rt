@@ -17,13 +17,14 @@ ghost use Rattle.world.specs.Counts.{Counts, WaitCause};
 ghost use Rattle.world.specs.Disk.{folder_of, here_of, leaves, place, untouched_place, IsUnsettled};
 ghost use Rattle.world.specs.Disk.{OnlyFormerOr};
 ghost use Rattle.world.specs.Examples as example;
-ghost use Rattle.world.specs.Jobs.{IsOfJob};
+ghost use Rattle.world.specs.Jobs.{IsOfJob, before_shut, shut_at};
 ghost use Rattle.world.specs.Moments.{Since};
 ghost use Rattle.world.specs.Parts.{IsNotOf, OnDisk, OnWire, OnClock};
 ghost use Rattle.world.specs.Places.{place_of, status, time};
 ghost use Rattle.world.specs.Save.{Saves};
 ghost use Rattle.world.specs.Touched.{Spares, touches, settles};
-ghost use Rattle.world.specs.Waits.{is_wait, wait_count};
+ghost use Rattle.world.specs.Waits.{is_wait, has_wait, wait_count, before_wait, to_wait};
+ghost use Rattle.world.specs.Waits.{since_wait, turn_moment};
 
 // ---- paths that no call names
 
@@ -260,4 +261,23 @@ pub fn connections_of_two_bytes()
       got = 7 ∷ 8 ∷ [];
     } }
     ensures other { (status 4 example.read_journal).up ≡ false }
+{}
+
+/// What stands before and after the last wait, and which entry is a turn's clock entry.
+pub fn waits_of_small_journals()
+    ensures count { wait_count example.closed_journal ≡ 1 }
+    ensures none { has_wait example.begun_journal ≡ false }
+    ensures before { before_wait example.read_journal ≡ example.begun_journal }
+    ensures since { example.read_journal
+        ≡ since_wait example.read_journal ++ to_wait example.read_journal }
+    ensures turn { turn_moment example.turn_journal ≡ Some 4 }
+    ensures no_turn { turn_moment (Entry.Moment 5 ∷ example.turn_journal) ≡ None }
+{}
+
+/// Where a job is shut, and what came before.
+pub fn jobs_of_small_journals()
+    ensures job { IsOfJob 1 example.closed_journal }
+    ensures shut { shut_at 1 example.closed_journal ≡ 6 }
+    ensures before { before_shut 1 example.closed_journal ≡ example.ended_journal }
+    ensures other { before_shut 0 example.closed_journal ≡ example.closed_journal }
 {}

@@ -1,6 +1,6 @@
-//! The outside as nbrun sees it: a disk, connections, child programs, a clock, random words and what
-//! is said. Each call of these traits adds one entry to a journal, and `specs/` reads off it what a
-//! crash leaves of a file and how a connection stands. Nothing here does real IO.
+//! The outside as nbrun sees it: a disk, connections, child programs, a clock, random words and
+//! what is said. Each call of these traits adds one entry to a journal, and `specs/` reads off it
+//! what a crash leaves of a file and how a connection stands. Nothing here does real IO.
 #![tactic(auto)]
 
 mod chan;

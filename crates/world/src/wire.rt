@@ -30,7 +30,8 @@ pub trait Wire: Journal {
     fn connect(&mut self, conn: Conn, port: u16) -> Connected
         requires { conn.job < 16 }
         ensures tells { Adds Self.journal self.old self.new (Entry.Connected conn port result) }
-        ensures cause { CountsBy NetCause Self.counts self.old self.new (result ≡ Connected.Failed) };
+        ensures cause { CountsBy NetCause Self.counts self.old self.new
+            (result ≡ Connected.Failed) };
 
     /// Reads what has come, up to the length of the buffer.
     /// `Refused` comes only before a byte has passed.

@@ -1,5 +1,31 @@
 -- What a disk in memory keeps, does and answers.
-use Rattle.std.specs.Prelude.{◌≡◌, ◌==◌, ℕ, ◌+◌, ◌-◌, ◌^◌, ◌<◌, ◌≤◌, ◌||◌, min, List, [], ◌++◌, length, Bool, true, false, not, Option, Some, None, is_some, option_map, IsSomeAnd}
+use Rattle.std.specs.Prelude.{
+  ◌≡◌,
+  ◌==◌,
+  ℕ,
+  ◌+◌,
+  ◌-◌,
+  ◌^◌,
+  ◌<◌,
+  ◌≤◌,
+  ◌||◌,
+  min,
+  List,
+  [],
+  ◌++◌,
+  length,
+  Bool,
+  true,
+  false,
+  not,
+  Option,
+  Some,
+  None,
+  is_some,
+  option_map,
+  IsSomeAnd,
+  if◌then◌else◌,
+}
 use Rattle.std.specs.List.{list_any}
 use Rattle.world.specs.declared.did.Did.{Did}
 use Rattle.world.specs.declared.did.Did.TheVariants as did
@@ -8,10 +34,10 @@ use Rattle.world.specs.declared.wrote.Wrote.TheVariants as wrote
 use Rattle.world.specs.declared.read_file.ReadFile.{ReadFile}
 use Rattle.world.specs.declared.read_file.ReadFile.TheVariants as found
 use Rattle.world.specs.declared.entry.Entry.{Entry}
-use Rattle.world_mem.specs.declared.mem_disk.MemDisk.{MemDisk}
 use Rattle.world.specs.Counts.{Counts}
+use Rattle.world_mem.specs.declared.mem_disk.MemDisk.{MemDisk}
+use Rattle.world_mem.specs.Folder.{file_at, has_file, Sets, Moves, Content}
 use Rattle.world_mem.specs.Journals.{told_of}
-use Rattle.world_mem.specs.Folder.{file_at, has_file, Sets, Moves}
 
 -- the journal of the disk
 abbrev pub journal_in : MemDisk → Option (List Entry)
@@ -19,24 +45,36 @@ journal_in disk = told_of disk.journal
 
 -- the counts of the disk: only calls of the disk and of what is said can fail
 abbrev pub counts_in : MemDisk → Counts
-counts_in disk = record { disk = disk.disk_faults; net = 0; waits = 0; child = 0; rand = 0; say = disk.say_faults; last = 0 }
+counts_in disk = record {
+  disk = disk.disk_faults;
+  net = 0;
+  waits = 0;
+  child = 0;
+  rand = 0;
+  say = disk.say_faults;
+  last = 0;
+}
 
 -- the files of the disk
-abbrev pub files_of : MemDisk → List (List ℕ × List ℕ)
+abbrev pub files_of : MemDisk → Content
 files_of disk = disk.folder.files.items
 
 -- the number of the next call is among those that fail
 abbrev pub is_to_fail : MemDisk → Bool
 is_to_fail disk = list_any (λ n. n == disk.calls) disk.fails
 
+-- the next call is to fail, or no file is there
+abbrev pub fails_without : MemDisk → List ℕ → Bool
+fails_without disk path = is_to_fail disk || not (has_file path (files_of disk))
+
 -- one more, up to the last value of a `u64`
 abbrev pub one_more : ℕ → ℕ
 one_more n = min (n + 1) (2 ^ 64 - 1)
 
 -- a count of faults after a call: it has risen exactly where the call failed
-abbrev pub counted : Did → ℕ → ℕ
-counted did.Done faults = faults
-counted did.Failed faults = one_more faults
+abbrev pub faults_after : Did → ℕ → ℕ
+faults_after did.Done faults = faults
+faults_after did.Failed faults = one_more faults
 
 -- what holds where a call was done, and what where it failed
 abbrev pub Outcome : Did → Type 0 → Type 0 → Type 0
@@ -48,43 +86,67 @@ abbrev pub did_unless : Bool → Did
 did_unless true = did.Failed
 did_unless false = did.Done
 
--- a create makes an empty file or empties the one that is there; it fails where its number says so, or for a new file, and changes no file then
+-- a call fails exactly where it has this cause, or memory was refused in it, which is counted
+abbrev pub FailsOrStarves : Bool → MemDisk → MemDisk → Did → Type 0
+FailsOrStarves cause old new did = Outcome did
+    ((cause ≡ false) × (new.starved ≡ old.starved))
+    (new.starved ≡ (if cause then old.starved else one_more old.starved))
+
+-- a create makes an empty file or empties the one that is there, or it fails and changes no file
 abbrev pub Creates : MemDisk → MemDisk → List ℕ → Did → Type 0
 Creates old new path did = Outcome did
-    ((is_to_fail old ≡ false) × Sets (files_of old) (files_of new) path (Some []))
-    (((is_to_fail old || not (has_file path (files_of old))) ≡ true) × (files_of new ≡ files_of old))
+    (Sets (files_of old) (files_of new) path (Some []))
+    (files_of new ≡ files_of old)
 
 -- a write puts bytes at the end of a file that is there, or it fails and changes no file
 abbrev pub Appends : MemDisk → MemDisk → List ℕ → List ℕ → Did → Type 0
 Appends old new path bytes did = Outcome did
-    ((is_to_fail old ≡ false) × (has_file path (files_of old) ≡ true) × Sets (files_of old) (files_of new) path (option_map (λ was. was ++ bytes) (file_at path (files_of old))))
+    ((has_file path (files_of old) ≡ true)
+    × Sets (files_of old) (files_of new) path (option_map (λ was. was ++ bytes) (file_at path (files_of old))))
     (files_of new ≡ files_of old)
 
 -- a rename gives a file that is there another name, or it fails and changes no file
 abbrev pub Renames : MemDisk → MemDisk → List ℕ → List ℕ → Did → Type 0
 Renames old new from to did = Outcome did
-    ((is_to_fail old ≡ false) × (has_file from (files_of old) ≡ true) × Moves (files_of old) (files_of new) from to)
+    ((has_file from (files_of old) ≡ true) × Moves (files_of old) (files_of new) from to)
     (files_of new ≡ files_of old)
 
 -- a remove takes a file away, or it fails and changes no file
 abbrev pub Removes : MemDisk → MemDisk → List ℕ → Did → Type 0
 Removes old new path did = Outcome did (Sets (files_of old) (files_of new) path None) (files_of new ≡ files_of old)
 
--- a call fails exactly where its number says so or no file is there
-abbrev pub FailsWithout : MemDisk → List ℕ → Did → Type 0
-FailsWithout old path did = did ≡ did_unless (is_to_fail old || not (has_file path (files_of old)))
-
 -- bytes are said behind the others, or the call fails and nothing is said
 abbrev pub Says : MemDisk → MemDisk → List ℕ → Did → Type 0
-Says old new bytes did = Outcome did ((is_to_fail old ≡ false) × (new.said ≡ old.said ++ bytes)) (new.said ≡ old.said)
+Says old new bytes did = Outcome did (new.said ≡ old.said ++ bytes) (new.said ≡ old.said)
+
+-- a call was counted, and changed nothing else
+abbrev pub AfterCall : MemDisk → MemDisk → Type 0
+AfterCall old new = new ≡ record old { calls = one_more old.calls }
+
+-- a call that may change files was counted, and changed nothing else
+abbrev pub AfterChange : MemDisk → MemDisk → Type 0
+AfterChange old new =
+    new ≡ record old { folder = new.folder; calls = one_more old.calls; starved = new.starved }
 
 -- a call of the disk was counted, and changed nothing but the files, the journal and the counts
 abbrev pub AfterDisk : MemDisk → MemDisk → Did → Type 0
-AfterDisk old new did = new ≡ record old { journal = new.journal; folder = new.folder; calls = one_more old.calls; disk_faults = counted did old.disk_faults }
+AfterDisk old new did = new ≡ record old {
+  journal = new.journal;
+  folder = new.folder;
+  calls = one_more old.calls;
+  disk_faults = faults_after did old.disk_faults;
+  starved = new.starved;
+}
 
 -- a call of what is said was counted, and changed nothing but what was said, the journal and the counts
 abbrev pub AfterSay : MemDisk → MemDisk → Did → Type 0
-AfterSay old new did = new ≡ record old { journal = new.journal; said = new.said; calls = one_more old.calls; say_faults = counted did old.say_faults }
+AfterSay old new did = new ≡ record old {
+  journal = new.journal;
+  said = new.said;
+  calls = one_more old.calls;
+  say_faults = faults_after did old.say_faults;
+  starved = new.starved;
+}
 
 -- the whole piece was taken, as far as its length can be told
 abbrev pub TookAll : Wrote → List ℕ → Type 0

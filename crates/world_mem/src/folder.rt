@@ -1,12 +1,13 @@
 //! Files in memory.
-ghost use Rattle.std.specs.Prelude.{false, ◌≡◌, ◌++◌, [], Some, None, OnOk, OnErr, MatchOption, option_map, true};
-ghost use Rattle.world_mem.specs.Folder.{file_at, has_file, Sets, Moves, IsFirst};
-ghost use Rattle.world_mem.specs.Memory.{Outcome};
+ghost use Rattle.std.specs.Prelude.{◌≡◌, ◌++◌, [], true, false, Some, None, OnOk, OnErr};
+ghost use Rattle.std.specs.Prelude.{MatchOption, option_map};
+ghost use Rattle.std.specs.Str.{bytes_eq};
+ghost use Rattle.world_mem.specs.Folder.{file_at, has_file, Sets, Moves, Edits, IsFirst};
 
 use crate::Files;
-use jtext::{Bytes, Text};
+use crate::edit::Edit;
+use jtext::{Bytes, NoMemory, Text};
 use std::alloc::Global;
-use world::Did;
 
 /// Files by their paths. Where a path stands twice the first file counts.
 #[derive(Drop)]
@@ -38,65 +39,67 @@ impl Folder {
         self.get(path).is_some()
     }
 
-    /// Makes an empty file at a path, or empties the one that is there. It fails where memory for a new one is
-    /// refused.
-    pub(crate) fn empty(&mut self, alloc: Global, path: &Text) -> Did
-        ensures { Outcome result
-            (Sets self.old.files.items self.new.files.items path.now (Some []))
-            ((has_file path.now self.old.files.items ≡ false) × (self.new.files.items ≡ self.old.files.items)) }
+    /// Makes an empty file at a path, or empties the one that is there. Memory is asked for a new
+    /// one alone.
+    pub(crate) fn empty(&mut self, alloc: Global, path: &Text) -> Result<(), NoMemory>
+        ensures ok { OnOk result
+            (Sets self.old.files.items self.new.files.items path.now (Some [])) }
+        ensures err { OnErr result ((has_file path.now self.old.files.items ≡ false)
+            × (self.new.files.items ≡ self.old.files.items)) }
     {
         if let Some(i) = self.place(path) {
             self.files[i].1 = Bytes::new(alloc);
-            return Did::Done;
+            return Ok(());
         }
         let Ok(path) = Text::of(alloc, path.as_str()) else {
-            return Did::Failed;
+            return Err(NoMemory);
         };
         if self.files.push((path, Bytes::new(alloc))).is_err() {
-            return Did::Failed;
+            return Err(NoMemory);
         }
-        Did::Done
+        Ok(())
     }
 
-    /// Puts bytes at the end of the file at a path. It fails where there is none, or memory is refused.
-    pub(crate) fn append(&mut self, path: &Text, piece: &[u8]) -> Did
-        ensures { Outcome result
-            ((has_file path.now self.old.files.items ≡ true)
-            × Sets self.old.files.items self.new.files.items path.now (option_map (λ bytes. bytes ++ piece.now) (file_at path.now self.old.files.items)))
-            (self.new.files.items ≡ self.old.files.items) }
+    /// Puts bytes at the end of the file at a path.
+    pub(crate) fn append(&mut self, path: &Text, piece: &[u8]) -> Edit
+        ensures { Edits self.old.files.items self.new.files.items path.now result
+            (Sets self.old.files.items self.new.files.items path.now
+            (option_map (λ bytes. bytes ++ piece.now) (file_at path.now self.old.files.items))) }
     {
         let Some(i) = self.place(path) else {
-            return Did::Failed;
+            return Edit::Absent;
         };
         match self.files[i].1.add(piece) {
-            Ok(()) => Did::Done,
-            Err(_) => Did::Failed,
+            Ok(()) => Edit::Done,
+            Err(_) => Edit::NoMemory,
         }
     }
 
-    /// Gives a file another name, in place of the file that has it. It fails where there is none to rename, or
-    /// memory is refused.
-    pub(crate) fn rename(&mut self, alloc: Global, from: &Text, to: &Text) -> Did
-        ensures { Outcome result
-            ((has_file from.now self.old.files.items ≡ true) × Moves self.old.files.items self.new.files.items from.now to.now)
-            (self.new.files.items ≡ self.old.files.items) }
+    /// Gives a file another name, in place of the file that has it. A file that is renamed to its
+    /// own name stays.
+    pub(crate) fn rename(&mut self, alloc: Global, from: &Text, to: &Text) -> Edit
+        ensures edits { Edits self.old.files.items self.new.files.items from.now result
+            (Moves self.old.files.items self.new.files.items from.now to.now) }
+        ensures own { bytes_eq from.now to.now ≡ true →
+            self.new.files.items ≡ self.old.files.items }
+        ensures own_done { bytes_eq from.now to.now ≡ true → ¬ (result ≡ Edit.NoMemory) }
     {
         if !self.has(from) {
-            return Did::Failed;
+            return Edit::Absent;
         }
         if from.as_str() == to.as_str() {
-            return Did::Done;
+            return Edit::Done;
         }
         let Ok(name) = Text::of(alloc, to.as_str()) else {
-            return Did::Failed;
+            return Edit::NoMemory;
         };
         self.remove(to);
         let Some(i) = self.place(from) else {
-            return Did::Failed;
+            return Edit::Absent;
         };
         self.files[i].0 = name;
         self.remove(from);
-        Did::Done
+        Edit::Done
     }
 
     /// Removes what there is at a path.
@@ -110,7 +113,8 @@ impl Folder {
 
     // The number of the first file at a path.
     fn place(&self, path: &Text) -> Option<usize>
-        ensures { MatchOption result (file_at path.now self.now.files.items ≡ None) (λ i. IsFirst path.now self.now.files.items i) }
+        ensures { MatchOption result (file_at path.now self.now.files.items ≡ None)
+            (λ i. IsFirst path.now self.now.files.items i) }
     {
         for (i, file) in self.files.iter().enumerate() {
             if file.0.as_str() == path.as_str() {

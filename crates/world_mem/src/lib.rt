@@ -1,7 +1,8 @@
-//! Worlds in memory, for tests: `MemDisk`, a disk and what is said beside it, and `NullWorld`, which
-//! does nothing. They do no real IO, and tell their journals by `telling`.
+//! Worlds in memory, for tests: `MemDisk`, a disk and what is said beside it, and `NullWorld`,
+//! which does nothing. They do no real IO, and tell their journals by `telling`.
 #![tactic(auto)]
 
+mod edit;
 mod files;
 mod folder;
 mod mem_disk;

@@ -13,9 +13,9 @@ use world::{
     Reports, Say, Wire, World, Wrote,
 };
 
-/// A world that does nothing and tells its journal until memory for an entry is refused. Calls of the
-/// disk, starts of children, ports, random words and what is said fail, each connect is refused, a
-/// wait reports nothing, and the clock stands at 0.
+/// A world that does nothing and tells its journal until memory for an entry is refused. Calls of
+/// the disk, starts of children, ports, random words and what is said fail, each connect is
+/// refused, a wait reports nothing, and the clock stands at 0.
 #[derive(Drop)]
 pub struct NullWorld {
     alloc: Global,
@@ -192,7 +192,7 @@ impl Kids for NullWorld {
 
 impl Clock for NullWorld {
     fn now(&mut self) -> u64 {
-        let ms = self.journal.last();
+        let ms = Clock::last(self);
         self.journal.tell_moment(ms);
         ms
     }

@@ -71,7 +71,10 @@ fn a_file_is_read_within_its_limit(rt: HostRuntime) -> Result<(), Fail> {
     let mut disk = MemDisk::new(alloc, files, numbers(alloc, &[3])?)?;
     let path = Text::of(alloc, "a")?;
     assert!(rt;
-        matches!(disk.read_file(alloc, &path, 3), ReadFile::Whole(bytes) if bytes.bytes() == b"abc".as_slice())
+        matches!(
+            disk.read_file(alloc, &path, 3),
+            ReadFile::Whole(bytes) if bytes.bytes() == b"abc".as_slice()
+        )
     );
     assert!(rt; matches!(disk.read_file(alloc, &path, 2), ReadFile::Big));
     assert!(rt;
@@ -158,6 +161,17 @@ fn is_null<W: World>(w: &mut W, alloc: Global, path: &Text, conn: Conn) -> bool
     requires { conn.job < 16 }
 {
     does_nothing(w, alloc, path) && reaches_nobody(w, conn) && stands_still(w)
+}
+
+#[test]
+fn a_file_that_is_renamed_to_its_own_name_stays(rt: HostRuntime) -> Result<(), Fail> {
+    let alloc = rt.alloc();
+    let mut disk = MemDisk::new(alloc, texts(alloc, &[("a", "x")])?, numbers(alloc, &[])?)?;
+    let a = Text::of(alloc, "a")?;
+    assert!(rt; disk.rename(&a, &a) == Did::Done);
+    assert!(rt; holds(&disk, &a, Some(b"x")));
+    assert!(rt; disk.starved() == 0 && disk.disk_faults() == 0);
+    Ok(())
 }
 
 #[test]

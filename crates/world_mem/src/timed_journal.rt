@@ -1,5 +1,5 @@
 //! A journal with a clock.
-ghost use Rattle.std.specs.Prelude.{◌≡◌, ◌∷◌, ◌<◌, ◌≤◌, ◌^◌, IfOk, IsOkAnd, None, Some, [], option_map};
+ghost use Rattle.std.specs.Prelude.{◌≡◌, ◌∷◌, ◌<◌, ◌^◌, [], IfOk, IsOkAnd, None, Some, option_map};
 ghost use Rattle.world.specs.declared.entry.Entry.{Entry};
 ghost use Rattle.world.specs.Moments.{Told, Tells};
 ghost use Rattle.world.specs.Waits.{moment_of};
@@ -64,7 +64,8 @@ impl TimedJournal {
     /// Adds an entry of the clock, or ends the telling.
     pub fn tell_moment(&mut self, ms: u64)
         requires { ms < 2 ^ 47 }
-        ensures tells { Tells (told_of self.old.entries) (told_of self.new.entries) (Entry.Moment ms) }
+        ensures tells { Tells (told_of self.old.entries) (told_of self.new.entries)
+            (Entry.Moment ms) }
         ensures is { self.new.last ≡ ms }
     {
         let mut entries = self.entries.take();

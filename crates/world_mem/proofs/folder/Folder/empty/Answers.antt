@@ -8,11 +8,11 @@ index_mut-requires c =
     let below : c.in-Some.i < length c.args.self.now.files.items = first_below _ _ _ c.in-Some.ensures in
     omega (arith, c.args.self.now.files.ok.0)
 
-pub returns-in-Some : goal.returns-in-Some
-returns-in-Some c = rw c.new.ensures (sets_first _ _ _ _ _ c.in-Some.ensures c.index_mut.ensures.value)
+pub returns-in-Some-clause-ok : goal.returns-in-Some-clause-ok
+returns-in-Some-clause-ok c = rw c.new.ensures (sets_first _ _ _ _ _ c.in-Some.ensures c.index_mut.ensures.value)
 
-pub returns : goal.returns
-returns c =
+pub returns-clause-ok : goal.returns-clause-ok
+returns-clause-ok c =
     let items = c.args.self.now.files.items in
     let ok : is_ok c.push.result ≡ true = c.if-is_err.ensures.negation in
     let pushed : c.push.new.self.items ≡ items ++ (c.in-Ok.path, c.new-2.result) ∷ [] = c.push.ensures.items ∙ if_true _ _ _ ok in

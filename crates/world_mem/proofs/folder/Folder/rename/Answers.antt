@@ -8,8 +8,8 @@ index_mut-requires c =
     let below : c.in-Some.i < length c.remove.new.self.files.items = first_below _ _ _ c.in-Some.ensures in
     omega (arith, c.remove.new.self.files.ok.0)
 
-pub returns : goal.returns
-returns c =
+pub returns-clause-edits : goal.returns-clause-edits
+returns-clause-edits c =
     let cleared = c.remove.new.self.files.items in
     let test : bytes_eq c.as_str.result.now c.as_str-2.result.now ≡ false = sym c.if-eq.ensures in
     let differ : bytes_eq c.args.from.now c.args.to.now ≡ false = rw (← c.as_str.ensures, ← c.as_str-2.ensures) test in
