@@ -4,7 +4,7 @@ use Rattle.std.specs.List.{AllByRecursion, list_all}
 use Rattle.std.specs.Option.{IfSome, unwrap_or}
 use Rattle.std.specs.Prelude.{option_and_then}
 use Rattle.std.specs.Str.{IsUtf8, bytes_eq}
-use Rattle.std.proofs.lemmas.Bool.{ltb-true}
+use Rattle.std.proofs.lemmas.Bool.{and_parts, ltb-true}
 use Rattle.std.proofs.lemmas.Slice.Eq.{bytes_eq-Decides}
 use Rattle.std.proofs.lemmas.Str.{IsUtf8-from_ascii}
 use Rattle.jtext.specs.Depth.{depth}
@@ -93,14 +93,10 @@ pairs_keyed i s u (Some d) t v = keyed_text _ i _ (keyed_text _ s _ (keyed_text 
 
 -- ---- its texts are UTF-8
 
-both : (a b : Bool) → (a && b) ≡ true → (a ≡ true) × (b ≡ true)
-both true b h = (refl, h)
-both false b h = absurd (cc)
-
 all_below : (b : List ℕ) → list_all (λ c. nat_lt c 128) b ≡ true → (i : ℕ) → get_or b i 0 < 128
 all_below [] h i = lit< tt
-all_below (c ∷ cs) h zero = ltb-true c 128 (both (nat_lt c 128) (list_all (λ d. nat_lt d 128) cs) h).0
-all_below (c ∷ cs) h (suc i) = all_below cs (both (nat_lt c 128) (list_all (λ d. nat_lt d 128) cs) h).1 i
+all_below (c ∷ cs) h zero = ltb-true c 128 (and_parts (nat_lt c 128) (list_all (λ d. nat_lt d 128) cs) h).0
+all_below (c ∷ cs) h (suc i) = all_below cs (and_parts (nat_lt c 128) (list_all (λ d. nat_lt d 128) cs) h).1 i
 
 sound_text : (key text : List ℕ) (ps : List (List ℕ × Json)) → list_all (λ c. nat_lt c 128) key ≡ true → IsUtf8 text → PairsSound ps → PairsSound (text_pair key text ∷ ps)
 sound_text key text ps k is rest = sound.pair key (json.Str text) ps (IsUtf8-from_ascii key (all_below key k)) (sound.text text is) rest

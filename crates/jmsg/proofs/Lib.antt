@@ -5,3 +5,4 @@ pub mod MessageLemmas
 pub mod HeaderLemmas
 pub mod DecodingLemmas
 pub mod DateLemmas
+pub mod CalendarLemmas

@@ -17,10 +17,12 @@ header_with t id kind = record {
   version = unwrap_or (string_at t (codes "version")) [];
 }
 
+-- the header of a dictionary with that id, where its type is told
 abbrev pub header_typed : Json → List ℕ → Option (List ℕ) → Option Header
 header_typed t id None = None
 header_typed t id (Some kind) = Some (header_with t id kind)
 
+-- the header of a dictionary, where its id is told
 abbrev pub header_named : Json → Option (List ℕ) → Option Header
 header_named t None = None
 header_named t (Some id) = header_typed t id (string_at t (codes "msg_type"))
@@ -33,6 +35,7 @@ header_of t = header_named t (string_at t (codes "msg_id"))
 abbrev pub text_pair : List ℕ → List ℕ → List ℕ × Json
 text_pair key text = (key, json.Str text)
 
+-- the pair of the date, where there is one
 abbrev pub date_pairs : Option (List ℕ) → List (List ℕ × Json)
 date_pairs None = []
 date_pairs (Some date) = text_pair (codes "date") date ∷ []

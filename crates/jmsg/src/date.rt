@@ -1,6 +1,6 @@
 //! Dates (RFC 3339, section 5.6): `YYYY-MM-DDTHH:MM:SS.mmmZ`, in UTC with three decimals.
 ghost use Rattle.std.specs.Prelude.{◌≡◌, ◌<◌, ◌^◌, ◌+◌, ◌/◌, ◌%◌, unsigned_abs};
-ghost use Rattle.jmsg.specs.Date.{digit, text_of, IsDateText};
+ghost use Rattle.jmsg.specs.Date.{digit, text_of, IsDateText, date_of};
 
 use jiff::Timestamp;
 use jiff::civil::DateTime;
@@ -10,7 +10,8 @@ use jiff::tz::Offset;
 /// the year 6429, each year has four digits. Takes no memory.
 pub fn date_text(ms: u64) -> [u8; 24]
     requires { ms < 2 ^ 47 }
-    ensures { IsDateText ms result }
+    ensures is { IsDateText ms result }
+    ensures date { result ≡ date_of ms }
 {
     let at = Timestamp::from_millisecond(ms as i64).unwrap();
     text_of(Offset::UTC.to_datetime(at))

@@ -2,7 +2,7 @@
 ghost use Rattle.std.specs.Prelude.{◌≡◌, ℕ, List as Plain, Some};
 ghost use Rattle.jmsg.specs.declared.message.Message as message;
 ghost use Rattle.jmsg.specs.declared.decoded.Decoded as verdict;
-ghost use Rattle.jmsg.specs.Date.{IsDateText};
+ghost use Rattle.jmsg.specs.Date.{IsDateText, date_of};
 ghost use Rattle.jmsg.specs.Decoding.{decoded, verdict_on};
 ghost use Rattle.jmsg.specs.Encoded.{encoded, IsSendable};
 ghost use Rattle.jmsg.specs.Signed.{Signed, Decodes};
@@ -30,7 +30,8 @@ pub fn decoded_is_signed()
         Signed key parts m → decoded key parts ≡ Some m }
 {}
 
-/// A moment has one text.
+/// A moment has one text, and it is a function of the moment.
 pub fn one_date_text()
-    ensures { (ms : ℕ) (a b : Plain ℕ) → IsDateText ms a → IsDateText ms b → a ≡ b }
+    ensures one { (ms : ℕ) (a b : Plain ℕ) → IsDateText ms a → IsDateText ms b → a ≡ b }
+    ensures date { (ms : ℕ) (text : Plain ℕ) → IsDateText ms text → text ≡ date_of ms }
 {}

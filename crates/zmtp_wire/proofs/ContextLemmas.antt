@@ -1,4 +1,5 @@
 -- The context of a PING has at most 16 octets.
+use Rattle.std.proofs.lemmas.Bool.{and_parts}
 use Rattle.std.proofs.Common.{◌≡◌, ℕ, ◌+◌, ◌-◌, ◌≤◌, Bool, true, false, cond, nat_le, nat_eq, ◌&&◌, List, [], ◌∷◌, ◌++◌, length, drop, codes, refl, sym, subst, arith, length-drop}
 use Rattle.std.proofs.lemmas.Bool.Decides.{nat_tests}
 use Rattle.std.specs.List.{AllByRecursion, starts_with}
@@ -8,7 +9,6 @@ use Rattle.zmtp_wire.specs.Stream.{Message, Context, Item, frame, command, Come,
 use Rattle.zmtp_wire.specs.Greeting.{speaks}
 use Rattle.zmtp_wire.specs.Decoder.{Answer}
 use Rattle.zmtp_wire.specs.Meaning.{messages_in, contexts_in, answer_to}
-use Rattle.zmtp_wire.proofs.ListLemmas.{and_true}
 use Rattle.zmtp_wire.proofs.MeaningLemmas.{meant}
 
 abbrev AreShort : List Context → Type 0
@@ -19,8 +19,8 @@ at_most_23 n h = grind (arith, nat_tests)
 
 ping_short : (newer : Bool) (body : List ℕ) → (newer && is_ping body) ≡ true → length (drop 7 body) ≤ 16
 ping_short newer body h =
-    let a = and_true newer (is_ping body) h in
-    let b = and_true (starts_with nat_eq body (4 ∷ codes "PING") && nat_le 7 (length body)) (nat_le (length body) 23) a.1 in
+    let a = and_parts newer (is_ping body) h in
+    let b = and_parts (starts_with nat_eq body (4 ∷ codes "PING") && nat_le 7 (length body)) (nat_le (length body) 23) a.1 in
     let d = at_most_23 (length body) b.1 in
     omega (arith, length-drop 7 body)
 

@@ -1,4 +1,5 @@
 -- Lists, lengths and tests.
+use Rattle.std.proofs.lemmas.Bool.{and_parts}
 use Rattle.std.proofs.Common.{◌≡◌, ◌≢◌, ℕ, zero, suc, ◌+◌, ◌≤◌, ◌<◌, Bool, true, false, cond, nat_lt, nat_eq, List, [], ◌∷◌, ◌++◌, length, take, drop, refl, ap, sym, ◌∙◌, arith, length-append, append-nil, ◌&&◌}
 use Rattle.std.proofs.lemmas.Bool.Decides.{nat_tests}
 use Rattle.std.specs.Prelude.{eqb}
@@ -68,10 +69,6 @@ is_not_less a b e = grind (arith, nat_tests)
 pub same_number : (a b : ℕ) → nat_eq a b ≡ true → a ≡ b
 same_number a b e = grind (arith, nat_tests)
 
-pub and_true : (a b : Bool) → (a && b) ≡ true → (a ≡ true) × (b ≡ true)
-and_true true b e = (refl, e)
-and_true false b e = absurd (cc)
-
 pub is_zero : (n : ℕ) → nat_eq n 0 ≡ true → n ≡ 0
 is_zero n e = grind (arith, nat_tests)
 
@@ -98,7 +95,7 @@ same_list [] [] e = refl
 same_list [] (y ∷ b) e = absurd (cc)
 same_list (x ∷ a) [] e = absurd (cc)
 same_list (x ∷ a) (y ∷ b) e =
-    let k = and_true (eqb x y) (pointwise eqb a b) e in
+    let k = and_parts (eqb x y) (pointwise eqb a b) e in
     let h : x ≡ y = same_number x y k.0 in
     ap (λ z. z ∷ a) h ∙ ap (λ t. y ∷ t) (same_list a b k.1)
 

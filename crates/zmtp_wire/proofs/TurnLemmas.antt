@@ -1,4 +1,5 @@
 -- One octet more: a test fails, or something is whole, or a part has grown.
+use Rattle.std.proofs.lemmas.Bool.{and_parts}
 use Rattle.std.proofs.Common.{◌≡◌, ◌≢◌, ℕ, zero, suc, ◌+◌, ◌-◌, ◌≤◌, ◌<◌, ◌^◌, Bool, true, false, cond, nat_lt, nat_le, nat_eq, List, [], ◌∷◌, ◌++◌, length, take, drop, Option, None, Some, refl, ap, sym, ◌∙◌, arith, length-append, append_assoc, append-nil, ◌⊎◌, inl, inr, subst, ◌&&◌}
 use Rattle.std.proofs.lemmas.Bool.Decides.{nat_tests}
 use Rattle.std.specs.Prelude.{sum_by, eqb, fold}
@@ -23,7 +24,7 @@ use Rattle.zmtp_wire.specs.Stream as W
 use Rattle.zmtp_wire.proofs.UnitLemmas.{Cells, cells-of, of-cells}
 use Rattle.zmtp_wire.proofs.HandshakeLemmas.{cause_tells}
 use Rattle.zmtp_wire.proofs.StepLemmas.{unit_at, state_of, stopped_at, at_size, at_body, at_whole_size, at_longer_body, step_size, step_size_end, step_body}
-use Rattle.zmtp_wire.proofs.ListLemmas.{take_front, drop_front, take_drop, len_take, take_more_same, pick_false, pick_true, one_more, drop_more_same, is_less, is_not_less, same_number, and_true, is_zero, not_zero, zeros, len_zeros, some_of_len, len_of_some, same_list, full_take}
+use Rattle.zmtp_wire.proofs.ListLemmas.{take_front, drop_front, take_drop, len_take, take_more_same, pick_false, pick_true, one_more, drop_more_same, is_less, is_not_less, same_number, is_zero, not_zero, zeros, len_zeros, some_of_len, len_of_some, same_list, full_take}
 
 pub data Turn (role : Role) (at : ℕ) (come : Come) (q : List ℕ) (t : Took) : Type 0 where
   wrong : (c : Cause) → Wrong role come q c → t ≡ quiet (stopped_at come at c) → Turn role at come q t
@@ -336,8 +337,8 @@ body_first_on role at g f r x false s c h e =
 
 error_tells : (f : ℕ) (body : List ℕ) → (is_command f && nat_eq (length body) 6 && starts_with nat_eq body error_name) ≡ true → (is_command f ≡ true) × (body ≡ error_name)
 error_tells f body e =
-    let k = and_true (is_command f && nat_eq (length body) 6) (starts_with nat_eq body error_name) e in
-    let j = and_true (is_command f) (nat_eq (length body) 6) k.0 in
+    let k = and_parts (is_command f && nat_eq (length body) 6) (starts_with nat_eq body error_name) e in
+    let j = and_parts (is_command f) (nat_eq (length body) 6) k.0 in
     let six : length body ≡ 6 = same_number (length body) 6 j.1 in
     (j.0, sym (same_list error_name (take 6 body) k.1 ∙ full_take 6 body six))
 

@@ -7,15 +7,19 @@ use Rattle.std.specs.Int.{w64, from_be_bytes}
 abbrev pub MOST : ℕ
 MOST = 67108864
 
+-- whether the standard has such a flag octet: no reserved bit, and no COMMAND with MORE
 abbrev pub is_allowed : ℕ → Bool
 is_allowed f = nat_lt f 5 || nat_eq f 6
 
+-- whether COMMAND is set, in an allowed flag octet
 abbrev pub is_command : ℕ → Bool
 is_command f = nat_eq f 4 || nat_eq f 6
 
+-- whether MORE is set, in an allowed flag octet
 abbrev pub is_more : ℕ → Bool
 is_more f = nat_eq f 1 || nat_eq f 3
 
+-- whether LONG is set, in an allowed flag octet
 abbrev pub is_long : ℕ → Bool
 is_long f = nat_eq f 2 || nat_eq f 3 || nat_eq f 6
 
