@@ -8,9 +8,9 @@ use Rattle.jtext.specs.declared.json.Json.TheVariants as json
 use Rattle.jtext.specs.Depth.{depth}
 use Rattle.jtext.specs.Find.{fields}
 use Rattle.jtext.specs.Look.{is_object, is_list, items}
-use Rattle.jtext.proofs.Depths.{depth-Arr, depth-Obj, depth-Num, depth-Str, highest-le, highest-all}
+use Rattle.jtext.proofs.Depths.{depth-Arr, depth-Obj, depth-Num, highest-le, highest-all}
 use Rattle.jtext.specs.Edit.{set_field}
-use Rattle.nb_model.proofs.DepthLaws.{object_within, values_within, field_set_within}
+use Rattle.nb_model.proofs.DepthLaws.{string_within, object_within, values_within, field_set_within}
 use Rattle.jtext.proofs.Trees.{object_is, list_is}
 use Rattle.nb_migrate.specs.Raised.{is_older, new_id, raised_cell, raised_from, raised_cells, raised_pair, raised_object, raised_tree}
 
@@ -20,9 +20,6 @@ some_object n t is h = let e = ap depth (object_is t is) ∙ depth-Obj (fields t
 
 some_list : (n : ℕ) (t : Json) → is_list t ≡ true → depth t ≤ n → 1 ≤ n
 some_list n t is h = let e = ap depth (list_is t is) ∙ depth-Arr (items t) in omega (arith, e, h)
-
-string_within : (m : ℕ) (s : List ℕ) → depth (json.Str s) ≤ m
-string_within m s = let e = depth-Str s in omega (arith, e)
 
 number_within : (m : ℕ) (s : List ℕ) → depth (json.Num s) ≤ m
 number_within m s = let e = depth-Num s in omega (arith, e)

@@ -12,7 +12,8 @@ use Rattle.jtext.specs.Edit.{set_field}
 -- a minor version below 5
 abbrev pub is_older_minor : Json → Bool
 is_older_minor v =
-    is_number (codes "0") v || is_number (codes "1") v || is_number (codes "2") v || is_number (codes "3") v || is_number (codes "4") v
+    is_number (codes "0") v || is_number (codes "1") v || is_number (codes "2") v
+    || is_number (codes "3") v || is_number (codes "4") v
 
 -- an object whose version is 4.0 to 4.4
 abbrev pub is_older : Json → Bool

@@ -9,8 +9,8 @@ use jtext::Json;
 use nb_model::{NbFault, Notebook, of_json};
 use std::alloc::Global;
 
-/// The notebook that a tree is. One of nbformat 4.0 to 4.4 is read by the rules of 4.5, each cell with
-/// the id `cell-` and its index; the fault and its place are those of the tree so raised.
+/// The notebook that a tree is. One of nbformat 4.0 to 4.4 is read by the rules of 4.5, each cell
+/// with the id `cell-` and its index; the fault and its place are those of the tree so raised.
 pub fn of_any(alloc: Global, t: Json) -> Result<Notebook, NbFault>
     ensures valid { IfOk result (λ _. Accepted t) }
     ensures read { IfOk result (λ n. n ≡ accepted_notebook t) }

@@ -19,12 +19,12 @@ use Rattle.nb_model.specs.declared.cell.Cell.{Cell}
 use Rattle.nb_model.specs.declared.notebook.Notebook.{Notebook}
 use Rattle.nb_model.specs.Valid.{is_notebook}
 use Rattle.nb_model.specs.Reading.{notebook_of}
-use Rattle.nb_model.specs.Tree.{optional_pair, pairs_of_kind, outputs_of_kind, attachments_of_kind, cell_tree, notebook_tree}
+use Rattle.nb_model.specs.Tree.{optional_pair, cell_tree, notebook_tree}
 use Rattle.jtext.specs.Edit.{set_pair, set_field, set_within}
-use Rattle.nb_model.specs.Kind.{is_code}
 use Rattle.nb_model.specs.Prepared.{pending_mark, prepared_cell, prepared_notebook}
 use Rattle.jtext.proofs.Trees.{object_is}
-use Rattle.nb_model.proofs.TreeLaws.{notebook_same}
+use Rattle.nb_model.proofs.TreeLaws.{notebook_same, pairs_with}
+use Rattle.nb_model.proofs.PreparedLaws.{prepared_with, kind_stays}
 
 -- ---- the order of keys doesn't matter
 
@@ -95,19 +95,19 @@ set_within_within m outer key v t h d =
     let inner = all-found (λ u. depth u ≤ suc m) outer (fields t) (null_within (suc m)) (fields_within (suc m) t h) in
     field_set_within (suc m) outer (set_field key v (unwrap_or (field t outer) json.Null)) t h (field_set_within m key v (unwrap_or (field t outer) json.Null) inner d)
 
+pub string_within : (m : ℕ) (s : List ℕ) → depth (json.Str s) ≤ m
+string_within m s = let e = depth-Str s in omega (arith, e)
+
+-- a list of values that are within a bound
+pub items_within : (m : ℕ) (xs : List Json) → AllByRecursion (λ x. depth x ≤ m) xs → depth (json.Arr xs) ≤ suc m
+items_within m xs all = let e = depth-Arr xs in let h = highest-le m xs all in omega (arith, e, h)
+
 pending_within : depth pending_mark ≤ 1
 pending_within =
     let e = depth-Str (codes "pending") in
     object_within 0 ((codes "exception", json.Null) ∷ (codes "status", json.Str (codes "pending")) ∷ []) (null_within 0, (omega (arith, e), tt))
 
 -- ---- a prepared cell
-
-abbrev prepared_with : Kind → Cell → Cell
-prepared_with k c = record (cond (is_code k) (record c { outputs = []; count = None }) c) { metadata = set_field (codes "papermill") pending_mark c.metadata }
-
-abbrev pairs_with : Kind → Cell → List (List ℕ × Json)
-pairs_with k c = attachments_of_kind k c ++ (pairs_of_kind k c
-    ++ ((codes "id", json.Str c.id) ∷ (codes "metadata", c.metadata) ∷ (outputs_of_kind k c ++ (codes "source", c.source) ∷ [])))
 
 mark_within : (m : Json) → depth m ≤ 125 → depth (set_field (codes "papermill") pending_mark m) ≤ 125
 mark_within m h = let d = pending_within in field_set_within 124 (codes "papermill") pending_mark m h (omega (arith, d))
@@ -127,9 +127,6 @@ pairs_within : (k : Kind) (c : Cell) → Within (pairs_with k c) → Within (pai
 pairs_within kind.Raw c all = prose_within (json.Str (codes "raw")) (json.Str c.id) c.source c.metadata c.attachments all
 pairs_within kind.Markdown c all = prose_within (json.Str (codes "markdown")) (json.Str c.id) c.source c.metadata c.attachments all
 pairs_within kind.Code c all = (all.0, (null_within 125, (all.1.1.0, (mark_within c.metadata all.1.1.1.0, (empty_within, all.1.1.1.1.1)))))
-
-kind_stays : (c : Cell) → (prepared_cell c).kind ≡ c.kind
-kind_stays c = elim (is_code c.kind) as (λ b. (cond b (record c { outputs = []; count = None }) c).kind ≡ c.kind) [ true ↦ refl | false ↦ refl ]
 
 cell_within : (c : Cell) → depth (cell_tree c) ≤ 126 → depth (cell_tree (prepared_cell c)) ≤ 126
 cell_within c h =

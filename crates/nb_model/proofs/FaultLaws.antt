@@ -24,13 +24,11 @@ use Rattle.nb_model.specs.Reading.{value_at}
 use Rattle.nb_model.specs.Pointer.{place_unless, under_key, under_item}
 use Rattle.nb_model.specs.Places as place
 use Rattle.nb_model.specs.Faults.{repeated_id, fault_within, fault_of}
+use Rattle.nb_model.proofs.PreparedLaws.{and_eq}
 use Rattle.nb_model.proofs.RegroupedTests.{two_keys, result_keys, error_keys, prose_keys, code_keys, top_level_keys, kernelspec_keys, one_key, and_left, version_first, one_more, one_taken}
 use Rattle.nb_model.proofs.Tautologies.{always, same, from_same, and_parts}
 
 -- ---- parts of a place
-
-and_eq : {a b x y : Bool} → a ≡ x → b ≡ y → (a && b) ≡ (x && y)
-and_eq p q = ap₂ (λ u v. u && v) p q
 
 or_eq : {a b x y : Bool} → a ≡ x → b ≡ y → (a || b) ≡ (x || y)
 or_eq p q = ap₂ (λ u v. u || v) p q

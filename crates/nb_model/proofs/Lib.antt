@@ -8,6 +8,7 @@ pub mod KeyOrders
 pub mod TreeLaws
 pub mod PreparedLaws
 pub mod DepthLaws
+pub mod Multilines
 pub mod CellValues
 pub mod PlanLaws
 pub mod RunLaws

@@ -20,11 +20,13 @@ use Rattle.nb_model.specs.Schema.{notebook_keys, prose_cell_keys, code_cell_keys
 use Rattle.nb_model.specs.Values.{is_count, is_id_text}
 use Rattle.nb_model.specs.Valid as valid
 use Rattle.nb_model.specs.Reading.{value_at, kind_named, cell_of, notebook_of}
-use Rattle.nb_model.specs.Tree.{optional_pair, count_tree, pairs_of_kind, outputs_of_kind, attachments_of_kind, cell_tree, notebook_tree}
+use Rattle.nb_model.specs.Tree.{optional_pair, count_tree, cell_tree, notebook_tree}
 use Rattle.jtext.specs.Edit.{set_pair, set_field}
 use Rattle.nb_model.specs.Kind.{is_code}
 use Rattle.nb_model.specs.Prepared.{pending_mark, prepared_cell, prepared_notebook}
 use Rattle.nb_model.proofs.Tautologies.{and_parts}
+use Rattle.nb_model.proofs.TreeLaws.{pairs_with}
+use Rattle.nb_model.proofs.CellValues.{top_pairs}
 
 pub and_eq : {a b x y : Bool} → a ≡ x → b ≡ y → (a && b) ≡ (x && y)
 and_eq p q = ap₂ (λ u v. u && v) p q
@@ -85,10 +87,6 @@ kind_fits kind.Code c = common_fits c && list_all valid.is_output c.outputs && c
 
 abbrev pub cell_fits : Cell → Bool
 cell_fits c = kind_fits c.kind c
-
-abbrev pairs_with : Kind → Cell → List (List ℕ × Json)
-pairs_with k c = attachments_of_kind k c ++ (pairs_of_kind k c
-    ++ ((codes "id", json.Str c.id) ∷ (codes "metadata", c.metadata) ∷ (outputs_of_kind k c ++ (codes "source", c.source) ∷ [])))
 
 pub count_is : (o : Option (List ℕ)) → is_count (count_tree o) ≡ count_fits o
 count_is None = ap (λ b. b || there_and is_whole_text (number json.Null)) null_Null
@@ -202,9 +200,6 @@ are_cells_is cs =
     ap₂ (λ b xs. b && list_all valid.is_cell xs && valid.ids_differ xs) (list_Arr (map cell_tree cs)) (items_Arr (map cell_tree cs))
     ∙ and_eq (trees_fit cs) (ids_are (map cell_tree cs) ∙ ap no_repeat (tree_ids cs))
 
-abbrev top_pairs : Notebook → List (List ℕ × Json)
-top_pairs n = (codes "cells", json.Arr (map cell_tree n.cells)) ∷ (codes "metadata", n.metadata) ∷ (codes "nbformat", json.Num (codes "4")) ∷ (codes "nbformat_minor", json.Num (codes "5")) ∷ []
-
 pub notebook_tree-fits : (n : Notebook) → valid.is_notebook (notebook_tree n) ≡ notebook_fits n
 notebook_tree-fits n =
     let qs = top_pairs n in
@@ -250,7 +245,7 @@ metadata_kept v m e = metadata_kept_at (codes "papermill") v m refl refl e
 
 -- ---- the prepared notebook
 
-abbrev prepared_with : Kind → Cell → Cell
+abbrev pub prepared_with : Kind → Cell → Cell
 prepared_with k c = record (cond (is_code k) (record c { outputs = []; count = None }) c) { metadata = set_field (codes "papermill") pending_mark c.metadata }
 
 pub common_kept : (c : Cell) (m : Json) → valid.is_cell_metadata m ≡ true → common_fits c ≡ true → (is_id_text c.id && valid.is_cell_metadata m && is_multiline c.source) ≡ true
@@ -277,7 +272,7 @@ kind_kept kind.Code c e =
     and_eq (and_eq (common_kept c (set_field (codes "papermill") pending_mark c.metadata) (cell_metadata_kept (codes "papermill") pending_mark c.metadata refl (metadata_of c g.0)) g.0) refl) refl
 
 -- the kind and the id stay
-kind_stays : (c : Cell) → (prepared_cell c).kind ≡ c.kind
+pub kind_stays : (c : Cell) → (prepared_cell c).kind ≡ c.kind
 kind_stays c = elim (is_code c.kind) as (λ b. (cond b (record c { outputs = []; count = None }) c).kind ≡ c.kind) [ true ↦ refl | false ↦ refl ]
 
 id_stays : (c : Cell) → (prepared_cell c).id ≡ c.id

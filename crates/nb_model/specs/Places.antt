@@ -167,7 +167,8 @@ of_kernelspec v = if is_object v then option_or (place_unless (has_all kernelspe
 -- `metadata.language_info`: its key and its value
 abbrev pub of_language_info : Json → Option (List ℕ)
 of_language_info v =
-    if is_object v then option_or (place_unless (has_all language_info_required v)) (of_value (codes "name") is_string v)
+    if is_object v
+    then option_or (place_unless (has_all language_info_required v)) (of_value (codes "name") is_string v)
     else Some []
 
 -- `metadata`: the kernel, and then the language

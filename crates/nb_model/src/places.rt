@@ -62,7 +62,8 @@ pub(crate) fn keys_place(
     known: &[&str],
 ) -> Result<Option<Text>, NoMemory>
     ensures { IfOk result (λ r. r
-        ≡ option_or (pointer.place_unless (list_all (λ k. is_some (field t.now k.now)) required.now))
+        ≡ option_or
+        (pointer.place_unless (list_all (λ k. is_some (field t.now k.now)) required.now))
         (places.of_unknown (λ q. list_any (λ k. bytes_eq q k.now) known.now) (fields t.now))) }
 {
     if has_all(t, required) {

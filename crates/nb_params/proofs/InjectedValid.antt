@@ -1,17 +1,16 @@
 -- An injected notebook is valid where the notebook is.
-use Rattle.std.proofs.Common.{◌≡◌, ℕ, suc, ◌<◌, ◌≤◌, ◌^◌, Bool, true, false, ◌&&◌, ◌||◌, List, [], ◌∷◌, map, length, refl, sym, ap, ap₂, ◌∙◌, arith, cond, codes, rules}
+use Rattle.std.proofs.Common.{◌≡◌, ℕ, suc, ◌<◌, ◌≤◌, ◌^◌, Bool, true, false, ◌&&◌, List, [], ◌∷◌, map, length, refl, sym, ap, ap₂, ◌∙◌, arith, cond, codes, rules}
 use Rattle.std.specs.List.{AllByRecursion, list_all}
 use Rattle.jtext.specs.declared.json.Json.{Json, the_lemmas}
 use Rattle.jtext.specs.declared.json.Json.TheVariants as json
 use Rattle.jtext.specs.Depth.{depth}
-use Rattle.jtext.specs.Look.{is_string, is_list, items, absent_or}
-use Rattle.jtext.proofs.Depths.{depth-Arr, depth-Str, depth-Bool, highest-le}
+use Rattle.jtext.specs.Look.{absent_or}
+use Rattle.jtext.proofs.Depths.{depth-Bool}
 use Rattle.nb_model.specs.declared.kind.Kind.{Kind}
 use Rattle.nb_model.specs.declared.kind.Kind.TheVariants as kind
 use Rattle.nb_model.specs.declared.cell.Cell.{Cell}
 use Rattle.nb_model.specs.declared.notebook.Notebook.{Notebook}
-use Rattle.nb_model.specs.Lines.{lines_of, lines_tree}
-use Rattle.jtext.specs.Bundle.{is_multiline}
+use Rattle.nb_model.specs.Lines.{lines_of}
 use Rattle.nb_model.specs.Valid.{is_output, is_cell_metadata, are_attachments, is_metadata, Valid}
 use Rattle.nb_params.specs.Python.{python}
 use Rattle.nb_model.specs.Tree.{cell_tree, notebook_tree}
@@ -21,7 +20,8 @@ use Rattle.nb_model.specs.Kind.{is_code}
 use Rattle.nb_params.specs.Injected.{hidden_cell, parameters_cell, fresh_id, ids, parametrised_notebook, injected_notebook}
 use Rattle.nb_model.proofs.Tautologies.{and_parts}
 use Rattle.nb_model.proofs.PreparedLaws.{and_eq, common_fits, count_fits, kind_fits, cell_fits, no_repeat, cell_metadata_kept, metadata_kept, common_kept, metadata_of, notebook_fits, notebook_tree-fits}
-use Rattle.nb_model.proofs.DepthLaws.{object_within, values_within, null_within, set_within_within, list_within, within_list}
+use Rattle.nb_model.proofs.DepthLaws.{string_within, items_within, object_within, values_within, null_within, set_within_within, list_within, within_list}
+use Rattle.nb_model.proofs.Multilines.{strings_multiline}
 use Rattle.nb_model.proofs.TreeLaws.{pairs_with}
 use Rattle.nb_params.proofs.FreshIds.{fresh_id-is_id}
 use Rattle.nb_params.proofs.Placements.{no_repeat-placed}
@@ -36,29 +36,8 @@ tagged = json.Obj ((codes "tags", json.Arr (json.Str (codes "injected-parameters
 tagged_fits : is_cell_metadata tagged ≡ true
 tagged_fits = search (rules, the_lemmas)
 
-list_Arr : (xs : List Json) → is_list (json.Arr xs) ≡ true
-list_Arr xs = search (rules, the_lemmas)
-
-string_Arr : (xs : List Json) → is_string (json.Arr xs) ≡ false
-string_Arr xs = search (rules, the_lemmas)
-
-string_Str : (s : List ℕ) → is_string (json.Str s) ≡ true
-string_Str s = search (rules, the_lemmas)
-
-items_Arr : (xs : List Json) → items (json.Arr xs) ≡ xs
-items_Arr xs = search (rules, the_lemmas)
-
-strings_fit : (ls : List (List ℕ)) → list_all is_string (map (λ l. json.Str l) ls) ≡ true
-strings_fit [] = refl
-strings_fit (l ∷ ls) = and_eq (string_Str l) (strings_fit ls)
-
-lines_fit : (text : List ℕ) → is_multiline (lines_tree text) ≡ true
-lines_fit text =
-    let ls = map (λ l. json.Str l) (lines_of text) in
-    ap₂ (λ a b. a || b) (string_Arr ls) (and_eq (list_Arr ls) (ap (list_all is_string) (items_Arr ls) ∙ strings_fit (lines_of text)))
-
 new_fits : (is : List (List ℕ)) (ps : List (List ℕ × Json)) → length is < 10 ^ 44 → cell_fits (parameters_cell (fresh_id is) ps) ≡ true
-new_fits is ps h = and_eq (and_eq (and_eq (and_eq (fresh_id-is_id is h) tagged_fits) (lines_fit (python ps))) refl) refl
+new_fits is ps h = and_eq (and_eq (and_eq (and_eq (fresh_id-is_id is h) tagged_fits) (strings_multiline (lines_of (python ps)))) refl) refl
 
 -- ---- hidden sources
 
@@ -120,15 +99,12 @@ injected_fits n ps report h e =
 abbrev Within : Json → Type 0
 Within t = depth t ≤ 125
 
-string_within : (m : ℕ) (s : List ℕ) → depth (json.Str s) ≤ m
-string_within m s = let e = depth-Str s in omega (arith, e)
-
 strings_within : (m : ℕ) (ls : List (List ℕ)) → AllByRecursion (λ x. depth x ≤ m) (map (λ l. json.Str l) ls)
 strings_within m [] = tt
 strings_within m (l ∷ ls) = (string_within m l, strings_within m ls)
 
 strings_list_within : (m : ℕ) (ls : List (List ℕ)) → depth (json.Arr (map (λ l. json.Str l) ls)) ≤ suc m
-strings_list_within m ls = let e = depth-Arr (map (λ l. json.Str l) ls) in let h = highest-le m (map (λ l. json.Str l) ls) (strings_within m ls) in omega (arith, e, h)
+strings_list_within m ls = items_within m (map (λ l. json.Str l) ls) (strings_within m ls)
 
 new_within : (id : List ℕ) (ps : List (List ℕ × Json)) → depth (cell_tree (parameters_cell id ps)) ≤ 126
 new_within id ps =

@@ -9,23 +9,21 @@ use Rattle.std.specs.Fmt.{decimal}
 use Rattle.std.specs.List.{AllByRecursion, list_any, list_all}
 use Rattle.std.specs.Str.{bytes_eq}
 use Rattle.std.specs.Str.Parse.{digits_value}
-use Rattle.jtext.specs.declared.json.Json.{Json, the_lemmas}
+use Rattle.jtext.specs.declared.json.Json.{the_lemmas}
 use Rattle.jtext.specs.declared.json.Json.TheVariants as json
-use Rattle.jtext.specs.Bundle.{is_multiline}
 use Rattle.jtext.specs.Depth.{depth}
 use Rattle.jtext.specs.Keyed as keyed
 use Rattle.jtext.specs.Keyed.{Keyed}
-use Rattle.jtext.specs.Look.{is_string, is_list, items}
-use Rattle.jtext.proofs.Depths.{depth-Arr, depth-Str, highest-le}
 use Rattle.jtext.proofs.Keys.{not_equal}
 use Rattle.nb_model.specs.declared.kind.Kind.TheVariants as kind
 use Rattle.nb_model.specs.Tree.{cell_tree, notebook_tree}
 use Rattle.nb_model.specs.Valid.{is_metadata, is_cell_metadata, Valid}
 use Rattle.nb_model.specs.Values.{is_id_byte, is_id_text}
 use Rattle.nb_model.proofs.CellValues.{all-map, top_pairs}
-use Rattle.nb_model.proofs.DepthLaws.{object_within, null_within, within_list}
+use Rattle.nb_model.proofs.DepthLaws.{string_within, items_within, object_within, null_within, within_list}
 use Rattle.nb_model.proofs.KeyedLemmas.{pairs_of, distinct_from, cell_keyed, string_list_keyed, notebook_keyed}
 use Rattle.nb_model.proofs.PreparedLaws.{and_eq, cell_fits, no_repeat, notebook_tree-fits}
+use Rattle.nb_model.proofs.Multilines.{strings_multiline}
 use Rattle.nb_model.proofs.TreeLaws.{pairs_with}
 use Rattle.nb_text.specs.Generated.{generated_cell, cells_from, kernelspec, kernel, verb, generated_notebook}
 
@@ -69,25 +67,8 @@ empty_fits = search (rules, the_lemmas)
 kernel_fits : is_metadata kernel ≡ true
 kernel_fits = search (rules, the_lemmas)
 
-list_Arr : (xs : List Json) → is_list (json.Arr xs) ≡ true
-list_Arr xs = search (rules, the_lemmas)
-
-string_Arr : (xs : List Json) → is_string (json.Arr xs) ≡ false
-string_Arr xs = search (rules, the_lemmas)
-
-string_Str : (s : List ℕ) → is_string (json.Str s) ≡ true
-string_Str s = search (rules, the_lemmas)
-
-items_Arr : (xs : List Json) → items (json.Arr xs) ≡ xs
-items_Arr xs = search (rules, the_lemmas)
-
-line_fits : (s : List ℕ) → is_multiline (json.Arr (json.Str s ∷ [])) ≡ true
-line_fits s =
-    let ls = json.Str s ∷ [] in
-    ap₂ (λ a b. a || b) (string_Arr ls) (and_eq (list_Arr ls) (ap (list_all is_string) (items_Arr ls) ∙ ap (λ b. b && true) (string_Str s)))
-
 generated_fits : (i : ℕ) → i < 10 ^ 44 → cell_fits (generated_cell i) ≡ true
-generated_fits i h = and_eq (and_eq (and_eq (and_eq (id_fits i h) empty_fits) (line_fits (verb i ++ decimal i))) refl) refl
+generated_fits i h = and_eq (and_eq (and_eq (and_eq (id_fits i h) empty_fits) (strings_multiline ((verb i ++ decimal i) ∷ []))) refl) refl
 
 cells_fit : (j n : ℕ) → j + n ≤ 10 ^ 44 → list_all cell_fits (cells_from j n) ≡ true
 cells_fit j zero h = refl
@@ -95,16 +76,10 @@ cells_fit j (suc n) h = and_eq (generated_fits j (omega arith)) (cells_fit (j + 
 
 -- ---- depth
 
-string_within : (m : ℕ) (s : List ℕ) → depth (json.Str s) ≤ m
-string_within m s = let e = depth-Str s in omega (arith, e)
-
-list_of_within : (m : ℕ) (xs : List Json) → AllByRecursion (λ x. depth x ≤ m) xs → depth (json.Arr xs) ≤ suc m
-list_of_within m xs all = let e = depth-Arr xs in let h = highest-le m xs all in omega (arith, e, h)
-
 generated_within : (i : ℕ) → depth (cell_tree (generated_cell i)) ≤ 126
 generated_within i =
     object_within 125 (pairs_with kind.Code (generated_cell i))
-    (string_within 125 (codes "code"), (null_within 125, (string_within 125 (id i), (object_within 124 [] tt, (list_of_within 124 [] tt, (list_of_within 124 (json.Str (verb i ++ decimal i) ∷ []) (string_within 124 (verb i ++ decimal i), tt), tt))))))
+    (string_within 125 (codes "code"), (null_within 125, (string_within 125 (id i), (object_within 124 [] tt, (items_within 124 [] tt, (items_within 124 (json.Str (verb i ++ decimal i) ∷ []) (string_within 124 (verb i ++ decimal i), tt), tt))))))
 
 cells_within : (j n : ℕ) → AllByRecursion (λ c. depth (cell_tree c) ≤ 126) (cells_from j n)
 cells_within j zero = tt

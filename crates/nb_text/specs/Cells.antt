@@ -12,7 +12,8 @@ use Rattle.nb_text.specs.Lines.{line}
 -- the pairs that a raw cell and a markdown cell have
 abbrev pub common_pairs : List ℕ → Cell → List (List ℕ × Json)
 common_pairs kind c =
-    (codes "cell_type", json.Str kind) ∷ (codes "id", json.Str c.id) ∷ (codes "metadata", c.metadata) ∷ (codes "source", c.source) ∷ []
+    (codes "cell_type", json.Str kind) ∷ (codes "id", json.Str c.id)
+    ∷ (codes "metadata", c.metadata) ∷ (codes "source", c.source) ∷ []
 
 -- the same with attachments, where there are some
 abbrev pub prose_pairs : List ℕ → Cell → List (List ℕ × Json)
@@ -21,7 +22,8 @@ prose_pairs kind c = optional_pair (codes "attachments") c.attachments ++ common
 -- the pairs of a code cell
 abbrev pub code_pairs : Cell → List (List ℕ × Json)
 code_pairs c =
-    (codes "cell_type", json.Str (codes "code")) ∷ (codes "execution_count", count_tree c.count) ∷ (codes "id", json.Str c.id)
+    (codes "cell_type", json.Str (codes "code")) ∷ (codes "execution_count", count_tree c.count)
+    ∷ (codes "id", json.Str c.id)
     ∷ (codes "metadata", c.metadata) ∷ (codes "outputs", json.Arr c.outputs) ∷ (codes "source", c.source) ∷ []
 
 -- the pairs of a cell of this kind

@@ -27,7 +27,7 @@ fn text_of(bytes: Bytes) -> Text
     Text::of_string(String::from_utf8(bytes.into_vec()).unwrap())
 }
 
-/// Appends the text that the cell has as an item of a notebook's cells, without the margin before it.
+/// Appends the text that the cell has among the cells of its notebook's text.
 pub(crate) fn put_cell(alloc: Global, out: &mut Bytes, cell: &Cell) -> Result<(), NoMemory>
     ensures { OnOk result (out.new ≡ out.old ++ cell_text cell.now) }
 {

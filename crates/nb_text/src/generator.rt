@@ -36,7 +36,7 @@ fn cell(alloc: Global, i: u32) -> Result<Cell, NoMemory>
 {
     Ok(Cell {
         kind: Kind::Code,
-        id: numbered(alloc, "g", i)?,
+        id: numbered_text(alloc, "g", i)?,
         metadata: Json::Obj(Fields::new(alloc)),
         source: line(alloc, i)?,
         attachments: None,
@@ -49,7 +49,7 @@ fn line(alloc: Global, i: u32) -> Result<Json, NoMemory>
     ensures { IfOk result (λ t. t ≡ json.Arr (json.Str (generated.verb i ++ decimal i) ∷ [])) }
 {
     let mut lines = Items::new(alloc);
-    lines.push(Json::Str(numbered(alloc, verb(i), i)?))?;
+    lines.push(Json::Str(numbered_text(alloc, verb(i), i)?))?;
     Ok(Json::Arr(lines))
 }
 
@@ -67,7 +67,7 @@ fn verb(i: u32) -> &'static str
     }
 }
 
-fn numbered(alloc: Global, front: &str, i: u32) -> Result<Text, NoMemory>
+fn numbered_text(alloc: Global, front: &str, i: u32) -> Result<Text, NoMemory>
     ensures { IfOk result (λ text. text ≡ front.now ++ decimal i) }
 {
     Ok(Text::of_string(format!(in alloc; "{front}{i}")?))

@@ -1,4 +1,5 @@
-//! Laws of generated notebooks and of texts. The functions do nothing: their contracts are the laws.
+//! Laws of generated notebooks and of texts. The functions do nothing: their contracts are the
+//! laws.
 ghost use Rattle.std.specs.Prelude.{◌≡◌, ◌<◌, ◌^◌, ℕ, map};
 ghost use Rattle.jtext.specs.Indent.{print};
 ghost use Rattle.jtext.specs.Keyed.{Keyed};
