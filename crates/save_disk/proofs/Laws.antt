@@ -1,26 +1,24 @@
 -- What the entries of a save make of the output, moment by moment.
-use Rattle.std.proofs.Common.{◌≡◌, ◌≢◌, inl, inr, ℕ, ◌+◌, List, [], ◌∷◌, ◌++◌, length, take, drop, true, false, ◌&&◌, Some, Result, Ok, Err, codes, refl, sym, ◌∙◌, ap, subst, arith, length-append, append_assoc}
+use Rattle.std.proofs.Common.{◌≡◌, ◌≢◌, inl, inr, ℕ, ◌+◌, List, [], ◌∷◌, ◌++◌, length, take, drop, false, ◌&&◌, Some, Result, Ok, Err, codes, refl, sym, ◌∙◌, ap, subst, arith, length-append, append_assoc}
 use Rattle.std.proofs.lemmas.List.{take-append-drop, append-nil}
 use Rattle.std.proofs.lemmas.Slice.Eq.{bytes_eq-Decides}
 use Rattle.std.proofs.lemmas.Bool.{false_from_ne_true, cond-true}
 use Rattle.std.specs.Str.{bytes_eq}
 use Rattle.world.specs.declared.entry.Entry.{Entry}
 use Rattle.world.specs.declared.entry.Entry.TheVariants.{Created, Wrote, Synced, Renamed, DirSynced}
-use Rattle.world.specs.declared.entry.Did.{Did}
-use Rattle.world.specs.declared.entry.Did.TheVariants.{Done, Failed}
+use Rattle.world.specs.declared.did.Did.{Did}
+use Rattle.world.specs.declared.did.Did.TheVariants.{Done, Failed}
 use Rattle.world.specs.declared.left.Left.TheVariants.{Whole}
-use Rattle.world.specs.Disk.{Place, place, renamed_to, dir_synced, folder_of}
+use Rattle.world.specs.Disk.{Place, place, target_place, place_in_synced_dir, folder_of}
 use Rattle.world.specs.Moments.{Since, start, more as later}
 use Rattle.world.specs.Parts.{IsOf, OnDisk}
 use Rattle.world.specs.Touched.{Spares}
+use Rattle.world.proofs.PlaceLemmas.{same_bytes, renamed_to_own, dir_synced_own}
 use Rattle.save_disk.specs.declared.save_fault.SaveFault.{SaveFault}
 use Rattle.save_disk.specs.declared.save_fault.SaveFault.TheVariants as fault
 use Rattle.save_disk.specs.Temporary.{temporary_of}
 use Rattle.save_disk.specs.Entries.{Writes, none, more, SaveOf}
 use Rattle.save_disk.specs.Places.{acknowledged, SaveEnd, SaveMoment, as_before, renamed, unsure, durable}
-
-same : (p : List ℕ) → bytes_eq p p ≡ true
-same p = (bytes_eq-Decides p p).1 refl
 
 differ : (p q : List ℕ) → p ≢ q → bytes_eq p q ≡ false
 differ p q ne = false_from_ne_true _ (λ e. ne ((bytes_eq-Decides p q).0 e))
@@ -28,14 +26,6 @@ differ p q ne = false_from_ne_true _ (λ e. ne ((bytes_eq-Decides p q).0 e))
 apart : (output : List ℕ) → bytes_eq (temporary_of output) output ≡ false
 apart output = differ (temporary_of output) output (λ e.
     let l : length (temporary_of output) ≡ length output = ap length e in omega (arith, length-append output (codes ".nbrun-tmp")))
-
--- ---- what one entry leaves at its own path
-
-renamed_at : (from to : List ℕ) (did : Did) (past : List Entry) → place (Renamed from to did ∷ past) to ≡ renamed_to (place past from) (place past to) did
-renamed_at from to did past = cond-true (bytes_eq to to) _ _ (same to)
-
-dir_synced_at : (q : List ℕ) (did : Did) (past : List Entry) → place (DirSynced (folder_of q) did ∷ past) q ≡ dir_synced (place past q) did
-dir_synced_at q did past = cond-true (bytes_eq (folder_of q) (folder_of q)) _ _ (same (folder_of q))
 
 -- ---- what the writes leave
 
@@ -57,7 +47,7 @@ module _ (tmp out text : List ℕ) (ne : bytes_eq tmp out ≡ false) where
       record {
         bytes = w.bytes ++ take n rest;
         whole = append_assoc w.bytes (take n rest) (drop n rest) ∙ ap (λ xs. w.bytes ++ xs) (take-append-drop n rest) ∙ w.whole;
-        fresh = rw (same tmp, w.fresh);
+        fresh = rw (same_bytes tmp, w.fresh);
       }
 
 module _ (out text : List ℕ) (ne : bytes_eq (temporary_of out) out ≡ false) where
@@ -76,7 +66,7 @@ module _ (out text : List ℕ) (ne : bytes_eq (temporary_of out) out ≡ false) 
 module _ (out text : List ℕ) (before past : List Entry) (writes : Writes (temporary_of out) text (Created (temporary_of out) Done ∷ before) [] past) where
   fresh : (place past (temporary_of out)).fresh ≡ Some text
   fresh =
-      let w = writes_bytes (temporary_of out) out text (apart out) (rw (same (temporary_of out))) writes in
+      let w = writes_bytes (temporary_of out) out text (apart out) (rw (same_bytes (temporary_of out))) writes in
       w.fresh ∙ ap Some (sym (append-nil w.bytes) ∙ w.whole)
 
   elsewhere : place past out ≡ place before out
@@ -92,7 +82,7 @@ module _ (out text : List ℕ) (before past : List Entry) (writes : Writes (temp
   settled_place = record { options = Whole text ∷ []; here = Some (Whole text); fresh = Some text }
 
   synced_temporary : place (Synced (temporary_of out) Done ∷ past) (temporary_of out) ≡ settled_place
-  synced_temporary = rw (same (temporary_of out), fresh)
+  synced_temporary = rw (same_bytes (temporary_of out), fresh)
 
   synced_output : (did : Did) → place (Synced (temporary_of out) did ∷ past) out ≡ place before out
   synced_output did = rw (apart out) elsewhere
@@ -103,11 +93,11 @@ module _ (out text : List ℕ) (before past : List Entry) (writes : Writes (temp
   abbrev with_rename : Did → List Entry
   with_rename did = Renamed (temporary_of out) out did ∷ Synced (temporary_of out) Done ∷ past
 
-  rename_place : (did : Did) → place (with_rename did) out ≡ renamed_to settled_place (place before out) did
+  rename_place : (did : Did) → place (with_rename did) out ≡ target_place settled_place (place before out) did
   rename_place did =
-      renamed_at (temporary_of out) out did (Synced (temporary_of out) Done ∷ past)
-      ∙ ap (λ p. renamed_to p (place (Synced (temporary_of out) Done ∷ past) out) did) synced_temporary
-      ∙ ap (λ p. renamed_to settled_place p did) (synced_output Done)
+      renamed_to_own (temporary_of out) out did (Synced (temporary_of out) Done ∷ past)
+      ∙ ap (λ p. target_place p (place (Synced (temporary_of out) Done ∷ past) out) did) synced_temporary
+      ∙ ap (λ p. target_place settled_place p did) (synced_output Done)
 
   rename_moments : Since (SaveMoment out text before) before (with_rename Done)
   rename_moments = later (synced_moments Done) (renamed no_more_acked (rename_place Done))
@@ -115,12 +105,12 @@ module _ (out text : List ℕ) (before past : List Entry) (writes : Writes (temp
   unsure_moments : Since (SaveMoment out text before) before (with_rename Failed)
   unsure_moments = later (synced_moments Done) (unsure no_more_acked (rename_place Failed))
 
-  end_place : (did : Did) → place (DirSynced (folder_of out) did ∷ with_rename Done) out ≡ dir_synced (renamed_to settled_place (place before out) Done) did
-  end_place did = dir_synced_at out did (with_rename Done) ∙ ap (λ p. dir_synced p did) (rename_place Done)
+  end_place : (did : Did) → place (DirSynced (folder_of out) did ∷ with_rename Done) out ≡ place_in_synced_dir (target_place settled_place (place before out) Done) did
+  end_place did = dir_synced_own out did (with_rename Done) ∙ ap (λ p. place_in_synced_dir p did) (rename_place Done)
 
   one_more : acknowledged out (DirSynced (folder_of out) Done ∷ with_rename Done) ≡ acknowledged out before + 1
   one_more =
-      cond-true (bytes_eq (folder_of out) (folder_of out) && (bytes_eq (temporary_of out) (temporary_of out) && bytes_eq out out)) _ _ (rw (same (folder_of out), same (temporary_of out), same out))
+      cond-true (bytes_eq (folder_of out) (folder_of out) && (bytes_eq (temporary_of out) (temporary_of out) && bytes_eq out out)) _ _ (rw (same_bytes (folder_of out), same_bytes (temporary_of out), same_bytes out))
       ∙ ap (λ n. n + 1) no_more_acked
 
 -- ---- by the answer

@@ -2,7 +2,7 @@
 use Rattle.std.specs.Prelude.{◌≡◌, ◌⊎◌, ℕ, List, [], ◌∷◌, take, drop, Result, Ok, Err}
 use Rattle.world.specs.declared.entry.Entry.{Entry}
 use Rattle.world.specs.declared.entry.Entry.TheVariants.{Created, Wrote, Synced, Renamed, DirSynced}
-use Rattle.world.specs.declared.entry.Did.TheVariants.{Done, Failed}
+use Rattle.world.specs.declared.did.Did.TheVariants.{Done, Failed}
 use Rattle.world.specs.Disk.{folder_of}
 use Rattle.save_disk.specs.Temporary.{temporary_of}
 use Rattle.save_disk.specs.declared.save_fault.SaveFault.{SaveFault}

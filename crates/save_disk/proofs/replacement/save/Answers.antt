@@ -1,4 +1,4 @@
-use Rattle.world.specs.Moments.{told_as}
+use Rattle.world.proofs.MomentsLemmas.{told_as}
 use Rattle.save_disk.proofs.Laws.{end_of, moments_of, others_of_save, part_of_save}
 use Rattle.save_disk.proofs.replacement.save.Goals as goal
 

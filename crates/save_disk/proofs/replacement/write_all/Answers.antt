@@ -1,6 +1,6 @@
 use Rattle.std.proofs.Common.{arith}
 use Rattle.std.proofs.lemmas.Grind.{common_steps}
-use Rattle.world.specs.Moments.{told_start, told_one}
+use Rattle.world.proofs.MomentsLemmas.{told_start, told_one}
 use Rattle.save_disk.specs.Entries.{none, more}
 use Rattle.save_disk.proofs.Rests.{whole_rest}
 use Rattle.save_disk.proofs.replacement.write_all.Goals as goal
