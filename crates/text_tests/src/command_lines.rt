@@ -1,5 +1,5 @@
 //! Command lines and what is answered, worked out by hand from the grammar of the options.
-use jtext::{Json, NoMemory};
+use jtext::{Json, NoMemory, Text};
 use std::test::Fail;
 use words::{Command, Usage, read, value_of};
 
@@ -267,5 +267,33 @@ fn a_word_stands_for_a_number_where_json_has_it(rt: HostRuntime) -> Result<(), F
         let (kind, word) = line.split_once('|').ok_or("a word is missing")?;
         assert!(rt; shape(&value_of(rt.alloc(), word)) == kind, "{line}");
     }
+    Ok(())
+}
+
+#[test]
+fn a_refusal_says_what_is_wrong_and_where(rt: HostRuntime) -> Result<(), Fail> {
+    let alloc = rt.alloc();
+    for (usage, want) in [
+        (Usage::Missing, "missing"),
+        (Usage::Unknown { i: 0 }, "unknown at 0"),
+        (Usage::NoValue { i: 1 }, "no value at 1"),
+        (Usage::BadNumber { i: 2 }, "bad number at 2"),
+        (Usage::Twice { i: 3 }, "twice at 3"),
+        (Usage::Extra { i: 10 }, "extra at 10"),
+        (
+            Usage::SamePath { i: 4_294_967_295 },
+            "same path at 4294967295",
+        ),
+        (Usage::BadName { i: 4 }, "bad name at 4"),
+        (Usage::NoMemory, "out of memory"),
+    ] {
+        assert_eq!(rt; format!(in alloc; "{usage}")?.as_str(), want);
+    }
+    let pointer = Text::of(alloc, "/jobs/0")?;
+    let usage = Usage::BadJobs { pointer };
+    assert_eq!(rt;
+        format!(in alloc; "{usage}")?.as_str(),
+        "bad jobs at /jobs/0"
+    );
     Ok(())
 }
