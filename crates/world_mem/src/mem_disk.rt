@@ -295,7 +295,7 @@ impl Disk for MemDisk {
     {
         let found = self.try_read(alloc, path, most);
         let did = did_of_read(&found);
-        self.end_disk_call(did, telling::read(self.alloc, path, most, &found));
+        self.end_disk_call(did, telling::read_entry(self.alloc, path, most, &found));
         found
     }
 
@@ -307,7 +307,7 @@ impl Disk for MemDisk {
         ensures after { AfterDisk self.old self.new result }
     {
         let did = self.try_create(path);
-        self.end_disk_call(did, telling::created(self.alloc, path, did));
+        self.end_disk_call(did, telling::created_entry(self.alloc, path, did));
         did
     }
 
@@ -327,10 +327,13 @@ impl Disk for MemDisk {
         let size = piece.len().min(u32::MAX as usize);
         let did = self.try_write(path, &piece[..size]);
         if did == Did::Failed {
-            self.end_disk_call(did, telling::wrote(self.alloc, path, piece, did));
+            self.end_disk_call(did, telling::wrote_entry(self.alloc, path, piece, did));
             return Wrote::Failed;
         }
-        self.end_disk_call(did, telling::wrote(self.alloc, path, &piece[..size], did));
+        self.end_disk_call(
+            did,
+            telling::wrote_entry(self.alloc, path, &piece[..size], did),
+        );
         Wrote::Took(size as u32)
     }
 
@@ -343,7 +346,7 @@ impl Disk for MemDisk {
         ensures after { AfterDisk self.old self.new result }
     {
         let did = self.try_sync(path);
-        self.end_disk_call(did, telling::synced(self.alloc, path, did));
+        self.end_disk_call(did, telling::synced_entry(self.alloc, path, did));
         did
     }
 
@@ -357,7 +360,7 @@ impl Disk for MemDisk {
         ensures after { AfterDisk self.old self.new result }
     {
         let did = self.try_rename(from, to);
-        self.end_disk_call(did, telling::renamed(self.alloc, from, to, did));
+        self.end_disk_call(did, telling::renamed_entry(self.alloc, from, to, did));
         did
     }
 
@@ -370,7 +373,7 @@ impl Disk for MemDisk {
         ensures after { AfterDisk self.old self.new result }
     {
         let did = self.try_sync_dir();
-        self.end_disk_call(did, telling::dir_synced(self.alloc, dir, did));
+        self.end_disk_call(did, telling::dir_synced_entry(self.alloc, dir, did));
         did
     }
 
@@ -383,7 +386,7 @@ impl Disk for MemDisk {
         ensures after { AfterDisk self.old self.new result }
     {
         let did = self.try_remove(path);
-        self.end_disk_call(did, telling::removed(self.alloc, path, did));
+        self.end_disk_call(did, telling::removed_entry(self.alloc, path, did));
         did
     }
 }
@@ -408,12 +411,15 @@ impl Say for MemDisk {
         let did = self.try_say(&piece[..size]);
         if did == Did::Failed {
             self.say_faults = self.say_faults.saturating_add(1);
-            tell(&mut self.journal, telling::said(self.alloc, piece, did));
+            tell(
+                &mut self.journal,
+                telling::said_entry(self.alloc, piece, did),
+            );
             return Wrote::Failed;
         }
         tell(
             &mut self.journal,
-            telling::said(self.alloc, &piece[..size], did),
+            telling::said_entry(self.alloc, &piece[..size], did),
         );
         Wrote::Took(size as u32)
     }

@@ -75,7 +75,7 @@ impl Disk for NullWorld {
 
     fn read_file(&mut self, _alloc: Global, path: &Text, most: u64) -> ReadFile {
         rise(&mut self.disk_faults);
-        let entry = telling::read(self.alloc, path, most, &ReadFile::Failed);
+        let entry = telling::read_entry(self.alloc, path, most, &ReadFile::Failed);
         self.journal.tell(entry);
         ReadFile::Failed
     }
@@ -83,42 +83,42 @@ impl Disk for NullWorld {
     fn create(&mut self, path: &Text) -> Did {
         rise(&mut self.disk_faults);
         self.journal
-            .tell(telling::created(self.alloc, path, Did::Failed));
+            .tell(telling::created_entry(self.alloc, path, Did::Failed));
         Did::Failed
     }
 
     fn write(&mut self, path: &Text, piece: &[u8]) -> Wrote {
         rise(&mut self.disk_faults);
         self.journal
-            .tell(telling::wrote(self.alloc, path, piece, Did::Failed));
+            .tell(telling::wrote_entry(self.alloc, path, piece, Did::Failed));
         Wrote::Failed
     }
 
     fn sync(&mut self, path: &Text) -> Did {
         rise(&mut self.disk_faults);
         self.journal
-            .tell(telling::synced(self.alloc, path, Did::Failed));
+            .tell(telling::synced_entry(self.alloc, path, Did::Failed));
         Did::Failed
     }
 
     fn rename(&mut self, from: &Text, to: &Text) -> Did {
         rise(&mut self.disk_faults);
         self.journal
-            .tell(telling::renamed(self.alloc, from, to, Did::Failed));
+            .tell(telling::renamed_entry(self.alloc, from, to, Did::Failed));
         Did::Failed
     }
 
     fn sync_dir(&mut self, dir: &Text) -> Did {
         rise(&mut self.disk_faults);
         self.journal
-            .tell(telling::dir_synced(self.alloc, dir, Did::Failed));
+            .tell(telling::dir_synced_entry(self.alloc, dir, Did::Failed));
         Did::Failed
     }
 
     fn remove(&mut self, path: &Text) -> Did {
         rise(&mut self.disk_faults);
         self.journal
-            .tell(telling::removed(self.alloc, path, Did::Failed));
+            .tell(telling::removed_entry(self.alloc, path, Did::Failed));
         Did::Failed
     }
 }
@@ -175,7 +175,7 @@ impl Kids for NullWorld {
 
     fn start(&mut self, job: u8, argv: &Texts, env: &Fields, dir: &Text) -> Did {
         rise(&mut self.child_faults);
-        let entry = telling::started(self.alloc, job, argv, env, dir, Did::Failed);
+        let entry = telling::started_entry(self.alloc, job, argv, env, dir, Did::Failed);
         self.journal.tell(entry);
         Did::Failed
     }
@@ -222,7 +222,7 @@ impl Say for NullWorld {
     fn write(&mut self, piece: &[u8]) -> Wrote {
         rise(&mut self.say_faults);
         self.journal
-            .tell(telling::said(self.alloc, piece, Did::Failed));
+            .tell(telling::said_entry(self.alloc, piece, Did::Failed));
         Wrote::Failed
     }
 }

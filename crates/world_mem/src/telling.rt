@@ -24,7 +24,12 @@ pub fn tell(journal: &mut Option<Entries>, entry: Result<Entry, NoMemory>)
 }
 
 /// The entry of a read of a file.
-pub fn read(alloc: Global, path: &Text, most: u64, found: &ReadFile) -> Result<Entry, NoMemory>
+pub fn read_entry(
+    alloc: Global,
+    path: &Text,
+    most: u64,
+    found: &ReadFile,
+) -> Result<Entry, NoMemory>
     ensures is { IfOk result (λ e. e ≡ Entry.Read path.now most found.now) }
     ensures untimed { IfOk result (λ e. moment_of e ≡ None) }
 {
@@ -34,68 +39,68 @@ pub fn read(alloc: Global, path: &Text, most: u64, found: &ReadFile) -> Result<E
         ReadFile::Failed => ReadFile::Failed,
         ReadFile::NoMemory => ReadFile::NoMemory,
     };
-    let path = copied(alloc, path)?;
+    let path = copy_text(alloc, path)?;
     Ok(Entry::Read { path, most, found })
 }
 
 /// The entry of a create.
-pub fn created(alloc: Global, path: &Text, did: Did) -> Result<Entry, NoMemory>
+pub fn created_entry(alloc: Global, path: &Text, did: Did) -> Result<Entry, NoMemory>
     ensures is { IfOk result (λ e. e ≡ Entry.Created path.now did) }
     ensures untimed { IfOk result (λ e. moment_of e ≡ None) }
 {
-    let path = copied(alloc, path)?;
+    let path = copy_text(alloc, path)?;
     Ok(Entry::Created { path, did })
 }
 
 /// The entry of a write to a file.
-pub fn wrote(alloc: Global, path: &Text, bytes: &[u8], did: Did) -> Result<Entry, NoMemory>
+pub fn wrote_entry(alloc: Global, path: &Text, bytes: &[u8], did: Did) -> Result<Entry, NoMemory>
     ensures is { IfOk result (λ e. e ≡ Entry.Wrote path.now bytes.now did) }
     ensures untimed { IfOk result (λ e. moment_of e ≡ None) }
 {
-    let path = copied(alloc, path)?;
+    let path = copy_text(alloc, path)?;
     let bytes = Bytes::of(alloc, bytes)?;
     Ok(Entry::Wrote { path, bytes, did })
 }
 
 /// The entry of a sync of a file.
-pub fn synced(alloc: Global, path: &Text, did: Did) -> Result<Entry, NoMemory>
+pub fn synced_entry(alloc: Global, path: &Text, did: Did) -> Result<Entry, NoMemory>
     ensures is { IfOk result (λ e. e ≡ Entry.Synced path.now did) }
     ensures untimed { IfOk result (λ e. moment_of e ≡ None) }
 {
-    let path = copied(alloc, path)?;
+    let path = copy_text(alloc, path)?;
     Ok(Entry::Synced { path, did })
 }
 
 /// The entry of a rename.
-pub fn renamed(alloc: Global, from: &Text, to: &Text, did: Did) -> Result<Entry, NoMemory>
+pub fn renamed_entry(alloc: Global, from: &Text, to: &Text, did: Did) -> Result<Entry, NoMemory>
     ensures is { IfOk result (λ e. e ≡ Entry.Renamed from.now to.now did) }
     ensures untimed { IfOk result (λ e. moment_of e ≡ None) }
 {
-    let from = copied(alloc, from)?;
-    let to = copied(alloc, to)?;
+    let from = copy_text(alloc, from)?;
+    let to = copy_text(alloc, to)?;
     Ok(Entry::Renamed { from, to, did })
 }
 
 /// The entry of a sync of a folder.
-pub fn dir_synced(alloc: Global, dir: &Text, did: Did) -> Result<Entry, NoMemory>
+pub fn dir_synced_entry(alloc: Global, dir: &Text, did: Did) -> Result<Entry, NoMemory>
     ensures is { IfOk result (λ e. e ≡ Entry.DirSynced dir.now did) }
     ensures untimed { IfOk result (λ e. moment_of e ≡ None) }
 {
-    let dir = copied(alloc, dir)?;
+    let dir = copy_text(alloc, dir)?;
     Ok(Entry::DirSynced { dir, did })
 }
 
 /// The entry of a remove.
-pub fn removed(alloc: Global, path: &Text, did: Did) -> Result<Entry, NoMemory>
+pub fn removed_entry(alloc: Global, path: &Text, did: Did) -> Result<Entry, NoMemory>
     ensures is { IfOk result (λ e. e ≡ Entry.Removed path.now did) }
     ensures untimed { IfOk result (λ e. moment_of e ≡ None) }
 {
-    let path = copied(alloc, path)?;
+    let path = copy_text(alloc, path)?;
     Ok(Entry::Removed { path, did })
 }
 
 /// The entry of what was said.
-pub fn said(alloc: Global, bytes: &[u8], did: Did) -> Result<Entry, NoMemory>
+pub fn said_entry(alloc: Global, bytes: &[u8], did: Did) -> Result<Entry, NoMemory>
     ensures is { IfOk result (λ e. e ≡ Entry.Said bytes.now did) }
     ensures untimed { IfOk result (λ e. moment_of e ≡ None) }
 {
@@ -104,7 +109,7 @@ pub fn said(alloc: Global, bytes: &[u8], did: Did) -> Result<Entry, NoMemory>
 }
 
 /// The entry of a start of a child.
-pub fn started(
+pub fn started_entry(
     alloc: Global,
     job: u8,
     argv: &Texts,
@@ -115,9 +120,9 @@ pub fn started(
     ensures is { IfOk result (λ e. e ≡ Entry.Started job argv.now env.now dir.now did) }
     ensures untimed { IfOk result (λ e. moment_of e ≡ None) }
 {
-    let argv = copied_texts(alloc, argv)?;
-    let env = copied_fields(alloc, env)?;
-    let dir = copied(alloc, dir)?;
+    let argv = copy_texts(alloc, argv)?;
+    let env = copy_fields(alloc, env)?;
+    let dir = copy_text(alloc, dir)?;
     Ok(Entry::Started {
         job,
         argv,
@@ -127,28 +132,28 @@ pub fn started(
     })
 }
 
-fn copied(alloc: Global, text: &Text) -> Result<Text, NoMemory>
+fn copy_text(alloc: Global, text: &Text) -> Result<Text, NoMemory>
     ensures { IfOk result (λ t. t ≡ text.now) }
 {
     Text::of(alloc, text.as_str())
 }
 
-fn copied_texts(alloc: Global, texts: &Texts) -> Result<Texts, NoMemory>
+fn copy_texts(alloc: Global, texts: &Texts) -> Result<Texts, NoMemory>
     ensures { IfOk result (λ r. r ≡ texts.now) }
 {
     let mut copy = Texts::new(alloc);
     for text in texts.as_slice() {
-        copy.push(copied(alloc, text)?)?;
+        copy.push(copy_text(alloc, text)?)?;
     }
     Ok(copy)
 }
 
-fn copied_fields(alloc: Global, fields: &Fields) -> Result<Fields, NoMemory>
+fn copy_fields(alloc: Global, fields: &Fields) -> Result<Fields, NoMemory>
     ensures { IfOk result (λ r. r ≡ fields.now) }
 {
     let mut copy = Fields::new(alloc);
     for (key, value) in fields.as_slice() {
-        copy.push((copied(alloc, key)?, jtext::copy(alloc, value)?))?;
+        copy.push((copy_text(alloc, key)?, jtext::copy(alloc, value)?))?;
     }
     Ok(copy)
 }
