@@ -51,16 +51,18 @@ const INJECTIONS: &str = r#"{} {"a":1} => r a injected-parameters  <= r: a:param
 /// The text of a notebook with these metadata and these cells.
 fn text_of(rt: &HostRuntime, metadata: &str, cells: &str) -> Result<String, Fail> {
     let mut text = String::from_str(rt.alloc(), "{\"cells\":[")?;
-    let mut comma = "";
+    let mut first = true;
     for cell in cells.split(' ') {
         let (id, tag) = cell.split_once(':').ok_or("a colon is missing")?;
-        text.push_str(comma)?;
+        if !first {
+            text.push_str(",")?;
+        }
+        first = false;
         text.push_str("{\"cell_type\":\"raw\",\"source\":\"\",\"id\":\"")?;
         text.push_str(id)?;
         text.push_str("\",\"metadata\":{\"tags\":[\"")?;
         text.push_str(tag)?;
         text.push_str("\"]}}")?;
-        comma = ",";
     }
     text.push_str("],\"metadata\":")?;
     text.push_str(metadata)?;
