@@ -1,8 +1,9 @@
 pub mod Codes
 pub mod Lines
-pub mod Plain
+pub mod Reported
 pub mod Asked
 pub mod Loaded
 pub mod Ran
+pub mod Crash
 pub mod Said
 pub mod Ended

@@ -9,7 +9,7 @@ mod limits;
 mod lines;
 mod loading;
 mod main_call;
-mod plain;
+mod parts;
 mod reports;
 #[cfg(test)]
 mod tests;

@@ -8,11 +8,13 @@ ghost use Rattle.words.specs.Refusals.{refusal};
 ghost use Rattle.world.specs.Counts.{Rose, DiskCause};
 ghost use Rattle.world.specs.Moments.{Told};
 ghost use Rattle.nbrun_top.specs.declared.end.End.TheVariants as ending;
-ghost use Rattle.nbrun_top.specs.declared.plain.SaveFault as fault;
+ghost use Rattle.save_disk.specs.declared.save_fault.SaveFault as fault;
 ghost use Rattle.nbrun_top.specs.Asked.{IsJob, IsNotBuilt, is_not_built};
-ghost use Rattle.nbrun_top.specs.Ended.{Answers, Ended, IsHeard};
+ghost use Rattle.nbrun_top.specs.Crash.{IsSafe};
+ghost use Rattle.nbrun_top.specs.Ended.{Answers, Ended, IsHeard, acks_of};
 ghost use Rattle.nbrun_top.specs.Ran.{Ran, IsDelivered, IsOther, IsUntouched};
-ghost use Rattle.nbrun_top.specs.Said.{Speaks, SpeaksOf};
+ghost use Rattle.save_disk.specs.Places.{acknowledged};
+ghost use Rattle.nbrun_top.specs.Said.{Speaks, SpeaksOf, heard};
 
 use crate::Limits;
 use crate::answer::Answer;
@@ -30,14 +32,28 @@ const NOT_SAID: u8 = 11;
 /// The words are the arguments without the program's name.
 pub fn run<W: Disk + Say>(alloc: Global, words: &[String], _limits: &Limits, w: &mut W) -> u8
     // Each status has its cause; all that was asked of the world is named; and what is said are the lines of how the run ended.
-    ensures causes { Told (W.journal w.old) (W.journal w.new) (Ended (map string_bytes words.now) result (Rose (W.counts w.old).say (W.counts w.new).say)) }
+    ensures causes { Told (W.journal w.old) (W.journal w.new)
+        (Ended (map string_bytes words.now) result
+        (Rose (W.counts w.old).say (W.counts w.new).say) (0 < (W.counts w.new).say)) }
     // After status 0, and after 11, a crash leaves at the output the notebook with its parameters, and nothing else.
     ensures delivered { Told (W.journal w.old) (W.journal w.new) (λ before after. before ≡ [] → (result ≡ 0) ⊎ (result ≡ 11) → IsDelivered (map string_bytes words.now) after) }
+    // At every moment a crash leaves at the output what was there before, or the whole new text.
+    ensures crash { Told (W.journal w.old) (W.journal w.new)
+        (λ before after. before ≡ [] → (a : asks.Ask) → IsJob (map string_bytes words.now) a → IsSafe a after) }
     // At every moment a crash leaves every other file as it was, the input among them.
     ensures untouched { Told (W.journal w.old) (W.journal w.new) (λ before after. before ≡ [] → (path : Plain ℕ) → IsOther (map string_bytes words.now) path → IsUntouched path after) }
     ensures input { Told (W.journal w.old) (W.journal w.new) (λ before after. before ≡ [] → (a : asks.Ask) → IsJob (map string_bytes words.now) a → IsUntouched a.input after) }
     // What is said are the lines of how the run ended, or a front of them where saying failed.
-    ensures said { Told (W.journal w.old) (W.journal w.new) (λ before after. before ≡ [] → IsHeard (map string_bytes words.now) (Rose (W.counts w.old).say (W.counts w.new).say) after) }
+    ensures said { Told (W.journal w.old) (W.journal w.new)
+        (λ before after. before ≡ [] → IsHeard (map string_bytes words.now) result
+        (Rose (W.counts w.old).say (W.counts w.new).say) (0 < (W.counts w.new).say) after) }
+    // Where a say had failed before, nothing is said.
+    ensures silent { 0 < (W.counts w.old).say →
+        Told (W.journal w.old) (W.journal w.new) (λ before after. heard after ≡ heard before) }
+    // A save is acknowledged exactly with status 0 or 11, and then one.
+    ensures acknowledged { Told (W.journal w.old) (W.journal w.new)
+        (λ before after. before ≡ [] → (a : asks.Ask) → IsJob (map string_bytes words.now) a →
+        acknowledged a.output after ≡ acks_of result) }
 
     // What no journal is needed for.
     ensures usage { (u : usages.Usage) → refusal (map string_bytes words.now) ≡ Some u → (result ≡ 2) ⊎ (result ≡ 12) }
@@ -54,7 +70,9 @@ pub fn run<W: Disk + Say>(alloc: Global, words: &[String], _limits: &Limits, w: 
 
 // The status, once all is done and said.
 fn status<W: Disk + Say>(alloc: Global, words: &[String], w: &mut W) -> u8
-    ensures causes { Told (W.journal w.old) (W.journal w.new) (Ended (map string_bytes words.now) result (Rose (W.counts w.old).say (W.counts w.new).say)) }
+    ensures causes { Told (W.journal w.old) (W.journal w.new)
+        (Ended (map string_bytes words.now) result
+        (Rose (W.counts w.old).say (W.counts w.new).say) (0 < (W.counts w.new).say)) }
     ensures usage { (u : usages.Usage) → refusal (map string_bytes words.now) ≡ Some u → (result ≡ 2) ⊎ (result ≡ 12) }
     ensures refused { result ≡ 2 → refusal (map string_bytes words.now) ≡ None → ⊥ }
     ensures not_built { IsNotBuilt (map string_bytes words.now) → (result ≡ 70) ⊎ (result ≡ 12) }
@@ -63,10 +81,12 @@ fn status<W: Disk + Say>(alloc: Global, words: &[String], w: &mut W) -> u8
     ensures save_fault { result ≡ 10 → Rose (W.counts w.old).disk (W.counts w.new).disk }
     ensures say_fault { result ≡ 11 → Rose (W.counts w.old).say (W.counts w.new).say }
     ensures heard { result ≡ 0 → Rose (W.counts w.old).say (W.counts w.new).say → ⊥ }
+    ensures silent { 0 < (W.counts w.old).say →
+        Told (W.journal w.old) (W.journal w.new) (λ before after. heard after ≡ heard before) }
 {
     let faults = w.say_faults();
     let answer = answered(alloc, words, w);
-    say(w, faults, answer.said());
+    say(w, answer.said());
     let code = answer.end.code();
     unless_not_said(w, faults, code)
 }
