@@ -11,8 +11,6 @@ mod loading;
 mod main_call;
 mod parts;
 mod reports;
-#[cfg(test)]
-mod tests;
 mod voice;
 mod why;
 

@@ -22,10 +22,9 @@ pub(crate) fn say<W: Say>(w: &mut W, text: &[u8])
     ensures silent { 0 < (W.counts w.old).say → W.journal w.new ≡ W.journal w.old }
     ensures counts { SayCause (W.counts w.old) (W.counts w.new) ⊥ }
 {
-    if w.say_faults() > 0 {
-        return;
+    if w.say_faults() == 0 {
+        say_while_heard(w, text);
     }
-    say_while_heard(w, text);
 }
 
 fn say_while_heard<W: Say>(w: &mut W, text: &[u8])
