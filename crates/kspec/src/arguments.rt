@@ -6,8 +6,9 @@ use crate::Spec;
 use jtext::{NoMemory, Text, Texts};
 use std::alloc::Global;
 
-/// The arguments of the kernel's program, which comes first: in those of the spec each `{connection_file}` is
-/// replaced by `file` and each `{resource_dir}` by `folder`, from the left. What was put in is not read again.
+/// The arguments of the kernel's program, which comes first: in those of the spec each
+/// `{connection_file}` is replaced by `file` and each `{resource_dir}` by `folder`, from the left.
+/// What was put in is not read again.
 pub fn argv(alloc: Global, s: &Spec, file: &Text, folder: &Text) -> Result<Texts, NoMemory>
     ensures { IfOk result (λ words. AreFilled file.now folder.now s.now.argv words) }
 {

@@ -8,8 +8,8 @@ ghost use Rattle.kspec.specs.Connection.{connection};
 use jtext::{Bytes, Fields, Json, NoMemory, NumText, Text, pair, text_pair, write_compact};
 use std::alloc::Global;
 
-/// The text of the connection file (jupyter_client, "Connection files") with these ports of this machine, for
-/// shell, iopub, stdin, control and heartbeat, and this key of the signatures.
+/// The text of the connection file (jupyter_client, "Connection files") with these ports of this
+/// machine, for shell, iopub, stdin, control and heartbeat, and this key of the signatures.
 pub fn connection_text(alloc: Global, ports: [u16; 5], key: &Text) -> Result<Bytes, NoMemory>
     ensures { IfOk result (λ text. text ≡ compact (connection ports key.now)) }
 {

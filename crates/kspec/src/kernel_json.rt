@@ -16,11 +16,12 @@ const LARGEST: usize = 1 << 20;
 /// How deep a kernel spec may nest.
 const DEEP: u32 = 100;
 
-/// Reads a `kernel.json` (jupyter_client, "Kernel specs") from its bytes. `interrupt` says whether the kernel
-/// will have to be interrupted by a message. Keys that nbrun doesn't use are free.
+/// Reads a `kernel.json` (jupyter_client, "Kernel specs") from its bytes. `interrupt` says whether
+/// the kernel will have to be interrupted by a message. Keys that nbrun doesn't use are free.
 pub fn spec(alloc: Global, bytes: &[u8], interrupt: bool) -> Result<Spec, SpecFault>
     ensures says { IfOk result (λ s. kernel_json.Says interrupt bytes.now s) }
-    ensures refused { IfErr result (λ f. (f ≡ fault.NoMemory) ⊎ kernel_json.Refuses interrupt bytes.now f) }
+    ensures refused { IfErr result (λ f.
+        (f ≡ fault.NoMemory) ⊎ kernel_json.Refuses interrupt bytes.now f) }
 {
     let Some(tree) = parsed_tree(alloc, bytes)? else {
         return Err(SpecFault::NotJson);
@@ -33,7 +34,8 @@ pub fn spec(alloc: Global, bytes: &[u8], interrupt: bool) -> Result<Spec, SpecFa
 
 /// The tree that the bytes spell, if they are a text of at most that size and depth.
 fn parsed_tree(alloc: Global, bytes: &[u8]) -> Result<Option<Json>, NoMemory>
-    ensures { IfOk result (λ o. MatchOption o (kernel_json.IsNoText bytes.now) (kernel_json.IsTextOf bytes.now)) }
+    ensures { IfOk result (λ o.
+        MatchOption o (kernel_json.IsNoText bytes.now) (kernel_json.IsTextOf bytes.now)) }
 {
     if LARGEST < bytes.len() {
         return Ok(None);

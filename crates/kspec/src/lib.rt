@@ -1,5 +1,5 @@
-//! Kernel specs (Jupyter, "Making kernels for Jupyter"): what a `kernel.json` says of how a kernel is started,
-//! and the connection file that the kernel is given. It does no IO.
+//! Kernel specs (Jupyter, "Making kernels for Jupyter"): what a `kernel.json` says of how a kernel is
+//! started, and the connection file that the kernel is given. It does no IO.
 #![tactic(auto)]
 
 mod arguments;

@@ -19,7 +19,8 @@ pub(crate) struct Answer {
 }
 
 impl Answer {
-    /// The answer of a run on these paths that ended before anything was saved. Memory for its line may be refused.
+    /// The answer of a run on these paths that ended before anything was saved. Memory for its line
+    /// may be refused.
     pub(crate) fn refused(alloc: Global, input: &str, output: &str, end: End) -> Answer
         requires { (cells : ℕ) → end ≡ ending.Done cells → ⊥ }
         ensures end { (result.end ≡ end) ⊎ (result.end ≡ ending.NoMemory) }

@@ -1,10 +1,10 @@
 //! One job that only prepares its notebook.
 ghost use Rattle.std.specs.Prelude.{◌≡◌, ◌⊎◌, ℕ};
 ghost use Rattle.words.specs.declared.usage.Usage as usages;
-ghost use Rattle.world.specs.Counts.{Rose, DiskCause};
-ghost use Rattle.world.specs.Moments.{Told};
+ghost use Rattle.world.specs.Counts.{DiskCause};
 ghost use Rattle.nbrun_top.specs.declared.end.End.TheVariants as ending;
 ghost use Rattle.save_disk.specs.declared.save_fault.SaveFault as fault;
+ghost use Rattle.nbrun_top.specs.Between.{Between, DiskRose};
 ghost use Rattle.nbrun_top.specs.Ran.{Prepares, SavesAs};
 ghost use Rattle.nbrun_top.specs.Said.{Speaks};
 
@@ -23,12 +23,14 @@ const MOST: u64 = 33_554_432;
 
 /// Reads the input, injects the parameters and saves the notebook. Nothing is executed.
 pub(crate) fn prepare<W: Disk>(alloc: Global, ask: &Ask, w: &mut W) -> Answer
-    ensures entries { Told (W.journal w.old) (W.journal w.new) (λ before after. Prepares ask.now before result.end after) }
+    ensures entries { Between W.journal w.old w.new
+        (λ before after. Prepares ask.now before result.end after) }
     ensures text { Speaks ask.now.input ask.now.output result }
     ensures built { result.end ≡ ending.NotBuilt → ⊥ }
     ensures taken { (u : usages.Usage) → result.end ≡ ending.Refused u → ⊥ }
-    ensures read_fault { result.end ≡ ending.NotRead → Rose (W.counts w.old).disk (W.counts w.new).disk }
-    ensures save_fault { (f : fault.SaveFault) → result.end ≡ ending.NotSaved f → Rose (W.counts w.old).disk (W.counts w.new).disk }
+    ensures read_fault { result.end ≡ ending.NotRead → DiskRose W.counts w.old w.new }
+    ensures save_fault { (f : fault.SaveFault) → result.end ≡ ending.NotSaved f →
+        DiskRose W.counts w.old w.new }
     ensures counts { DiskCause (W.counts w.old) (W.counts w.new) ⊥ }
 {
     match w.read_file(alloc, &ask.input, MOST) {
@@ -55,14 +57,14 @@ fn refused(alloc: Global, ask: &Ask, end: End) -> Answer
 
 // The text, the paths and the lines are made before anything is written. The input had that size.
 fn save_of<W: Disk>(alloc: Global, ask: &Ask, notebook: &Notebook, size: usize, w: &mut W) -> Answer
-    ensures entries { Told (W.journal w.old) (W.journal w.new)
+    ensures entries { Between W.journal w.old w.new
         (λ before after. SavesAs ask.now.output notebook.now before result.end after) }
     ensures text { Speaks ask.now.input ask.now.output result }
     ensures read_fault { result.end ≡ ending.NotRead → ⊥ }
     ensures built { result.end ≡ ending.NotBuilt → ⊥ }
     ensures taken { (u : usages.Usage) → result.end ≡ ending.Refused u → ⊥ }
     ensures save_fault { (f : fault.SaveFault) → result.end ≡ ending.NotSaved f →
-        Rose (W.counts w.old).disk (W.counts w.new).disk }
+        DiskRose W.counts w.old w.new }
     ensures counts { DiskCause (W.counts w.old) (W.counts w.new) ⊥ }
 {
     let Ok(parts) = Parts::new(alloc, ask, notebook, size) else {

@@ -1,5 +1,6 @@
-//! The whole program over a world that is handed in: from the words of the command line to the exit status.
-//! Its contract is the promise that nbrun makes; `nbrun` calls it with the real disk and the standard output.
+//! The whole program over a world that is handed in: from the words of the command line to the
+//! exit status. Its contract is the promise that nbrun makes; `nbrun_main` calls it with the real
+//! disk and the standard output.
 #![tactic(auto)]
 
 mod answer;

@@ -61,7 +61,8 @@ pub(crate) fn last(alloc: Global, input: &str, output: &str, end: &End) -> Resul
 }
 
 fn untranslated(alloc: Global, output: &str, language: &Text) -> Result<Bytes, NoMemory>
-    ensures { IfOk result (λ b. b ≡ spec.line output.now (codes "no translator for " ++ quoted language.now)) }
+    ensures { IfOk result (λ b. b ≡
+        spec.line output.now (codes "no translator for " ++ quoted language.now)) }
 {
     let name = Json::Str(Text::of(alloc, language.as_str())?);
     let name = write_compact(alloc, &name)?;

@@ -14,7 +14,8 @@ use words::Ask;
 /// How deep lists and objects may nest.
 const DEEP: u32 = 128;
 
-/// The notebook that the bytes give, with the parameters that are asked for. The bytes are let go before it is saved.
+/// The notebook that the bytes give, with the parameters that are asked for. The bytes are let go
+/// before it is saved.
 pub(crate) fn loaded(alloc: Global, bytes: Bytes, ask: &Ask) -> Result<Notebook, End>
     ensures ok { IfOk result (Accepts ask.now bytes) }
     ensures err { IfErr result (Refuses ask.now bytes) }
@@ -46,7 +47,8 @@ fn parsed(alloc: Global, bytes: &[u8]) -> Result<Json, End>
 // The notebook that the tree of the bytes is.
 fn accepted(alloc: Global, tree: Json) -> Result<Notebook, End>
     ensures ok { IfOk result (λ n. (bytes : Plain ℕ) → Gives bytes tree → IsNotebook bytes n) }
-    ensures err { IfErr result (λ e. (ask : asks.Ask) (bytes : Plain ℕ) → Gives bytes tree → Refuses ask bytes e) }
+    ensures err { IfErr result (λ e. (ask : asks.Ask) (bytes : Plain ℕ) →
+        Gives bytes tree → Refuses ask bytes e) }
 {
     match of_any(alloc, tree) {
         Ok(notebook) => Ok(notebook),
@@ -57,8 +59,10 @@ fn accepted(alloc: Global, tree: Json) -> Result<Notebook, End>
 
 // The notebook with the parameters.
 fn injected(alloc: Global, notebook: Notebook, ask: &Ask) -> Result<Notebook, End>
-    ensures ok { IfOk result (λ n. (bytes : Plain ℕ) → IsNotebook bytes notebook → Accepts ask.now bytes n) }
-    ensures err { IfErr result (λ e. (bytes : Plain ℕ) → IsNotebook bytes notebook → Refuses ask.now bytes e) }
+    ensures ok { IfOk result (λ n. (bytes : Plain ℕ) →
+        IsNotebook bytes notebook → Accepts ask.now bytes n) }
+    ensures err { IfErr result (λ e. (bytes : Plain ℕ) →
+        IsNotebook bytes notebook → Refuses ask.now bytes e) }
 {
     match inject(alloc, notebook, &ask.params, ask.report) {
         Ok(notebook) => Ok(notebook),

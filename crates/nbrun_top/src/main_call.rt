@@ -34,7 +34,7 @@ pub fn run<W: Disk + Say>(alloc: Global, words: &[String], _limits: &Limits, w: 
     ensures causes { Between W.journal w.old w.new (Ended (texts words.now) result
         (SayRose W.counts w.old w.new) (SayFailed W.counts w.new)) }
 
-    // After 0 and 11 a crash leaves at the output the notebook with its parameters, and nothing else.
+    // After 0 and 11 a crash leaves at the output just the notebook with its parameters.
     ensures delivered { FromStart W.journal w.old w.new
         (λ j. (result ≡ 0) ⊎ (result ≡ 11) → IsDelivered (texts words.now) j) }
     // At every moment a crash leaves at the output what was there before, or the whole new text.

@@ -20,8 +20,8 @@ pub(crate) struct Parts {
 }
 
 impl Parts {
-    /// The parts of the save of this notebook. A text is seldom longer than its input, of that size, by more
-    /// than an eighth.
+    /// The parts of the save of this notebook. A text is seldom longer than its input, of that
+    /// size, by more than an eighth.
     pub(crate) fn new(
         alloc: Global,
         ask: &Ask,
@@ -30,7 +30,8 @@ impl Parts {
     ) -> Result<Parts, NoMemory>
         ensures text { IfOk result (λ r. r.text ≡ text_of notebook.now) }
         ensures path { IfOk result (λ r. r.path ≡ ask.now.output) }
-        ensures reports { IfOk result (λ r. AreReports ask.now.output (length notebook.now.cells) r.reports) }
+        ensures reports { IfOk result (λ r.
+            AreReports ask.now.output (length notebook.now.cells) r.reports) }
     {
         let text = text_with_capacity(alloc, notebook, size.saturating_add(size / 8))?;
         let path = SavePath::of(alloc, &ask.output)?;

@@ -1,7 +1,7 @@
 //! What is said to the user, as long as nothing that was said failed.
 ghost use Rattle.std.specs.Prelude.{◌≡◌, ◌<◌, ◌≤◌, true, false};
 ghost use Rattle.world.specs.Counts.{SayCause, Rose};
-ghost use Rattle.world.specs.Moments.{Told};
+ghost use Rattle.nbrun_top.specs.Between.{Between, SayFailed};
 ghost use Rattle.nbrun_top.specs.Said.{Says};
 
 use world::{Say, Wrote};
@@ -18,8 +18,8 @@ pub(crate) fn has_risen<W: Say>(w: &W, faults: u64) -> bool
 
 /// Says the text piece by piece, while no say has failed: once one has, nothing more is said.
 pub(crate) fn say<W: Say>(w: &mut W, text: &[u8])
-    ensures tells { Told (W.journal w.old) (W.journal w.new) (Says text.now (0 < (W.counts w.new).say)) }
-    ensures silent { 0 < (W.counts w.old).say → W.journal w.new ≡ W.journal w.old }
+    ensures tells { Between W.journal w.old w.new (Says text.now (SayFailed W.counts w.new)) }
+    ensures silent { SayFailed W.counts w.old → W.journal w.new ≡ W.journal w.old }
     ensures counts { SayCause (W.counts w.old) (W.counts w.new) ⊥ }
 {
     if w.say_faults() == 0 {
@@ -28,7 +28,7 @@ pub(crate) fn say<W: Say>(w: &mut W, text: &[u8])
 }
 
 fn say_while_heard<W: Say>(w: &mut W, text: &[u8])
-    ensures tells { Told (W.journal w.old) (W.journal w.new) (Says text.now (0 < (W.counts w.new).say)) }
+    ensures tells { Between W.journal w.old w.new (Says text.now (SayFailed W.counts w.new)) }
     ensures counts { SayCause (W.counts w.old) (W.counts w.new) ⊥ }
 {
     let mut rest = text;

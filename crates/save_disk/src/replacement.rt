@@ -13,9 +13,10 @@ use crate::{SaveFault, SavePath};
 use jtext::Text;
 use world::{Did, Disk, Wrote};
 
-/// Replaces the output by `text`: a temporary file is created, written, synced and renamed onto it, and the
-/// folder is synced. `Ok` acknowledges: from then on a crash leaves `text`. A fault names the step whose call
-/// failed; after `Rename` and `DirSync` a crash may leave `text` or what it could before. Takes no memory.
+/// Replaces the output by `text`: a temporary file is created, written, synced and renamed onto it,
+/// and the folder is synced. `Ok` acknowledges: from then on a crash leaves `text`. A fault names the
+/// step whose call failed; after `Rename` and `DirSync` a crash may leave `text` or what it could
+/// before. Takes no memory.
 pub fn save<W: Disk>(w: &mut W, path: &SavePath, text: &[u8]) -> Result<(), SaveFault>
     requires { 0 < length text.now }
 
@@ -30,7 +31,8 @@ pub fn save<W: Disk>(w: &mut W, path: &SavePath, text: &[u8]) -> Result<(), Save
         (λ before. Since (SaveMoment path.now text.now before) before) }
 
     // No other path but the temporary file's is touched, and no other part of the world.
-    ensures others { (q : List ℕ) → bytes_eq path.now q ≡ false → bytes_eq (temporary_of path.now) q ≡ false →
+    ensures others { (q : List ℕ) → bytes_eq path.now q ≡ false →
+        bytes_eq (temporary_of path.now) q ≡ false →
         Told (W.journal w.old) (W.journal w.new) (Since (Spares q)) }
     ensures part { Told (W.journal w.old) (W.journal w.new) (Since (IsOf OnDisk)) }
 
@@ -43,7 +45,8 @@ pub fn save<W: Disk>(w: &mut W, path: &SavePath, text: &[u8]) -> Result<(), Save
 impl SavePath {
     /// The same, by its entries.
     fn replace<W: Disk>(&self, w: &mut W, text: &[u8]) -> Result<(), SaveFault>
-        ensures entries { Told (W.journal w.old) (W.journal w.new) (SaveOf self.now text.now result) }
+        ensures entries { Told (W.journal w.old) (W.journal w.new)
+            (SaveOf self.now text.now result) }
         ensures cause { DiskCause (W.counts w.old) (W.counts w.new) (IsErr result) }
     {
         if w.create(&self.temporary) == Did::Failed {

@@ -7,8 +7,8 @@ use jtext::{NoMemory, Text};
 use std::alloc::Global;
 use std::marker::Model;
 
-/// Where a save goes: the output, the temporary file beside it, and the folder of both. A contract sees the
-/// path of the output.
+/// Where a save goes: the output, the temporary file beside it, and the folder of both. A contract
+/// sees the path of the output.
 #[derive(Drop)]
 pub struct SavePath {
     pub(crate) output: Text,
@@ -25,12 +25,13 @@ impl Model for SavePath {
 
     ghost view = { λ p. p.output };
 
-    ghost invariant = { λ p. (p.temporary ≡ temporary_of p.output) × (p.folder ≡ folder_of p.output) };
+    ghost invariant = { λ p.
+        (p.temporary ≡ temporary_of p.output) × (p.folder ≡ folder_of p.output) };
 }
 
 impl SavePath {
-    /// The paths of a save of this output. The temporary file has the output's path with `.nbrun-tmp` behind
-    /// it; the folder is what stands before the last slash, `/` where that is nothing, and `.` without a slash.
+    /// The paths of a save of this output. The temporary file has the output's path with
+    /// `.nbrun-tmp` behind it.
     pub fn of(alloc: Global, output: &Text) -> Result<SavePath, NoMemory>
         ensures { IfOk result (λ path. path ≡ output.now) }
     {
@@ -49,7 +50,8 @@ fn temporary_of(alloc: Global, output: &Text) -> Result<Text, NoMemory>
     Ok(Text::of_string(format!(in alloc; "{output}.nbrun-tmp")?))
 }
 
-/// The folder of a path: what stands before its last slash, `/` where that is nothing, and `.` without a slash.
+/// The folder of a path: what stands before its last slash, `/` where that is nothing, and `.`
+/// without a slash.
 fn folder(path: &str) -> &str
     ensures { result.now ≡ folder_of path.now }
 {
