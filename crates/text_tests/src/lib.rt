@@ -26,3 +26,7 @@ mod jobs_files;
 mod options;
 #[cfg(test)]
 mod shown;
+
+// Kernel specs.
+#[cfg(test)]
+mod kernel_specs;
