@@ -17,7 +17,7 @@ use Rattle.nbrun_top.specs.Loaded.{Refuses}
 use Rattle.nbrun_top.specs.Ran.{SavesAs, Prepares, Ran, read_of, text_of}
 use Rattle.nbrun_top.specs.Ran as ran
 use Rattle.nbrun_top.proofs.Crashes.{one_ask}
-use Rattle.nbrun_top.proofs.Ends.{says_since}
+use Rattle.said_lines.proofs.SpeechLemmas.{says_since}
 
 -- the status of an end that saved nothing acknowledges nothing
 refused_acks : (a : Ask) (bytes : List ℕ) (e : End) → Refuses a bytes e → acks_of (code_of e) ≡ 0

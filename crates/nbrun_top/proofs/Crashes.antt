@@ -26,7 +26,7 @@ use Rattle.nbrun_top.specs.Ended.{Ended}
 use Rattle.nbrun_top.specs.Loaded.{Accepts}
 use Rattle.nbrun_top.specs.Ran.{SavesAs, Prepares, Ran, read_of, text_of}
 use Rattle.nbrun_top.specs.Ran as ran
-use Rattle.nbrun_top.proofs.Ends.{says_since}
+use Rattle.said_lines.proofs.SpeechLemmas.{says_since}
 use Rattle.nbrun_top.proofs.Saves.{EndsWith, ends_since}
 
 -- ---- by the options

@@ -17,22 +17,10 @@ use Rattle.nbrun_top.specs.Codes.{code_of}
 use Rattle.nbrun_top.specs.Loaded.{Accepts, Refuses}
 use Rattle.nbrun_top.specs.Ran.{SavesAs, Prepares, Ran, IsDelivered, read_of, text_of}
 use Rattle.nbrun_top.specs.Ran as ran
-use Rattle.nbrun_top.specs.Said.{Speech, Says}
-use Rattle.nbrun_top.specs.Said as said
+use Rattle.said_lines.proofs.SpeechLemmas.{says_since}
 use Rattle.nbrun_top.specs.Ended.{Answers, Ended, plain, not_said}
 use Rattle.save_disk.proofs.Laws.{part_of_save}
 use Rattle.nbrun_top.proofs.Saves.{EndsWith, ends_since, leaves_text}
-
--- ---- what is said changes no file
-
-speech_since : {text : List ℕ} {before : List Entry} {rest : List ℕ} {after : List Entry} → Speech text before rest after → Since (IsOf OnSay) before after
-speech_since said.none = start
-speech_since (said.more n before) = later (speech_since before) refl
-
-pub says_since : {text : List ℕ} {failed : Type 0} {before after : List Entry} → Says text failed before after → Since (IsOf OnSay) before after
-says_since (said.whole speech) = speech_since speech
-says_since (said.cut f speech) = speech_since speech
-says_since (said.refused f speech) = later (speech_since speech) refl
 
 -- ---- the status
 

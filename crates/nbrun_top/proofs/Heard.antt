@@ -13,10 +13,10 @@ use Rattle.world.specs.Moments.{Since, start, more as later}
 use Rattle.world.specs.Parts.{OnDisk, IsOf, part_of}
 use Rattle.nbrun_top.specs.Ran.{SavesAs, Prepares, Ran, text_of}
 use Rattle.nbrun_top.specs.Ran as ran
-use Rattle.nbrun_top.specs.Said.{Speech, Says, heard, said_of}
-use Rattle.nbrun_top.specs.Said as said
+use Rattle.nbrun_top.specs.Said.{said_of}
+use Rattle.said_lines.specs.Speech.{heard}
+use Rattle.said_lines.proofs.SpeechLemmas.{says_since, heard_text}
 use Rattle.nbrun_top.specs.Ended.{Ended, IsHeard}
-use Rattle.nbrun_top.proofs.Ends.{says_since}
 
 -- ---- the disk says nothing
 
@@ -48,18 +48,6 @@ ran_silent words e before after (ran.refused u is) = refl
 ran_silent words e before after (ran.not_built is) = refl
 ran_silent words e before after (ran.job a e_ after_ is prepares) = prepares_silent a e before after prepares
 ran_silent words e before after ran.no_memory = refl
-
--- ---- and then the text
-
--- what was said and what is left are the text
-speech_heard : {text : List ℕ} {before : List Entry} {rest : List ℕ} {after : List Entry} → Speech text before rest after → heard after ++ rest ≡ heard before ++ text
-speech_heard said.none = refl
-speech_heard (said.more {rest} {past} n before) = append_assoc (heard past) (take n rest) (drop n rest) ∙ ap (λ xs. heard past ++ xs) (take-append-drop n rest) ∙ speech_heard before
-
-heard_text : {text : List ℕ} {failed : Type 0} {before after : List Entry} → heard before ≡ [] → Says text failed before after → (heard after ≡ text) ⊎ (failed × said.IsFront (heard after) text)
-heard_text {text} {after = after} silent (said.whole speech) = inl (sym (append-nil (heard after)) ∙ speech_heard speech ∙ ap (λ h. h ++ text) silent)
-heard_text {text} silent (said.cut {rest} f speech) = inr (f, record { rest = rest; whole = speech_heard speech ∙ ap (λ h. h ++ text) silent })
-heard_text {text} silent (said.refused {rest} f speech) = inr (f, record { rest = rest; whole = speech_heard speech ∙ ap (λ h. h ++ text) silent })
 
 pub heard_lines : (words : List (List ℕ)) (code : ℕ) (rose cut : Type 0) (before after : List Entry) → Ended words code rose cut before after → before ≡ [] → IsHeard words code rose cut after
 heard_lines words code rose cut before after ended new =

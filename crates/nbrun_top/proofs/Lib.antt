@@ -1,4 +1,3 @@
-pub mod Rests
 pub mod Saves
 pub mod Spared
 pub mod Heard

@@ -30,8 +30,10 @@ use Rattle.nbrun_top.specs.Reported.{AreReports, report_of}
 use Rattle.nbrun_top.specs.Asked.{IsJob, IsNotBuilt, is_not_built}
 use Rattle.nbrun_top.specs.Codes.{code_of}
 use Rattle.nbrun_top.specs.Ended.{Answers, Ended}
-use Rattle.nbrun_top.specs.Lines.{said, line, save, saved}
-use Rattle.nbrun_top.specs.Said.{Says, said_of}
+use Rattle.said_lines.specs.Lines.{spoken_line, saved_line}
+use Rattle.nbrun_top.specs.Lines.{said, save}
+use Rattle.said_lines.specs.Speech.{Says}
+use Rattle.nbrun_top.specs.Said.{said_of}
 use Rattle.nbrun_top.specs.Loaded.{IsNotebook, HasNoTranslator, Accepts, Refuses}
 use Rattle.nbrun_top.specs.Ran.{SavesAs, Prepares, Ran, read_of, text_of}
 use Rattle.nbrun_top.specs.Ran as ran
@@ -57,12 +59,12 @@ pub some_text : (n : Notebook) (text : List ℕ) → text ≡ text_of n → 0 < 
 some_text n text is = omega (arith, ap length is, length-append (indented (notebook_tree n) []) (10 ∷ []))
 
 -- each report is a line of the save
-pub reports_of : (output : List ℕ) (cells : ℕ) (r : Reports) → r.done ≡ saved output cells ++ line output (codes "done")
-    → r.not_written ≡ line output (save fault.Write) → r.not_synced ≡ line output (save fault.Sync)
-    → r.not_renamed ≡ line output (save fault.Rename) → r.not_settled ≡ line output (save fault.DirSync) → AreReports output cells r
+pub reports_of : (output : List ℕ) (cells : ℕ) (r : Reports) → r.done ≡ saved_line output 0 cells ++ spoken_line output (codes "done")
+    → r.not_written ≡ spoken_line output (save fault.Write) → r.not_synced ≡ spoken_line output (save fault.Sync)
+    → r.not_renamed ≡ spoken_line output (save fault.Rename) → r.not_settled ≡ spoken_line output (save fault.DirSync) → AreReports output cells r
 reports_of output cells r d w s n f = record { done = d; failed = by }
   where
-    by : (x : SaveFault) → report_of r x ≡ line output (save x)
+    by : (x : SaveFault) → report_of r x ≡ spoken_line output (save x)
     by fault.Write = w
     by fault.Sync = s
     by fault.Rename = n
@@ -89,15 +91,6 @@ not_accepted_at a bytes e given why is past = refused_at a (found.Whole bytes) e
 
 pub saved_at : (a : Ask) (bytes : List ℕ) (n : Notebook) (e : End) → Accepts a bytes n → (past read after : List Entry) → read ≡ read_of a (found.Whole bytes) past → SavesAs a.output n read e after → Prepares a past e after
 saved_at a bytes n e accepted past read after is saved = ran.saves bytes n e after accepted (subst (λ r. SavesAs a.output n r e after) is saved)
-
--- ---- what is said
-
--- a count that rose isn't 0
-pub rose_above : (a b : ℕ) → Rose a b → 0 < b
-rose_above a b rose = grind (arith, common_steps)
-
-pub no_rest : (xs : List ℕ) → true ≡ (length xs == 0) → xs ≡ []
-no_rest xs e = nil_from_length xs (grind (arith, common_steps))
 
 -- ---- by what the words are
 

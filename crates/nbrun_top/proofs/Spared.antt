@@ -24,8 +24,8 @@ use Rattle.nb_model.specs.declared.notebook.Notebook.{Notebook}
 use Rattle.nbrun_top.specs.Asked.{IsJob}
 use Rattle.nbrun_top.specs.Ran.{SavesAs, Prepares, Ran, IsOther, IsUntouched, text_of}
 use Rattle.nbrun_top.specs.Ran as ran
-use Rattle.nbrun_top.specs.Said.{Speech, Says}
-use Rattle.nbrun_top.specs.Said as said
+use Rattle.said_lines.specs.Speech.{Speech, Says}
+use Rattle.said_lines.specs.Speech as said
 use Rattle.nbrun_top.specs.Ended.{Ended}
 
 -- ---- what a run doesn't write to

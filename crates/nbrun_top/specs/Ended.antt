@@ -6,7 +6,8 @@ use Rattle.world.specs.Parts.{OnSay, IsOf}
 use Rattle.nbrun_top.specs.declared.end.End.{End}
 use Rattle.nbrun_top.specs.Codes.{code_of}
 use Rattle.nbrun_top.specs.Ran.{Ran}
-use Rattle.nbrun_top.specs.Said.{Says, said_of, heard, IsFront}
+use Rattle.said_lines.specs.Speech.{Says, heard, IsFront}
+use Rattle.nbrun_top.specs.Said.{said_of}
 
 -- the status: that of the end, but 11 for a run that would answer 0 where saying failed
 pub data Answers (failed : Type 0) : ℕ → ℕ → Type 0 where

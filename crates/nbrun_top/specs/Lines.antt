@@ -8,14 +8,11 @@ use Rattle.nb_model.specs.declared.nb_fault.NbFault.{NbFault}
 use Rattle.nb_model.specs.declared.nb_fault.NbFault.TheVariants as nb_fault
 use Rattle.words.specs.declared.usage.Usage.{Usage}
 use Rattle.words.specs.declared.usage.Usage.TheVariants as usage_fault
+use Rattle.said_lines.specs.Lines.{spoken_line, saved_line}
 use Rattle.save_disk.specs.declared.save_fault.SaveFault.{SaveFault}
 use Rattle.save_disk.specs.Messages.{message}
 use Rattle.nbrun_top.specs.declared.end.End.{End}
 use Rattle.nbrun_top.specs.declared.end.End.TheVariants as end
-
--- the line that speaks of this and says that
-abbrev pub line : List ℕ → List ℕ → List ℕ
-line of what = of ++ codes ": " ++ what ++ 10 ∷ []
 
 -- a text and a place
 abbrev pub placed : List ℕ → ℕ → List ℕ
@@ -54,24 +51,20 @@ notebook nb_fault.NoMemory = []
 abbrev pub save : SaveFault → List ℕ
 save f = codes "cannot save: " ++ message f
 
--- the line of an acknowledged save of a notebook with so many cells, of which none was executed
-abbrev pub saved : List ℕ → ℕ → List ℕ
-saved output cells = codes "saved 0/" ++ decimal cells ++ codes " " ++ output ++ 10 ∷ []
-
 -- the last line of a run on that input and that output
 abbrev pub last : List ℕ → List ℕ → End → List ℕ
-last input output (end.Done cells) = line output (codes "done")
-last input output (end.Refused u) = line (codes "usage") (usage u)
-last input output end.NotRead = line output (codes "cannot read " ++ input)
-last input output end.TooLarge = line output (codes "too large")
-last input output (end.NotJson f) = line output (json f)
-last input output (end.NotNotebook f) = line output (notebook f)
-last input output (end.NoTranslator language) = line output (codes "no translator for " ++ quoted language)
-last input output (end.NotSaved f) = line output (save f)
-last input output end.NoMemory = line (codes "nbrun") (codes "no memory")
-last input output end.NotBuilt = line (codes "nbrun") (codes "not built")
+last input output (end.Done cells) = spoken_line output (codes "done")
+last input output (end.Refused u) = spoken_line (codes "usage") (usage u)
+last input output end.NotRead = spoken_line output (codes "cannot read " ++ input)
+last input output end.TooLarge = spoken_line output (codes "too large")
+last input output (end.NotJson f) = spoken_line output (json f)
+last input output (end.NotNotebook f) = spoken_line output (notebook f)
+last input output (end.NoTranslator language) = spoken_line output (codes "no translator for " ++ quoted language)
+last input output (end.NotSaved f) = spoken_line output (save f)
+last input output end.NoMemory = spoken_line (codes "nbrun") (codes "no memory")
+last input output end.NotBuilt = spoken_line (codes "nbrun") (codes "not built")
 
 -- all that is said: a save that was acknowledged, and the last line
 abbrev pub said : List ℕ → List ℕ → End → List ℕ
-said input output (end.Done cells) = saved output cells ++ last input output (end.Done cells)
+said input output (end.Done cells) = saved_line output 0 cells ++ last input output (end.Done cells)
 said input output e = last input output e

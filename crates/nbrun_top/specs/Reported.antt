@@ -3,7 +3,8 @@ use Rattle.std.specs.Prelude.{◌≡◌, ℕ, List, ◌++◌, codes}
 use Rattle.save_disk.specs.declared.save_fault.SaveFault.{SaveFault}
 use Rattle.save_disk.specs.declared.save_fault.SaveFault.TheVariants.{Write, Sync, Rename, DirSync}
 use Rattle.nbrun_top.specs.declared.reports.Reports.{Reports}
-use Rattle.nbrun_top.specs.Lines.{line, save, saved}
+use Rattle.said_lines.specs.Lines.{spoken_line, saved_line}
+use Rattle.nbrun_top.specs.Lines.{save}
 
 -- the report of a save that failed at this step
 abbrev pub report_of : Reports → SaveFault → List ℕ
@@ -14,5 +15,5 @@ report_of r DirSync = r.not_settled
 
 -- these are the lines of a save of the output, of a notebook with so many cells
 pub record AreReports (output : List ℕ) (cells : ℕ) (r : Reports) : Type 0 where
-  pub done : r.done ≡ saved output cells ++ line output (codes "done")
-  pub failed : (f : SaveFault) → report_of r f ≡ line output (save f)
+  pub done : r.done ≡ saved_line output 0 cells ++ spoken_line output (codes "done")
+  pub failed : (f : SaveFault) → report_of r f ≡ spoken_line output (save f)

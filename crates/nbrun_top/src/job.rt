@@ -4,7 +4,7 @@ ghost use Rattle.words.specs.declared.usage.Usage as usages;
 ghost use Rattle.world.specs.Counts.{DiskCause};
 ghost use Rattle.nbrun_top.specs.declared.end.End.TheVariants as ending;
 ghost use Rattle.save_disk.specs.declared.save_fault.SaveFault as fault;
-ghost use Rattle.nbrun_top.specs.Between.{Between, DiskRose};
+ghost use Rattle.said_lines.specs.Between.{Between, DiskRose};
 ghost use Rattle.nbrun_top.specs.Ran.{Prepares, SavesAs};
 ghost use Rattle.nbrun_top.specs.Said.{Speaks};
 

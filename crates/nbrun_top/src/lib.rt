@@ -12,7 +12,6 @@ mod loading;
 mod main_call;
 mod parts;
 mod reports;
-mod voice;
 mod why;
 
 pub use limits::Limits;

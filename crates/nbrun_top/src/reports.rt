@@ -5,9 +5,9 @@ ghost use Rattle.nbrun_top.specs.Reported.{AreReports, report_of};
 
 use crate::answer::Answer;
 use crate::end::End;
-use crate::lines::{line, saved};
 use crate::why;
 use jtext::{Bytes, NoMemory};
+use said_lines::{saved_line, spoken_line};
 use save_disk::SaveFault;
 use std::alloc::Global;
 
@@ -31,15 +31,15 @@ impl Reports {
     pub(crate) fn new(alloc: Global, output: &str, cells: usize) -> Result<Reports, NoMemory>
         ensures { IfOk result (AreReports output.now cells) }
     {
-        let last = line(alloc, output, b"done")?;
-        let mut done = saved(alloc, output, cells)?;
+        let last = spoken_line(alloc, output, b"done")?;
+        let mut done = saved_line(alloc, output, 0, cells)?;
         done.add(last.bytes())?;
         Ok(Reports {
             done,
-            not_written: line(alloc, output, why::save(SaveFault::Write).as_bytes())?,
-            not_synced: line(alloc, output, why::save(SaveFault::Sync).as_bytes())?,
-            not_renamed: line(alloc, output, why::save(SaveFault::Rename).as_bytes())?,
-            not_settled: line(alloc, output, why::save(SaveFault::DirSync).as_bytes())?,
+            not_written: spoken_line(alloc, output, why::save(SaveFault::Write).as_bytes())?,
+            not_synced: spoken_line(alloc, output, why::save(SaveFault::Sync).as_bytes())?,
+            not_renamed: spoken_line(alloc, output, why::save(SaveFault::Rename).as_bytes())?,
+            not_settled: spoken_line(alloc, output, why::save(SaveFault::DirSync).as_bytes())?,
         })
     }
 

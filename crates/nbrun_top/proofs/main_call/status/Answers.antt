@@ -2,7 +2,7 @@ use Rattle.std.proofs.Common.{◌≡◌, ◌<◌, map, string_bytes, sym, ap, su
 use Rattle.world.proofs.MomentsLemmas.{told_then, told_as}
 use Rattle.world.specs.Counts.{Counts}
 use Rattle.world.specs.Moments.{Told}
-use Rattle.nbrun_top.specs.Said.{heard}
+use Rattle.said_lines.specs.Speech.{heard}
 use Rattle.nbrun_top.proofs.Heard.{ran_silent}
 use Rattle.nbrun_top.proofs.Runs.{said_text, ended_at}
 use Rattle.nbrun_top.proofs.main_call.status.Goals as goal

@@ -1,13 +1,13 @@
 //! What is said to the user, as long as nothing that was said failed.
 ghost use Rattle.std.specs.Prelude.{◌≡◌, ◌<◌, ◌≤◌, true, false};
 ghost use Rattle.world.specs.Counts.{SayCause, Rose};
-ghost use Rattle.nbrun_top.specs.Between.{Between, SayFailed};
-ghost use Rattle.nbrun_top.specs.Said.{Says};
+ghost use Rattle.said_lines.specs.Between.{Between, SayFailed};
+ghost use Rattle.said_lines.specs.Speech.{Says};
 
 use world::{Say, Wrote};
 
-/// Whether the count of what couldn't be said has risen since it was this.
-pub(crate) fn has_risen<W: Say>(w: &W, faults: u64) -> bool
+/// Whether the count of failed says has risen since it was this.
+pub fn has_risen<W: Say>(w: &W, faults: u64) -> bool
     requires { faults ≤ (W.counts w.now).say }
     ensures risen { result ≡ true → Rose faults (W.counts w.now).say }
     ensures still { result ≡ false → Rose faults (W.counts w.now).say → ⊥ }
@@ -17,7 +17,7 @@ pub(crate) fn has_risen<W: Say>(w: &W, faults: u64) -> bool
 }
 
 /// Says the text piece by piece, while no say has failed: once one has, nothing more is said.
-pub(crate) fn say<W: Say>(w: &mut W, text: &[u8])
+pub fn say<W: Say>(w: &mut W, text: &[u8])
     ensures tells { Between W.journal w.old w.new (Says text.now (SayFailed W.counts w.new)) }
     ensures silent { SayFailed W.counts w.old → W.journal w.new ≡ W.journal w.old }
     ensures counts { SayCause (W.counts w.old) (W.counts w.new) ⊥ }

@@ -1,10 +1,10 @@
 use Rattle.std.proofs.Common.{refl, subst, arith}
 use Rattle.std.proofs.lemmas.Grind.{common_steps}
 use Rattle.world.proofs.MomentsLemmas.{told_start, told_one, told_as}
-use Rattle.nbrun_top.specs.Said.{Speech, none, more, whole, cut, refused}
-use Rattle.nbrun_top.proofs.Rests.{whole_rest}
-use Rattle.nbrun_top.proofs.Runs.{rose_above, no_rest}
-use Rattle.nbrun_top.proofs.voice.say_while_heard.Goals as goal
+use Rattle.said_lines.specs.Speech.{Speech, none, more, whole, cut, refused}
+use Rattle.said_lines.proofs.Rests.{whole_rest}
+use Rattle.said_lines.proofs.SpeechLemmas.{rose_above, no_rest}
+use Rattle.said_lines.proofs.voice.say_while_heard.Goals as goal
 
 pub loop-rest-init : goal.loop-rest-init
 loop-rest-init g c = record { entries = told_start (λ before. none); cause = grind (arith, common_steps) }
