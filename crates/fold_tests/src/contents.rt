@@ -1,5 +1,6 @@
-//! Contents as ipykernel, xeus and IRkernel send them, contents that lack what they need, and what is sent.
-use crate::{
+//! Contents as ipykernel, xeus and IRkernel send them, contents that lack what they need, and what
+//! is sent.
+use jcontent::{
     Content, ReplyIs, Shown, State, empty_content, execute_content, read, shutdown_content,
 };
 use jtext::{Bytes, Json, NoMemory, NumText, Text, Texts, write_compact};
