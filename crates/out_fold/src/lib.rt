@@ -11,6 +11,7 @@ mod folds;
 mod joining;
 mod kind;
 mod latest;
+pub mod laws;
 mod message;
 mod parts;
 mod places;
