@@ -1,12 +1,12 @@
 -- Which lists of messages a fold stands for, and which cells may have changed since.
-use Rattle.std.specs.Prelude.{◌≡◌, ℕ, ◌==◌, Bool, true, false, List, [], ◌∷◌, if◌then◌else◌}
+use Rattle.std.specs.Prelude.{◌≡◌, ℕ, ◌<◌, ◌==◌, Bool, true, false, List, [], ◌∷◌, if◌then◌else◌}
 use Rattle.std.specs.List.{list_any}
 use Rattle.display_index.specs.Standing.{Call}
 use Rattle.display_index.specs.Held as index
 use Rattle.out_fold.specs.declared.fold.Fold.{Fold}
 use Rattle.out_fold.specs.Live.{live}
 use Rattle.out_fold.specs.Names.{has_id}
-use Rattle.out_fold.specs.Placing.{has_place}
+use Rattle.out_fold.specs.Placing.{has_place, IsWithin}
 use Rattle.out_fold.specs.Cells.{Used, contents, outputs_of, count_of, dates_of}
 use Rattle.out_fold.specs.Held as inner
 use Rattle.out_fold.specs.Plans.{is_in}
@@ -35,12 +35,14 @@ abbrev pub touched_of : Fold → List ℕ
 touched_of f = f.touched
 
 -- The fold has been given these messages, for the requests of these cells: it holds what they leave, and its index
--- knows the cells of each display id.
+-- knows the cells of each display id. The places and the touched cells are among the cells of the notebook.
 pub record StandsFor (f : Fold) (us : List Used) : Type 0 where
   pub held : inner.Holds f.held us
   pub calls : List Call
   pub told : index.StandsFor f.index calls
   pub found : (id : List ℕ) (cell : ℕ) → has_output us id cell ≡ true → has_place calls id cell ≡ true
+  pub within : IsWithin (cells_of f) calls
+  pub touches : (n : ℕ) → is_in (touched_of f) n ≡ true → n < cells_of f
 
 -- what is saved of the cell is the same
 pub record SameCell (merge : Bool) (was us : List Used) (cell : ℕ) : Type 0 where

@@ -24,7 +24,7 @@ pub struct Fold {
 }
 
 impl Fold {
-    ghost use Rattle.std.specs.Prelude.{◌≡◌, ℕ, ◌+◌, ◌<◌, ◌≤◌, List as Plain, [], ◌∷◌, ◌++◌, true, false, IfOk, OnOk, OnErr, unwrap_or};
+    ghost use Rattle.std.specs.Prelude.{◌≡◌, ℕ, ◌+◌, ◌<◌, ◌≤◌, List as Plain, [], ◌∷◌, ◌++◌, true, All, IfOk, OnOk, OnErr};
     ghost use Rattle.std.specs.Option.{option_copied};
     ghost use Rattle.display_index.specs.Standing.{Call};
     ghost use Rattle.display_index.specs.Held as ids;
@@ -135,6 +135,8 @@ impl Fold {
     /// The cells that may have changed since the last `rest`, or since the fold was made, in increasing order.
     pub fn touched(&self) -> &Plan
         ensures sorted { increases result.now ≡ true }
+        ensures below { (us : Plain Used) → StandsFor self.now us
+            → All (λ n. n < cells_of self.now) result.now }
         ensures cells { result.now ≡ touched_of self.now }
     {
         &self.touched

@@ -22,7 +22,7 @@ pub(crate) fn place(
 ) -> Result<(), NoMemory>
     requires { option_copied name ≡ names.name_of c.now }
     ensures ok { OnOk result ((calls : Plain Call) → ids.StandsFor index.old calls → spec.Placed calls index.new c.now cell) }
-    ensures err { OnErr result ((calls : Plain Call) → ids.StandsFor index.old calls → spec.Grown calls index.new) }
+    ensures err { OnErr result ((calls : Plain Call) → ids.StandsFor index.old calls → spec.Grown calls index.new cell) }
 {
     match name {
         Some(id) => place_named(index, cell, at, c, id),
@@ -39,7 +39,7 @@ fn place_named(
 ) -> Result<(), NoMemory>
     requires { names.name_of c.now ≡ Some id.now }
     ensures ok { OnOk result ((calls : Plain Call) → ids.StandsFor index.old calls → spec.Placed calls index.new c.now cell) }
-    ensures err { OnErr result ((calls : Plain Call) → ids.StandsFor index.old calls → spec.Grown calls index.new) }
+    ensures err { OnErr result ((calls : Plain Call) → ids.StandsFor index.old calls → spec.Grown calls index.new cell) }
 {
     if appends(c) {
         place_output(index, cell, at, c, id)
@@ -57,7 +57,7 @@ fn place_output(
 ) -> Result<(), NoMemory>
     requires { names.name_of c.now ≡ Some id.now }
     ensures ok { OnOk result ((calls : Plain Call) → ids.StandsFor index.old calls → spec.Placed calls index.new c.now cell) }
-    ensures err { OnErr result ((calls : Plain Call) → ids.StandsFor index.old calls → spec.Grown calls index.new) }
+    ensures err { OnErr result ((calls : Plain Call) → ids.StandsFor index.old calls → spec.Grown calls index.new cell) }
 {
     if last_is_in(index.places(id), cell) {
         Ok(())

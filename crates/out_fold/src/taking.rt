@@ -60,7 +60,7 @@ pub(crate) fn take_placed(
     ensures stands { OnOk result ((us : Plain Used) (u : Used) → Holds held.old (us ++ u ∷ []) → Holds held.new (us ++ with_message u c.now (option_copied date.entry) ∷ [])) }
     ensures settled { OnOk result ((calls : Plain Call) → ids.StandsFor index.old calls → Settled calls index.new c.now cell) }
     ensures still { OnErr result ((us : Plain Used) → Holds held.old us → Holds held.new us) }
-    ensures grown { OnErr result ((calls : Plain Call) → ids.StandsFor index.old calls → Grown calls index.new) }
+    ensures grown { OnErr result ((calls : Plain Call) → ids.StandsFor index.old calls → Grown calls index.new cell) }
 {
     let at = held.outputs_held();
     place(index, cell, at, c, name_of(c))?;
