@@ -11,3 +11,4 @@ pub mod RightClosing
 pub mod Runs
 pub mod OverRuns
 pub mod InOrder
+pub mod Looks

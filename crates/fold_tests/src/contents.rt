@@ -104,7 +104,8 @@ fn first_wrong<'a>(alloc: Global, rows: &'a str) -> Result<Option<&'a str>, Fail
     Ok(None)
 }
 
-/// Keys that the standard doesn't name, `transient` absent or empty, bundles of strings and of lists of strings.
+/// Keys that the standard doesn't name, `transient` absent or empty, bundles of strings and of
+/// lists of strings.
 const SENT_BY_KERNELS: &str = r#"status {"execution_state":"busy"} -> busy
 status {"execution_state":"idle","x":1} -> idle
 status {"execution_state":"starting"} -> else

@@ -4,7 +4,7 @@ ghost use Rattle.cell_core.specs.Events.{is_saved};
 ghost use Rattle.cell_core.specs.Holds.{is_save, IsSmall};
 ghost use Rattle.cell_core.specs.StandsFor.{awaits_saved_of};
 
-use crate::{Act, Brief, Core, Event, Times, Why, allowed};
+use cell_core::{Act, Brief, Core, Event, Times, Why, allowed};
 use jcontent::ReplyIs;
 use jtext::{Text, Texts};
 use nb_model::Plan;
@@ -83,8 +83,11 @@ fn an_interrupt_that_is_not_answered_times_out(rt: HostRuntime) -> Result<(), Fa
     tell(&rt, &mut core, Event::Ready, false, Act::Send(0));
     assert_eq!(rt; core.due(), Some(1020));
     tell(&rt, &mut core, Event::Moment(1019), false, Act::Nothing);
+    assert!(rt; !core.wants_look());
     tell(&rt, &mut core, Event::Moment(1030), false, Act::Look);
+    assert!(rt; core.wants_look());
     tell(&rt, &mut core, Event::Looked, false, Act::Interrupt);
+    assert!(rt; !core.wants_look());
     assert_eq!(rt; core.due(), Some(11030));
     tell(&rt, &mut core, Event::Moment(11030), false, Act::Look);
     tell(&rt, &mut core, Event::Looked, false, Act::Save(1));
@@ -117,6 +120,7 @@ fn a_reply_at_the_last_look_beats_its_deadline(rt: HostRuntime) -> Result<(), Fa
         true,
         Act::Nothing,
     );
+    assert!(rt; !core.wants_look());
     tell(&rt, &mut core, Event::Looked, false, Act::Nothing);
     assert_eq!(rt; core.due(), Some(5000));
     tell(&rt, &mut core, Event::Moment(5000), false, Act::Look);

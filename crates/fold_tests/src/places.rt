@@ -1,5 +1,5 @@
 //! Places after additions and clears.
-use crate::{Index, Place};
+use display_index::{Index, Place};
 use jtext::{NoMemory, Text};
 use std::alloc::Global;
 use std::test::Fail;

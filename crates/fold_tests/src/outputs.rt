@@ -2,9 +2,9 @@
 ghost use Rattle.std.specs.Prelude.{◌≡◌, ◌<◌, IfOk};
 ghost use Rattle.out_fold.specs.Stands.{cells_of, next_of};
 
-use crate::Fold;
 use jcontent::{Content, Shown, State};
 use jtext::{Bytes, Fields, Json, NoMemory, NumText, Text, Texts, write_compact};
+use out_fold::Fold;
 use std::alloc::Global;
 use std::test::Fail;
 
@@ -23,8 +23,8 @@ fn shown(alloc: Global, key: &str, id: &str, text: &str) -> Result<Shown, NoMemo
     })
 }
 
-/// `stream NAME TEXT`, `show ID TEXT`, `update ID TEXT`, `result COUNT TEXT`, `input COUNT`, `error NAME TEXT`,
-/// `data KEY TEXT`, `clear now`, `clear later`, `status idle`.
+/// `stream NAME TEXT`, `show ID TEXT`, `update ID TEXT`, `result COUNT TEXT`, `input COUNT`,
+/// `error NAME TEXT`, `data KEY TEXT`, `clear now`, `clear later`, `status idle`.
 fn content(alloc: Global, line: &str) -> Result<Content, NoMemory> {
     let (kind, rest) = line.split_once(' ').unwrap_or((line, ""));
     let (first, second) = rest.split_once(' ').unwrap_or((rest, ""));
@@ -81,16 +81,16 @@ fn outputs_of(alloc: Global, merge: bool, lines: &str) -> Result<Bytes, NoMemory
     said(alloc, &fold, 0)
 }
 
-/// Whether each row `MESSAGES -> OUTPUTS` holds of one cell.
-fn hold(alloc: Global, merge: bool, rows: &str) -> Result<bool, NoMemory> {
+/// The first of the rows `MESSAGES -> OUTPUTS` that doesn't hold of one cell.
+fn first_wrong<'a>(alloc: Global, merge: bool, rows: &'a str) -> Result<Option<&'a str>, NoMemory> {
     for row in rows.split('\n') {
         let (messages, outputs) = row.split_once(" -> ").unwrap_or((row, ""));
         let said = outputs_of(alloc, merge, messages)?;
         if said.bytes() != outputs.as_bytes() {
-            return Ok(false);
+            return Ok(Some(row));
         }
     }
-    Ok(true)
+    Ok(None)
 }
 
 const CLEARS: &str =
@@ -122,22 +122,22 @@ const UPDATED: &str =
 
 #[test]
 fn clears_act_as_they_say(rt: HostRuntime) -> Result<(), Fail> {
-    let hold = hold(rt.alloc(), false, CLEARS)?;
-    assert!(rt; hold);
+    let wrong = first_wrong(rt.alloc(), false, CLEARS)?;
+    assert!(rt; wrong.is_none(), "{wrong:?}");
     Ok(())
 }
 
 #[test]
 fn outputs_are_stored_as_nbformat_writes_them(rt: HostRuntime) -> Result<(), Fail> {
-    let hold = hold(rt.alloc(), false, STORED)?;
-    assert!(rt; hold);
+    let wrong = first_wrong(rt.alloc(), false, STORED)?;
+    assert!(rt; wrong.is_none(), "{wrong:?}");
     Ok(())
 }
 
 #[test]
 fn neighbouring_streams_of_one_name_are_joined(rt: HostRuntime) -> Result<(), Fail> {
-    let hold = hold(rt.alloc(), true, JOINED)?;
-    assert!(rt; hold);
+    let wrong = first_wrong(rt.alloc(), true, JOINED)?;
+    assert!(rt; wrong.is_none(), "{wrong:?}");
     Ok(())
 }
 
@@ -214,7 +214,8 @@ fn all_are(
     Ok(items.len() == outputs)
 }
 
-/// A fold of two cells: many outputs of one display in the first, and one in the second, which updates it.
+/// A fold of two cells: many outputs of one display in the first, and one in the second, which
+/// updates it.
 fn updated(alloc: Global, outputs: u32) -> Result<Fold, NoMemory>
     ensures { IfOk result (λ f. cells_of f ≡ 2) }
 {

@@ -3,9 +3,9 @@ ghost use Rattle.std.specs.Prelude.{◌≡◌, ◌<◌, ◌≤◌, length};
 ghost use Rattle.out_fold.specs.Stands.{cells_of, next_of};
 ghost use Rattle.out_fold.specs.Plain.{used_of};
 
-use crate::{Fold, PlainFold};
 use jcontent::{Content, ReplyIs, Shown, State};
 use jtext::{Fields, Json, NoMemory, NumText, Text, Texts, write_compact};
+use out_fold::{Fold, PlainFold};
 use std::alloc::Global;
 use std::test::Fail;
 
