@@ -1,4 +1,4 @@
--- What a message tells the index of display ids.
+-- Bookkeeping: what a message tells the index of display ids.
 use Rattle.std.specs.Prelude.{◌≡◌, ℕ, ◌<◌, ◌==◌, Bool, true, List, [], ◌∷◌, ◌++◌, Option, Some, None, if◌then◌else◌}
 use Rattle.std.specs.List.{list_any}
 use Rattle.jcontent.specs.declared.content.Content.{Content}

@@ -1,4 +1,4 @@
--- Cells in increasing order.
+-- Bookkeeping: cells in increasing order, among them the touched ones.
 use Rattle.std.specs.Prelude.{◌≡◌, ℕ, ◌==◌, ◌+◌, Bool, true, false, List, [], ◌∷◌, ◌&&◌, ◌||◌, nat_lt, Option, Some, None, if◌then◌else◌}
 use Rattle.std.specs.List.{list_any, list_all, remove}
 use Rattle.display_index.specs.declared.place.Place.{Place}

@@ -9,8 +9,8 @@ ghost use Rattle.nb_model.specs.Values.{is_count};
 ghost use Rattle.out_fold.specs.Cells.{Used, outputs_of, count_of, dates_of};
 ghost use Rattle.out_fold.specs.Fit.{AreRead, AreTexts};
 
-/// Where all contents were read of messages, each output of a cell is an output of nbformat in which
-/// no object has a key twice, nested at most 100 deep.
+/// Where all contents were read of messages, each output of a cell is an output of nbformat in
+/// which no object has a key twice, nested at most 100 deep.
 pub fn outputs_fit()
     ensures fit { (merge : Bool) (us : List Used) (cell : ℕ) → AreRead us
         → All IsFitOutput (outputs_of merge us cell) }

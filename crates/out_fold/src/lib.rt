@@ -1,5 +1,5 @@
-//! The outputs, count and dates of executed cells, folded from the messages that were used for their requests
-//! (Jupyter messaging 5.3, nbformat 4.5). Values only; it does no IO.
+//! The outputs, count and dates of executed cells, folded from the messages that were used for
+//! their requests (Jupyter messaging 5.3, nbformat 4.5). Values only; it does no IO.
 #![tactic(auto)]
 
 mod before;
@@ -17,13 +17,9 @@ mod parts;
 mod places;
 mod plain_fold;
 mod plans;
-#[cfg(test)]
-mod random_tests;
 mod render;
 mod standing;
 mod taking;
-#[cfg(test)]
-mod tests;
 mod tree;
 mod used;
 
