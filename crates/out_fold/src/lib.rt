@@ -24,4 +24,6 @@ mod tree;
 mod used;
 
 pub use fold::Fold;
+pub use message::Message;
 pub use plain_fold::PlainFold;
+pub use used::Used;
