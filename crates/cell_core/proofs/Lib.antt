@@ -12,3 +12,4 @@ pub mod Runs
 pub mod OverRuns
 pub mod InOrder
 pub mod Looks
+pub mod AskedWhereDue

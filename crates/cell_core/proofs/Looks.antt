@@ -1,5 +1,5 @@
 -- When a last look is wanted, and that the clock is read in time where none is.
-use Rattle.std.proofs.Common.{◌≡◌, ℕ, ◌≤◌, List, Bool, true, false, not, ◌&&◌, ◌||◌, Option, Some, None, is_some, is_none, refl, sym, ap, ap₂, ◌∙◌, true≢false}
+use Rattle.std.proofs.Common.{◌≡◌, ℕ, ◌≤◌, List, Bool, true, false, not, ◌&&◌, ◌||◌, Option, Some, None, is_some, is_none, refl, sym, ap, ap₂, ◌∙◌, true≢false, inl, inr}
 use Rattle.std.proofs.lemmas.Bool.{and_parts}
 use Rattle.cell_core.specs.declared.event.Event.{Event}
 use Rattle.cell_core.specs.declared.event.Event.TheVariants.{Moment}
@@ -13,7 +13,8 @@ use Rattle.cell_core.specs.Requests.{Standing}
 use Rattle.cell_core.specs.Deadlines.{passed_by}
 use Rattle.cell_core.specs.Saves.{why, unacked}
 use Rattle.cell_core.specs.Holds.{awaits, is_past, looks_in}
-use Rattle.cell_core.specs.Acts.{is_empty, heard, due_at, awaits_saved, calls_for_look, wants_look_of, IsTimely}
+use Rattle.cell_core.specs.Acts.{has_stopped, is_empty, heard, due_at, awaits_saved, calls_for_look, wants_look_of, IsTimely}
+use Rattle.cell_core.specs.Laws.{GoesOn}
 use Rattle.cell_core.specs.StandsFor.{Hears, IsAt}
 use Rattle.cell_core.proofs.Requests.{standing_is, standing_none}
 use Rattle.cell_core.proofs.SavesLemmas.{over_not_passed, why_none_on}
@@ -47,7 +48,7 @@ looks_is task clock lost (Running k fatal idle due interrupted) events a w =
     (called a.hears _ due (ap (λ (v : Option Standing). due_at task v (heard task events)) (standing_is a.stands) ∙ a.until))
 looks_is task clock lost (Passing k) events a w = saved_first _ _ _ w
 looks_is task clock lost Closing events a w = saved_first _ _ _ w
-looks_is task clock lost (Failing k why) events a w = saved_first _ _ _ w
+looks_is task clock lost (Failing k cause) events a w = saved_first _ _ _ w
 looks_is task clock lost (Stopped failing) events a w =
     stopped_first _ _ _ (and_parts (is_some (why task (heard task events))) (is_empty (unacked task (heard task events))) a.stopped).0
 
@@ -62,3 +63,16 @@ no_call true c (Some w) u g h = absurd (true≢false g)
 pub timely : (task : Task) (t : ℕ) (events : List Event) → awaits_saved task events ≡ false → wants_look_of task events ≡ false → time (heard task events) ≤ t → IsTimely task (Moment t) events
 timely task t events u h le =
     λ g. (le, no_call (is_empty (unacked task (heard task events))) (calls_for_look task (heard task events)) (why task (heard task events)) u g h)
+
+-- ---- without the state
+
+pub goes_on_is : (task : Task) (clock : Clock) (lost : Bool) (state : State) (events : List Event) → IsAt task clock lost state (heard task events) → awaits state ≡ false
+    → has_stopped task (heard task events) ≡ false → GoesOn task (heard task events)
+goes_on_is task clock lost Preparing events a w on = absurd (true≢false w)
+goes_on_is task clock lost (Starting due) events a w on = inl (standing_none a.reached, a.reached.acknowledged)
+goes_on_is task clock lost (Running k fatal idle due interrupted) events a w on =
+    inr (record { request = k; later = a.later }, standing_is a.stands, a.on, a.stands.reached.acknowledged)
+goes_on_is task clock lost (Passing k) events a w on = absurd (true≢false w)
+goes_on_is task clock lost Closing events a w on = absurd (true≢false w)
+goes_on_is task clock lost (Failing k cause) events a w on = absurd (true≢false w)
+goes_on_is task clock lost (Stopped failing) events a w on = absurd (true≢false (sym a.stopped ∙ on))
