@@ -1,7 +1,8 @@
 -- Requests as a crate above the fold writes them: the record of a request, and what is read of it.
 use Rattle.std.specs.Prelude.{ℕ, List, [], ◌∷◌, length, Option, Some, None}
 use Rattle.jcontent.specs.declared.content.Content.TheVariants as content
-use Rattle.out_fold.specs.Cells.{Message, Used}
+use Rattle.out_fold.specs.declared.message.Message.{Message}
+use Rattle.out_fold.specs.declared.used.Used.{Used}
 
 -- the request of the cell, with these messages and no reply
 abbrev pub told : ℕ → List Message → Used
