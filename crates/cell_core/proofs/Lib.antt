@@ -11,3 +11,5 @@ pub mod RightClosing
 pub mod Runs
 pub mod OverRuns
 pub mod InOrder
+pub mod Looks
+pub mod AskedWhereDue

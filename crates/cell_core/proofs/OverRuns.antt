@@ -106,7 +106,7 @@ standing_by task n events r (Some later) e before h =
     subst (λ (q : Standing). after task q.request events ≡ Some q.later) same e
 standing_by task n events r None e before h = before (sym (ap (λ (x : Option (List Event)). or_before n x (last_below task n events)) e) ∙ h)
 
-standing_after : (task : Task) (n : ℕ) (events : List Event) (r : Standing) → last_below task n events ≡ Some r → after task r.request events ≡ Some r.later
+pub standing_after : (task : Task) (n : ℕ) (events : List Event) (r : Standing) → last_below task n events ≡ Some r → after task r.request events ≡ Some r.later
 standing_after task zero events r h = (let clash : None ≡ Some r = h in absurd (cc))
 standing_after task (suc n) events r h = standing_by task n events r (after task n events) refl (λ e. standing_after task n events r e) h
 
@@ -118,7 +118,7 @@ since_empty test event past None e h =
       | inr fails ↦ (let clash : None ≡ Some [] = sym (since_none test event past e fails) ∙ h in absurd (cc))
     ]
 
-free_of : (task : Task) (k : ℕ) (event : Event) (past : List Event) → after task k (event ∷ past) ≡ Some [] → IsFree task k event past
+pub free_of : (task : Task) (k : ℕ) (event : Event) (past : List Event) → after task k (event ∷ past) ≡ Some [] → IsFree task k event past
 free_of task zero event past h = since_empty both_came event past (since both_came past) refl h
 free_of task (suc k) event past h = next_parts task k event past (since_empty (is_next task k (after task k)) event past (after task (suc k) past) refl h)
 

@@ -89,6 +89,11 @@ awaits_saved task events = not (is_empty (unacked task (heard task events)))
 abbrev pub calls_for_look : Task → List Event → Bool
 calls_for_look task events = held is_lost events || passed_by (due_at task (standing task events) events) events
 
+-- A last look is to be made now: one is called for, no save is awaited and nothing stops the job.
+abbrev pub wants_look_of : Task → List Event → Bool
+wants_look_of task events =
+    not (awaits_saved task events) && is_none (why task (heard task events)) && calls_for_look task (heard task events)
+
 -- The clock never falls, and isn't read while a last look is called for.
 abbrev pub IsTimely : Task → Event → List Event → Type 0
 IsTimely task (Moment t) past = has_stopped task (heard task past) ≡ false → (time (heard task past) ≤ t) × (calls_for_look task (heard task past) ≡ false)

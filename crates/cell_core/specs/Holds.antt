@@ -1,5 +1,5 @@
 -- What a core holds.
-use Rattle.std.specs.Prelude.{ℕ, Some, None, Option, Bool, true, false, ◌+◌, ◌&&◌, ◌<◌, ◌^◌, nat_le}
+use Rattle.std.specs.Prelude.{ℕ, Some, None, Option, Bool, true, false, ◌+◌, ◌&&◌, ◌||◌, ◌<◌, ◌^◌, nat_le}
 use Rattle.cell_core.specs.declared.event.Event.{Event}
 use Rattle.cell_core.specs.declared.event.Event.TheVariants.{Moment, Lost}
 use Rattle.cell_core.specs.declared.act.Act.{Act}
@@ -72,6 +72,12 @@ lost_after lost _ = lost
 abbrev pub is_past : Clock → Option ℕ → Bool
 is_past clock None = false
 is_past clock (Some due) = is_turned clock && nat_le due (now_of clock)
+
+-- the kernel was found lost, or a turn's entry at or past the deadline that stands was read, and no save is awaited
+abbrev pub looks_in : Clock → Bool → State → Bool
+looks_in clock lost (Starting due) = lost || is_past clock due
+looks_in clock lost (Running k fatal idle due interrupted) = lost || is_past clock due
+looks_in clock lost _ = false
 
 -- a moment that the clock can give
 abbrev pub IsSmall : Event → Type 0

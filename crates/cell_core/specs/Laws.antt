@@ -1,12 +1,13 @@
 -- What holds of every list of events.
-use Rattle.std.specs.Prelude.{ℕ, zero, suc, List, [], ◌∷◌, ◌++◌, Some, true, false, ◌≡◌, map}
+use Rattle.std.specs.Prelude.{ℕ, zero, suc, List, [], ◌∷◌, ◌++◌, ◌+◌, ◌⊎◌, None, Some, true, false, ◌≡◌, map}
 use Rattle.cell_core.specs.declared.event.Event.{Event}
 use Rattle.cell_core.specs.declared.event.Event.TheVariants.{Saved}
 use Rattle.cell_core.specs.declared.why.Why.{Why}
 use Rattle.cell_core.specs.declared.act.Act.{Act}
 use Rattle.cell_core.specs.declared.act.Act.TheVariants.{Save}
 use Rattle.cell_core.specs.Task.{Task, cell_of}
-use Rattle.cell_core.specs.Requests.{after, both_came, is_over, is_passed_in}
+use Rattle.cell_core.specs.Requests.{after, both_came, is_over, is_passed_in, Standing, standing}
+use Rattle.cell_core.specs.Events.{acked}
 use Rattle.cell_core.specs.Saves.{Prefix, saves, unacked, why}
 use Rattle.cell_core.specs.Acts.{act_of, heard, has_stopped}
 
@@ -42,6 +43,20 @@ asked_for task (event ∷ past) = asked_for task past ++ settled_by (act_of task
 -- how many cells each of these saves settles
 abbrev pub settles : List Prefix → List ℕ
 settles xs = map (λ (p : Prefix). p.settled) xs
+
+-- A request comes to stand at the newest event, and it is the last.
+pub record ComesToStand (task : Task) (k : ℕ) (events : List Event) : Type 0 where
+  pub last : Standing
+  pub stands : standing task events ≡ Some last
+  pub request_is : last.request ≡ k
+  pub new : last.later ≡ []
+
+-- A job that goes on and awaits no save: the kernel is awaited after the first save, or the last request stands, isn't
+-- over, and each save before it is acknowledged.
+abbrev pub GoesOn : Task → List Event → Type 0
+GoesOn task events =
+    ((standing task events ≡ None) × (acked events ≡ 1))
+    ⊎ ((last : Standing) × (standing task events ≡ Some last) × (is_over last.later ≡ false) × (acked events ≡ last.request + 1))
 
 -- The saves that were asked for are the first of those that are due, in order, and once the job has stopped they are all.
 -- The first, with no cell settled, is asked for before any event.

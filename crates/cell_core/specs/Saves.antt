@@ -109,6 +109,7 @@ why_not_done task last events =
     else if looked is_lost events then Some KernelLost
     else late_cause task last events
 
+-- why the job stops, if it does
 abbrev pub why : Task → List Event → Option Why
 why task events = if is_done task events then Some Done else why_not_done task (standing task events) events
 

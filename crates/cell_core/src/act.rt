@@ -10,7 +10,8 @@ pub enum Act {
     Start,
     /// Queue the request of the cell with this index, counted from 0 in the notebook.
     Send(u32),
-    /// Make a last look at what has arrived, and tell the core of it before the clock is read again.
+    /// Make a last look at what has arrived, and tell the core of it before the clock is read
+    /// again.
     Look,
     /// Queue an interrupt of the request that stands.
     Interrupt,

@@ -7,8 +7,8 @@ ghost use Rattle.cell_core.specs.Allowed.{is_allowed};
 use jcontent::ReplyIs;
 use jtext::{Text, Texts};
 
-/// Whether the job goes on after this reply: it is no error, or errors are allowed for all cells, or
-/// the exception's name is among `names`, or the cell is tagged `raises-exception`.
+/// Whether the job goes on after this reply: it is no error, or errors are allowed for all cells,
+/// or the exception's name is among `names`, or the cell is tagged `raises-exception`.
 pub fn allowed(r: &ReplyIs, all: bool, names: &Texts, tagged: bool) -> bool
     ensures { result ≡ is_allowed r.now all names.now tagged }
 {

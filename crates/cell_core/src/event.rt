@@ -15,7 +15,8 @@ pub enum Event {
         /// Whether it stops the job.
         fatal: bool,
     },
-    /// The clock was read, in milliseconds since 1970-01-01 UTC: first at the child's start, then once a turn.
+    /// The clock was read, in milliseconds since 1970-01-01 UTC: first at the child's start, then
+    /// once a turn.
     Moment(u64),
     /// A last look is done: what had arrived was told.
     Looked,

@@ -1,33 +1,83 @@
 //! What holds of every list of events, by the definitions that the core's calls answer by.
-ghost use Rattle.std.specs.Prelude.{◌≡◌, ℕ, ◌<◌, List, ◌∷◌};
+ghost use Rattle.std.specs.Prelude.{◌≡◌, ℕ, ◌<◌, ◌≤◌, false, None, List, [], ◌∷◌};
 ghost use Rattle.std.specs.Option.{ForSome};
 ghost use Rattle.cell_core.specs.declared.event.Event.{Event};
+ghost use Rattle.cell_core.specs.declared.event.Event.TheVariants.{Moment};
+ghost use Rattle.cell_core.specs.Events.{time};
 ghost use Rattle.cell_core.specs.declared.why.Why.{Why};
 ghost use Rattle.cell_core.specs.declared.act.Act.TheVariants.{Send, Save, Stop};
-ghost use Rattle.cell_core.specs.Task.{Task};
-ghost use Rattle.cell_core.specs.Acts.{act_of, heard, Meets};
-ghost use Rattle.cell_core.specs.Laws.{IsOpen, IsSent, IsAskedFor, StopsBy, AsksInOrder};
+ghost use Rattle.cell_core.specs.Task.{Task, cell_of};
+ghost use Rattle.cell_core.specs.Acts.{act_of, heard, has_stopped, awaits_saved, wants_look_of, IsTimely, Meets};
+ghost use Rattle.cell_core.specs.Laws.{IsOpen, IsSent, IsAskedFor, StopsBy, ComesToStand, GoesOn, AsksInOrder};
+ghost use Rattle.cell_core.specs.Saves.{unacked, why};
+ghost use Rattle.cell_core.specs.StandsFor.{StandsFor, task_of};
+
+use crate::Core;
 
 /// Never do two requests stand that aren't over.
 pub fn one_request_at_a_time()
-    ensures { (task : Task) (events : List Event) (j k : ℕ) → IsOpen task j events → IsOpen task k events → j ≡ k }
+    ensures { (task : Task) (events : List Event) (j k : ℕ) → IsOpen task j events
+        → IsOpen task k events → j ≡ k }
 {}
 
-/// A request is sent only where it comes to stand: the first at the later of readiness and the first
-/// acknowledged save, each later one at the `Saved` that follows the end of the one before.
+/// A request is sent only where it comes to stand: the first at the later of readiness and the
+/// first acknowledged save, each later one at the `Saved` that follows the end of the one before.
 pub fn sent_where_it_stands()
-    ensures { (task : Task) (event : Event) (past : List Event) (cell : ℕ) → act_of task event past ≡ Send cell → IsSent task cell event (heard task past) }
+    ensures { (task : Task) (event : Event) (past : List Event) (cell : ℕ)
+        → act_of task event past ≡ Send cell → IsSent task cell event (heard task past) }
 {}
 
 /// A save is asked for only where it is the first that is due, and the job stops only by its cause,
 /// once each save that is due is acknowledged.
 pub fn saves_and_stops_where_due()
-    ensures saves { (task : Task) (event : Event) (past : List Event) (settled : ℕ) → act_of task event past ≡ Save settled → IsAskedFor task settled (event ∷ heard task past) }
-    ensures stops { (task : Task) (event : Event) (past : List Event) (cause : Why) → act_of task event past ≡ Stop cause → StopsBy task cause (event ∷ heard task past) }
+    ensures saves { (task : Task) (event : Event) (past : List Event) (settled : ℕ)
+        → act_of task event past ≡ Save settled
+        → IsAskedFor task settled (event ∷ heard task past) }
+    ensures stops { (task : Task) (event : Event) (past : List Event) (cause : Why)
+        → act_of task event past ≡ Stop cause → StopsBy task cause (event ∷ heard task past) }
 {}
 
-/// Over every list of events in which each `Saved` comes where a save was asked for and the clock is
-/// read in time, the saves that are asked for are those that are due, in order.
+/// While the job hasn't stopped, the first save that is due is asked for; where none is, a cause
+/// stops it; where there is none either, a request that comes to stand is sent.
+pub fn asked_where_due()
+    ensures saves { (task : Task) (event : Event) (past : List Event) (settled : ℕ)
+        → has_stopped task (heard task past) ≡ false
+        → IsAskedFor task settled (event ∷ heard task past)
+        → act_of task event past ≡ Save settled }
+    ensures stops { (task : Task) (event : Event) (past : List Event) (cause : Why)
+        → has_stopped task (heard task past) ≡ false
+        → StopsBy task cause (event ∷ heard task past)
+        → act_of task event past ≡ Stop cause }
+    ensures sends { (task : Task) (event : Event) (past : List Event) (k : ℕ)
+        → has_stopped task (heard task past) ≡ false
+        → unacked task (event ∷ heard task past) ≡ []
+        → why task (event ∷ heard task past) ≡ None
+        → ComesToStand task k (event ∷ heard task past)
+        → act_of task event past ≡ Send (cell_of task k) }
+{}
+
+/// What a core stands for, without what it holds: where no save is awaited and the job hasn't
+/// stopped, no request stands or the last one isn't over.
+pub fn goes_on(core: &Core)
+    ensures { (events : List Event) → StandsFor core.now events
+        → awaits_saved (task_of core.now) events ≡ false
+        → has_stopped (task_of core.now) (heard (task_of core.now) events) ≡ false
+        → GoesOn (task_of core.now) (heard (task_of core.now) events) }
+{
+    let _ = core;
+}
+
+/// Where no save is awaited and no last look is wanted, the clock may be read: a moment that isn't
+/// before the last one comes in time.
+pub fn read_in_time()
+    ensures { (task : Task) (now : ℕ) (events : List Event) → awaits_saved task events ≡ false
+        → wants_look_of task events ≡ false → time (heard task events) ≤ now
+        → IsTimely task (Moment now) events }
+{}
+
+/// Over every list of events in which each `Saved` comes where a save was asked for and the clock
+/// is read in time, the saves that are asked for are those that are due, in order.
 pub fn saves_in_order()
-    ensures { (task : Task) (events : List Event) → Meets task events → ForSome task.times.limit_ms (λ limit. 0 < limit) → AsksInOrder task events }
+    ensures { (task : Task) (events : List Event) → Meets task events
+        → ForSome task.times.limit_ms (λ limit. 0 < limit) → AsksInOrder task events }
 {}

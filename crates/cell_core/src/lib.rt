@@ -1,5 +1,6 @@
 //! The pure core of one job: it is told what happened and answers what to do next, when to send a
-//! request, to save and to stop (Jupyter messaging 5.3). It does no IO, reads no clock and takes no memory.
+//! request, to save and to stop (Jupyter messaging 5.3). It does no IO, reads no clock and takes no
+//! memory.
 #![tactic(auto)]
 
 mod act;
@@ -12,8 +13,6 @@ mod machine;
 mod moved;
 mod state;
 mod step;
-#[cfg(test)]
-mod tests;
 mod times;
 mod why;
 

@@ -33,15 +33,15 @@ pub struct Core {
 }
 
 impl Core {
-    ghost use Rattle.std.specs.Prelude.{◌≡◌, ℕ, ◌+◌, ◌<◌, ◌≤◌, ◌^◌, ◌↔◌, length, All, List, ◌∷◌, IsTrue, IsSome, [], Option, None, Some, ◌≢◌, Bool, true, false};
+    ghost use Rattle.std.specs.Prelude.{◌≡◌, ◌||◌, ℕ, ◌+◌, ◌<◌, ◌≤◌, ◌^◌, ◌↔◌, length, All, List, ◌∷◌, IsTrue, IsSome, [], Option, None, Some, ◌≢◌, Bool, true, false};
     ghost use Rattle.std.specs.Option.{ForSome};
     ghost use Rattle.cell_core.specs.declared.event.Event.{Event as TheEvent};
     ghost use Rattle.cell_core.specs.Moves.{moved as moved_by, in_preparing, in_starting, in_running, after_end as after_end_by, sent as sent_by, fails as fails_by, limit_from as limit_by, start_due as start_by, late as late_by, ends as ends_by, in_passing, on_passed};
     ghost use Rattle.cell_core.specs.Task.{cell_of};
     ghost use Rattle.cell_core.specs.StandsFor.{StandsFor, task_of, failing_in, awaits_saved_of};
-    ghost use Rattle.cell_core.specs.Acts.{act_of, takes_of, failing_of, due_of, IsTimely};
+    ghost use Rattle.cell_core.specs.Acts.{act_of, takes_of, failing_of, due_of, wants_look_of, IsTimely};
     ghost use Rattle.cell_core.specs.Events.{is_saved};
-    ghost use Rattle.cell_core.specs.Holds.{is_save, IsSmall, due_in, lost_after as lost_by};
+    ghost use Rattle.cell_core.specs.Holds.{is_save, is_past, looks_in, IsSmall, due_in, lost_after as lost_by};
 
     /// The core of a job before any event. It awaits the first `Saved`.
     pub fn new(plan: Plan, cells: u32, limits: Times) -> Core
@@ -70,9 +70,14 @@ impl Core {
         requires small { IsSmall e }
 
         // Whatever list of events it stood for, it now stands for that list with this event.
-        ensures stands { (events : List TheEvent) → StandsFor self.old events → IsTimely (task_of self.old) e events → StandsFor self.new (e ∷ events) }
-        ensures act { (events : List TheEvent) → StandsFor self.old events → IsTimely (task_of self.old) e events → result.act ≡ act_of (task_of self.old) e events }
-        ensures takes { (events : List TheEvent) → StandsFor self.old events → IsTimely (task_of self.old) e events → result.takes ≡ takes_of (task_of self.old) e events }
+        ensures stands { (events : List TheEvent) → StandsFor self.old events
+            → IsTimely (task_of self.old) e events → StandsFor self.new (e ∷ events) }
+        ensures act { (events : List TheEvent) → StandsFor self.old events
+            → IsTimely (task_of self.old) e events
+            → result.act ≡ act_of (task_of self.old) e events }
+        ensures takes { (events : List TheEvent) → StandsFor self.old events
+            → IsTimely (task_of self.old) e events
+            → result.takes ≡ takes_of (task_of self.old) e events }
 
         // The next event is `Saved` exactly after an act that asks for a save.
         ensures next { awaits_saved_of self.new ≡ is_save result.act }
@@ -87,9 +92,41 @@ impl Core {
 
     /// The next deadline, in milliseconds since 1970-01-01 UTC: none where no deadline stands.
     pub fn due(&self) -> Option<u64>
-        ensures { (events : List TheEvent) → StandsFor self.now events → result ≡ due_of (task_of self.now) events }
+        ensures { (events : List TheEvent) → StandsFor self.now events
+            → result ≡ due_of (task_of self.now) events }
     {
         self.deadline()
+    }
+
+    /// Whether a last look has to be made before the clock is read again: the kernel was found
+    /// lost, or a turn read the clock at or past the deadline that stands.
+    pub fn wants_look(&self) -> bool
+        ensures { (events : List TheEvent) → StandsFor self.now events
+            → result ≡ wants_look_of (task_of self.now) events }
+    {
+        self.looks()
+    }
+
+    fn looks(&self) -> bool
+        ensures { result ≡ looks_in self.now.clock self.now.lost self.now.state }
+    {
+        match self.state {
+            State::Starting { due } => self.is_late(due),
+            State::Running {
+                at: _,
+                fatal: _,
+                idle: _,
+                due,
+                interrupted: _,
+            } => self.is_late(due),
+            _ => false,
+        }
+    }
+
+    fn is_late(&self, due: Option<u64>) -> bool
+        ensures { result ≡ (self.now.lost || is_past self.now.clock due) }
+    {
+        self.lost || self.clock.is_past(due)
     }
 
     fn lost_after(lost: bool, e: Event) -> bool
@@ -120,7 +157,8 @@ impl Core {
     /// The stopping cell of the save last asked for: none where no save was asked for, or where
     /// that save isn't a stop's.
     pub fn failing(&self) -> Option<u32>
-        ensures { (events : List TheEvent) → StandsFor self.now events → result ≡ failing_of (task_of self.now) events }
+        ensures { (events : List TheEvent) → StandsFor self.now events
+            → result ≡ failing_of (task_of self.now) events }
     {
         self.stopping_cell()
     }
@@ -264,7 +302,8 @@ impl Core {
     ) -> Moved
         requires planned { at < length self.now.plan }
         requires small { IsSmall e }
-        ensures { result ≡ in_running (task_of self.now) self.now.clock self.now.lost at fatal idle due interrupted e }
+        ensures { result ≡ in_running (task_of self.now) self.now.clock self.now.lost at fatal idle
+            due interrupted e }
     {
         let state = State::Running {
             at,

@@ -25,7 +25,9 @@ impl ByCell {
 
     /// Puts the id after those of the cell.
     pub(crate) fn add(&mut self, cell: u32, id: &Text) -> Result<(), NoMemory>
-        ensures ok { OnOk result ((other : ℕ) → ids_at self.new other ≡ (if cell == other then ids_at self.old other ++ id.now ∷ [] else ids_at self.old other)) }
+        ensures ok { OnOk result ((other : ℕ)
+            → ids_at self.new other ≡ (if cell == other then ids_at self.old other ++ id.now ∷ []
+            else ids_at self.old other)) }
         ensures err { OnErr result ((other : ℕ) → ids_at self.new other ≡ ids_at self.old other) }
     {
         let copy = Text::of(self.alloc, id.as_str())?;
@@ -42,7 +44,8 @@ impl ByCell {
     /// Takes out the ids of the cell.
     pub(crate) fn take(&mut self, cell: u32) -> Texts
         ensures ids { result ≡ ids_at self.old cell }
-        ensures rest { (other : ℕ) → ids_at self.new other ≡ (if cell == other then [] else ids_at self.old other) }
+        ensures rest { (other : ℕ) → ids_at self.new other
+            ≡ (if cell == other then [] else ids_at self.old other) }
     {
         match self.ids.remove(&cell) {
             Some(ids) => ids,

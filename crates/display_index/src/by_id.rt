@@ -44,8 +44,11 @@ impl ById {
 
     /// Puts a place after those of the id.
     pub(crate) fn add(&mut self, id: &Text, place: Place) -> Result<(), NoMemory>
-        ensures ok { OnOk result ((other : Plain ℕ) → places_at self.new other ≡ (if bytes_eq id.now other then places_at self.old other ++ place ∷ [] else places_at self.old other)) }
-        ensures err { OnErr result ((other : Plain ℕ) → places_at self.new other ≡ places_at self.old other) }
+        ensures ok { OnOk result ((other : Plain ℕ)
+            → places_at self.new other ≡ (if bytes_eq id.now other then places_at self.old other ++
+            place ∷ [] else places_at self.old other)) }
+        ensures err { OnErr result ((other : Plain ℕ)
+            → places_at self.new other ≡ places_at self.old other) }
     {
         if let Some(places) = self.places.get_mut(id.as_str()) {
             return places.push(place);
@@ -60,7 +63,9 @@ impl ById {
 
     /// Takes out the places that the id has in the cell.
     pub(crate) fn clear(&mut self, id: &Text, cell: u32)
-        ensures { (other : Plain ℕ) → places_at self.new other ≡ (if bytes_eq id.now other then outside cell (places_at self.old other) else places_at self.old other) }
+        ensures { (other : Plain ℕ) → places_at self.new other
+            ≡ (if bytes_eq id.now other then outside cell
+            (places_at self.old other) else places_at self.old other) }
     {
         let empty = Places::new(self.alloc);
         if let Some(places) = self.places.get_mut(id.as_str()) {

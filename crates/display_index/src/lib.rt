@@ -1,13 +1,11 @@
-//! Where the outputs of each display id stand: an index from display ids to places (Jupyter messaging 5.3, "Update display data").
-//! Values only; it does no IO.
+//! Where the outputs of each display id stand: an index from display ids to places (Jupyter
+//! messaging 5.3, "Update display data"). Values only; it does no IO.
 #![tactic(auto)]
 
 mod by_cell;
 mod by_id;
 mod index;
 mod place;
-#[cfg(test)]
-mod tests;
 
 pub use index::Index;
 pub use place::{Place, Places};

@@ -18,6 +18,7 @@ use Rattle.jcontent.specs.Bundle.{bundle_at}
 abbrev pub state_named : List ℕ → State
 state_named name = if bytes_eq name (codes "busy") then state.Busy else if bytes_eq name (codes "idle") then state.Idle else state.Else
 
+-- of the name of a state, if there is one
 abbrev pub status_of : Option (List ℕ) → Content
 status_of None = content.Other
 status_of (Some name) = content.Status (state_named name)
@@ -26,6 +27,7 @@ status_of (Some name) = content.Status (state_named name)
 abbrev pub status : Json → Content
 status t = status_of (string_at t (codes "execution_state"))
 
+-- of the name and the text, if both are there
 abbrev pub stream_of : Option (List ℕ) → Option (List ℕ) → Content
 stream_of None text = content.Other
 stream_of (Some name) None = content.Other
@@ -39,6 +41,7 @@ stream t = stream_of (string_at t (codes "name")) (string_at t (codes "text"))
 abbrev pub object : Json → Option Json
 object v = if is_object v then Some v else None
 
+-- an object, and the empty one where nothing is
 abbrev pub object_or_empty : Option Json → Option Json
 object_or_empty None = Some (json.Obj [])
 object_or_empty (Some v) = object v
@@ -47,6 +50,7 @@ object_or_empty (Some v) = object v
 abbrev pub metadata : Json → Option Json
 metadata t = object_or_empty (field t (codes "metadata"))
 
+-- the display id in `transient`, if that is there
 abbrev pub display_id_in : Option Json → Option (List ℕ)
 display_id_in None = None
 display_id_in (Some transient) = string_at transient (codes "display_id")
@@ -55,6 +59,7 @@ display_id_in (Some transient) = string_at transient (codes "display_id")
 abbrev pub display_id : Json → Option (List ℕ)
 display_id t = display_id_in (field t (codes "transient"))
 
+-- of a bundle and its metadata, if both are there
 abbrev pub shown_of : Option (List (List ℕ × Json)) → Option Json → Option (List ℕ) → Option Shown
 shown_of None about id = None
 shown_of (Some pairs) None id = None
@@ -64,6 +69,7 @@ shown_of (Some pairs) (Some about) id = Some (record { bundle = pairs; metadata 
 abbrev pub shown : Json → Option Shown
 shown t = shown_of (bundle_at t) (metadata t) (display_id t)
 
+-- of what is shown, if something is
 abbrev pub display_of : Option Shown → Content
 display_of None = content.Other
 display_of (Some s) = content.Display s
@@ -72,6 +78,7 @@ display_of (Some s) = content.Display s
 abbrev pub display : Json → Content
 display t = display_of (shown t)
 
+-- of what is shown, if it has a display id
 abbrev pub update_of : Option Shown → Content
 update_of None = content.Other
 update_of (Some s) = if is_some s.id then content.Update s else content.Other
@@ -80,6 +87,7 @@ update_of (Some s) = if is_some s.id then content.Update s else content.Other
 abbrev pub update : Json → Content
 update t = update_of (shown t)
 
+-- of what is shown, if something is, and the count
 abbrev pub outcome_of : Option Shown → Option (List ℕ) → Content
 outcome_of None n = content.Other
 outcome_of (Some s) n = content.Outcome s n
@@ -88,6 +96,7 @@ outcome_of (Some s) n = content.Outcome s n
 abbrev pub outcome : Json → Content
 outcome t = outcome_of (shown t) (count t)
 
+-- of name, value and traceback, if all are there
 abbrev pub error_of : Option (List ℕ) → Option (List ℕ) → Option (List (List ℕ)) → Content
 error_of None evalue traceback = content.Other
 error_of (Some ename) None traceback = content.Other
@@ -98,10 +107,12 @@ error_of (Some ename) (Some evalue) (Some traceback) = content.Error ename evalu
 abbrev pub error : Json → Content
 error t = error_of (string_at t (codes "ename")) (string_at t (codes "evalue")) (texts_at t (codes "traceback"))
 
+-- of the name of the exception, if it is a string
 abbrev pub named_by : Option (List ℕ) → Content
 named_by None = content.Other
 named_by (Some ename) = content.ExecReply (reply.Error ename)
 
+-- of the value under `ename`, if there is one
 abbrev pub raised_by : Option Json → Content
 raised_by None = content.ExecReply (reply.Error [])
 raised_by (Some v) = named_by (string v)
@@ -110,6 +121,7 @@ raised_by (Some v) = named_by (string v)
 abbrev pub raised : Json → Content
 raised t = raised_by (field t (codes "ename"))
 
+-- of the status, if there is one
 abbrev pub reply_of : Json → Option (List ℕ) → Content
 reply_of t None = content.Other
 reply_of t (Some status) = if bytes_eq status (codes "error") then raised t else content.ExecReply reply.Fine

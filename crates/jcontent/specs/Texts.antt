@@ -5,6 +5,7 @@ use Rattle.jtext.specs.declared.json.Json.TheOpen.{Json-F}
 use Rattle.jtext.specs.Find.{field}
 use Rattle.jtext.specs.Look.{string, items, is_strings, is_whole_text, there_and, number_at}
 
+-- `true`, seen at one level
 abbrev pub is_true_layer : Json-F Json → Bool
 is_true_layer Json-F.Null = false
 is_true_layer (Json-F.Bool b) = b

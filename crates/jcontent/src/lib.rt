@@ -1,16 +1,15 @@
-//! Contents of Jupyter messages (Jupyter messaging 5.3): what a received one says, by its type, and those that
-//! an executor sends. Trees only; it does no IO.
+//! Contents of Jupyter messages (Jupyter messaging 5.3): what a received one says, by its type, and
+//! those that an executor sends. Trees only; it does no IO.
 #![tactic(auto)]
 
 mod bundle;
 mod content;
+pub mod laws;
 mod reader;
 mod reply;
 mod request;
 mod shown;
 mod state;
-#[cfg(test)]
-mod tests;
 mod texts;
 
 pub use content::Content;

@@ -1,6 +1,6 @@
 //! From a message's type and content to what it says.
 ghost use Rattle.std.specs.Prelude.{◌≡◌, IfOk};
-ghost use Rattle.jcontent.specs.Contents as spec;
+ghost use Rattle.jcontent.specs.Contents as contents;
 
 use crate::reply::execute_reply;
 use crate::texts::{count, is_true_at, texts_at};
@@ -8,10 +8,11 @@ use crate::{Content, Shown, State};
 use jtext::{Json, NoMemory, Text, text_at};
 use std::alloc::Global;
 
-/// What a message of that type says by its content. Keys that the type doesn't need are passed over;
-/// a content that lacks what its type needs, and one of a type that no executor uses, is `Other`.
+/// What a message of that type says by its content. Keys that the type doesn't need are passed
+/// over; a content that lacks what its type needs, and one of a type that no executor uses, is
+/// `Other`.
 pub fn read(alloc: Global, msg_type: &Text, content: &Json) -> Result<Content, NoMemory>
-    ensures { IfOk result (λ r. r ≡ spec.content_of msg_type.now content.now) }
+    ensures { IfOk result (λ r. r ≡ contents.content_of msg_type.now content.now) }
 {
     let kind = msg_type.as_str();
     if kind == "status" {
@@ -32,7 +33,7 @@ pub fn read(alloc: Global, msg_type: &Text, content: &Json) -> Result<Content, N
 
 /// The content of a message that makes or changes an output.
 fn output(alloc: Global, kind: &str, t: &Json) -> Result<Content, NoMemory>
-    ensures { IfOk result (λ r. r ≡ spec.output kind.now t.now) }
+    ensures { IfOk result (λ r. r ≡ contents.output kind.now t.now) }
 {
     if kind == "stream" {
         stream(alloc, t)
@@ -50,7 +51,7 @@ fn output(alloc: Global, kind: &str, t: &Json) -> Result<Content, NoMemory>
 }
 
 fn status(alloc: Global, t: &Json) -> Result<Content, NoMemory>
-    ensures { IfOk result (λ r. r ≡ spec.status t.now) }
+    ensures { IfOk result (λ r. r ≡ contents.status t.now) }
 {
     let Some(state) = text_at(alloc, t, "execution_state")? else {
         return Ok(Content::Other);
@@ -59,7 +60,7 @@ fn status(alloc: Global, t: &Json) -> Result<Content, NoMemory>
 }
 
 fn stream(alloc: Global, t: &Json) -> Result<Content, NoMemory>
-    ensures { IfOk result (λ r. r ≡ spec.stream t.now) }
+    ensures { IfOk result (λ r. r ≡ contents.stream t.now) }
 {
     let Some(name) = text_at(alloc, t, "name")? else {
         return Ok(Content::Other);
@@ -71,7 +72,7 @@ fn stream(alloc: Global, t: &Json) -> Result<Content, NoMemory>
 }
 
 fn display(alloc: Global, t: &Json) -> Result<Content, NoMemory>
-    ensures { IfOk result (λ r. r ≡ spec.display t.now) }
+    ensures { IfOk result (λ r. r ≡ contents.display t.now) }
 {
     match Shown::of(alloc, t)? {
         Some(shown) => Ok(Content::Display(shown)),
@@ -80,7 +81,7 @@ fn display(alloc: Global, t: &Json) -> Result<Content, NoMemory>
 }
 
 fn update(alloc: Global, t: &Json) -> Result<Content, NoMemory>
-    ensures { IfOk result (λ r. r ≡ spec.update t.now) }
+    ensures { IfOk result (λ r. r ≡ contents.update t.now) }
 {
     match Shown::of(alloc, t)? {
         Some(shown) => {
@@ -95,7 +96,7 @@ fn update(alloc: Global, t: &Json) -> Result<Content, NoMemory>
 }
 
 fn outcome(alloc: Global, t: &Json) -> Result<Content, NoMemory>
-    ensures { IfOk result (λ r. r ≡ spec.outcome t.now) }
+    ensures { IfOk result (λ r. r ≡ contents.outcome t.now) }
 {
     let Some(shown) = Shown::of(alloc, t)? else {
         return Ok(Content::Other);
@@ -105,7 +106,7 @@ fn outcome(alloc: Global, t: &Json) -> Result<Content, NoMemory>
 }
 
 fn error(alloc: Global, t: &Json) -> Result<Content, NoMemory>
-    ensures { IfOk result (λ r. r ≡ spec.error t.now) }
+    ensures { IfOk result (λ r. r ≡ contents.error t.now) }
 {
     let Some(ename) = text_at(alloc, t, "ename")? else {
         return Ok(Content::Other);

@@ -1,6 +1,6 @@
 //! The reply to a request to execute.
 ghost use Rattle.std.specs.Prelude.{◌≡◌, IfOk};
-ghost use Rattle.jcontent.specs.Contents as spec;
+ghost use Rattle.jcontent.specs.Contents as contents;
 
 use crate::Content;
 use jtext::{Json, NoMemory, Text, field, text_at};
@@ -20,7 +20,7 @@ pub enum ReplyIs {
 
 /// The content of an `execute_reply`.
 pub(crate) fn execute_reply(alloc: Global, t: &Json) -> Result<Content, NoMemory>
-    ensures { IfOk result (λ r. r ≡ spec.execute_reply t.now) }
+    ensures { IfOk result (λ r. r ≡ contents.execute_reply t.now) }
 {
     let Some(status) = text_at(alloc, t, "status")? else {
         return Ok(Content::Other);
@@ -33,7 +33,7 @@ pub(crate) fn execute_reply(alloc: Global, t: &Json) -> Result<Content, NoMemory
 }
 
 fn raised(alloc: Global, t: &Json) -> Result<Content, NoMemory>
-    ensures { IfOk result (λ r. r ≡ spec.raised t.now) }
+    ensures { IfOk result (λ r. r ≡ contents.raised t.now) }
 {
     match field(t, "ename") {
         Some(Json::Str(ename)) => Ok(Content::ExecReply(ReplyIs::Error {

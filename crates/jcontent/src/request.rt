@@ -1,16 +1,16 @@
 //! Contents of the messages that an executor sends.
 ghost use Rattle.std.specs.Prelude.{◌≡◌, IfOk};
 ghost use Rattle.jtext.specs.declared.json.Json.TheVariants as json;
-ghost use Rattle.jcontent.specs.Requests as spec;
+ghost use Rattle.jcontent.specs.Requests as requests;
 
 use jtext::{Fields, Json, NoMemory, Text};
 use std::alloc::Global;
 
-/// The content of an `execute_request` for this code: it is kept in the history, asks for no input and
-/// evaluates no further expressions. `stop_on_error` says whether the kernel aborts what is queued
-/// behind it where the code raises.
+/// The content of an `execute_request` for this code: it is kept in the history, asks for no input
+/// and evaluates no further expressions. `stop_on_error` says whether the kernel aborts what is
+/// queued behind it where the code raises.
 pub fn execute_content(alloc: Global, code: &Text, stop_on_error: bool) -> Result<Json, NoMemory>
-    ensures { IfOk result (λ t. t ≡ spec.execute code.now stop_on_error) }
+    ensures { IfOk result (λ t. t ≡ requests.execute code.now stop_on_error) }
 {
     let text = Text::of(alloc, code.as_str())?;
     let none = empty_content(alloc);
@@ -26,14 +26,14 @@ pub fn execute_content(alloc: Global, code: &Text, stop_on_error: bool) -> Resul
 
 /// The empty object: the content of a `kernel_info_request` and of an `interrupt_request`.
 pub fn empty_content(alloc: Global) -> Json
-    ensures { result ≡ spec.empty }
+    ensures { result ≡ requests.empty }
 {
     Json::Obj(Fields::new(alloc))
 }
 
 /// The content of a `shutdown_request` after which the kernel isn't started again.
 pub fn shutdown_content(alloc: Global) -> Result<Json, NoMemory>
-    ensures { IfOk result (λ t. t ≡ spec.shutdown) }
+    ensures { IfOk result (λ t. t ≡ requests.shutdown) }
 {
     let restart = pair(alloc, "restart", Json::Bool(false))?;
     let pairs = vec![in alloc; restart]?;

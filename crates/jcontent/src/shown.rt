@@ -1,12 +1,13 @@
 //! Data that is shown.
 ghost use Rattle.std.specs.Prelude.{◌≡◌, IfOk, option_map};
-ghost use Rattle.jcontent.specs.Contents as spec;
+ghost use Rattle.jcontent.specs.Contents as contents;
 
 use crate::bundle::bundle_at;
 use jtext::{Fields, Json, NoMemory, Text, copy, field, string_at};
 use std::alloc::Global;
 
-/// What a display or a result shows: its data by MIME type, the metadata of these, and its display id.
+/// What a display or a result shows: its data by MIME type, the metadata of these, and its display
+/// id.
 #[derive(Debug, Drop)]
 pub struct Shown {
     /// The data by MIME type: strings or lists of strings, and any tree under a JSON type.
@@ -41,7 +42,7 @@ impl Shown {
 }
 
 fn metadata(alloc: Global, t: &Json) -> Result<Option<Json>, NoMemory>
-    ensures { IfOk result (λ r. r ≡ spec.metadata t.now) }
+    ensures { IfOk result (λ r. r ≡ contents.metadata t.now) }
 {
     match field(t, "metadata") {
         Some(v) => object(alloc, v),
@@ -50,7 +51,7 @@ fn metadata(alloc: Global, t: &Json) -> Result<Option<Json>, NoMemory>
 }
 
 fn object(alloc: Global, v: &Json) -> Result<Option<Json>, NoMemory>
-    ensures { IfOk result (λ r. r ≡ spec.object v.now) }
+    ensures { IfOk result (λ r. r ≡ contents.object v.now) }
 {
     if v.is_object() {
         Ok(Some(copy(alloc, v)?))
@@ -60,7 +61,7 @@ fn object(alloc: Global, v: &Json) -> Result<Option<Json>, NoMemory>
 }
 
 fn display_id(alloc: Global, t: &Json) -> Result<Option<Text>, NoMemory>
-    ensures { IfOk result (λ r. r ≡ spec.display_id t.now) }
+    ensures { IfOk result (λ r. r ≡ contents.display_id t.now) }
 {
     match found_id(t) {
         Some(id) => Ok(Some(Text::of(alloc, id.as_str())?)),
@@ -69,7 +70,7 @@ fn display_id(alloc: Global, t: &Json) -> Result<Option<Text>, NoMemory>
 }
 
 fn found_id(t: &Json) -> Option<&Text>
-    ensures { option_map (λ r. r.now) result ≡ spec.display_id t.now }
+    ensures { option_map (λ r. r.now) result ≡ contents.display_id t.now }
 {
     string_at(field(t, "transient")?, "display_id")
 }

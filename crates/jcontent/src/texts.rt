@@ -1,20 +1,20 @@
 //! Texts, flags and counts in a content.
 ghost use Rattle.std.specs.Prelude.{◌≡◌, IfOk, option_map, map};
 ghost use Rattle.jtext.specs.Look as look;
-ghost use Rattle.jcontent.specs.Texts as spec;
+ghost use Rattle.jcontent.specs.Texts as texts;
 
 use jtext::{Json, NoMemory, NumText, Text, Texts, field, is_whole_text};
 use std::alloc::Global;
 
 /// Whether `true` stands under the key.
 pub(crate) fn is_true_at(t: &Json, key: &str) -> bool
-    ensures { result ≡ spec.is_true_at t.now key.now }
+    ensures { result ≡ texts.is_true_at t.now key.now }
 {
     field(t, key).is_some_and(|v| is_true(v))
 }
 
 fn is_true(v: &Json) -> bool
-    ensures { result ≡ spec.is_true v.now }
+    ensures { result ≡ texts.is_true v.now }
 {
     match v {
         Json::Bool(is) => *is,
@@ -24,7 +24,7 @@ fn is_true(v: &Json) -> bool
 
 /// A copy of the list of strings at the key; `None` where there is none.
 pub(crate) fn texts_at(alloc: Global, t: &Json, key: &str) -> Result<Option<Texts>, NoMemory>
-    ensures { IfOk result (λ r. r ≡ spec.texts_at t.now key.now) }
+    ensures { IfOk result (λ r. r ≡ texts.texts_at t.now key.now) }
 {
     match field(t, key) {
         Some(v) => texts(alloc, v),
@@ -33,7 +33,7 @@ pub(crate) fn texts_at(alloc: Global, t: &Json, key: &str) -> Result<Option<Text
 }
 
 fn texts(alloc: Global, v: &Json) -> Result<Option<Texts>, NoMemory>
-    ensures { IfOk result (λ r. r ≡ spec.texts v.now) }
+    ensures { IfOk result (λ r. r ≡ texts.texts v.now) }
 {
     if v.is_strings() {
         Ok(Some(copies(alloc, v.items())?))
@@ -43,7 +43,7 @@ fn texts(alloc: Global, v: &Json) -> Result<Option<Texts>, NoMemory>
 }
 
 fn copies(alloc: Global, items: &[Json]) -> Result<Texts, NoMemory>
-    ensures { IfOk result (λ r. r ≡ map spec.text_of items.now) }
+    ensures { IfOk result (λ r. r ≡ map texts.text_of items.now) }
 {
     let mut texts = Texts::new(alloc);
     for item in items {
@@ -53,7 +53,7 @@ fn copies(alloc: Global, items: &[Json]) -> Result<Texts, NoMemory>
 }
 
 fn text_of(alloc: Global, v: &Json) -> Result<Text, NoMemory>
-    ensures { IfOk result (λ r. r ≡ spec.text_of v.now) }
+    ensures { IfOk result (λ r. r ≡ texts.text_of v.now) }
 {
     match v.as_text() {
         Some(text) => Text::of(alloc, text.as_str()),
@@ -63,7 +63,7 @@ fn text_of(alloc: Global, v: &Json) -> Result<Text, NoMemory>
 
 /// The execution count that the content tells.
 pub(crate) fn count(alloc: Global, t: &Json) -> Result<Option<NumText>, NoMemory>
-    ensures { IfOk result (λ r. r ≡ spec.count t.now) }
+    ensures { IfOk result (λ r. r ≡ texts.count t.now) }
 {
     match found_number(t, "execution_count") {
         Some(text) => {

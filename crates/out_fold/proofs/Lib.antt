@@ -10,3 +10,6 @@ pub mod PlanLemmas
 pub mod PlaceLemmas
 pub mod StandLemmas
 pub mod PlainLemmas
+pub mod ReadOutputs
+pub mod FitTrees
+pub mod FitCells

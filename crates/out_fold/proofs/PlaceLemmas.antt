@@ -1,5 +1,5 @@
 -- What the index knows after a message.
-use Rattle.std.proofs.Common.{◌≡◌, ℕ, ◌==◌, Bool, true, false, cond, ◌||◌, List, [], ◌∷◌, ◌++◌, Option, Some, None, is_some, refl, sym, ◌∙◌, ap, arith}
+use Rattle.std.proofs.Common.{◌≡◌, ℕ, ◌<◌, ◌==◌, Bool, true, false, not, cond, ◌||◌, List, [], ◌∷◌, ◌++◌, Option, Some, None, is_some, refl, sym, ◌∙◌, ap, arith}
 use Rattle.std.specs.List.{list_any}
 use Rattle.std.specs.Option.{option_and_then}
 use Rattle.std.specs.Str.{bytes_eq}
@@ -16,8 +16,8 @@ use Rattle.display_index.proofs.StandingLemmas.{standing-added, standing-cleared
 use Rattle.out_fold.specs.Live.{appends, clears_now}
 use Rattle.out_fold.specs.Shown.{shown_in, data_if, data_under, data_shown}
 use Rattle.out_fold.specs.Names.{name_of, has_id}
-use Rattle.out_fold.specs.Placing.{has_place, Grown, Placed, Settled, settled}
-use Rattle.out_fold.proofs.ListTests.{no, eqb-same, any-append, any-snoc, or_left, or_right}
+use Rattle.out_fold.specs.Placing.{has_place, IsWithin, Grown, Placed, Settled, settled}
+use Rattle.out_fold.proofs.ListTests.{no, eqb-same, any-append, any-snoc, or_left, or_right, either}
 
 -- ---- the display id of a message
 
@@ -56,10 +56,10 @@ unnamed c other e h = no_shown (shown_in c) other e h
 -- ---- a place for its output
 
 pub placed-unnamed : (calls : List Call) (x : Index) (c : Content) (cell : ℕ) → name_of c ≡ None → index.StandsFor x calls → Placed calls x c cell
-placed-unnamed calls x c cell e s = record { calls' = calls; told = s; more = λ id n h. h; here = λ a id h. absurd (unnamed c id e h) }
+placed-unnamed calls x c cell e s = record { calls' = calls; told = s; more = λ id n h. h; within = λ cells lt w. w; here = λ a id h. absurd (unnamed c id e h) }
 
 pub placed-nothing : (calls : List Call) (x : Index) (c : Content) (cell : ℕ) → appends c ≡ false → index.StandsFor x calls → Placed calls x c cell
-placed-nothing calls x c cell e s = record { calls' = calls; told = s; more = λ id n h. h; here = λ a id h. no (sym e ∙ a) }
+placed-nothing calls x c cell e s = record { calls' = calls; told = s; more = λ id n h. h; within = λ cells lt w. w; here = λ a id h. no (sym e ∙ a) }
 
 pub placed-already : (calls : List Call) (x : Index) (c : Content) (cell : ℕ) (id : List ℕ) → name_of c ≡ Some id → list_any (λ p. p.cell == cell) (standing id calls) ≡ true
     → index.StandsFor x calls → Placed calls x c cell
@@ -67,6 +67,7 @@ placed-already calls x c cell id e h s = record {
   calls' = calls;
   told = s;
   more = λ other n g. g;
+  within = λ cells lt w. w;
   here = λ a other g. ap (λ k. has_place calls k cell) (named c id other e g) ∙ h;
 }
 
@@ -82,17 +83,34 @@ here_added calls id p =
     ∙ any-snoc (λ (q : Place). q.cell == p.cell) (standing id calls) p
     ∙ or_right (has_place calls id p.cell) (p.cell == p.cell) (eqb-same p.cell)
 
+last_by : (m n cells : ℕ) (b : Bool) → (m == n) ≡ b → m < cells → (b || false) ≡ true → n < cells
+last_by m n cells true e lt h = let same : m ≡ n = grind (arith, e) in omega (arith, same, lt)
+last_by m n cells false e lt h = no h
+
+one_by : (b : Bool) (p : Place) (n cells : ℕ) → p.cell < cells → list_any (λ (q : Place). q.cell == n) (cond b (p ∷ []) []) ≡ true → n < cells
+one_by true p n cells lt h = last_by p.cell n cells (p.cell == n) refl lt h
+one_by false p n cells lt h = no h
+
+within_added : (calls : List Call) (id : List ℕ) (p : Place) (cells : ℕ) → p.cell < cells → IsWithin cells calls → IsWithin cells (calls ++ added id p ∷ [])
+within_added calls id p cells lt w = λ other n h.
+    let there : (has_place calls other n || list_any (λ (q : Place). q.cell == n) (cond (bytes_eq id other) (p ∷ []) [])) ≡ true =
+    sym (ap (λ ps. list_any (λ (q : Place). q.cell == n) ps) (standing-added other calls id p)
+    ∙ any-append (λ (q : Place). q.cell == n) (standing other calls) (cond (bytes_eq id other) (p ∷ []) [])) ∙ h in
+    either (has_place calls other n) (list_any (λ (q : Place). q.cell == n) (cond (bytes_eq id other) (p ∷ []) [])) (n < cells)
+    (λ e. w other n e) (λ e. one_by (bytes_eq id other) p n cells lt e) there
+
 pub placed-added : (calls : List Call) (x : Index) (c : Content) (id : List ℕ) (p : Place) → name_of c ≡ Some id
     → index.StandsFor x (calls ++ added id p ∷ []) → Placed calls x c p.cell
 placed-added calls x c id p e s = record {
   calls' = calls ++ added id p ∷ [];
   told = s;
   more = λ other n h. more_added calls id other p n h;
+  within = λ cells lt w. within_added calls id p cells lt w;
   here = λ a other g. ap (λ k. has_place (calls ++ added id p ∷ []) k p.cell) (named c id other e g) ∙ here_added calls id p;
 }
 
-pub grown-same : (calls : List Call) (x : Index) → index.StandsFor x calls → Grown calls x
-grown-same calls x s = record { calls' = calls; told = s; more = λ id n h. h }
+pub grown-same : (calls : List Call) (x : Index) (cell : ℕ) → index.StandsFor x calls → Grown calls x cell
+grown-same calls x cell s = record { calls' = calls; told = s; more = λ id n h. h; within = λ cells lt w. w }
 
 -- ---- a clear
 
@@ -123,11 +141,35 @@ settled-other c cell calls id n e h = settled_by (clears_now c) cell calls id n 
 pub settled-same : (c : Content) (cell : ℕ) (calls : List Call) → clears_now c ≡ false → settled c cell calls ≡ calls
 settled-same c cell calls e = ap (λ b. cond b (calls ++ cleared cell ∷ []) calls) e
 
+less_by : (k : Bool) (p : Place) (n : ℕ) (xs ys : List Place) (b : Bool) → (p.cell == n) ≡ b → (list_any (λ q. q.cell == n) xs ≡ true → list_any (λ q. q.cell == n) ys ≡ true)
+    → list_any (λ q. q.cell == n) (cond k (p ∷ xs) xs) ≡ true → (b || list_any (λ q. q.cell == n) ys) ≡ true
+less_by k p n xs ys true e f h = refl
+less_by true p n xs ys false e f h = f (sym (ap (λ b. b || list_any (λ (q : Place). q.cell == n) xs) e) ∙ h)
+less_by false p n xs ys false e f h = f h
+
+any-less : (cell n : ℕ) (ps : List Place) → list_any (λ p. p.cell == n) (outside cell ps) ≡ true → list_any (λ p. p.cell == n) ps ≡ true
+any-less cell n [] h = h
+any-less cell n (p ∷ ps) h = less_by (not (p.cell == cell)) p n (outside cell ps) ps (p.cell == n) refl (any-less cell n ps) h
+
+within_by : (b : Bool) (cell : ℕ) (calls : List Call) (cells : ℕ) → IsWithin cells calls → IsWithin cells (cond b (calls ++ cleared cell ∷ []) calls)
+within_by true cell calls cells w = λ id n h.
+    w id n (any-less cell n (standing id calls) (sym (ap (λ ps. list_any (λ (p : Place). p.cell == n) ps) (standing-cleared id calls cell)) ∙ h))
+within_by false cell calls cells w = w
+
+within_settled : (c : Content) (cell : ℕ) (calls : List Call) (cells : ℕ) → IsWithin cells calls → IsWithin cells (settled c cell calls)
+within_settled c cell calls cells w = within_by (clears_now c) cell calls cells w
+
 -- ---- the message as a whole
 
-pub placed-grown : (calls : List Call) (x : Index) (c : Content) (cell : ℕ) → Placed calls x c cell → Grown calls x
-placed-grown calls x c cell p = record { calls' = p.calls'; told = p.told; more = p.more }
+pub placed-grown : (calls : List Call) (x : Index) (c : Content) (cell : ℕ) → Placed calls x c cell → Grown calls x cell
+placed-grown calls x c cell p = record { calls' = p.calls'; told = p.told; more = p.more; within = p.within }
 
 pub placed-settled : (calls : List Call) (x x' : Index) (c : Content) (cell : ℕ) → Placed calls x c cell
     → ((told : List Call) → index.StandsFor x told → index.StandsFor x' (settled c cell told)) → Settled calls x' c cell
-placed-settled calls x x' c cell p settles = record { calls' = p.calls'; told = settles p.calls' p.told; more = p.more; here = p.here }
+placed-settled calls x x' c cell p settles = record {
+  calls' = p.calls';
+  told = settles p.calls' p.told;
+  more = p.more;
+  within = λ cells lt w. within_settled c cell p.calls' cells (p.within cells lt w);
+  here = p.here;
+}

@@ -105,6 +105,7 @@ covers-one plan new cell ps i all h = record {
   kept = λ n e. (or_false (cell == n) (is_in plan n) (sym (h n) ∙ e)).1;
   current = h cell ∙ or_left (cell == cell) (is_in plan cell) (eqb-same cell);
   placed = λ n e. none_in ps plan n all (or_false (cell == n) (is_in plan n) (sym (h n) ∙ e)).1;
+  only = λ n e. or_left ((cell == n) || is_in plan n) (list_any (λ (p : Place). p.cell == n) ps) (sym (h n) ∙ e);
 }
 
 pub covers-union : (plan new : List ℕ) (cell : ℕ) (ps : List Place) → increases new ≡ true
@@ -114,6 +115,7 @@ covers-union plan new cell ps i h = record {
   kept = λ n e. (or_false (cell == n) (is_in plan n) (or_false ((cell == n) || is_in plan n) (list_any (λ (p : Place). p.cell == n) ps) (sym (h n) ∙ e)).0).1;
   current = h cell ∙ or_left ((cell == cell) || is_in plan cell) (list_any (λ (p : Place). p.cell == cell) ps) (or_left (cell == cell) (is_in plan cell) (eqb-same cell));
   placed = λ n e. (or_false ((cell == n) || is_in plan n) (list_any (λ (p : Place). p.cell == n) ps) (sym (h n) ∙ e)).1;
+  only = λ n e. sym (h n) ∙ e;
 }
 
 -- ---- two lists that are put together

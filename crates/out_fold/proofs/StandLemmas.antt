@@ -1,6 +1,7 @@
 -- Which lists a fold stands for after a call, and which cells are as they were.
-use Rattle.std.proofs.Common.{◌≡◌, ◌≢◌, ℕ, ◌==◌, ◌+◌, Bool, true, false, cond, ◌&&◌, ◌||◌, List, [], ◌∷◌, ◌++◌, map, Option, Some, None, is_some, refl, sym, ◌∙◌, ap, arith, append_assoc, append-nil, eqb-true}
-use Rattle.std.specs.List.{list_any}
+use Rattle.std.proofs.Common.{◌≡◌, ◌≢◌, ℕ, ◌<◌, ◌==◌, ◌+◌, length, Bool, true, false, cond, ◌&&◌, ◌||◌, List, [], ◌∷◌, ◌++◌, map, Option, Some, None, is_some, refl, sym, ◌∙◌, ap, arith, append_assoc, append-nil, eqb-true}
+use Rattle.std.specs.List.{All, AllByRecursion, list_any}
+use Rattle.std.proofs.lemmas.List.Elements.{All-from_recursion}
 use Rattle.std.specs.Option.{option_or}
 use Rattle.std.specs.Str.{bytes_eq}
 use Rattle.jtext.specs.declared.json.Json.{Json}
@@ -19,10 +20,10 @@ use Rattle.out_fold.specs.Tree.{output_tree}
 use Rattle.out_fold.specs.Cells.{Used, begun, with_message, with_reply, contents, all_contents, joined_where, outputs_of, last_count, count_of, last_date, is_input, says_busy, says_idle, date_pairs, dates_of}
 use Rattle.out_fold.specs.Held.{Holds, Ordered, waits}
 use Rattle.out_fold.specs.Names.{name_of, has_id}
-use Rattle.out_fold.specs.Placing.{has_place, named_places, Grown, Settled, settled}
+use Rattle.out_fold.specs.Placing.{has_place, IsWithin, named_places, Grown, Settled, settled}
 use Rattle.out_fold.specs.Plans.{is_in, Covers}
-use Rattle.out_fold.specs.Stands.{has_output, StandsFor, SameCell, Rested, merge_of}
-use Rattle.out_fold.proofs.ListTests.{no, eqb-same, eqb-other, or_false, any-snoc}
+use Rattle.out_fold.specs.Stands.{has_output, StandsFor, SameCell, Rested, cells_of, merge_of}
+use Rattle.out_fold.proofs.ListTests.{no, eqb-same, eqb-other, or_false, or_left, or_right, either, any-snoc}
 use Rattle.out_fold.proofs.LiveLemmas.{live-snoc}
 use Rattle.out_fold.proofs.ShownLemmas.{same_text, latest-snoc}
 use Rattle.out_fold.proofs.CellLemmas.{contents-snoc, all-message, all-reply, all-snoc}
@@ -168,15 +169,46 @@ begun-output (v ∷ us) cell id n = ap (λ x. cond (v.cell == n) (list_any (λ c
 
 -- ---- the calls
 
-pub new-stands-for : (f : Fold) → Holds f.held [] → index.StandsFor f.index [] → StandsFor f []
-new-stands-for f h s = record { held = h; calls = []; told = s; found = λ id cell e. no e }
+nothing_in : (cells : List ℕ) (n : ℕ) (P : Type 0) → cells ≡ [] → is_in cells n ≡ true → P
+nothing_in cells n P e h = no (sym (ap (λ ns. is_in ns n) e) ∙ h)
 
-pub begun-stands-for : (f f' : Fold) (us : List Used) (cell : ℕ) → Holds f'.held (us ++ begun cell ∷ []) → f'.index ≡ f.index → StandsFor f us → StandsFor f' (us ++ begun cell ∷ [])
-begun-stands-for f f' us cell h i s = record {
+as_many : (n cells cells' : ℕ) → cells' ≡ cells → n < cells → n < cells'
+as_many n cells cells' e lt = omega (arith, e, lt)
+
+pub new-stands-for : (f : Fold) → Holds f.held [] → index.StandsFor f.index [] → f.touched ≡ [] → StandsFor f []
+new-stands-for f h s t = record {
+  held = h;
+  calls = [];
+  told = s;
+  found = λ id cell e. no e;
+  within = λ id n e. no e;
+  touches = λ n e. nothing_in f.touched n (n < cells_of f) t e;
+}
+
+-- with nothing touched
+pub rested-stands-for : (f f' : Fold) (us : List Used) → f'.held ≡ f.held → f'.index ≡ f.index → f'.touched ≡ [] → StandsFor f us → StandsFor f' us
+rested-stands-for f f' us h i t s =
+    let old : Holds f.held us = s.held in
+    let told : index.StandsFor f.index s.calls = s.told in
+    let within : IsWithin (cells_of f) s.calls = s.within in
+    record {
+      held = rw h old;
+      calls = s.calls;
+      told = rw i told;
+      found = s.found;
+      within = rw h within;
+      touches = λ n e. nothing_in f'.touched n (n < cells_of f') t e;
+    }
+
+pub begun-stands-for : (f f' : Fold) (us : List Used) (cell : ℕ) → Holds f'.held (us ++ begun cell ∷ []) → f'.index ≡ f.index → f'.touched ≡ f.touched → cells_of f' ≡ cells_of f
+    → StandsFor f us → StandsFor f' (us ++ begun cell ∷ [])
+begun-stands-for f f' us cell h i t m s = record {
   held = h;
   calls = s.calls;
   told = rw i s.told;
   found = λ id n e. s.found id n (sym (begun-output us cell id n) ∙ e);
+  within = λ id n e. as_many n (cells_of f) (cells_of f') m (s.within id n e);
+  touches = λ n e. as_many n (cells_of f) (cells_of f') m (s.touches n (sym (ap (λ ns. is_in ns n) t) ∙ e));
 }
 
 pub begun-rested : (f : Fold) (merge : Bool) (was us : List Used) (cell : ℕ) → merge ≡ merge_of f → Rested f was us
@@ -218,11 +250,27 @@ found-after us u next calls calls' c date o found more here id n true e h =
     ap (λ cs. has_place cs id n) (settled-same c u.cell calls' parts.0) ∙ ap (λ k. has_place calls' id k) (sym same)
     ∙ here_by us u next calls calls' c o found more here id (has_id id c) (appends c) refl refl parts.1
 
+named_within : (calls : List Call) (o : Option (List ℕ)) (cells n : ℕ) → IsWithin cells calls → list_any (λ p. p.cell == n) (named_places calls o) ≡ true → n < cells
+named_within calls None cells n w h = no h
+named_within calls (Some id) cells n w h = w id n h
+
+this_one : (m n cells : ℕ) → m < cells → (m == n) ≡ true → n < cells
+this_one m n cells lt e = let same : m ≡ n = grind (arith, e) in omega (arith, same, lt)
+
+-- the touched cells are cells
+covered : (old new : List ℕ) (cell cells : ℕ) (ps : List Place) → Covers old new cell ps → cell < cells → ((n : ℕ) → is_in old n ≡ true → n < cells)
+    → ((n : ℕ) → list_any (λ p. p.cell == n) ps ≡ true → n < cells) → (n : ℕ) → is_in new n ≡ true → n < cells
+covered old new cell cells ps v lt olds places n h =
+    either ((cell == n) || is_in old n) (list_any (λ (p : Place). p.cell == n) ps) (n < cells)
+    (λ e. either (cell == n) (is_in old n) (n < cells) (λ same. this_one cell n cells lt same) (λ was. olds n was) e)
+    (λ e. places n e) (v.only n h)
+
 pub message-stands-for : (f f' : Fold) (us : List Used) (u : Used) (c : Content) (date : Option (List ℕ)) (cell : ℕ) → u.cell ≡ cell
     → Holds f'.held (us ++ with_message u c date ∷ [])
     → (s : StandsFor f (us ++ u ∷ [])) → Settled s.calls f'.index c cell
+    → cell < cells_of f → cells_of f' ≡ cells_of f → Covers f.touched f'.touched cell (named_places s.calls (name_of c))
     → StandsFor f' (us ++ with_message u c date ∷ [])
-message-stands-for f f' us u c date cell same h s p =
+message-stands-for f f' us u c date cell same h s p lt m v =
     let o : Ordered 0 (us ++ u ∷ []) f.held.next = s.held.order in
     record {
       held = h;
@@ -230,10 +278,38 @@ message-stands-for f f' us u c date cell same h s p =
       told = p.told;
       found = λ id n e. ap (λ k. has_place (settled c k p.calls') id n) (sym same)
           ∙ found-after us u f.held.next s.calls p.calls' c date o s.found p.more (λ a i g. ap (λ k. has_place p.calls' i k) same ∙ p.here a i g) id n (u.cell == n) refl e;
+      within = λ id n e. as_many n (cells_of f) (cells_of f') m (p.within (cells_of f) lt s.within id n e);
+      touches = λ n e. as_many n (cells_of f) (cells_of f') m
+          (covered f.touched f'.touched cell (cells_of f) (named_places s.calls (name_of c)) v lt s.touches (λ k g. named_within s.calls (name_of c) (cells_of f) k s.within g) n e);
     }
 
-pub grown-stands-for : (f f' : Fold) (us : List Used) → Holds f'.held us → (s : StandsFor f us) → Grown s.calls f'.index → StandsFor f' us
-grown-stands-for f f' us h s g = record { held = h; calls = g.calls'; told = g.told; found = λ id n e. g.more id n (s.found id n e) }
+pub grown-stands-for : (f f' : Fold) (us : List Used) (cell : ℕ) → Holds f'.held us → (s : StandsFor f us) → Grown s.calls f'.index cell
+    → cell < cells_of f → cells_of f' ≡ cells_of f → f'.touched ≡ f.touched → StandsFor f' us
+grown-stands-for f f' us cell h s g lt m t = record {
+  held = h;
+  calls = g.calls';
+  told = g.told;
+  found = λ id n e. g.more id n (s.found id n e);
+  within = λ id n e. as_many n (cells_of f) (cells_of f') m (g.within (cells_of f) lt s.within id n e);
+  touches = λ n e. as_many n (cells_of f) (cells_of f') m (s.touches n (sym (ap (λ ns. is_in ns n) t) ∙ e));
+}
+
+-- as before, but for what is held
+pub kept-stands-for : (f f' : Fold) (us : List Used) → Holds f'.held us → f'.index ≡ f.index → cells_of f' ≡ cells_of f → f'.touched ≡ f.touched → StandsFor f us → StandsFor f' us
+kept-stands-for f f' us h i m t s =
+    let told : index.StandsFor f.index s.calls = s.told in
+    record {
+      held = h;
+      calls = s.calls;
+      told = rw i told;
+      found = s.found;
+      within = λ id n e. as_many n (cells_of f) (cells_of f') m (s.within id n e);
+      touches = λ n e. as_many n (cells_of f) (cells_of f') m (s.touches n (sym (ap (λ ns. is_in ns n) t) ∙ e));
+    }
+
+-- the current cell is one of the notebook's
+pub current-within : (f : Folds) (cell : ℕ) → cell + 1 ≡ f.next → cell < length f.cells
+current-within f cell e = let le = f.within in omega (arith, le, e)
 
 cell_apart : (new : List ℕ) (m cell n : ℕ) → m ≡ cell → is_in new cell ≡ true → is_in new n ≡ false → (m == n) ≡ false
 cell_apart new m cell n e h g = eqb-other m n (λ x. no (sym g ∙ ap (λ k. is_in new k) (sym (sym e ∙ x)) ∙ h))
@@ -268,12 +344,15 @@ message-rested f new merge was us u c date cell same s v m r n e =
     }
 
 pub reply-stands-for : (f f' : Fold) (us : List Used) (u : Used) (date : Option (List ℕ)) → Holds f'.held (us ++ with_reply u date ∷ []) → f'.index ≡ f.index
+    → (cell : ℕ) → cell < cells_of f → cells_of f' ≡ cells_of f → Covers f.touched f'.touched cell []
     → StandsFor f (us ++ u ∷ []) → StandsFor f' (us ++ with_reply u date ∷ [])
-reply-stands-for f f' us u date h i s = record {
+reply-stands-for f f' us u date h i cell lt m v s = record {
   held = h;
   calls = s.calls;
   told = rw i s.told;
   found = λ id n e. s.found id n (sym (reply-output us u date id n) ∙ e);
+  within = λ id n e. as_many n (cells_of f) (cells_of f') m (s.within id n e);
+  touches = λ n e. as_many n (cells_of f) (cells_of f') m (covered f.touched f'.touched cell (cells_of f) [] v lt s.touches (λ k g. no g) n e);
 }
 
 pub reply-rested : (f : Fold) (new : List ℕ) (merge : Bool) (was us : List Used) (u : Used) (date : Option (List ℕ)) (cell : ℕ) (ps : List Place) → u.cell ≡ cell
@@ -287,6 +366,15 @@ reply-rested f new merge was us u date cell ps same v m r n e =
       count = same-count us u (with_reply u date) n apart refl ∙ old.count;
       dates = same-dates us u (with_reply u date) n apart refl ∙ old.dates;
     }
+
+all_below : (cells : ℕ) (ns : List ℕ) → ((n : ℕ) → is_in ns n ≡ true → n < cells) → AllByRecursion (λ n. n < cells) ns
+all_below cells [] h = tt
+all_below cells (n ∷ ns) h =
+    (h n (or_left (n == n) (is_in ns n) (eqb-same n)), all_below cells ns (λ k e. h k (or_right (n == k) (is_in ns k) e)))
+
+-- each touched cell is one of the notebook's
+pub touched-below : (f : Fold) (us : List Used) (ns : List ℕ) → ns ≡ f.touched → StandsFor f us → All (λ n. n < cells_of f) ns
+touched-below f us ns e s = All-from_recursion (λ n. n < cells_of f) ns (all_below (cells_of f) ns (λ n h. s.touches n (sym (ap (λ ks. is_in ks n) e) ∙ h)))
 
 pub last-cell : (f : Folds) (us : List Used) (u : Used) (cell : ℕ) → cell + 1 ≡ f.next → Holds f (us ++ u ∷ []) → u.cell ≡ cell
 last-cell f us u cell e h = let last = (ordered-least 0 us u f.next h.order).1 in omega (arith, last, e)

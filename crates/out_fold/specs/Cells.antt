@@ -1,4 +1,4 @@
--- What is saved of the executed cells, by the messages that were used for their requests (Jupyter messaging 5.3; nbformat 4.5, `code_cell`; nbclient, `metadata.execution`).
+-- The meaning: what is saved of the executed cells, by the messages that were used for their requests (Jupyter messaging 5.3; nbformat 4.5, `code_cell`; nbclient, `metadata.execution`).
 use Rattle.std.specs.Prelude.{ℕ, Bool, false, true, ◌==◌, List, [], ◌∷◌, ◌++◌, map, flat_map, Option, Some, None, if◌then◌else◌, codes}
 use Rattle.std.specs.Option.{option_or}
 use Rattle.jtext.specs.declared.json.Json.{Json}
@@ -25,6 +25,7 @@ with_message u c date = record { cell = u.cell; own = u.own ++ record { content 
 abbrev pub with_reply : Used → Option (List ℕ) → Used
 with_reply u date = record { cell = u.cell; own = u.own; reply = date }
 
+-- what the messages of a request say, in order
 abbrev pub contents : Used → List Content
 contents u = map (λ m. m.content) u.own
 
@@ -32,6 +33,7 @@ contents u = map (λ m. m.content) u.own
 abbrev pub all_contents : List Used → List Content
 all_contents us = flat_map contents us
 
+-- these outputs, joined where that is asked for
 abbrev pub joined_where : Bool → List Content → List Content
 joined_where merge cs = if merge then joined cs else cs
 
@@ -61,6 +63,7 @@ abbrev pub is_busy : State → Bool
 is_busy state.Busy = true
 is_busy _ = false
 
+-- `status`, of the state idle
 abbrev pub is_idle : State → Bool
 is_idle state.Idle = true
 is_idle _ = false
@@ -70,10 +73,12 @@ abbrev pub says_busy : Content → Bool
 says_busy (content.Status s) = is_busy s
 says_busy _ = false
 
+-- the kernel says that it is idle
 abbrev pub says_idle : Content → Bool
 says_idle (content.Status s) = is_idle s
 says_idle _ = false
 
+-- the kernel tells which input it runs
 abbrev pub is_input : Content → Bool
 is_input (content.Input count) = true
 is_input _ = false
@@ -83,6 +88,7 @@ abbrev pub last_date : (Content → Bool) → Option (List ℕ) → List Message
 last_date kind before [] = before
 last_date kind before (m ∷ rest) = last_date kind (if kind m.content then m.date else before) rest
 
+-- the pair of a date, where there is one
 abbrev pub dated : List ℕ → Option (List ℕ) → List (List ℕ × Json)
 dated key None = []
 dated key (Some date) = (key, json.Str date) ∷ []

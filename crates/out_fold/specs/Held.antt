@@ -1,4 +1,4 @@
--- What a fold holds, and which lists of messages it stands for.
+-- Bookkeeping: what a fold holds, and which lists of messages it stands for.
 use Rattle.std.specs.Prelude.{◌≡◌, ℕ, ◌+◌, ◌<◌, ◌≤◌, ◌==◌, Bool, false, List, [], ◌∷◌, ◌++◌, ◌&&◌, ◌||◌, not, map, length, slice_index_or, Option, Some, None, if◌then◌else◌}
 use Rattle.std.specs.List.{list_any}
 use Rattle.std.specs.Option.{option_or}
@@ -55,12 +55,14 @@ folded u = record {
 abbrev pub nothing : Folded
 nothing = record { outputs = []; waits = false; count = None; input = None; busy = None; idle = None; reply = None }
 
+-- what is held of the messages of the cell
 abbrev pub folded_at : List Used → ℕ → Folded
 folded_at [] cell = nothing
 folded_at (u ∷ us) cell = if u.cell == cell then folded u else folded_at us cell
 
 -- ---- one more message
 
+-- the outputs that are held after one more message
 abbrev pub next_outputs : Folded → Content → List Content
 next_outputs f c = if clears_now c then [] else if appends c then (if f.waits then [] else f.outputs) ++ held c ∷ [] else f.outputs
 

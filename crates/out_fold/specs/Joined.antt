@@ -1,4 +1,4 @@
--- Neighbouring stream outputs of one name, as one (nbclient, `coalesce_streams`).
+-- The meaning: neighbouring stream outputs of one name, as one (nbclient, `coalesce_streams`).
 use Rattle.std.specs.Prelude.{ℕ, List, [], ◌∷◌, ◌++◌, ◌+◌, is_some, Option, Some, None, if◌then◌else◌}
 use Rattle.std.specs.Option.{option_map, option_map_or}
 use Rattle.std.specs.Str.{bytes_eq}

@@ -3,6 +3,7 @@ pub mod Shown
 pub mod Joined
 pub mod Tree
 pub mod Cells
+pub mod Fit
 pub mod Held
 pub mod Names
 pub mod Placing

@@ -1,4 +1,4 @@
--- Which messages leave an output in their cell (Jupyter messaging 5.3, "Clear output").
+-- The meaning: which messages leave an output in their cell (Jupyter messaging 5.3, "Clear output").
 use Rattle.std.specs.Prelude.{Bool, true, false, List, [], ◌∷◌, ◌&&◌, not, if◌then◌else◌}
 use Rattle.std.specs.List.{list_any}
 use Rattle.jcontent.specs.declared.content.Content.{Content}

@@ -1,4 +1,4 @@
--- Display ids of messages (Jupyter messaging 5.3, "Display data").
+-- Bookkeeping: display ids of messages (Jupyter messaging 5.3, "Display data").
 use Rattle.std.specs.Prelude.{ℕ, Bool, List, is_some, Option}
 use Rattle.std.specs.Option.{option_and_then}
 use Rattle.jcontent.specs.declared.content.Content.{Content}

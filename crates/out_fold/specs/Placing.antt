@@ -1,5 +1,5 @@
--- What a message tells the index of display ids.
-use Rattle.std.specs.Prelude.{◌≡◌, ℕ, ◌==◌, Bool, true, List, [], ◌∷◌, ◌++◌, Option, Some, None, if◌then◌else◌}
+-- Bookkeeping: what a message tells the index of display ids.
+use Rattle.std.specs.Prelude.{◌≡◌, ℕ, ◌<◌, ◌==◌, Bool, true, List, [], ◌∷◌, ◌++◌, Option, Some, None, if◌then◌else◌}
 use Rattle.std.specs.List.{list_any}
 use Rattle.jcontent.specs.declared.content.Content.{Content}
 use Rattle.display_index.specs.declared.index.Index.{Index}
@@ -19,19 +19,26 @@ abbrev pub named_places : List Call → Option (List ℕ) → List Place
 named_places calls None = []
 named_places calls (Some id) = standing id calls
 
--- what had a place still has one
-pub record Grown (calls : List Call) (x : Index) : Type 0 where
+-- the cells of all places are below this number
+abbrev pub IsWithin : ℕ → List Call → Type 0
+IsWithin cells calls = (id : List ℕ) (n : ℕ) → has_place calls id n ≡ true → n < cells
+
+-- what had a place still has one, and of the cells only this one has more
+pub record Grown (calls : List Call) (x : Index) (cell : ℕ) : Type 0 where
   pub calls' : List Call
   pub told : index.StandsFor x calls'
   pub more : (id : List ℕ) (n : ℕ) → has_place calls id n ≡ true → has_place calls' id n ≡ true
+  pub within : (cells : ℕ) → cell < cells → IsWithin cells calls → IsWithin cells calls'
 
 -- and so has the output of the message, where it has a display id
 pub record Placed (calls : List Call) (x : Index) (c : Content) (cell : ℕ) : Type 0 where
   pub calls' : List Call
   pub told : index.StandsFor x calls'
   pub more : (id : List ℕ) (n : ℕ) → has_place calls id n ≡ true → has_place calls' id n ≡ true
+  pub within : (cells : ℕ) → cell < cells → IsWithin cells calls → IsWithin cells calls'
   pub here : appends c ≡ true → (id : List ℕ) → has_id id c ≡ true → has_place calls' id cell ≡ true
 
+-- the calls with the clear that the message brings
 abbrev pub settled : Content → ℕ → List Call → List Call
 settled c cell calls = if clears_now c then calls ++ cleared cell ∷ [] else calls
 
@@ -40,4 +47,5 @@ pub record Settled (calls : List Call) (x : Index) (c : Content) (cell : ℕ) : 
   pub calls' : List Call
   pub told : index.StandsFor x (settled c cell calls')
   pub more : (id : List ℕ) (n : ℕ) → has_place calls id n ≡ true → has_place calls' id n ≡ true
+  pub within : (cells : ℕ) → cell < cells → IsWithin cells calls → IsWithin cells (settled c cell calls')
   pub here : appends c ≡ true → (id : List ℕ) → has_id id c ≡ true → has_place calls' id cell ≡ true

@@ -1,4 +1,4 @@
--- What the plain fold keeps: the messages of each cell themselves.
+-- Bookkeeping: what the plain fold keeps: the messages of each cell themselves.
 use Rattle.std.specs.Prelude.{ℕ, Bool, List, map, Option, None}
 use Rattle.jtext.specs.declared.json.Json.{Json}
 use Rattle.std.specs.Option.{option_map}

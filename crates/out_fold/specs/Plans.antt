@@ -1,5 +1,5 @@
--- Cells in increasing order.
-use Rattle.std.specs.Prelude.{◌≡◌, ℕ, ◌==◌, ◌+◌, Bool, true, false, List, [], ◌∷◌, ◌&&◌, nat_lt, Option, Some, None, if◌then◌else◌}
+-- Bookkeeping: cells in increasing order, among them the touched ones.
+use Rattle.std.specs.Prelude.{◌≡◌, ℕ, ◌==◌, ◌+◌, Bool, true, false, List, [], ◌∷◌, ◌&&◌, ◌||◌, nat_lt, Option, Some, None, if◌then◌else◌}
 use Rattle.std.specs.List.{list_any, list_all, remove}
 use Rattle.display_index.specs.declared.place.Place.{Place}
 use Rattle.out_fold.specs.declared.before.Before.{Before}
@@ -14,12 +14,13 @@ abbrev pub increases : List ℕ → Bool
 increases [] = true
 increases (n ∷ ns) = list_all (nat_lt n) ns && increases ns
 
--- the new list increases, and has the old one's cells, this cell and those of the places
+-- the new list increases, and has the old one's cells, this cell, those of the places and no others
 pub record Covers (old new : List ℕ) (cell : ℕ) (ps : List Place) : Type 0 where
   pub sorted : increases new ≡ true
   pub kept : (n : ℕ) → is_in new n ≡ false → is_in old n ≡ false
   pub current : is_in new cell ≡ true
   pub placed : (n : ℕ) → is_in new n ≡ false → list_any (λ p. p.cell == n) ps ≡ false
+  pub only : (n : ℕ) → is_in new n ≡ true → (((cell == n) || is_in old n) || list_any (λ p. p.cell == n) ps) ≡ true
 
 -- how many of the cells at the beginning are below this one
 abbrev pub lead : List ℕ → ℕ → ℕ

@@ -1,4 +1,4 @@
--- What an output with a display id shows (Jupyter messaging 5.3, "Display data", "Update display data").
+-- The meaning: what an output with a display id shows (Jupyter messaging 5.3, "Display data", "Update display data").
 use Rattle.std.specs.Prelude.{ℕ, Bool, true, false, List, [], ◌∷◌, ◌++◌, ◌&&◌, Option, Some, None, if◌then◌else◌}
 use Rattle.std.specs.Option.{option_or, option_and_then}
 use Rattle.std.specs.Str.{bytes_eq}
@@ -19,14 +19,17 @@ shown_in (content.Update s) = Some s
 shown_in (content.Outcome s count) = Some s
 shown_in _ = None
 
+-- its data, where that is asked for
 abbrev pub data_if : Bool → Shown → Option Data
 data_if true s = Some (data_in s)
 data_if false s = None
 
+-- its data, where it has this display id
 abbrev pub data_under : List ℕ → Option (List ℕ) → Shown → Option Data
 data_under id None s = None
 data_under id (Some other) s = data_if (bytes_eq other id) s
 
+-- the data of what is shown, where it has this display id
 abbrev pub data_shown : List ℕ → Option Shown → Option Data
 data_shown id None = None
 data_shown id (Some s) = data_under id s.id s
@@ -40,6 +43,7 @@ abbrev pub latest : List ℕ → Option Data → List Content → Option Data
 latest id before [] = before
 latest id before (c ∷ rest) = latest id (option_or (shows id c) before) rest
 
+-- with these data, where there are some
 abbrev pub with_data : Shown → Option Data → Shown
 with_data s None = s
 with_data s (Some d) = record { bundle = d.bundle; metadata = d.metadata; id = s.id }

@@ -1,4 +1,4 @@
--- Outputs as nbformat 4.5 writes them (its schema, `output`), new text as lists of lines.
+-- The meaning: outputs as nbformat 4.5 writes them (its schema, `output`), new text as lists of lines.
 use Rattle.std.specs.Prelude.{ℕ, Bool, List, [], ◌∷◌, map, ◌&&◌, ◌||◌, not, Option, if◌then◌else◌, codes, nat_eq}
 use Rattle.std.specs.Str.{bytes_eq}
 use Rattle.std.specs.List.{starts_with, ends_with}
@@ -15,6 +15,7 @@ use Rattle.jcontent.specs.declared.shown.Shown.{Shown}
 abbrev pub is_text_type : List ℕ → Bool
 is_text_type key = (starts_with nat_eq key (codes "text/") || bytes_eq key (codes "application/javascript") || bytes_eq key (codes "image/svg+xml")) && not (ends_with nat_eq key (codes "+json"))
 
+-- a string as its lines, seen at one level
 abbrev pub lines_layer : Json → Json-F Json → Json
 lines_layer v Json-F.Null = v
 lines_layer v (Json-F.Bool b) = v

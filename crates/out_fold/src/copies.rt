@@ -106,7 +106,12 @@ fn named(alloc: Global, id: &Text) -> Result<Shown, NoMemory>
 }
 
 fn unnamed(alloc: Global, shown: &Shown) -> Result<Shown, NoMemory>
-    ensures { IfOk result (λ r. r ≡ record { bundle = shown.now.bundle; metadata = shown.now.metadata; id = None }) }
+    ensures { IfOk result (λ r. r ≡ record {
+      bundle = shown.now.bundle;
+      metadata =
+          shown.now.metadata;
+      id = None;
+    }) }
 {
     let bundle = bundle(alloc, &shown.bundle)?;
     let metadata = copy(alloc, &shown.metadata)?;

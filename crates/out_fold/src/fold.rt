@@ -12,8 +12,9 @@ use jtext::{Fields, Items, NoMemory, NumText, Text};
 use nb_model::Plan;
 use std::alloc::Global;
 
-/// The outputs, count and dates of the cells of a notebook, by the messages that were used for their requests.
-/// It holds the outputs that stand, what each display id shows, and in which cells it stands.
+/// The outputs, count and dates of the cells of a notebook, by the messages that were used for
+/// their requests. It holds the outputs that stand, what each display id shows, and in which cells
+/// it stands.
 #[derive(Drop)]
 pub struct Fold {
     alloc: Global,
@@ -24,14 +25,14 @@ pub struct Fold {
 }
 
 impl Fold {
-    ghost use Rattle.std.specs.Prelude.{◌≡◌, ℕ, ◌+◌, ◌<◌, ◌≤◌, List as Plain, [], ◌∷◌, ◌++◌, true, false, IfOk, OnOk, OnErr, unwrap_or};
+    ghost use Rattle.std.specs.Prelude.{◌≡◌, ℕ, ◌+◌, ◌<◌, ◌≤◌, List as Plain, [], ◌∷◌, ◌++◌, true, All, IfOk, OnOk, OnErr};
     ghost use Rattle.std.specs.Option.{option_copied};
     ghost use Rattle.display_index.specs.Standing.{Call};
     ghost use Rattle.display_index.specs.Held as ids;
-    ghost use Rattle.out_fold.specs.Cells.{Used, begun, with_message, with_reply, outputs_of, count_of, dates_of};
+    ghost use Rattle.out_fold.specs.Cells.{Used, begun, outputs_of, count_of, dates_of};
     ghost use Rattle.out_fold.specs.Placing.{named_places};
     ghost use Rattle.out_fold.specs.Plans.{increases, Covers};
-    ghost use Rattle.out_fold.specs.Stands.{StandsFor, Rested, cells_of, merge_of, next_of, touched_of};
+    ghost use Rattle.out_fold.specs.Stands.{StandsFor, StandsAsBefore, Takes, TouchesTaken, Replies, TouchesReplied, Rested, cells_of, merge_of, next_of, touched_of};
 
     /// A fold for a notebook with that many cells; `merge` joins neighbouring streams of one name.
     pub fn new(alloc: Global, cells: u32, merge: bool) -> Result<Fold, NoMemory>
@@ -57,21 +58,25 @@ impl Fold {
         ensures cells { cells_of self.new ≡ cells_of self.old }
         ensures merge { merge_of self.new ≡ merge_of self.old }
         ensures next { next_of self.new ≡ cell + 1 }
-        ensures stands { (us : Plain Used) → StandsFor self.old us → StandsFor self.new (us ++ begun cell ∷ []) }
-        ensures rested { (was us : Plain Used) → Rested self.old was us → Rested self.new was (us ++ begun cell ∷ []) }
+        ensures stands { (us : Plain Used) → StandsFor self.old us
+            → StandsFor self.new (us ++ begun cell ∷ []) }
+        ensures rested { (was us : Plain Used) → Rested self.old was us
+            → Rested self.new was (us ++ begun cell ∷ []) }
     {
         self.held.start(cell);
     }
 
-    /// Takes the next message that was used for the current cell's request. Without memory nothing changes.
+    /// Takes the next message that was used for the current cell's request. Without memory nothing
+    /// changes.
     pub fn take(&mut self, c: &Content, date: Option<&Text>) -> Result<(), NoMemory>
         requires { 0 < next_of self.old }
         ensures cells { cells_of self.new ≡ cells_of self.old }
         ensures merge { merge_of self.new ≡ merge_of self.old }
         ensures next { next_of self.new ≡ next_of self.old }
-        ensures stands { OnOk result ((us : Plain Used) (u : Used) → StandsFor self.old (us ++ u ∷ []) → StandsFor self.new (us ++ with_message u c.now (option_copied date.entry) ∷ [])) }
-        ensures rested { OnOk result ((was us : Plain Used) (u : Used) → StandsFor self.old (us ++ u ∷ []) → Rested self.old was (us ++ u ∷ []) → Rested self.new was (us ++ with_message u c.now (option_copied date.entry) ∷ [])) }
-        ensures still { OnErr result ((us : Plain Used) → StandsFor self.old us → StandsFor self.new us) }
+        ensures stands { OnOk result (Takes self.old self.new c.now (option_copied date.entry)) }
+        ensures rested { OnOk result
+            (TouchesTaken self.old self.new c.now (option_copied date.entry)) }
+        ensures still { OnErr result (StandsAsBefore self.old self.new) }
         ensures untouched { OnErr result (touched_of self.new ≡ touched_of self.old) }
     {
         let cell = self.held.current();
@@ -92,9 +97,10 @@ impl Fold {
         ensures cells { cells_of self.new ≡ cells_of self.old }
         ensures merge { merge_of self.new ≡ merge_of self.old }
         ensures next { next_of self.new ≡ next_of self.old }
-        ensures stands { OnOk result ((us : Plain Used) (u : Used) → StandsFor self.old (us ++ u ∷ []) → StandsFor self.new (us ++ with_reply u (option_copied date.entry) ∷ [])) }
-        ensures rested { OnOk result ((was us : Plain Used) (u : Used) → StandsFor self.old (us ++ u ∷ []) → Rested self.old was (us ++ u ∷ []) → Rested self.new was (us ++ with_reply u (option_copied date.entry) ∷ [])) }
-        ensures still { OnErr result ((us : Plain Used) → StandsFor self.old us → StandsFor self.new us) }
+        ensures stands { OnOk result (Replies self.old self.new (option_copied date.entry)) }
+        ensures rested { OnOk result
+            (TouchesReplied self.old self.new (option_copied date.entry)) }
+        ensures still { OnErr result (StandsAsBefore self.old self.new) }
         ensures untouched { OnErr result (touched_of self.new ≡ touched_of self.old) }
     {
         let cell = self.held.current();
@@ -111,7 +117,8 @@ impl Fold {
     /// The outputs of a cell as nbformat writes them; none where it was not begun.
     pub fn outputs(&self, cell: u32) -> Result<Items, NoMemory>
         requires { cell < cells_of self.now }
-        ensures { (us : Plain Used) → StandsFor self.now us → IfOk result (λ items. items ≡ outputs_of (merge_of self.now) us cell) }
+        ensures { (us : Plain Used) → StandsFor self.now us
+            → IfOk result (λ items. items ≡ outputs_of (merge_of self.now) us cell) }
     {
         self.held.outputs(cell)
     }
@@ -119,22 +126,28 @@ impl Fold {
     /// The execution count of a cell, where one was told.
     pub fn count(&self, cell: u32) -> Option<&NumText>
         requires { cell < cells_of self.now }
-        ensures { (us : Plain Used) → StandsFor self.now us → option_copied result ≡ count_of us cell }
+        ensures { (us : Plain Used) → StandsFor self.now us
+            → option_copied result ≡ count_of us cell }
     {
         self.held.count(cell)
     }
 
-    /// The dates of a cell's messages and of its reply, as nbclient writes them into `metadata.execution`.
+    /// The dates of a cell's messages and of its reply, as nbclient writes them into
+    /// `metadata.execution`.
     pub fn dates(&self, cell: u32) -> Result<Fields, NoMemory>
         requires { cell < cells_of self.now }
-        ensures { (us : Plain Used) → StandsFor self.now us → IfOk result (λ dates. dates ≡ dates_of us cell) }
+        ensures { (us : Plain Used) → StandsFor self.now us
+            → IfOk result (λ dates. dates ≡ dates_of us cell) }
     {
         self.held.dates(cell)
     }
 
-    /// The cells that may have changed since the last `rest`, or since the fold was made, in increasing order.
+    /// The cells that may have changed since the last `rest`, or since the fold was made, in
+    /// increasing order.
     pub fn touched(&self) -> &Plan
         ensures sorted { increases result.now ≡ true }
+        ensures below { (us : Plain Used) → StandsFor self.now us
+            → All (λ n. n < cells_of self.now) result.now }
         ensures cells { result.now ≡ touched_of self.now }
     {
         &self.touched
@@ -146,7 +159,7 @@ impl Fold {
         ensures merge { merge_of self.new ≡ merge_of self.old }
         ensures next { next_of self.new ≡ next_of self.old }
         ensures touched { touched_of self.new ≡ [] }
-        ensures stands { (us : Plain Used) → StandsFor self.old us → StandsFor self.new us }
+        ensures stands { StandsAsBefore self.old self.new }
         ensures rested { (us : Plain Used) → Rested self.new us us }
     {
         self.touched = Plan::new(self.alloc);

@@ -78,7 +78,8 @@ impl Folded {
     }
 
     fn status(&mut self, alloc: Global, state: State, date: Option<&Text>) -> Result<(), NoMemory>
-        ensures ok { OnOk result (self.new ≡ step self.old (content.Status state) (option_copied date.entry)) }
+        ensures ok { OnOk result (self.new
+            ≡ step self.old (content.Status state) (option_copied date.entry)) }
         ensures err { OnErr result (self.new ≡ self.old) }
     {
         let date = copies::date(alloc, date)?;
@@ -96,7 +97,8 @@ impl Folded {
         count: &Option<NumText>,
         date: Option<&Text>,
     ) -> Result<(), NoMemory>
-        ensures ok { OnOk result (self.new ≡ step self.old (content.Input count.now) (option_copied date.entry)) }
+        ensures ok { OnOk result (self.new
+            ≡ step self.old (content.Input count.now) (option_copied date.entry)) }
         ensures err { OnErr result (self.new ≡ self.old) }
     {
         let date = copies::date(alloc, date)?;
@@ -115,7 +117,12 @@ impl Folded {
     }
 
     fn stream(&mut self, alloc: Global, name: &Text, text: &Text) -> Result<(), NoMemory>
-        ensures ok { OnOk result (self.new ≡ record self.old { outputs = (if self.old.waits then [] else self.old.outputs) ++ content.Stream name.now text.now ∷ []; waits = false }) }
+        ensures ok { OnOk result (self.new
+            ≡ record self.old {
+              outputs = (if self.old.waits then [] else self.old.outputs) ++
+                  content.Stream name.now text.now ∷ [];
+              waits = false;
+            }) }
         ensures err { OnErr result (self.new ≡ self.old) }
     {
         let name = Text::of(alloc, name.as_str())?;
@@ -124,7 +131,12 @@ impl Folded {
     }
 
     fn display(&mut self, alloc: Global, shown: &Shown) -> Result<(), NoMemory>
-        ensures ok { OnOk result (self.new ≡ record self.old { outputs = (if self.old.waits then [] else self.old.outputs) ++ held (content.Display shown.now) ∷ []; waits = false }) }
+        ensures ok { OnOk result (self.new
+            ≡ record self.old {
+              outputs = (if self.old.waits then [] else self.old.outputs) ++ held
+                  (content.Display shown.now) ∷ [];
+              waits = false;
+            }) }
         ensures err { OnErr result (self.new ≡ self.old) }
     {
         let shown = copies::shown(alloc, shown)?;
@@ -137,7 +149,14 @@ impl Folded {
         shown: &Shown,
         count: &Option<NumText>,
     ) -> Result<(), NoMemory>
-        ensures ok { OnOk result (self.new ≡ record self.old { outputs = (if self.old.waits then [] else self.old.outputs) ++ held (content.Outcome shown.now count.now) ∷ []; waits = false; count = option_or count.now self.old.count }) }
+        ensures ok { OnOk result (self.new
+            ≡ record self.old {
+              outputs = (if self.old.waits then [] else self.old.outputs) ++ held
+                  (content.Outcome shown.now count.now) ∷ [];
+              waits = false;
+              count = option_or count.now
+                  self.old.count;
+            }) }
         ensures err { OnErr result (self.new ≡ self.old) }
     {
         let shown = copies::shown(alloc, shown)?;
@@ -155,7 +174,12 @@ impl Folded {
         evalue: &Text,
         traceback: &Texts,
     ) -> Result<(), NoMemory>
-        ensures ok { OnOk result (self.new ≡ record self.old { outputs = (if self.old.waits then [] else self.old.outputs) ++ content.Error ename.now evalue.now traceback.now ∷ []; waits = false }) }
+        ensures ok { OnOk result (self.new
+            ≡ record self.old {
+              outputs = (if self.old.waits then [] else self.old.outputs) ++
+                  content.Error ename.now evalue.now traceback.now ∷ [];
+              waits = false;
+            }) }
         ensures err { OnErr result (self.new ≡ self.old) }
     {
         let ename = Text::of(alloc, ename.as_str())?;
@@ -173,7 +197,12 @@ impl Folded {
 
     /// Puts one more output after those that stand; a clear that waits acts now.
     fn append(&mut self, alloc: Global, output: Content) -> Result<(), NoMemory>
-        ensures ok { OnOk result (self.new ≡ record self.old { outputs = (if self.old.waits then [] else self.old.outputs) ++ output ∷ []; waits = false }) }
+        ensures ok { OnOk result (self.new
+            ≡ record self.old {
+              outputs = (if self.old.waits then [] else self.old.outputs) ++
+                  output ∷ [];
+              waits = false;
+            }) }
         ensures err { OnErr result (self.new ≡ self.old) }
     {
         if self.waits {
@@ -187,7 +216,10 @@ impl Folded {
     }
 
     fn clear(&mut self, alloc: Global, later: bool)
-        ensures { self.new ≡ (if later then record self.old { waits = true } else record self.old { outputs = []; waits = false }) }
+        ensures { self.new ≡ (if later then record self.old { waits = true } else record self.old {
+          outputs = [];
+          waits = false;
+        }) }
     {
         if later {
             self.waits = true;

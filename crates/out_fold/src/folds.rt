@@ -60,18 +60,21 @@ impl Folds {
         ensures cells { cells_of self.new ≡ cells_of self.old }
         ensures merge { merge_of self.new ≡ merge_of self.old }
         ensures next { next_of self.new ≡ cell + 1 }
-        ensures stands { (us : Plain Used) → Holds self.old us → Holds self.new (us ++ begun cell ∷ []) }
+        ensures stands { (us : Plain Used) → Holds self.old us
+            → Holds self.new (us ++ begun cell ∷ []) }
     {
         let ended = mem::replace(&mut self.current, Folded::new(self.alloc));
         put_back(&mut self.cells, self.next, ended);
         self.next = cell as usize + 1;
     }
 
-    /// Takes the next message that was used for the current cell's request. Without memory nothing changes.
+    /// Takes the next message that was used for the current cell's request. Without memory nothing
+    /// changes.
     pub(crate) fn take(&mut self, c: &Content, date: Option<&Text>) -> Result<(), NoMemory>
         requires { 0 < next_of self.old }
         ensures shape { IsSameShape self.old self.new }
-        ensures stands { OnOk result ((us : Plain Used) (u : Used) → Holds self.old (us ++ u ∷ []) → Holds self.new (us ++ with_message u c.now (option_copied date.entry) ∷ [])) }
+        ensures stands { OnOk result ((us : Plain Used) (u : Used) → Holds self.old (us ++ u ∷ [])
+            → Holds self.new (us ++ with_message u c.now (option_copied date.entry) ∷ [])) }
         ensures still { OnErr result ((us : Plain Used) → Holds self.old us → Holds self.new us) }
     {
         self.take_one(c, date)
@@ -118,7 +121,8 @@ impl Folds {
         c: &Content,
         date: Option<&Text>,
     ) -> Result<(), NoMemory>
-        requires { (other : Plain ℕ) → shows other c.now ≡ data_if (bytes_eq id.now other) shown.now }
+        requires { (other : Plain ℕ) → shows other c.now
+            ≡ data_if (bytes_eq id.now other) shown.now }
         ensures ok { OnOk result (Took self.old self.new c.now (option_copied date.entry)) }
         ensures err { OnErr result (Kept self.old self.new) }
     {
@@ -133,7 +137,8 @@ impl Folds {
     pub(crate) fn reply(&mut self, date: Option<&Text>) -> Result<(), NoMemory>
         requires { 0 < next_of self.old }
         ensures shape { IsSameShape self.old self.new }
-        ensures stands { OnOk result ((us : Plain Used) (u : Used) → Holds self.old (us ++ u ∷ []) → Holds self.new (us ++ with_reply u (option_copied date.entry) ∷ [])) }
+        ensures stands { OnOk result ((us : Plain Used) (u : Used) → Holds self.old (us ++ u ∷ [])
+            → Holds self.new (us ++ with_reply u (option_copied date.entry) ∷ [])) }
         ensures still { OnErr result ((us : Plain Used) → Holds self.old us → Holds self.new us) }
     {
         let date = copies::date(self.alloc, date)?;
@@ -144,7 +149,8 @@ impl Folds {
     /// The outputs of a cell as nbformat writes them; none where it was not begun.
     pub(crate) fn outputs(&self, cell: u32) -> Result<Items, NoMemory>
         requires { cell < cells_of self.now }
-        ensures { (us : Plain Used) → Holds self.now us → IfOk result (λ items. items ≡ outputs_of (merge_of self.now) us cell) }
+        ensures { (us : Plain Used) → Holds self.now us
+            → IfOk result (λ items. items ≡ outputs_of (merge_of self.now) us cell) }
     {
         let held = self.held(cell);
         output_items(
@@ -163,10 +169,12 @@ impl Folds {
         self.held(cell).count.as_ref()
     }
 
-    /// The dates of a cell's messages and of its reply, as nbclient writes them into `metadata.execution`.
+    /// The dates of a cell's messages and of its reply, as nbclient writes them into
+    /// `metadata.execution`.
     pub(crate) fn dates(&self, cell: u32) -> Result<Fields, NoMemory>
         requires { cell < cells_of self.now }
-        ensures { (us : Plain Used) → Holds self.now us → IfOk result (λ dates. dates ≡ dates_of us cell) }
+        ensures { (us : Plain Used) → Holds self.now us
+            → IfOk result (λ dates. dates ≡ dates_of us cell) }
     {
         date_fields(self.alloc, self.held(cell))
     }

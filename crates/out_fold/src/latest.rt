@@ -62,7 +62,8 @@ impl Latest {
     /// Puts what is shown under a display id that has room.
     pub(crate) fn put(&mut self, id: &Text, fresh: Data)
         requires { IsSome (data_of self.old id.now) }
-        ensures { (other : List ℕ) → data_of self.new other ≡ (if bytes_eq id.now other then Some fresh else data_of self.old other) }
+        ensures { (other : List ℕ) → data_of self.new other
+            ≡ (if bytes_eq id.now other then Some fresh else data_of self.old other) }
     {
         if let Some(known) = self.data.get_mut(id.as_str()) {
             *known = fresh;

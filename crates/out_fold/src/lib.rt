@@ -1,5 +1,5 @@
-//! The outputs, count and dates of executed cells, folded from the messages that were used for their requests
-//! (Jupyter messaging 5.3, nbformat 4.5). Values only; it does no IO.
+//! The outputs, count and dates of executed cells, folded from the messages that were used for
+//! their requests (Jupyter messaging 5.3, nbformat 4.5). Values only; it does no IO.
 #![tactic(auto)]
 
 mod before;
@@ -11,20 +11,19 @@ mod folds;
 mod joining;
 mod kind;
 mod latest;
+pub mod laws;
 mod message;
 mod parts;
 mod places;
 mod plain_fold;
 mod plans;
-#[cfg(test)]
-mod random_tests;
 mod render;
 mod standing;
 mod taking;
-#[cfg(test)]
-mod tests;
 mod tree;
 mod used;
 
 pub use fold::Fold;
+pub use message::Message;
 pub use plain_fold::PlainFold;
+pub use used::Used;

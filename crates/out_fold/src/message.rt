@@ -6,7 +6,7 @@ use jtext::Text;
 #[derive(Debug, Drop)]
 pub struct Message {
     /// What it says.
-    pub(crate) content: Content,
+    pub content: Content,
     /// The date of its header, where it has one.
-    pub(crate) date: Option<Text>,
+    pub date: Option<Text>,
 }

@@ -12,7 +12,8 @@ use display_index::{Index, Place, Places};
 use jcontent::Content;
 use jtext::{NoMemory, Text};
 
-/// Adds the place of the message's output in the cell, where it has a display id that has none there yet.
+/// Adds the place of the message's output in the cell, where it has a display id that has none
+/// there yet.
 pub(crate) fn place(
     index: &mut Index,
     cell: u32,
@@ -21,8 +22,10 @@ pub(crate) fn place(
     name: Option<&Text>,
 ) -> Result<(), NoMemory>
     requires { option_copied name ≡ names.name_of c.now }
-    ensures ok { OnOk result ((calls : Plain Call) → ids.StandsFor index.old calls → spec.Placed calls index.new c.now cell) }
-    ensures err { OnErr result ((calls : Plain Call) → ids.StandsFor index.old calls → spec.Grown calls index.new) }
+    ensures ok { OnOk result ((calls : Plain Call) → ids.StandsFor index.old calls
+        → spec.Placed calls index.new c.now cell) }
+    ensures err { OnErr result ((calls : Plain Call) → ids.StandsFor index.old calls
+        → spec.Grown calls index.new cell) }
 {
     match name {
         Some(id) => place_named(index, cell, at, c, id),
@@ -38,8 +41,10 @@ fn place_named(
     id: &Text,
 ) -> Result<(), NoMemory>
     requires { names.name_of c.now ≡ Some id.now }
-    ensures ok { OnOk result ((calls : Plain Call) → ids.StandsFor index.old calls → spec.Placed calls index.new c.now cell) }
-    ensures err { OnErr result ((calls : Plain Call) → ids.StandsFor index.old calls → spec.Grown calls index.new) }
+    ensures ok { OnOk result ((calls : Plain Call) → ids.StandsFor index.old calls
+        → spec.Placed calls index.new c.now cell) }
+    ensures err { OnErr result ((calls : Plain Call) → ids.StandsFor index.old calls
+        → spec.Grown calls index.new cell) }
 {
     if appends(c) {
         place_output(index, cell, at, c, id)
@@ -56,8 +61,10 @@ fn place_output(
     id: &Text,
 ) -> Result<(), NoMemory>
     requires { names.name_of c.now ≡ Some id.now }
-    ensures ok { OnOk result ((calls : Plain Call) → ids.StandsFor index.old calls → spec.Placed calls index.new c.now cell) }
-    ensures err { OnErr result ((calls : Plain Call) → ids.StandsFor index.old calls → spec.Grown calls index.new) }
+    ensures ok { OnOk result ((calls : Plain Call) → ids.StandsFor index.old calls
+        → spec.Placed calls index.new c.now cell) }
+    ensures err { OnErr result ((calls : Plain Call) → ids.StandsFor index.old calls
+        → spec.Grown calls index.new cell) }
 {
     if last_is_in(index.places(id), cell) {
         Ok(())
@@ -77,7 +84,8 @@ fn last_is_in(places: &Places, cell: u32) -> bool
 
 /// Takes out the places in the cell, where the message clears it at once.
 pub(crate) fn settle(index: &mut Index, cell: u32, c: &Content)
-    ensures { (calls : Plain Call) → ids.StandsFor index.old calls → ids.StandsFor index.new (spec.settled c.now cell calls) }
+    ensures { (calls : Plain Call) → ids.StandsFor index.old calls
+        → ids.StandsFor index.new (spec.settled c.now cell calls) }
 {
     if clears_now(c) {
         index.clear(cell);

@@ -9,9 +9,9 @@ use jcontent::Content;
 use jtext::{Fields, Items, List, NoMemory, NumText, Text};
 use std::alloc::Global;
 
-/// The outputs, count and dates of cells, each time computed anew from all messages that were used for their requests.
-/// It says what [`Fold`](crate::Fold) says of the same messages, by the definitions themselves, and is slow: its time
-/// grows with the square of the messages.
+/// The outputs, count and dates of cells, each time computed anew from all messages that were used
+/// for their requests. It says what [`Fold`](crate::Fold) says of the same messages, by the
+/// definitions themselves, and is slow: its time grows with the square of the messages.
 #[derive(Drop)]
 pub struct PlainFold {
     alloc: Global,
@@ -25,7 +25,8 @@ impl PlainFold {
     ghost use Rattle.out_fold.specs.Cells.{Used as Request, begun, with_message, with_reply, outputs_of, count_of, dates_of};
     ghost use Rattle.out_fold.specs.Plain.{used_of, merge_of};
 
-    /// A fold that was given nothing; `merge` joins neighbouring streams of one name. It takes no memory.
+    /// A fold that was given nothing; `merge` joins neighbouring streams of one name. It takes no
+    /// memory.
     pub fn new(alloc: Global, merge: bool) -> PlainFold
         ensures used { used_of result ≡ [] }
         ensures merge { merge_of result ≡ merge }
@@ -46,10 +47,13 @@ impl PlainFold {
         self.used.push(Used::new(self.alloc, cell))
     }
 
-    /// Takes the next message that was used for the current cell's request. Without memory nothing changes.
+    /// Takes the next message that was used for the current cell's request. Without memory nothing
+    /// changes.
     pub fn take(&mut self, c: &Content, date: Option<&Text>) -> Result<(), NoMemory>
         requires { 0 < length (used_of self.old) }
-        ensures ok { OnOk result ((us : Plain Request) (u : Request) → used_of self.old ≡ us ++ u ∷ [] → used_of self.new ≡ us ++ with_message u c.now (option_copied date.entry) ∷ []) }
+        ensures ok { OnOk result ((us : Plain Request) (u : Request)
+            → used_of self.old ≡ us ++ u ∷ []
+            → used_of self.new ≡ us ++ with_message u c.now (option_copied date.entry) ∷ []) }
         ensures err { OnErr result (used_of self.new ≡ used_of self.old) }
         ensures len { length (used_of self.new) ≡ length (used_of self.old) }
         ensures merge { merge_of self.new ≡ merge_of self.old }
@@ -66,7 +70,9 @@ impl PlainFold {
     /// Takes the date of the reply to the current cell's request. Without memory nothing changes.
     pub fn reply(&mut self, date: Option<&Text>) -> Result<(), NoMemory>
         requires { 0 < length (used_of self.old) }
-        ensures ok { OnOk result ((us : Plain Request) (u : Request) → used_of self.old ≡ us ++ u ∷ [] → used_of self.new ≡ us ++ with_reply u (option_copied date.entry) ∷ []) }
+        ensures ok { OnOk result ((us : Plain Request) (u : Request)
+            → used_of self.old ≡ us ++ u ∷ []
+            → used_of self.new ≡ us ++ with_reply u (option_copied date.entry) ∷ []) }
         ensures err { OnErr result (used_of self.new ≡ used_of self.old) }
         ensures len { length (used_of self.new) ≡ length (used_of self.old) }
         ensures merge { merge_of self.new ≡ merge_of self.old }
@@ -81,7 +87,8 @@ impl PlainFold {
 
     /// The outputs of a cell as nbformat writes them; none where it was not begun.
     pub fn outputs(&self, cell: u32) -> Result<Items, NoMemory>
-        ensures { IfOk result (λ items. items ≡ outputs_of (merge_of self.now) (used_of self.now) cell) }
+        ensures { IfOk result (λ items. items
+            ≡ outputs_of (merge_of self.now) (used_of self.now) cell) }
     {
         let used = self.used.as_slice();
         for (i, request) in used.iter().enumerate() {
@@ -93,7 +100,8 @@ impl PlainFold {
     }
 
     fn outputs_at(&self, request: &Used, later: &[Used]) -> Result<Items, NoMemory>
-        ensures { IfOk result (λ items. items ≡ outputs_of (merge_of self.now) (request.now ∷ later.now) request.now.cell) }
+        ensures { IfOk result (λ items. items
+            ≡ outputs_of (merge_of self.now) (request.now ∷ later.now) request.now.cell) }
     {
         let outputs = outputs(self.alloc, request.own.as_slice(), later)?;
         let latest = Latest::new(self.alloc);
@@ -112,7 +120,8 @@ impl PlainFold {
         None
     }
 
-    /// The dates of a cell's messages and of its reply, as nbclient writes them into `metadata.execution`.
+    /// The dates of a cell's messages and of its reply, as nbclient writes them into
+    /// `metadata.execution`.
     pub fn dates(&self, cell: u32) -> Result<Fields, NoMemory>
         ensures { IfOk result (λ dates. dates ≡ dates_of (used_of self.now) cell) }
     {

@@ -10,8 +10,8 @@ use nb_model::Plan;
 use std::alloc::Global;
 use std::mem;
 
-/// Puts the cell and those of the places among the cells, and says how the cells were. Where they have those of the
-/// places, as they mostly do, nothing is copied. Without memory nothing changes.
+/// Puts the cell and those of the places among the cells, and says how the cells were. Where they
+/// have those of the places, as they mostly do, nothing is copied. Without memory nothing changes.
 pub(crate) fn touch(
     alloc: Global,
     plan: &mut Plan,
@@ -115,7 +115,8 @@ fn place_in(plan: &[u32], cell: u32) -> Result<usize, usize>
 /// The cells of the plan, the cell and those of the places. Places whose cells increase are merged.
 fn union(alloc: Global, plan: &[u32], cell: u32, places: &[Place]) -> Result<Plan, NoMemory>
     ensures sorted { IfOk result (λ r. increases r ≡ true) }
-    ensures members { IfOk result (λ r. (n : ℕ) → is_in r n ≡ ((cell == n || is_in plan.now n) || list_any (λ p. p.cell == n) places.now)) }
+    ensures members { IfOk result (λ r. (n : ℕ)
+        → is_in r n ≡ ((cell == n || is_in plan.now n) || list_any (λ p. p.cell == n) places.now)) }
 {
     let mut cells = Plan::new(alloc);
     let mut rest = plan;
@@ -132,7 +133,8 @@ fn union(alloc: Global, plan: &[u32], cell: u32, places: &[Place]) -> Result<Pla
 fn put_below<'a>(cells: &mut Plan, rest: &'a [u32], cell: u32) -> Result<&'a [u32], NoMemory>
     requires { increases cells.old ≡ true }
     ensures sorted { increases cells.new ≡ true }
-    ensures members { IfOk result (λ r. (n : ℕ) → (is_in cells.new n || is_in r.now n) ≡ (is_in cells.old n || is_in rest.now n)) }
+    ensures members { IfOk result (λ r. (n : ℕ)
+        → (is_in cells.new n || is_in r.now n) ≡ (is_in cells.old n || is_in rest.now n)) }
 {
     let (below, others) = rest.split_at(cells_below(rest, cell));
     put_all(cells, below)?;
@@ -142,7 +144,8 @@ fn put_below<'a>(cells: &mut Plan, rest: &'a [u32], cell: u32) -> Result<&'a [u3
 fn put_all(cells: &mut Plan, others: &[u32]) -> Result<(), NoMemory>
     requires { increases cells.old ≡ true }
     ensures sorted { increases cells.new ≡ true }
-    ensures members { OnOk result ((n : ℕ) → is_in cells.new n ≡ (is_in cells.old n || is_in others.now n)) }
+    ensures members { OnOk result ((n : ℕ)
+        → is_in cells.new n ≡ (is_in cells.old n || is_in others.now n)) }
 {
     for n in others {
         put_cell(cells, *n)?;

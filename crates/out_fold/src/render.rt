@@ -23,7 +23,9 @@ pub(crate) fn output_items(
     latest: &Latest,
     merge: bool,
 ) -> Result<Items, NoMemory>
-    ensures { IfOk result (λ r. r ≡ map (λ c. tree.output_tree (resolved (data_of latest.now) c)) (joined_where merge outputs.now)) }
+    ensures { IfOk result (λ r. r ≡ map
+        (λ c. tree.output_tree (resolved (data_of latest.now) c))
+        (joined_where merge outputs.now)) }
 {
     if merge {
         joined_items(alloc, outputs, latest)
@@ -33,7 +35,8 @@ pub(crate) fn output_items(
 }
 
 fn plain_items(alloc: Global, outputs: &[Content], latest: &Latest) -> Result<Items, NoMemory>
-    ensures { IfOk result (λ r. r ≡ map (λ c. tree.output_tree (resolved (data_of latest.now) c)) outputs.now) }
+    ensures { IfOk result (λ r. r ≡ map
+        (λ c. tree.output_tree (resolved (data_of latest.now) c)) outputs.now) }
 {
     let mut items = Items::new(alloc);
     for c in outputs {
@@ -43,7 +46,8 @@ fn plain_items(alloc: Global, outputs: &[Content], latest: &Latest) -> Result<It
 }
 
 fn joined_items(alloc: Global, outputs: &[Content], latest: &Latest) -> Result<Items, NoMemory>
-    ensures { IfOk result (λ r. r ≡ map (λ c. tree.output_tree (resolved (data_of latest.now) c)) (joined outputs.now)) }
+    ensures { IfOk result (λ r. r ≡ map
+        (λ c. tree.output_tree (resolved (data_of latest.now) c)) (joined outputs.now)) }
 {
     let mut items = Items::new(alloc);
     let mut rest = outputs;
@@ -64,8 +68,10 @@ fn joined_item(
     latest: &Latest,
 ) -> Result<(Json, usize), NoMemory>
     ensures within { IfOk result (λ r. r.1 ≤ length after.now) }
-    ensures first { IfOk result (λ r. map (λ c. tree.output_tree (resolved (data_of latest.now) c)) (joined (first.now ∷ after.now))
-        ≡ r.0 ∷ map (λ c. tree.output_tree (resolved (data_of latest.now) c)) (joined (drop r.1 after.now))) }
+    ensures first { IfOk result (λ r. map
+        (λ c. tree.output_tree (resolved (data_of latest.now) c)) (joined (first.now ∷ after.now))
+        ≡ r.0 ∷ map (λ c. tree.output_tree (resolved (data_of latest.now) c))
+        (joined (drop r.1 after.now))) }
 {
     match first {
         Content::Stream { name, text } => {
@@ -132,7 +138,8 @@ fn known<'a>(shown: &'a Shown, latest: &'a Latest) -> Option<&'a Data>
 
 /// The dates that are held of a cell, those that there are.
 pub(crate) fn date_fields(alloc: Global, held: &Folded) -> Result<Fields, NoMemory>
-    ensures { IfOk result (λ r. r ≡ cells.date_pairs held.now.input held.now.busy held.now.idle held.now.reply) }
+    ensures { IfOk result (λ r. r ≡ cells.date_pairs held.now.input held.now.busy held.now.idle
+        held.now.reply) }
 {
     let (input, busy) = (held.input.as_ref(), held.busy.as_ref());
     date_pairs(alloc, input, busy, held.idle.as_ref(), held.reply.as_ref())
@@ -146,7 +153,8 @@ pub(crate) fn date_pairs(
     idle: Option<&Text>,
     reply: Option<&Text>,
 ) -> Result<Fields, NoMemory>
-    ensures { IfOk result (λ r. r ≡ cells.date_pairs (option_copied input.entry) (option_copied busy.entry) (option_copied idle.entry) (option_copied reply.entry)) }
+    ensures { IfOk result (λ r. r ≡ cells.date_pairs (option_copied input.entry)
+        (option_copied busy.entry) (option_copied idle.entry) (option_copied reply.entry)) }
 {
     let mut fields = Fields::new(alloc);
     put_date(alloc, &mut fields, "iopub.execute_input", input)?;

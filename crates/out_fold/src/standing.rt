@@ -15,7 +15,8 @@ use jcontent::{Content, Shown};
 use jtext::{List, NoMemory, Text, copy};
 use std::alloc::Global;
 
-/// The outputs of a request, as they are shown after its own messages and those of the later requests.
+/// The outputs of a request, as they are shown after its own messages and those of the later
+/// requests.
 pub(crate) fn outputs(
     alloc: Global,
     own: &[Message],
@@ -61,7 +62,8 @@ fn one_appends(messages: &[Message]) -> bool
 
 /// An output as it is shown after these messages.
 fn shown(alloc: Global, c: &Content, after: &[Message], later: &[Used]) -> Result<Content, NoMemory>
-    ensures { IfOk result (λ r. r ≡ spec.shown c.now (contents_of after.now ++ all_contents later.now)) }
+    ensures { IfOk result (λ r. r ≡ spec.shown c.now
+        (contents_of after.now ++ all_contents later.now)) }
 {
     match c {
         Content::Display(shown) => Ok(Content::Display(with_last(alloc, shown, after, later)?)),
@@ -80,7 +82,8 @@ fn with_last<'a>(
     after: &'a [Message],
     later: &'a [Used],
 ) -> Result<Shown, NoMemory>
-    ensures { IfOk result (λ r. r ≡ spec.known_to (λ id. spec.latest id None (contents_of after.now ++ all_contents later.now)) shown.now) }
+    ensures { IfOk result (λ r. r ≡ spec.known_to
+        (λ id. spec.latest id None (contents_of after.now ++ all_contents later.now)) shown.now) }
 {
     let id = copies::date(alloc, shown.id.as_ref())?;
     let from = match &shown.id {
@@ -98,7 +101,8 @@ fn with_last<'a>(
 
 /// What these messages showed last under the display id.
 fn last_of_all<'a>(id: &Text, after: &'a [Message], later: &'a [Used]) -> Option<&'a Shown>
-    ensures { data_of (option_copied result) ≡ spec.latest id.now None (contents_of after.now ++ all_contents later.now) }
+    ensures { data_of (option_copied result)
+        ≡ spec.latest id.now None (contents_of after.now ++ all_contents later.now) }
 {
     let mut last = last_shown(id, None, after);
     for request in later {
@@ -107,13 +111,15 @@ fn last_of_all<'a>(id: &Text, after: &'a [Message], later: &'a [Used]) -> Option
     last
 }
 
-/// What the last of these messages that shows something under the display id shows; where none does, what was shown before.
+/// What the last of these messages that shows something under the display id shows; where none
+/// does, what was shown before.
 fn last_shown<'a>(
     id: &Text,
     before: Option<&'a Shown>,
     messages: &'a [Message],
 ) -> Option<&'a Shown>
-    ensures { data_of (option_copied result) ≡ spec.latest id.now (data_of (option_copied before.entry)) (contents_of messages.now) }
+    ensures { data_of (option_copied result)
+        ≡ spec.latest id.now (data_of (option_copied before.entry)) (contents_of messages.now) }
 {
     let mut last = before;
     for message in messages {

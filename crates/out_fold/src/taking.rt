@@ -38,7 +38,8 @@ pub(crate) fn touch_named(
 }
 
 fn places_of<'a>(index: &'a Index, name: Option<&Text>) -> &'a [Place]
-    ensures { (calls : Plain Call) → ids.StandsFor index.now calls → result.now ≡ named_places calls (option_copied name.entry) }
+    ensures { (calls : Plain Call) → ids.StandsFor index.now calls
+        → result.now ≡ named_places calls (option_copied name.entry) }
 {
     match name {
         Some(id) => index.places(id).as_slice(),
@@ -46,8 +47,8 @@ fn places_of<'a>(index: &'a Index, name: Option<&Text>) -> &'a [Place]
     }
 }
 
-/// Takes the message among what is held and in the index. Without memory what is held is as it was, and
-/// what had a place in the index still has one.
+/// Takes the message among what is held and in the index. Without memory what is held is as it was,
+/// and what had a place in the index still has one.
 pub(crate) fn take_placed(
     held: &mut Folds,
     index: &mut Index,
@@ -57,10 +58,13 @@ pub(crate) fn take_placed(
 ) -> Result<(), NoMemory>
     requires { 0 < next_of held.old }
     ensures shape { IsSameShape held.old held.new }
-    ensures stands { OnOk result ((us : Plain Used) (u : Used) → Holds held.old (us ++ u ∷ []) → Holds held.new (us ++ with_message u c.now (option_copied date.entry) ∷ [])) }
-    ensures settled { OnOk result ((calls : Plain Call) → ids.StandsFor index.old calls → Settled calls index.new c.now cell) }
+    ensures stands { OnOk result ((us : Plain Used) (u : Used) → Holds held.old (us ++ u ∷ [])
+        → Holds held.new (us ++ with_message u c.now (option_copied date.entry) ∷ [])) }
+    ensures settled { OnOk result ((calls : Plain Call) → ids.StandsFor index.old calls
+        → Settled calls index.new c.now cell) }
     ensures still { OnErr result ((us : Plain Used) → Holds held.old us → Holds held.new us) }
-    ensures grown { OnErr result ((calls : Plain Call) → ids.StandsFor index.old calls → Grown calls index.new) }
+    ensures grown { OnErr result ((calls : Plain Call) → ids.StandsFor index.old calls
+        → Grown calls index.new cell) }
 {
     let at = held.outputs_held();
     place(index, cell, at, c, name_of(c))?;

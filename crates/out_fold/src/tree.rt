@@ -26,7 +26,8 @@ pub(crate) fn display_tree(
     bundle: &Fields,
     metadata: &Json,
 ) -> Result<Json, NoMemory>
-    ensures { IfOk result (λ r. r ≡ spec.display_tree (record { bundle = bundle.now; metadata = metadata.now; id = None })) }
+    ensures { IfOk result (λ r. r ≡ spec.display_tree
+        (record { bundle = bundle.now; metadata = metadata.now; id = None })) }
 {
     let bundle = stored(alloc, bundle)?;
     let metadata = copy(alloc, metadata)?;
@@ -43,7 +44,8 @@ pub(crate) fn result_tree(
     metadata: &Json,
     count: &Option<NumText>,
 ) -> Result<Json, NoMemory>
-    ensures { IfOk result (λ r. r ≡ spec.result_tree (record { bundle = bundle.now; metadata = metadata.now; id = None }) count.now) }
+    ensures { IfOk result (λ r. r ≡ spec.result_tree
+        (record { bundle = bundle.now; metadata = metadata.now; id = None }) count.now) }
 {
     let bundle = stored(alloc, bundle)?;
     let metadata = copy(alloc, metadata)?;

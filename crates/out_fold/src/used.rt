@@ -15,11 +15,11 @@ use std::alloc::Global;
 #[derive(Debug, Drop)]
 pub struct Used {
     /// The cell.
-    pub(crate) cell: u32,
+    pub cell: u32,
     /// Its messages.
-    pub(crate) own: List<Message>,
+    pub own: List<Message>,
     /// The date of the reply, where it has one.
-    pub(crate) reply: Option<Text>,
+    pub reply: Option<Text>,
 }
 
 impl Used {

@@ -14,4 +14,4 @@ returns-else-last_is_in-clause-ok c =
 
 pub returns-else-last_is_in-clause-err : goal.returns-else-last_is_in-clause-err
 returns-else-last_is_in-clause-err c =
-    on_err c.add.result (λ h. λ calls s. grown-same calls c.add.new.self (h calls s)) c.add.ensures.err
+    on_err c.add.result (λ h. λ calls s. grown-same calls c.add.new.self c.args.cell (h calls s)) c.add.ensures.err

@@ -1,0 +1,243 @@
+//! Outputs, counts and dates after a few messages, written one a line.
+ghost use Rattle.std.specs.Prelude.{◌≡◌, ◌<◌, IfOk};
+ghost use Rattle.out_fold.specs.Stands.{cells_of, next_of};
+
+use jcontent::{Content, Shown, State};
+use jtext::{Bytes, Fields, Json, NoMemory, NumText, Text, Texts, write_compact};
+use out_fold::Fold;
+use std::alloc::Global;
+use std::test::Fail;
+
+fn shown(alloc: Global, key: &str, id: &str, text: &str) -> Result<Shown, NoMemory> {
+    let value = Json::Str(Text::of(alloc, text)?);
+    let pair = (Text::of(alloc, key)?, value);
+    let id = if id.is_empty() {
+        None
+    } else {
+        Some(Text::of(alloc, id)?)
+    };
+    Ok(Shown {
+        bundle: Fields::of_vec(vec![in alloc; pair]?),
+        metadata: Json::Obj(Fields::new(alloc)),
+        id,
+    })
+}
+
+/// `stream NAME TEXT`, `show ID TEXT`, `update ID TEXT`, `result COUNT TEXT`, `input COUNT`,
+/// `error NAME TEXT`, `data KEY TEXT`, `clear now`, `clear later`, `status idle`.
+fn content(alloc: Global, line: &str) -> Result<Content, NoMemory> {
+    let (kind, rest) = line.split_once(' ').unwrap_or((line, ""));
+    let (first, second) = rest.split_once(' ').unwrap_or((rest, ""));
+    match kind {
+        "stream" => Ok(Content::Stream {
+            name: Text::of(alloc, first)?,
+            text: Text::of(alloc, second)?,
+        }),
+        "show" => Ok(Content::Display(shown(alloc, "text/plain", first, second)?)),
+        "data" => Ok(Content::Display(shown(alloc, first, "", second)?)),
+        "update" => Ok(Content::Update(shown(alloc, "text/plain", first, second)?)),
+        "result" => Ok(Content::Outcome {
+            shown: shown(alloc, "text/plain", "", second)?,
+            count: NumText::of(alloc, first).ok(),
+        }),
+        "input" => Ok(Content::Input(NumText::of(alloc, first).ok())),
+        "error" => Ok(Content::Error {
+            ename: Text::of(alloc, first)?,
+            evalue: Text::of(alloc, second)?,
+            traceback: Texts::of_vec(vec![in alloc; Text::of(alloc, second)?]?),
+        }),
+        "clear" => Ok(Content::Clear {
+            later: first == "later",
+        }),
+        "status" => Ok(Content::Status(State::Idle)),
+        _ => Ok(Content::Other),
+    }
+}
+
+fn give(alloc: Global, fold: &mut Fold, lines: &str) -> Result<(), NoMemory>
+    requires { 0 < next_of fold.old }
+    ensures next { next_of fold.new ≡ next_of fold.old }
+    ensures cells { cells_of fold.new ≡ cells_of fold.old }
+{
+    let date = Text::of(alloc, "2026-11-27T09:00:00.123456Z")?;
+    for line in lines.split(';') {
+        let content = content(alloc, line)?;
+        fold.take(&content, Some(&date))?;
+    }
+    Ok(())
+}
+
+fn said(alloc: Global, fold: &Fold, cell: u32) -> Result<Bytes, NoMemory>
+    requires { cell < cells_of fold.now }
+{
+    write_compact(alloc, &Json::Arr(fold.outputs(cell)?))
+}
+
+/// The outputs of one cell after these messages, which `;` parts.
+fn outputs_of(alloc: Global, merge: bool, lines: &str) -> Result<Bytes, NoMemory> {
+    let mut fold = Fold::new(alloc, 1, merge)?;
+    fold.start(0);
+    give(alloc, &mut fold, lines)?;
+    said(alloc, &fold, 0)
+}
+
+/// The first of the rows `MESSAGES -> OUTPUTS` that doesn't hold of one cell.
+fn first_wrong<'a>(alloc: Global, merge: bool, rows: &'a str) -> Result<Option<&'a str>, NoMemory> {
+    for row in rows.split('\n') {
+        let (messages, outputs) = row.split_once(" -> ").unwrap_or((row, ""));
+        let said = outputs_of(alloc, merge, messages)?;
+        if said.bytes() != outputs.as_bytes() {
+            return Ok(Some(row));
+        }
+    }
+    Ok(None)
+}
+
+const CLEARS: &str =
+    r#"show x 1;clear later -> [{"data":{"text/plain":["1"]},"metadata":{},"output_type":"display_data"}]
+show x 1;clear later;stream o b -> [{"name":"o","output_type":"stream","text":["b"]}]
+stream o a;clear later;clear now;stream o b -> [{"name":"o","output_type":"stream","text":["b"]}]
+stream o a;clear now -> []
+clear now;clear later;stream o a -> [{"name":"o","output_type":"stream","text":["a"]}]
+stream o a;clear later;update x 1;status idle -> [{"name":"o","output_type":"stream","text":["a"]}]
+update x 1 -> []
+clear now -> []
+clear later -> []
+clear later;clear later;error E v;stream o a -> [{"ename":"E","evalue":"v","output_type":"error","traceback":["v"]},{"name":"o","output_type":"stream","text":["a"]}]
+update y 1;clear later;show x 2;update y 3 -> [{"data":{"text/plain":["2"]},"metadata":{},"output_type":"display_data"}]
+show x 0;update x 1 -> [{"data":{"text/plain":["1"]},"metadata":{},"output_type":"display_data"}]"#;
+
+const STORED: &str =
+    r#"data text/x+json a -> [{"data":{"text/x+json":"a"},"metadata":{},"output_type":"display_data"}]
+data image/svg+xml <s> -> [{"data":{"image/svg+xml":["<s>"]},"metadata":{},"output_type":"display_data"}]
+data image/png a -> [{"data":{"image/png":"a"},"metadata":{},"output_type":"display_data"}]
+input 3;result none 1 -> [{"data":{"text/plain":["1"]},"execution_count":null,"metadata":{},"output_type":"execute_result"}]
+error E v -> [{"ename":"E","evalue":"v","output_type":"error","traceback":["v"]}]"#;
+
+const JOINED: &str = r#"stream o a;stream o b -> [{"name":"o","output_type":"stream","text":["ab"]}]
+stream o a;stream e b;stream o c -> [{"name":"o","output_type":"stream","text":["a"]},{"name":"e","output_type":"stream","text":["b"]},{"name":"o","output_type":"stream","text":["c"]}]"#;
+
+const UPDATED: &str =
+    r#"[{"data":{"text/plain":["9"]},"metadata":{},"output_type":"display_data"},{"data":{"text/plain":["9"]},"metadata":{},"output_type":"display_data"},{"data":{"text/plain":["3"]},"metadata":{},"output_type":"display_data"},{"data":{"text/plain":["0"]},"execution_count":8,"metadata":{},"output_type":"execute_result"}]"#;
+
+#[test]
+fn clears_act_as_they_say(rt: HostRuntime) -> Result<(), Fail> {
+    let wrong = first_wrong(rt.alloc(), false, CLEARS)?;
+    assert!(rt; wrong.is_none(), "{wrong:?}");
+    Ok(())
+}
+
+#[test]
+fn outputs_are_stored_as_nbformat_writes_them(rt: HostRuntime) -> Result<(), Fail> {
+    let wrong = first_wrong(rt.alloc(), false, STORED)?;
+    assert!(rt; wrong.is_none(), "{wrong:?}");
+    Ok(())
+}
+
+#[test]
+fn neighbouring_streams_of_one_name_are_joined(rt: HostRuntime) -> Result<(), Fail> {
+    let wrong = first_wrong(rt.alloc(), true, JOINED)?;
+    assert!(rt; wrong.is_none(), "{wrong:?}");
+    Ok(())
+}
+
+#[test]
+fn an_update_reaches_every_cell(rt: HostRuntime) -> Result<(), Fail> {
+    let alloc = rt.alloc();
+    let mut fold = Fold::new(alloc, 3, false)?;
+    fold.start(0);
+    give(
+        alloc,
+        &mut fold,
+        "show x 1;show x 2;show y 3;input 7;result 8 0",
+    )?;
+    fold.start(2);
+    give(alloc, &mut fold, "update x 9")?;
+    let date = Text::of(alloc, "R")?;
+    fold.reply(Some(&date))?;
+    let said = said(alloc, &fold, 0)?;
+    assert!(rt; said.bytes() == UPDATED.as_bytes());
+    let count = fold.count(0);
+    assert!(rt; count.is_some_and(|n| n.as_str() == "8"));
+    assert!(rt; fold.count(1).is_none());
+    Ok(())
+}
+
+#[test]
+fn dates_are_those_of_the_last_messages(rt: HostRuntime) -> Result<(), Fail> {
+    let alloc = rt.alloc();
+    let mut fold = Fold::new(alloc, 1, false)?;
+    fold.start(0);
+    give(alloc, &mut fold, "input 7;status idle")?;
+    let date = Text::of(alloc, "R")?;
+    fold.reply(Some(&date))?;
+    let said = write_compact(alloc, &Json::Obj(fold.dates(0)?))?;
+    let dates =
+        r#"{"iopub.execute_input":"2026-11-27T09:00:00.123456Z","iopub.status.idle":"2026-11-27T09:00:00.123456Z","shell.execute_reply":"R"}"#;
+    assert!(rt; said.bytes() == dates.as_bytes());
+    Ok(())
+}
+
+#[test]
+fn an_update_touches_the_cells_that_show_it(rt: HostRuntime) -> Result<(), Fail> {
+    let alloc = rt.alloc();
+    let mut fold = Fold::new(alloc, 4, false)?;
+    fold.start(0);
+    give(alloc, &mut fold, "show x 1")?;
+    fold.start(1);
+    give(alloc, &mut fold, "stream o a")?;
+    fold.rest();
+    assert!(rt; fold.touched().as_slice().is_empty());
+    fold.start(3);
+    give(alloc, &mut fold, "update x 2")?;
+    assert_eq!(rt; fold.touched().as_slice(), [0u32, 3].as_slice());
+    Ok(())
+}
+
+/// Whether the cell has that many outputs, and each is this one.
+fn all_are(
+    alloc: Global,
+    fold: &Fold,
+    cell: u32,
+    outputs: usize,
+    one: &str,
+) -> Result<bool, NoMemory>
+    requires { cell < cells_of fold.now }
+{
+    let items = fold.outputs(cell)?;
+    for item in items.as_slice() {
+        let said = write_compact(alloc, item)?;
+        if said.bytes() != one.as_bytes() {
+            return Ok(false);
+        }
+    }
+    Ok(items.len() == outputs)
+}
+
+/// A fold of two cells: many outputs of one display in the first, and one in the second, which
+/// updates it.
+fn updated(alloc: Global, outputs: u32) -> Result<Fold, NoMemory>
+    ensures { IfOk result (λ f. cells_of f ≡ 2) }
+{
+    let mut fold = Fold::new(alloc, 2, false)?;
+    let show = content(alloc, "show x 1")?;
+    fold.start(0);
+    for shown in 0..outputs {
+        fold.take(&show, None)?;
+    }
+    fold.start(1);
+    give(alloc, &mut fold, "show x 2;update y 3;update x 4")?;
+    Ok(fold)
+}
+
+const FOUR: &str = r#"{"data":{"text/plain":["4"]},"metadata":{},"output_type":"display_data"}"#;
+
+#[test]
+fn ten_thousand_outputs_of_one_display_show_its_last_update(rt: HostRuntime) -> Result<(), Fail> {
+    let fold = updated(rt.alloc(), 10_000)?;
+    let first = all_are(rt.alloc(), &fold, 0, 10_000, FOUR)?;
+    assert!(rt; first);
+    let second = all_are(rt.alloc(), &fold, 1, 1, FOUR)?;
+    assert!(rt; second);
+    Ok(())
+}
