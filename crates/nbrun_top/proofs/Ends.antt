@@ -1,14 +1,13 @@
 -- What a run that ended well has left.
-use Rattle.std.proofs.Common.{◌≡◌, ◌⊎◌, inl, inr, ℕ, List, [], ◌∷◌, refl, sym, ◌∙◌, ap, subst}
+use Rattle.std.proofs.Common.{◌≡◌, ◌⊎◌, inl, inr, ℕ, List, [], ◌∷◌, Ok, refl, sym, ◌∙◌, ap}
 use Rattle.words.specs.declared.ask.Ask.{Ask}
 use Rattle.world.specs.declared.entry.Entry.{Entry}
-use Rattle.world.specs.declared.entry.Entry.TheVariants.{Read, Created, Synced}
-use Rattle.world.specs.declared.did.Did.TheVariants.{Done}
+use Rattle.world.specs.declared.entry.Entry.TheVariants.{Read}
 use Rattle.world.specs.declared.read_file.ReadFile.TheVariants as found
 use Rattle.world.specs.declared.left.Left.TheVariants as left
 use Rattle.world.specs.Disk.{leaves}
 use Rattle.world.specs.Moments.{Since, start, more as later}
-use Rattle.world.specs.Parts.{OnDisk, OnSay, IsOf}
+use Rattle.world.specs.Parts.{OnSay, IsOf}
 use Rattle.world.proofs.PartsLemmas.{place_since}
 use Rattle.nb_model.specs.declared.notebook.Notebook.{Notebook}
 use Rattle.nbrun_top.specs.declared.end.End.{End}
@@ -21,7 +20,8 @@ use Rattle.nbrun_top.specs.Ran as ran
 use Rattle.nbrun_top.specs.Said.{Speech, Says}
 use Rattle.nbrun_top.specs.Said as said
 use Rattle.nbrun_top.specs.Ended.{Answers, Ended, plain, not_said}
-use Rattle.nbrun_top.proofs.Saves.{EndsWith, ends_later, ends_writes, leaves_text}
+use Rattle.save_disk.proofs.Laws.{part_of_save}
+use Rattle.nbrun_top.proofs.Saves.{EndsWith, ends_since, leaves_text}
 
 -- ---- what is said changes no file
 
@@ -29,14 +29,10 @@ speech_since : {text : List ℕ} {before : List Entry} {rest : List ℕ} {after 
 speech_since said.none = start
 speech_since (said.more n before) = later (speech_since before) refl
 
-says_since : {text : List ℕ} {failed : Type 0} {before after : List Entry} → Says text failed before after → Since (IsOf OnSay) before after
+pub says_since : {text : List ℕ} {failed : Type 0} {before after : List Entry} → Says text failed before after → Since (IsOf OnSay) before after
 says_since (said.whole speech) = speech_since speech
 says_since (said.cut f speech) = speech_since speech
 says_since (said.refused f speech) = later (speech_since speech) refl
-
-ends_since : {part : Rattle.world.specs.Parts.Part} {entry : Entry} {before after : List Entry} → EndsWith entry before → Since (IsOf part) before after → EndsWith entry after
-ends_since e start = e
-ends_since e (later {past} {entry} since is) = ends_later entry (ends_since e since)
 
 -- ---- the status
 
@@ -76,8 +72,8 @@ saved_well a bytes n e before after zero_ accepted read (ran.done after_ saved) 
       bytes = bytes;
       notebook = n;
       accepted = accepted;
-      was_read = subst (EndsWith (Read a.input 33554432 (found.Whole bytes))) (sym saved.ends) (ends_later (Synced a.output Done) (ends_writes (ends_later (Created a.output Done) read) saved.writes));
-      leaves = ap (λ j. leaves j a.output) saved.ends ∙ leaves_text a.output (text_of n) before saved.past saved.writes;
+      was_read = ends_since read (part_of_save {U = Unit {0}} a.output (text_of n) before (Ok tt) after saved);
+      leaves = leaves_text a.output (text_of n) before after saved;
     }
 
 refuses_no_end : (a : Ask) (bytes : List ℕ) (e : End) → Refuses a bytes e → code_of e ≡ 0 → ⊥
@@ -121,6 +117,6 @@ ran_well words e before on_disk after new zero_ (ran.not_built is) since = cc
 ran_well words e before on_disk after new zero_ ran.no_memory since = cc
 ran_well words e before on_disk after new zero_ (ran.job a e_ after_ is prepares) since = delivered_after words a on_disk after is (prepared_well a e before on_disk new zero_ prepares) since
 
-pub delivered : (words : List (List ℕ)) (code : ℕ) (failed : Type 0) (before after : List Entry) → Ended words code failed before after → before ≡ [] → (code ≡ 0) ⊎ (code ≡ 11) → IsDelivered words after
-delivered words code failed before after ended new well =
-    ran_well words ended.end before ended.on_disk after new (done_code failed ended.end (code_of ended.end) code refl ended.answers well) ended.ran (says_since ended.says)
+pub delivered : (words : List (List ℕ)) (code : ℕ) (rose cut : Type 0) (before after : List Entry) → Ended words code rose cut before after → before ≡ [] → (code ≡ 0) ⊎ (code ≡ 11) → IsDelivered words after
+delivered words code rose cut before after ended new well =
+    ran_well words ended.end before ended.on_disk after new (done_code rose ended.end (code_of ended.end) code refl ended.answers well) ended.ran (says_since ended.says)

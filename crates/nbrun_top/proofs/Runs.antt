@@ -1,5 +1,5 @@
 -- From the steps of a run to what it asked of the world.
-use Rattle.std.proofs.Common.{◌≡◌, ◌⊎◌, inl, inr, ℕ, ◌≤◌, true, List, [], length, Some, None, Ok, Err, refl, sym, ◌∙◌, ap, subst, arith}
+use Rattle.std.proofs.Common.{◌≡◌, ◌⊎◌, inl, inr, ℕ, true, List, [], ◌∷◌, ◌++◌, ◌<◌, codes, Result, length, length-append, Some, None, Ok, Err, refl, sym, ◌∙◌, ap, subst, arith}
 use Rattle.std.proofs.lemmas.Grind.{common_steps}
 use Rattle.std.proofs.lemmas.List.{nil_from_length}
 use Rattle.std.specs.Prelude.{◌==◌}
@@ -20,29 +20,53 @@ use Rattle.world.specs.declared.read_file.ReadFile.{ReadFile}
 use Rattle.world.specs.declared.read_file.ReadFile.TheVariants as found
 use Rattle.nbrun_top.specs.declared.end.End.{End}
 use Rattle.nbrun_top.specs.declared.end.End.TheVariants as end
-use Rattle.nbrun_top.specs.declared.plain.SaveFault.TheVariants as fault
+use Rattle.save_disk.specs.declared.save_fault.SaveFault.{SaveFault}
+use Rattle.save_disk.specs.declared.save_fault.SaveFault.TheVariants as fault
+use Rattle.save_disk.specs.Entries.{SaveOf}
+use Rattle.jtext.specs.Indent.{indented}
+use Rattle.nb_model.specs.Tree.{notebook_tree}
+use Rattle.nbrun_top.specs.declared.reports.Reports.{Reports}
+use Rattle.nbrun_top.specs.Reported.{AreReports, report_of}
 use Rattle.nbrun_top.specs.Asked.{IsJob, IsNotBuilt, is_not_built}
 use Rattle.nbrun_top.specs.Codes.{code_of}
 use Rattle.nbrun_top.specs.Ended.{Answers, Ended}
-use Rattle.nbrun_top.specs.Lines.{said}
+use Rattle.nbrun_top.specs.Lines.{said, line, save, saved}
 use Rattle.nbrun_top.specs.Said.{Says, said_of}
 use Rattle.nbrun_top.specs.Loaded.{IsNotebook, HasNoTranslator, Accepts, Refuses}
-use Rattle.nbrun_top.specs.Plain.{SaveOf}
 use Rattle.nbrun_top.specs.Ran.{SavesAs, Prepares, Ran, read_of, text_of}
 use Rattle.nbrun_top.specs.Ran as ran
 
 -- ---- a save
 
-module _ (output text : List ℕ) (n : Notebook) (is : text ≡ text_of n) (before after : List Entry) where
-  pub saves_done : {U : Type 0} (u : U) (count : ℕ) → count ≡ length n.cells → SaveOf output text (Ok u) before after → SavesAs output n before (end.Done count) after
-  saves_done u count counted saved =
-      subst (λ k. SavesAs output n before (end.Done k) after) (sym counted) (ran.done after (subst (λ t. SaveOf {U = Unit {0}} output t (Ok tt) before after) is saved))
+module _ (output path text : List ℕ) (n : Notebook) (at : path ≡ output) (is : text ≡ text_of n) (before after : List Entry) where
+  on_output : (result : Result (Unit {0}) SaveFault) → SaveOf path text result before after → SaveOf output (text_of n) result before after
+  on_output result save = subst (λ t. SaveOf output t result before after) is (subst (λ p. SaveOf p text result before after) at save)
 
-  pub saves_not_written : (U : Type 0) → SaveOf {U = U} output text (Err fault.Write) before after → SavesAs output n before (end.NotSaved fault.Write) after
-  saves_not_written U saved = ran.not_saved fault.Write after (subst (λ t. SaveOf {U = Unit {0}} output t (Err fault.Write) before after) is saved)
+  pub saves_done : {U : Type 0} (u : U) (count : ℕ) → count ≡ length n.cells → SaveOf path text (Ok u) before after → SavesAs output n before (end.Done count) after
+  saves_done u count counted save =
+      subst (λ k. SavesAs output n before (end.Done k) after) (sym counted) (ran.done after (on_output (Ok tt) save))
 
-  pub saves_not_synced : (U : Type 0) → SaveOf {U = U} output text (Err fault.Sync) before after → SavesAs output n before (end.NotSaved fault.Sync) after
-  saves_not_synced U saved = ran.not_saved fault.Sync after (subst (λ t. SaveOf {U = Unit {0}} output t (Err fault.Sync) before after) is saved)
+  pub saves_failed : (U : Type 0) (why : SaveFault) → SaveOf {U = U} path text (Err why) before after → SavesAs output n before (end.NotSaved why) after
+  saves_failed U fault.Write save = ran.not_saved fault.Write after (on_output (Err fault.Write) save)
+  saves_failed U fault.Sync save = ran.not_saved fault.Sync after (on_output (Err fault.Sync) save)
+  saves_failed U fault.Rename save = ran.not_saved fault.Rename after (on_output (Err fault.Rename) save)
+  saves_failed U fault.DirSync save = ran.not_saved fault.DirSync after (on_output (Err fault.DirSync) save)
+
+-- a text that is printed has a byte
+pub some_text : (n : Notebook) (text : List ℕ) → text ≡ text_of n → 0 < length text
+some_text n text is = omega (arith, ap length is, length-append (indented (notebook_tree n) []) (10 ∷ []))
+
+-- each report is a line of the save
+pub reports_of : (output : List ℕ) (cells : ℕ) (r : Reports) → r.done ≡ saved output cells ++ line output (codes "done")
+    → r.not_written ≡ line output (save fault.Write) → r.not_synced ≡ line output (save fault.Sync)
+    → r.not_renamed ≡ line output (save fault.Rename) → r.not_settled ≡ line output (save fault.DirSync) → AreReports output cells r
+reports_of output cells r d w s n f = record { done = d; failed = by }
+  where
+    by : (x : SaveFault) → report_of r x ≡ line output (save x)
+    by fault.Write = w
+    by fault.Sync = s
+    by fault.Rename = n
+    by fault.DirSync = f
 
 pub not_made_at : (output : List ℕ) (n : Notebook) (e : End) → e ≡ end.NoMemory → (before : List Entry) → SavesAs output n before e before
 not_made_at output n e is before = subst (λ x. SavesAs output n before x before) (sym is) ran.not_made
@@ -68,9 +92,9 @@ saved_at a bytes n e accepted past read after is saved = ran.saves bytes n e aft
 
 -- ---- what is said
 
--- a count that rose above a later value rose above an earlier one
-pub rose_from : (a b c : ℕ) → a ≤ b → Rose b c → Rose a c
-rose_from a b c low rose = grind (arith, common_steps)
+-- a count that rose isn't 0
+pub rose_above : (a b : ℕ) → Rose a b → 0 < b
+rose_above a b rose = grind (arith, common_steps)
 
 pub no_rest : (xs : List ℕ) → true ≡ (length xs == 0) → xs ≡ []
 no_rest xs e = nil_from_length xs (grind (arith, common_steps))
@@ -113,13 +137,13 @@ said_text words (end.NotSaved f) text result (inr is) m t = t (λ x. cc) ∙ is
 said_text words end.NotBuilt text result (inr is) m t = t (λ x. cc) ∙ is
 
 pub ended_at : (words : List (List ℕ)) (e : End) (text : List ℕ) (code given faults old now : ℕ) → text ≡ said_of words e → code ≡ code_of e → faults ≡ old → Answers (Rose faults now) code given
-    → (before on_disk after : List Entry) → Ran words before e on_disk → Says text (Rose faults now) on_disk after → Ended words given (Rose old now) before after
+    → (before on_disk after : List Entry) → Ran words before e on_disk → Says text (0 < now) on_disk after → Ended words given (Rose old now) (0 < now) before after
 ended_at words e text code given faults old now is coded same answers before on_disk after ran_ says =
-    subst (λ k. Ended words given (Rose k now) before after) same
+    subst (λ k. Ended words given (Rose k now) (0 < now) before after) same
     (record {
       end = e;
       on_disk = on_disk;
       ran = ran_;
       answers = subst (λ c. Answers (Rose faults now) c given) coded answers;
-      says = subst (λ t. Says t (Rose faults now) on_disk after) is says;
+      says = subst (λ t. Says t (0 < now) on_disk after) is says;
     })

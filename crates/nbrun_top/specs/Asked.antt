@@ -1,5 +1,6 @@
 -- What the words ask for, as far as it is built: one job that only prepares its notebook.
-use Rattle.std.specs.Prelude.{◌≡◌, ℕ, Bool, true, not, List, None}
+use Rattle.std.specs.declared.string.String.{String}
+use Rattle.std.specs.Prelude.{◌≡◌, ℕ, Bool, true, not, List, None, map, string_bytes}
 use Rattle.words.specs.declared.ask.Ask.{Ask}
 use Rattle.words.specs.declared.command.Command.{Command}
 use Rattle.words.specs.declared.command.Command.TheVariants as command
@@ -22,3 +23,7 @@ is_not_built (command.Exercise n) = true
 pub record IsNotBuilt (words : List (List ℕ)) : Type 0 where
   pub taken : refusal words ≡ None
   pub other : is_not_built (asked words) ≡ true
+
+-- the texts of the words
+abbrev pub texts : {Z : Type 0} → List (String Z) → List (List ℕ)
+texts words = map string_bytes words

@@ -1,8 +1,10 @@
 pub mod Codes
 pub mod Lines
-pub mod Plain
+pub mod Reported
 pub mod Asked
+pub mod Between
 pub mod Loaded
 pub mod Ran
+pub mod Crash
 pub mod Said
 pub mod Ended

@@ -8,8 +8,8 @@ use Rattle.nb_model.specs.declared.nb_fault.NbFault.{NbFault}
 use Rattle.nb_model.specs.declared.nb_fault.NbFault.TheVariants as nb_fault
 use Rattle.words.specs.declared.usage.Usage.{Usage}
 use Rattle.words.specs.declared.usage.Usage.TheVariants as usage_fault
-use Rattle.nbrun_top.specs.declared.plain.SaveFault.{SaveFault}
-use Rattle.nbrun_top.specs.declared.plain.SaveFault.TheVariants as save_fault
+use Rattle.save_disk.specs.declared.save_fault.SaveFault.{SaveFault}
+use Rattle.save_disk.specs.Messages.{message}
 use Rattle.nbrun_top.specs.declared.end.End.{End}
 use Rattle.nbrun_top.specs.declared.end.End.TheVariants as end
 
@@ -52,8 +52,7 @@ notebook nb_fault.NoMemory = []
 
 -- which step of a save failed
 abbrev pub save : SaveFault → List ℕ
-save save_fault.Write = codes "cannot save: write"
-save save_fault.Sync = codes "cannot save: sync"
+save f = codes "cannot save: " ++ message f
 
 -- the line of an acknowledged save of a notebook with so many cells, of which none was executed
 abbrev pub saved : List ℕ → ℕ → List ℕ

@@ -15,10 +15,11 @@ use Rattle.world.specs.Disk.{leaves}
 use Rattle.world.specs.Moments.{upto}
 use Rattle.nbrun_top.specs.declared.end.End.{End}
 use Rattle.nbrun_top.specs.declared.end.End.TheVariants as end
-use Rattle.nbrun_top.specs.declared.plain.SaveFault.{SaveFault}
+use Rattle.save_disk.specs.declared.save_fault.SaveFault.{SaveFault}
+use Rattle.save_disk.specs.Entries.{SaveOf}
+use Rattle.save_disk.specs.Temporary.{temporary_of}
 use Rattle.nbrun_top.specs.Asked.{IsJob, IsNotBuilt}
 use Rattle.nbrun_top.specs.Loaded.{Accepts, Refuses}
-use Rattle.nbrun_top.specs.Plain.{SaveOf}
 
 -- the journal after the read of the input, of which at most 32 MiB are read
 abbrev pub read_of : Ask → ReadFile → List Entry → List Entry
@@ -67,6 +68,6 @@ pub record IsDelivered (words : List (List ℕ)) (journal : List Entry) : Type 0
 abbrev pub IsUntouched : List ℕ → List Entry → Type 0
 IsUntouched path journal = (t : ℕ) → t ≤ length journal → leaves (upto t journal) path ≡ left.Old ∷ []
 
--- no job that the words ask for writes to this path
+-- no job that the words ask for writes to this path: neither is it its output nor the temporary file beside that
 abbrev pub IsOther : List (List ℕ) → List ℕ → Type 0
-IsOther words path = (a : Ask) → IsJob words a → a.output ≡ path → ⊥
+IsOther words path = (a : Ask) → IsJob words a → (a.output ≡ path → ⊥) × (temporary_of a.output ≡ path → ⊥)

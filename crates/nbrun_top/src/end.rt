@@ -2,9 +2,9 @@
 ghost use Rattle.std.specs.Prelude.{◌≡◌};
 ghost use Rattle.nbrun_top.specs.Codes.{code_of};
 
-use crate::plain::SaveFault;
 use jtext::{JsonFault, NoMemory, Text};
 use nb_model::NbFault;
+use save_disk::SaveFault;
 use words::Usage;
 
 /// How a run ends, with what its last line names.
@@ -24,7 +24,7 @@ pub(crate) enum End {
     NotNotebook(NbFault),
     /// Parameters can't be written in the language of the notebook's cells.
     NoTranslator { language: Text },
-    /// The output can't be written.
+    /// The output can't be saved, for this step of the save.
     NotSaved(SaveFault),
     /// Memory was refused.
     NoMemory,

@@ -9,10 +9,8 @@ mod limits;
 mod lines;
 mod loading;
 mod main_call;
-mod plain;
+mod parts;
 mod reports;
-#[cfg(test)]
-mod tests;
 mod voice;
 mod why;
 

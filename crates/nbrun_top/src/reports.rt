@@ -1,11 +1,14 @@
 //! What is said after a save, made before it: a save and what follows it take no memory.
-ghost use Rattle.std.specs.Prelude.{◌≡◌, ◌++◌, codes, IfOk};
-ghost use Rattle.nbrun_top.specs.Lines as spec;
+ghost use Rattle.std.specs.Prelude.{◌≡◌, IfOk};
+ghost use Rattle.nbrun_top.specs.declared.end.End.TheVariants as ending;
+ghost use Rattle.nbrun_top.specs.Reported.{AreReports, report_of};
 
+use crate::answer::Answer;
+use crate::end::End;
 use crate::lines::{line, saved};
-use crate::plain::SaveFault;
 use crate::why;
 use jtext::{Bytes, NoMemory};
+use save_disk::SaveFault;
 use std::alloc::Global;
 
 /// What is said after each outcome of the save.
@@ -13,18 +16,20 @@ use std::alloc::Global;
 pub(crate) struct Reports {
     /// After a save that was acknowledged.
     pub done: Bytes,
-    /// Where the output can't be made or written.
+    /// Where the temporary file can't be made or written.
     pub not_written: Bytes,
     /// Where it can't be synced.
     pub not_synced: Bytes,
+    /// Where it can't be renamed onto the output.
+    pub not_renamed: Bytes,
+    /// Where the output's folder can't be synced.
+    pub not_settled: Bytes,
 }
 
 impl Reports {
     /// The reports of a save of the notebook with so many cells.
     pub(crate) fn new(alloc: Global, output: &str, cells: usize) -> Result<Reports, NoMemory>
-        ensures done { IfOk result (λ r. r.done ≡ spec.saved output.now cells ++ spec.line output.now (codes "done")) }
-        ensures not_written { IfOk result (λ r. r.not_written ≡ spec.line output.now (codes "cannot save: write")) }
-        ensures not_synced { IfOk result (λ r. r.not_synced ≡ spec.line output.now (codes "cannot save: sync")) }
+        ensures { IfOk result (AreReports output.now cells) }
     {
         let last = line(alloc, output, b"done")?;
         let mut done = saved(alloc, output, cells)?;
@@ -33,6 +38,44 @@ impl Reports {
             done,
             not_written: line(alloc, output, why::save(SaveFault::Write).as_bytes())?,
             not_synced: line(alloc, output, why::save(SaveFault::Sync).as_bytes())?,
+            not_renamed: line(alloc, output, why::save(SaveFault::Rename).as_bytes())?,
+            not_settled: line(alloc, output, why::save(SaveFault::DirSync).as_bytes())?,
         })
+    }
+
+    /// The answer after a save of so many cells that was acknowledged.
+    pub(crate) fn on_done(self, cells: usize) -> Answer
+        ensures end { result.end ≡ ending.Done cells }
+        ensures text { result.text ≡ self.done }
+    {
+        let Reports { done, .. } = self;
+        Answer {
+            end: End::Done { cells },
+            text: done,
+        }
+    }
+
+    /// The answer after a save that failed at this step.
+    pub(crate) fn on_fault(self, fault: SaveFault) -> Answer
+        ensures end { result.end ≡ ending.NotSaved fault }
+        ensures text { result.text ≡ report_of self fault }
+    {
+        let Reports {
+            done: _,
+            not_written,
+            not_synced,
+            not_renamed,
+            not_settled,
+        } = self;
+        let text = match fault {
+            SaveFault::Write => not_written,
+            SaveFault::Sync => not_synced,
+            SaveFault::Rename => not_renamed,
+            SaveFault::DirSync => not_settled,
+        };
+        Answer {
+            end: End::NotSaved(fault),
+            text,
+        }
     }
 }

@@ -3,9 +3,9 @@ ghost use Rattle.std.specs.Prelude.{◌≡◌, ◌++◌, codes, string_bytes, If
 ghost use Rattle.std.specs.Fmt.{decimal};
 ghost use Rattle.nbrun_top.specs.Lines as spec;
 
-use crate::plain::SaveFault;
 use jtext::{JsonFault, NoMemory};
 use nb_model::NbFault;
+use save_disk::SaveFault;
 use std::alloc::Global;
 use words::Usage;
 
@@ -62,6 +62,8 @@ pub(crate) fn save(fault: SaveFault) -> &'static str
     match fault {
         SaveFault::Write => "cannot save: write",
         SaveFault::Sync => "cannot save: sync",
+        SaveFault::Rename => "cannot save: rename",
+        SaveFault::DirSync => "cannot save: directory sync",
     }
 }
 

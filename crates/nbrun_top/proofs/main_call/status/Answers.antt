@@ -1,5 +1,9 @@
-use Rattle.std.proofs.Common.{map, string_bytes}
-use Rattle.world.proofs.MomentsLemmas.{told_then}
+use Rattle.std.proofs.Common.{◌≡◌, ◌<◌, map, string_bytes, sym, ap, subst}
+use Rattle.world.proofs.MomentsLemmas.{told_then, told_as}
+use Rattle.world.specs.Counts.{Counts}
+use Rattle.world.specs.Moments.{Told}
+use Rattle.nbrun_top.specs.Said.{heard}
+use Rattle.nbrun_top.proofs.Heard.{ran_silent}
 use Rattle.nbrun_top.proofs.Runs.{said_text, ended_at}
 use Rattle.nbrun_top.proofs.main_call.status.Goals as goal
 
@@ -11,3 +15,10 @@ returns-clause-causes g c =
     ended_at words a.result.end c.said.result.now c.code-code.result c.unless_not_said.result c.say_faults-faults.result (g.W.Journal.counts c.args.w.now).say (g.W.Journal.counts c.say.new.w).say
     (said_text words a.result.end a.result.text c.said.result.now a.ensures.text c.said.ensures.memory c.said.ensures.text)
     c.code-code.ensures c.say_faults-faults.ensures c.unless_not_said.ensures.answers x y z ran says)
+
+pub returns-clause-silent : goal.returns-clause-silent
+returns-clause-silent g c some =
+    let a = c.answered-answer in
+    let same = c.say.ensures.silent (subst (λ n. 0 < n) (sym (ap (λ k. Counts.say k) a.ensures.counts.others)) some) in
+    subst (λ j. Told (g.W.Journal.journal c.args.w.now) j (λ before after. heard after ≡ heard before)) (sym same)
+    (told_as a.ensures.ran (λ x y ran. ran_silent (map string_bytes c.args.words.now) a.result.end x y ran))

@@ -1,8 +1,8 @@
 //! Runs that save a notebook, and saves and lines that fail.
-use super::notebooks::{
+use crate::notebooks::{
     DEFAULTS, DEFAULTS_SAVED, INJECTED, INJECTED_SAVED, LAB, LAB_SAVED, OLD, OLD_REPORT,
 };
-use super::{disk, gives};
+use crate::runs::{disk, gives};
 use std::test::Fail;
 
 const EMPTY: &str = r#"{"cells":[],"metadata":{},"nbformat":4,"nbformat_minor":5}"#;
@@ -92,15 +92,18 @@ fn an_older_notebook_is_raised_and_its_sources_hidden(rt: HostRuntime) -> Result
     Ok(())
 }
 
-/// The number of the call that fails, the status, whether the output is there whole, and what is said.
-/// The calls are the read, the create, the one write, the sync, and the one line that is said; one more isn't made.
+/// The number of the call that fails, the status, whether the output is there whole, and what is said. The calls
+/// are the read, the create, the one write, the sync, the rename, the sync of the folder, and the one line that
+/// is said; one more isn't made.
 const FAILING: &str = "\
 0 3 no out: cannot read in
 1 10 no out: cannot save: write
-2 10 empty out: cannot save: write
-3 10 whole out: cannot save: sync
-4 11 whole -
-5 0 whole saved 0/0 out+out: done";
+2 10 no out: cannot save: write
+3 10 no out: cannot save: sync
+4 10 no out: cannot save: rename
+5 10 whole out: cannot save: directory sync
+6 11 whole -
+7 0 whole saved 0/0 out+out: done";
 
 #[test]
 fn each_failed_call_has_its_status_and_its_line(rt: HostRuntime) -> Result<(), Fail> {
@@ -110,7 +113,7 @@ fn each_failed_call_has_its_status_and_its_line(rt: HostRuntime) -> Result<(), F
         let (output, said) = row.split_once(' ').ok_or("no output")?;
         let number = number.parse::<u64>().map_err(|_| "no number")?;
         let code = code.parse::<u8>().map_err(|_| "no status")?;
-        assert!(rt; fails(&rt, number, code, output, said)?);
+        assert!(rt; fails(&rt, number, code, output, said)?, "call {number}");
     }
     Ok(())
 }
@@ -125,7 +128,6 @@ fn fails(rt: &HostRuntime, number: u64, code: u8, output: &str, said: &str) -> R
     }
     let output = match output {
         "no" => None,
-        "empty" => Some(""),
         _ => Some(EMPTY_SAVED),
     };
     let mut disk = disk(rt, EMPTY.as_bytes(), Some(number))?;

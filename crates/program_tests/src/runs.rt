@@ -1,15 +1,11 @@
 //! Runs over a disk in memory, on which the input stands as `in` and the output is `out`.
-mod notebooks;
-mod refusals;
-mod saves;
-
-use crate::{Limits, run};
 use jtext::{Bytes, Text};
+use nbrun_top::{Limits, run};
 use std::test::Fail;
 use world_mem::{Files, MemDisk, Sizes};
 
 /// A disk that has the input, on which the call with this number fails.
-fn disk(rt: &HostRuntime, input: &[u8], fail: Option<u64>) -> Result<MemDisk, Fail> {
+pub(crate) fn disk(rt: &HostRuntime, input: &[u8], fail: Option<u64>) -> Result<MemDisk, Fail> {
     let alloc = rt.alloc();
     let mut files = Files::new(alloc);
     files.push((Text::of(alloc, "in")?, Bytes::of(alloc, input)?))?;
@@ -32,7 +28,7 @@ fn status(rt: &HostRuntime, words: &str, disk: &mut MemDisk) -> Result<u8, Fail>
 }
 
 /// Whether the run answers this status, says this text, and leaves these bytes at the output.
-fn gives(
+pub(crate) fn gives(
     rt: &HostRuntime,
     words: &str,
     disk: &mut MemDisk,

@@ -1,5 +1,5 @@
 //! Words and inputs that are refused, and what is said of them.
-use super::{disk, gives};
+use crate::runs::{disk, gives};
 use std::test::Fail;
 
 /// The status, the words, and the line.
@@ -54,7 +54,7 @@ fn words_are_refused_with_the_index_of_the_word(rt: HostRuntime) -> Result<(), F
     for row in WORDS.lines() {
         let (code, row) = row.split_once('|').ok_or("no status")?;
         let (words, line) = row.split_once('|').ok_or("no line")?;
-        assert!(rt; refuses(&rt, words, b"", code, line)?);
+        assert!(rt; refuses(&rt, words, b"", code, line)?, "{words}");
     }
     Ok(())
 }
@@ -65,7 +65,7 @@ fn inputs_are_refused_with_the_place(rt: HostRuntime) -> Result<(), Fail> {
         let (code, row) = row.split_once('|').ok_or("no status")?;
         let (input, line) = row.split_once('|').ok_or("no line")?;
         let words = "in out --prepare-only -p a 1";
-        assert!(rt; refuses(&rt, words, input.as_bytes(), code, line)?);
+        assert!(rt; refuses(&rt, words, input.as_bytes(), code, line)?, "{input}");
     }
     Ok(())
 }

@@ -2,7 +2,7 @@ use Rattle.std.proofs.Common.{length}
 use Rattle.world.specs.Counts.{SayCause}
 use Rattle.world.specs.Moments.{Told}
 use Rattle.nbrun_top.specs.Said.{Speech}
-use Rattle.nbrun_top.proofs.voice.say.Given as goal
+use Rattle.nbrun_top.proofs.voice.say_while_heard.Given as goal
 
 abbrev pub invariant-loop-rest : goal.invariant-loop-rest
 invariant-loop-rest g l = record {

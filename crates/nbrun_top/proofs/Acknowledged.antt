@@ -1,0 +1,64 @@
+-- How many saves a run has acknowledged, by its status.
+use Rattle.std.proofs.Common.{◌≡◌, ℕ, ◌+◌, List, [], Ok, Err, refl, sym, ◌∙◌, ap, subst}
+use Rattle.words.specs.declared.ask.Ask.{Ask}
+use Rattle.world.specs.declared.entry.Entry.{Entry}
+use Rattle.world.specs.declared.read_file.ReadFile.TheVariants as found
+use Rattle.world.proofs.PartsLemmas.{acked_since}
+use Rattle.save_disk.specs.Temporary.{temporary_of}
+use Rattle.save_disk.specs.Places.{acknowledged}
+use Rattle.save_disk.proofs.Laws.{end_of}
+use Rattle.nb_model.specs.declared.notebook.Notebook.{Notebook}
+use Rattle.nbrun_top.specs.declared.end.End.{End}
+use Rattle.nbrun_top.specs.declared.end.End.TheVariants as end
+use Rattle.nbrun_top.specs.Asked.{IsJob}
+use Rattle.nbrun_top.specs.Codes.{code_of}
+use Rattle.nbrun_top.specs.Ended.{Answers, plain, not_said, Ended, acks_of}
+use Rattle.nbrun_top.specs.Loaded.{Refuses}
+use Rattle.nbrun_top.specs.Ran.{SavesAs, Prepares, Ran, read_of, text_of}
+use Rattle.nbrun_top.specs.Ran as ran
+use Rattle.nbrun_top.proofs.Crashes.{one_ask}
+use Rattle.nbrun_top.proofs.Ends.{says_since}
+
+-- the status of an end that saved nothing acknowledges nothing
+refused_acks : (a : Ask) (bytes : List ℕ) (e : End) → Refuses a bytes e → acks_of (code_of e) ≡ 0
+refused_acks a bytes (end.Done cells) why = absurd why
+refused_acks a bytes (end.Refused usage) why = refl
+refused_acks a bytes end.NotRead why = refl
+refused_acks a bytes end.TooLarge why = refl
+refused_acks a bytes (end.NotJson f) why = refl
+refused_acks a bytes (end.NotNotebook f) why = refl
+refused_acks a bytes (end.NoTranslator language) why = refl
+refused_acks a bytes (end.NotSaved f) why = refl
+refused_acks a bytes end.NoMemory why = refl
+refused_acks a bytes end.NotBuilt why = refl
+
+saves_acks : (output : List ℕ) (n : Notebook) (e : End) (before after : List Entry) → acknowledged output before ≡ 0 → SavesAs output n before e after → acknowledged output after ≡ acks_of (code_of e)
+saves_acks output n e before after none (ran.not_saved why _ save) = (end_of {U = Unit {0}} output (text_of n) before (Err why) after save).count_is ∙ none
+saves_acks output n e before after none (ran.done _ save) = (end_of {U = Unit {0}} output (text_of n) before (Ok tt) after save).count_is ∙ ap (λ k. k + 1) none
+saves_acks output n e before after none ran.not_made = none
+
+prepares_acks : (a : Ask) (e : End) (after : List Entry) → Prepares a [] e after → acknowledged a.output after ≡ acks_of (code_of e)
+prepares_acks a e after ran.cannot_read = refl
+prepares_acks a e after ran.too_large = refl
+prepares_acks a e after (ran.not_accepted bytes _ why) = sym (refused_acks a bytes e why)
+prepares_acks a e after (ran.saves bytes n _ _ accepted save) = saves_acks a.output n e (read_of a (found.Whole bytes) []) after refl save
+prepares_acks a e after (ran.no_memory_later answer) = refl
+
+ran_acks : (words : List (List ℕ)) (a : Ask) → IsJob words a → (e : End) (after : List Entry) → Ran words [] e after → acknowledged a.output after ≡ acks_of (code_of e)
+ran_acks words a is e after (ran.refused u why) = refl
+ran_acks words a is e after (ran.not_built why) = refl
+ran_acks words a is e after ran.no_memory = refl
+ran_acks words a is e after (ran.job b _ _ also prepares) =
+    subst (λ c. acknowledged c.output after ≡ acks_of (code_of e)) (one_ask (sym also.asks ∙ is.asks)) (prepares_acks b e after prepares)
+
+-- a status tells its end's acknowledgements, also where not all could be said
+answered_acks : (rose : Type 0) (code given : ℕ) → Answers rose code given → acks_of code ≡ acks_of given
+answered_acks rose code given (plain heard) = refl
+answered_acks rose code given (not_said failed) = refl
+
+pub acknowledged_of : (words : List (List ℕ)) (code : ℕ) (rose cut : Type 0) (before after : List Entry) → Ended words code rose cut before after → before ≡ [] → (a : Ask) → IsJob words a
+    → acknowledged a.output after ≡ acks_of code
+acknowledged_of words code rose cut before after ended new a is =
+    acked_since (temporary_of a.output) a.output (λ e. cc) (says_since ended.says)
+    ∙ ran_acks words a is ended.end ended.on_disk (subst (λ b. Ran words b ended.end ended.on_disk) new ended.ran)
+    ∙ answered_acks rose (code_of ended.end) code ended.answers

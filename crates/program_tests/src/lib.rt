@@ -1,0 +1,14 @@
+//! Tests of the program over a disk in memory, by public calls alone: what a run answers, says and saves, and
+//! which calls of the disk a save makes.
+#![tactic(auto)]
+
+#[cfg(test)]
+mod entries;
+#[cfg(test)]
+mod notebooks;
+#[cfg(test)]
+mod refusals;
+#[cfg(test)]
+mod runs;
+#[cfg(test)]
+mod saves;
