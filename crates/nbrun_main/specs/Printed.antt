@@ -1,6 +1,10 @@
 -- What is printed in place of a run.
-use Rattle.std.specs.Prelude.{ℕ, List, [], ◌∷◌, Option, Some, None, if◌then◌else◌, codes}
+use Rattle.std.specs.Prelude.{◌≡◌, ℕ, List, [], ◌∷◌, Option, Some, None, if◌then◌else◌, codes}
 use Rattle.std.specs.Str.{bytes_eq}
+use Rattle.world.specs.declared.entry.Entry.{Entry}
+use Rattle.world.specs.declared.entry.Entry.TheVariants as made
+use Rattle.world.specs.declared.did.Did.TheVariants.{Failed}
+use Rattle.said_lines.specs.Speech.{Speech}
 use Rattle.nbrun_main.specs.declared.help.TheConstants.{HELP, VERSION}
 
 -- the text that is printed for this word alone
@@ -12,3 +16,12 @@ abbrev pub printed : List (List ℕ) → Option (List ℕ)
 printed [] = None
 printed (word ∷ []) = text_for word
 printed (word ∷ other ∷ words) = None
+
+-- no text is printed for these words: they are those of a run
+abbrev pub IsRun : List (List ℕ) → Type 0
+IsRun words = printed words ≡ None
+
+-- the entries of a printed text by the status: it was said whole, or up to a say that failed
+pub data Prints (text : List ℕ) (before : List Entry) : ℕ → List Entry → Type 0 where
+  whole : {after : List Entry} → Speech text before [] after → Prints text before 0 after
+  cut : {rest : List ℕ} {past : List Entry} → Speech text before rest past → Prints text before 11 (made.Said rest Failed ∷ past)

@@ -1,11 +1,9 @@
-//! The whole program over real files: what its arguments ask for is done, and the exit status answered.
-//! A program that calls `start` is nbrun.
+//! The whole program over the real world: what its arguments ask for is done, and the exit status
+//! answered. A program that calls `start` is nbrun.
 #![tactic(auto)]
 
 mod help;
+mod printing;
 mod program;
-mod real_world;
-#[cfg(test)]
-mod tests;
 
 pub use program::{run_words, start};

@@ -1,22 +1,27 @@
 //! The start of the program, and what it does with its words.
-ghost use Rattle.std.specs.Prelude.{◌≡◌, ◌⊎◌, None, Some, IsSome, map, string_bytes};
+ghost use Rattle.std.specs.Prelude.{◌≡◌, ◌⊎◌, None, Some, List as Plain, ℕ};
+ghost use Rattle.words.specs.declared.ask.Ask as asks;
 ghost use Rattle.words.specs.declared.usage.Usage as usages;
 ghost use Rattle.words.specs.Refusals.{refusal};
-ghost use Rattle.nbrun_top.specs.Asked.{IsNotBuilt};
-ghost use Rattle.nbrun_main.specs.Printed as spec;
+ghost use Rattle.nbrun_top.specs.Asked.{IsJob, IsNotBuilt, texts};
+ghost use Rattle.said_lines.specs.Between.{Between, FromStart, DiskRose, SayRose, SayFailed};
+ghost use Rattle.nbrun_top.specs.Crash.{IsSafe};
+ghost use Rattle.nbrun_top.specs.Ended.{Ended, IsHeard, acks_of};
+ghost use Rattle.nbrun_top.specs.Ran.{IsDelivered, IsOther, IsUntouched};
+ghost use Rattle.said_lines.specs.Speech.{heard};
+ghost use Rattle.save_disk.specs.Places.{acknowledged};
+ghost use Rattle.nbrun_main.specs.Printed.{Prints, IsRun, printed as printed_for};
 
 use crate::help::printed;
-use crate::real_world::RealWorld;
-use jtext::Text;
+use crate::printing::print;
+use jtext::{NoMemory, Text};
 use nbrun_top::{Limits, run};
 use std::alloc::Global;
 use std::io::ErrorKind;
 use std::process::ExitCode;
-use std::rt::Files;
-use std::{env, io};
-
-/// What was asked for can't be printed.
-const NOT_SAID: u8 = 11;
+use std::{env, io, process};
+use world::{Disk, Say};
+use world_real::RealWorld;
 
 /// Memory was refused before the run began.
 const NO_MEMORY: u8 = 12;
@@ -24,12 +29,17 @@ const NO_MEMORY: u8 = 12;
 /// The arguments or the working folder can't be read.
 const NOT_GIVEN: u8 = 20;
 
-/// Does what the program's arguments ask for over the real files and the standard output, and answers the exit status.
-/// It is 20 where the arguments or the working folder can't be read as text, and 12 where memory is refused for them.
+/// Does what the program's arguments ask for over the real world, and answers the exit status. It
+/// is 20 where the arguments or the working folder can't be read as text, and 12 where memory is
+/// refused before the run begins; then nothing is said.
 pub fn start(rt: HostRuntime) -> ExitCode {
-    match given(&rt) {
-        Ok((words, here)) => ExitCode::from(run_words(rt, rt.alloc(), words.as_slice(), here)),
-        Err(e) => ExitCode::from(not_given(e.kind())),
+    let (words, here) = match given(&rt) {
+        Ok(both) => both,
+        Err(e) => return ExitCode::from(not_given(e.kind())),
+    };
+    match RealWorld::new(rt, rt.alloc(), process::id(rt.process())) {
+        Ok(mut w) => ExitCode::from(run_words(rt.alloc(), words.as_slice(), here, &mut w)),
+        Err(NoMemory) => ExitCode::from(NO_MEMORY),
     }
 }
 
@@ -54,24 +64,57 @@ fn not_given(kind: ErrorKind) -> u8
     }
 }
 
-/// Does what these words ask for, in the working folder `here`, and answers the exit status.
-/// The words are the arguments without the program's name; `--help` and `--version` print their text where they stand alone.
-pub fn run_words<R: Files + Print + Drop>(rt: R, alloc: Global, words: &[String], here: Text) -> u8
-    // The text is printed, or can't be.
-    ensures printed { IsSome (spec.printed (map string_bytes words.now)) → (result ≡ 0) ⊎ (result ≡ 11) }
-    // All other words are those of a run.
-    ensures usage { spec.printed (map string_bytes words.now) ≡ None → (u : usages.Usage) → refusal (map string_bytes words.now) ≡ Some u → (result ≡ 2) ⊎ (result ≡ 12) }
-    ensures refused { result ≡ 2 → refusal (map string_bytes words.now) ≡ None → ⊥ }
-    ensures not_built { spec.printed (map string_bytes words.now) ≡ None → IsNotBuilt (map string_bytes words.now) → (result ≡ 70) ⊎ (result ≡ 12) }
-    ensures built { result ≡ 70 → IsNotBuilt (map string_bytes words.now) }
+/// Does what these words ask for over a world, and answers the exit status. The words are the
+/// arguments without the program's name, and `here` is the working folder; `--help` and `--version`
+/// say their text where they stand alone, and all other words are those of a run.
+pub fn run_words<W: Disk + Say>(alloc: Global, words: &[String], here: Text, w: &mut W) -> u8
+    // The text is said whole with status 0, or else a say has failed and the status is 11.
+    ensures printed { (text : Plain ℕ) → printed_for (texts words.now) ≡ Some text →
+        Between W.journal w.old w.new (λ before. Prints text before result) }
+    ensures printed_status { (text : Plain ℕ) → printed_for (texts words.now) ≡ Some text →
+        (result ≡ 0) ⊎ (result ≡ 11) }
+
+    // Each other status has its cause, with all that was asked of the world and all that was said.
+    ensures causes { IsRun (texts words.now) → Between W.journal w.old w.new
+        (Ended (texts words.now) result
+        (SayRose W.counts w.old w.new) (SayFailed W.counts w.new)) }
+    // After 0 and 11 a crash leaves at the output the notebook with its parameters, and nothing else.
+    ensures delivered { IsRun (texts words.now) → FromStart W.journal w.old w.new
+        (λ j. (result ≡ 0) ⊎ (result ≡ 11) → IsDelivered (texts words.now) j) }
+    // At every moment a crash leaves at the output what was there before, or the whole new text.
+    ensures crash { IsRun (texts words.now) → FromStart W.journal w.old w.new
+        (λ j. (a : asks.Ask) → IsJob (texts words.now) a → IsSafe a j) }
+    // A save is acknowledged exactly with status 0 or 11, and then one.
+    ensures acknowledged { IsRun (texts words.now) → FromStart W.journal w.old w.new
+        (λ j. (a : asks.Ask) → IsJob (texts words.now) a →
+        acknowledged a.output j ≡ acks_of result) }
+    // At every moment a crash leaves every other file as it was, the input among them.
+    ensures untouched { IsRun (texts words.now) → FromStart W.journal w.old w.new
+        (λ j. (path : Plain ℕ) → IsOther (texts words.now) path → IsUntouched path j) }
+    ensures input { IsRun (texts words.now) → FromStart W.journal w.old w.new
+        (λ j. (a : asks.Ask) → IsJob (texts words.now) a → IsUntouched a.input j) }
+    // What is said are the lines of how this run ended, or a front of them where a say failed; and
+    // where one had failed before, nothing is said.
+    ensures said { IsRun (texts words.now) → FromStart W.journal w.old w.new
+        (IsHeard (texts words.now) result
+        (SayRose W.counts w.old w.new) (SayFailed W.counts w.new)) }
+    ensures silent { IsRun (texts words.now) → SayFailed W.counts w.old →
+        Between W.journal w.old w.new (λ before after. heard after ≡ heard before) }
+
+    // What no journal is needed for.
+    ensures usage { IsRun (texts words.now) → (u : usages.Usage) →
+        refusal (texts words.now) ≡ Some u → (result ≡ 2) ⊎ (result ≡ 12) }
+    ensures refused { result ≡ 2 → refusal (texts words.now) ≡ None → ⊥ }
+    ensures not_built { IsRun (texts words.now) → IsNotBuilt (texts words.now) →
+        (result ≡ 70) ⊎ (result ≡ 12) }
+    ensures built { result ≡ 70 → IsNotBuilt (texts words.now) }
+    ensures read_fault { result ≡ 3 → DiskRose W.counts w.old w.new }
+    ensures save_fault { result ≡ 10 → DiskRose W.counts w.old w.new }
+    ensures say_fault { result ≡ 11 → SayRose W.counts w.old w.new }
+    ensures heard { IsRun (texts words.now) → result ≡ 0 → SayRose W.counts w.old w.new → ⊥ }
 {
-    if let Some(text) = printed(words) {
-        return match print!(rt; "{text}") {
-            Ok(()) => 0,
-            Err(_) => NOT_SAID,
-        };
+    match printed(words) {
+        Some(text) => print(w, text.as_bytes()),
+        None => run(alloc, words, &Limits::usual(here), w),
     }
-    let limits = Limits::usual(here);
-    let mut world = RealWorld::new(rt);
-    run(alloc, words, &limits, &mut world)
 }

@@ -1,2 +1,2 @@
-mod Rests
+pub mod Rests
 pub mod SpeechLemmas
