@@ -1,22 +1,19 @@
 -- Whether READY was read shows in the state, and stays.
 use Rattle.std.proofs.Common.{◌≡◌, ℕ, List, [], ◌∷◌, ◌++◌, length, Bool, true, false, cond, nat_lt, nat_eq, refl, ap, sym, ◌∙◌, append_assoc, append-nil, subst, ◌&&◌, IsTrue, ◌↔◌, rules}
 use Rattle.zmtp_wire.specs.declared.role.Role.{Role}
-use Rattle.zmtp_wire.specs.declared.fault.WireFault.{WireFault}
 use Rattle.zmtp_wire.specs.declared.cause.Cause.TheVariants as cause
 use Rattle.zmtp_wire.specs.declared.state.State.{State}
 use Rattle.zmtp_wire.specs.declared.state.State.TheVariants.{Greeting, Units, Failed}
-use Rattle.zmtp_wire.specs.declared.state.Phase.{Phase}
 use Rattle.zmtp_wire.specs.declared.state.Phase.TheVariants.{Handshake, Traffic}
-use Rattle.zmtp_wire.specs.declared.state.Open.{Open}
 use Rattle.zmtp_wire.specs.declared.state.Open.TheVariants.{Fresh, Size, Body}
 use Rattle.zmtp_wire.specs.Frame.{is_allowed, is_command, is_more, size_of, size_len}
-use Rattle.zmtp_wire.specs.Stream.{Come, nothing, greeted, shaken, Completes, greeting, ready, unit, Reads, start, more, Stream, Broken, IsShaken, Gives, stream, broken, messages_come, contexts_come}
-use Rattle.zmtp_wire.specs.Machine.{Took, before, quiet, stopped, is_error, room_in, tick, ticks, step, run, reading, unit_step, flag_step, flag_state, size_step, body_step, finish}
+use Rattle.zmtp_wire.specs.Stream.{Come, nothing, greeted, shaken, greeting, ready, unit, Reads, start, more, IsShaken, Gives, stream, broken, messages_come, contexts_come}
+use Rattle.zmtp_wire.specs.Machine.{Took, quiet, stopped, is_error, room_in, tick, ticks, step, run, reading, flag_step, size_step, body_step, finish}
 use Rattle.zmtp_wire.specs.Decoder.{shaken_in, Answer}
 use Rattle.zmtp_wire.proofs.StepLemmas.{state_of, is_past}
 use Rattle.zmtp_wire.proofs.FeedLemmas.{reading-append}
 use Rattle.zmtp_wire.proofs.StreamLemmas.{reads_as}
-use Rattle.zmtp_wire.proofs.OutcomeLemmas.{Outcome, reads, breaks, outcome, stream_reads, broken_reads}
+use Rattle.zmtp_wire.proofs.OutcomeLemmas.{reads, breaks, outcome, stream_reads, broken_reads}
 
 pub is_true : (b : Bool) → IsTrue b → b ≡ true
 is_true b h = search rules
@@ -86,7 +83,7 @@ past_shaken role _ _ (more front p _ _ r (ready g _ body s) ps) h =
     record { front = front ++ p; rest = []; greeting = g; spelled = sym (append-nil (front ++ p)); reads = more front p _ _ r (ready g p body s) ps }
 past_shaken role _ _ (more front p _ _ r (unit g items item _ s) ps) h = shaken_longer role front p (past_shaken role front (shaken g items) r refl)
 
-past_in : (come : Come) (rest : List ℕ) → shaken_in (state_of come rest) ≡ is_past come
+pub past_in : (come : Come) (rest : List ℕ) → shaken_in (state_of come rest) ≡ is_past come
 past_in nothing rest = refl
 past_in (greeted g) rest = refl
 past_in (shaken g items) rest = refl

@@ -1,31 +1,23 @@
 -- Where a test fails, the machine stops with its fault.
-use Rattle.std.proofs.Common.{◌≡◌, ◌≢◌, ℕ, zero, suc, ◌+◌, ◌-◌, ◌≤◌, ◌<◌, ◌^◌, Bool, true, false, cond, nat_lt, nat_le, nat_eq, List, [], ◌∷◌, ◌++◌, length, take, drop, Option, None, Some, refl, ap, sym, ◌∙◌, arith, length-append, append_assoc, append-nil, ◌⊎◌, inl, inr, subst, ◌&&◌}
+use Rattle.std.proofs.Common.{◌≡◌, ℕ, ◌+◌, ◌≤◌, ◌<◌, Bool, true, false, cond, nat_lt, nat_eq, List, [], ◌∷◌, ◌++◌, length, take, drop, Some, refl, ap, sym, ◌∙◌, arith, length-append, append-nil, subst, ◌&&◌}
 use Rattle.std.proofs.lemmas.Bool.Decides.{nat_tests}
-use Rattle.std.specs.Prelude.{sum_by, eqb, fold}
-use Rattle.std.specs.List.{starts_with}
-use lib.Pointwise.{pointwise}
 use Rattle.zmtp_wire.specs.declared.role.Role.{Role}
-use Rattle.zmtp_wire.specs.declared.fault.WireFault.{WireFault}
 use Rattle.zmtp_wire.specs.declared.cause.Cause.{Cause}
 use Rattle.zmtp_wire.specs.declared.cause.Cause.TheVariants as cause
-use Rattle.zmtp_wire.specs.declared.state.State.{State}
-use Rattle.zmtp_wire.specs.declared.state.State.TheVariants.{Greeting, Units, Failed}
+use Rattle.zmtp_wire.specs.declared.state.State.TheVariants.{Failed}
 use Rattle.zmtp_wire.specs.declared.state.Phase.{Phase}
 use Rattle.zmtp_wire.specs.declared.state.Phase.TheVariants.{Handshake, Traffic}
-use Rattle.zmtp_wire.specs.declared.state.Open.{Open}
-use Rattle.zmtp_wire.specs.declared.state.Open.TheVariants.{Fresh, Size, Body}
-use Rattle.zmtp_wire.specs.Command.{command_messages, command_contexts, error_name}
-use Rattle.zmtp_wire.specs.Frame.{MOST, is_allowed, is_command, is_more, is_long, size_len, size_of}
+use Rattle.zmtp_wire.specs.Command.{error_name}
+use Rattle.zmtp_wire.specs.Frame.{MOST, is_allowed, is_command, is_more, size_len, size_of}
 use Rattle.zmtp_wire.specs.Greeting.{speaks, passes, greeting_cause}
-use Rattle.zmtp_wire.specs.Machine.{handshake_cause, Took, quiet, step, unit_step, size_step, body_step, greeting_step, flag_step, flag_state, finish, after_handshake, room_in, room_left, is_error}
+use Rattle.zmtp_wire.specs.Machine.{handshake_cause, quiet, step, size_step, body_step, greeting_step, flag_step, finish, after_handshake, room_in}
 use Rattle.zmtp_wire.specs.Stream.{Item, frame, command, item_of, Heads, Spells, Come, nothing, greeted, shaken, Completes, greeting, ready, unit, open_after, messages_of, contexts_of, messages_come, contexts_come, Wrong, IsPart, room_for, room_after}
 use Rattle.zmtp_wire.specs.Stream as W
-use Rattle.zmtp_wire.proofs.UnitLemmas.{Cells, cells-of, of-cells}
 use Rattle.zmtp_wire.specs.Machine.{stopped}
 use Rattle.zmtp_wire.specs.Fault.{fault_at}
 use Rattle.zmtp_wire.specs.Command.{WrongReady}
 use Rattle.zmtp_wire.proofs.HandshakeLemmas.{cause_told}
-use Rattle.zmtp_wire.proofs.StepLemmas.{unit_at, state_of, stopped_at, at_size, at_body, at_whole_size, at_longer_body, step_size, step_size_end, step_body}
+use Rattle.zmtp_wire.proofs.StepLemmas.{state_of, stopped_at, step_size_end, step_body}
 use Rattle.zmtp_wire.proofs.TurnLemmas.{size_pos, room_is}
 use Rattle.zmtp_wire.proofs.ListLemmas.{take_front, drop_front, take_more_same, not_less, less, pick_false, pick_true, one_more, drop_more_same}
 
@@ -42,7 +34,7 @@ single : (f x : ℕ) (p : List ℕ) → f ∷ [] ≡ p ++ x ∷ [] → ([] ≡ p
 single f x [] e = (refl, cc)
 single f x (y ∷ p) e = let k : [] ≡ p ++ x ∷ [] = cc in absurd (no_snoc p x k)
 
-snoc_same : (p q : List ℕ) (x y : ℕ) → p ++ x ∷ [] ≡ q ++ y ∷ [] → (p ≡ q) × (x ≡ y)
+pub snoc_same : (p q : List ℕ) (x y : ℕ) → p ++ x ∷ [] ≡ q ++ y ∷ [] → (p ≡ q) × (x ≡ y)
 snoc_same [] [] x y e = (refl, cc)
 snoc_same [] (z ∷ q) x y e = let k : [] ≡ q ++ y ∷ [] = cc in absurd (no_snoc q y k)
 snoc_same (z ∷ p) [] x y e = let k : [] ≡ p ++ x ∷ [] = cc in absurd (no_snoc p x k)

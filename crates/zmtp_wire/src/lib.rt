@@ -9,6 +9,7 @@ mod decoder;
 mod fault;
 mod flag;
 mod frame;
+mod front;
 mod handshake;
 pub mod laws;
 mod machine;
