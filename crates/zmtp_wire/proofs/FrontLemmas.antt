@@ -233,8 +233,8 @@ too_many_wrong role g items f frames o e =
 -- ---- a size, and what follows it
 
 -- what was read: a size, and the octets after it
-abbrev pub Sized : ℕ → List ℕ → ℕ → List ℕ → Type 0
-Sized f r size rest = (size_len f ≤ length r) × (size ≡ size_of (take (size_len f) r)) ×
+abbrev pub HasSize : ℕ → List ℕ → ℕ → List ℕ → Type 0
+HasSize f r size rest = (size_len f ≤ length r) × (size ≡ size_of (take (size_len f) r)) ×
     (rest ≡ drop (size_len f) r)
 
 pub heads : (f : ℕ) (r : List ℕ) → is_allowed f ≡ true → size_len f ≤ length r
@@ -251,7 +251,7 @@ front_of f p m o u ne e l h =
     (sym (take_more_same (size_len f) p m h) ∙ s.0, omega (arith, length-append (drop (size_len f) p) m))
 
 -- a size, a body of that size and what follows
-pub cut_body : (f : ℕ) (r rest body after : List ℕ) (size : ℕ) → Sized f r size rest → rest ≡ body ++ after
+pub cut_body : (f : ℕ) (r rest body after : List ℕ) (size : ℕ) → HasSize f r size rest → rest ≡ body ++ after
     → length body ≡ size → is_allowed f ≡ true
     → Spells (item_of f body) (f ∷ (take (size_len f) r ++ body)) × (r ≡ (take (size_len f) r ++ body) ++ after)
 cut_body f r rest body after size s e l a = (

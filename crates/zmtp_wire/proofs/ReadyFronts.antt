@@ -18,23 +18,24 @@ use Rattle.zmtp_wire.proofs.ListLemmas.{take_drop, len_take}
 use Rattle.zmtp_wire.proofs.ListLemmas.{len_of_some}
 use Rattle.zmtp_wire.proofs.TurnLemmas.{shape_of, item_command, size_pos}
 use Rattle.zmtp_wire.proofs.UnitLemmas.{one_unit}
-use Rattle.zmtp_wire.proofs.FrontLemmas.{size_front, FirstFits, first_passes, first_part, fails_later, Sized, heads, front_of, cut_body}
+use Rattle.zmtp_wire.proofs.FrontLemmas.{size_front, FirstFits, first_passes, first_part, fails_later, HasSize}
+use Rattle.zmtp_wire.proofs.FrontLemmas.{heads, front_of, cut_body}
 
 -- the flag of the first unit was passed
-pub record Opened (b : List ℕ) (f : ℕ) (r : List ℕ) : Type 0 where
+pub record HasCommandFlag (b : List ℕ) (f : ℕ) (r : List ℕ) : Type 0 where
   pub spelled : b ≡ f ∷ r
   pub allowed : is_allowed f ≡ true
   pub commands : is_command f ≡ true
 
-pub first_size_part : (role : Role) (g b : List ℕ) (f : ℕ) (r : List ℕ) → Opened b f r → length r < size_len f
+pub first_size_part : (role : Role) (g b : List ℕ) (f : ℕ) (r : List ℕ) → HasCommandFlag b f r → length r < size_len f
     → IsPart role (greeted g) b
 first_size_part role g b f r h w =
     subst (λ (t : List ℕ). IsPart role (greeted g) t) (sym h.spelled)
     (first_part role g f r (record { allowed = h.allowed; within = λ k. absurd (omega arith) }) h.commands
     (λ k. absurd (omega arith)))
 
-pub first_body_part : (role : Role) (g b : List ℕ) (f : ℕ) (r : List ℕ) (size : ℕ) (rest : List ℕ) → Opened b f r
-    → Sized f r size rest → size ≤ MOST → length rest < size → IsPart role (greeted g) b
+pub first_body_part : (role : Role) (g b : List ℕ) (f : ℕ) (r : List ℕ) (size : ℕ) (rest : List ℕ) → HasCommandFlag b f r
+    → HasSize f r size rest → size ≤ MOST → length rest < size → IsPart role (greeted g) b
 first_body_part role g b f r size rest h s x l =
     let d = ap length s.2 in
     let within : length (drop (size_len f) r) < size_of (take (size_len f) r) = omega (arith, s.1) in
@@ -43,7 +44,7 @@ first_body_part role g b f r size rest h s x l =
     (λ k. omega (arith, s.1)))
 
 pub first_too_long : (role : Role) (g : List ℕ) (at : ℕ) (b : List ℕ) (f : ℕ) (r : List ℕ) (size n last : ℕ)
-    (rest : List ℕ) (e : WireFault) → Opened b f r → Sized f r size rest → MOST < size → n ≡ size_len f
+    (rest : List ℕ) (e : WireFault) → HasCommandFlag b f r → HasSize f r size rest → MOST < size → n ≡ size_len f
     → last ≡ clip (at + n)
     → e ≡ fault_at last (cause.TooLong size) → Fails role (greeted g) at b e
 first_too_long role g at b f r size n last rest e h s w nn l x =
@@ -62,7 +63,7 @@ first_too_long role g at b f r size n last rest e h s w nn l x =
     (x ∙ ap (λ k. fault_at last (cause.TooLong k)) s.1 ∙ ap (λ k. fault_at k (cause.TooLong (size_of o))) place)
 
 -- the whole first command
-cut_command : (b : List ℕ) (f : ℕ) (r rest body after : List ℕ) (size : ℕ) → Opened b f r → Sized f r size rest
+cut_command : (b : List ℕ) (f : ℕ) (r rest body after : List ℕ) (size : ℕ) → HasCommandFlag b f r → HasSize f r size rest
     → rest ≡ body ++ after → length body ≡ size
     → Spells (command body) (f ∷ (take (size_len f) r ++ body)) × (r ≡ (take (size_len f) r ++ body) ++ after)
 cut_command b f r rest body after size h s e l =
@@ -70,7 +71,7 @@ cut_command b f r rest body after size h s e l =
     (subst (λ (i : Item). Spells i (f ∷ (take (size_len f) r ++ body))) (item_command f body h.commands) k.0, k.1)
 
 pub first_wrong : (role : Role) (g : List ℕ) (at : ℕ) (b : List ℕ) (f : ℕ) (r : List ℕ) (size n last place : ℕ)
-    (rest body after : List ℕ) (c : Cause) (e : WireFault) → Opened b f r → Sized f r size rest → size ≤ MOST
+    (rest body after : List ℕ) (c : Cause) (e : WireFault) → HasCommandFlag b f r → HasSize f r size rest → size ≤ MOST
     → rest ≡ body ++ after → length body ≡ size → handshake_cause role body ≡ Some c → n ≡ size_len f
     → last ≡ clip (at + n) → place ≡ clip (last + size) → e ≡ fault_at place c → Fails role (greeted g) at b e
 first_wrong role g at b f r size n last place rest body after c e h s x cut l w nn ll pl er =
@@ -91,7 +92,7 @@ first_wrong role g at b f r size n last place rest body after c e h s x cut l w 
     (er ∙ ap (λ y. fault_at y c) here)
 
 pub first_takes : (role : Role) (g b : List ℕ) (f : ℕ) (r : List ℕ) (size : ℕ) (rest body after : List ℕ)
-    → Opened b f r → Sized f r size rest → size ≤ MOST → rest ≡ body ++ after → length body ≡ size
+    → HasCommandFlag b f r → HasSize f r size rest → size ≤ MOST → rest ≡ body ++ after → length body ≡ size
     → handshake_cause role body ≡ None
     → Takes role (greeted g) (shaken g []) b after
 first_takes role g b f r size rest body after h s x cut l w =

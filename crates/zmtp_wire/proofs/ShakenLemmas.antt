@@ -8,7 +8,7 @@ use Rattle.zmtp_wire.specs.declared.state.Phase.TheVariants.{Handshake, Traffic}
 use Rattle.zmtp_wire.specs.declared.state.Open.TheVariants.{Fresh, Size, Body}
 use Rattle.zmtp_wire.specs.Frame.{is_allowed, is_command, is_more, size_of, size_len}
 use Rattle.zmtp_wire.specs.Stream.{Come, nothing, greeted, shaken, greeting, ready, unit, Reads, start, more, IsShaken, Gives, stream, broken, messages_come, contexts_come}
-use Rattle.zmtp_wire.specs.Machine.{Took, quiet, stopped, is_error, room_in, tick, ticks, step, run, reading, flag_step, size_step, body_step, finish}
+use Rattle.zmtp_wire.specs.Machine.{Took, quiet, failure, is_error, room_in, tick, ticks, step, run, reading, flag_step, size_step, body_step, finish}
 use Rattle.zmtp_wire.specs.Decoder.{shaken_in, Answer}
 use Rattle.zmtp_wire.proofs.StepLemmas.{state_of, is_past}
 use Rattle.zmtp_wire.proofs.FeedLemmas.{reading-append}
@@ -44,7 +44,7 @@ unfolding size_step
 size_keeps r at newer frames f size =
     let phase = Traffic newer frames in
     let on = quiet (Units phase (Body f size [])) in
-    keeps_took (nat_lt (room_in phase f) size) (quiet (stopped phase at (cause.TooLong size))) (cond (nat_eq size 0) (finish r at phase f []) on) refl
+    keeps_took (nat_lt (room_in phase f) size) (quiet (failure phase at (cause.TooLong size))) (cond (nat_eq size 0) (finish r at phase f []) on) refl
     (keeps_took (nat_eq size 0) (finish r at phase f []) on (finish_keeps r at newer frames f []) refl)
 
 body_keeps : (r : Role) (at : ℕ) (newer : Bool) (frames : List (List ℕ)) (f size : ℕ) (body : List ℕ) → shaken_in (body_step r at (Traffic newer frames) f size body).state ≡ true
@@ -52,7 +52,7 @@ unfolding body_step
 body_keeps r at newer frames f size body =
     let phase = Traffic newer frames in
     let on = quiet (Units phase (Body f size body)) in
-    keeps_took (is_error phase f body) (quiet (stopped phase at cause.PeerError)) (cond (nat_lt (length body) size) on (finish r at phase f body)) refl
+    keeps_took (is_error phase f body) (quiet (failure phase at cause.PeerError)) (cond (nat_lt (length body) size) on (finish r at phase f body)) refl
     (keeps_took (nat_lt (length body) size) on (finish r at phase f body) refl (finish_keeps r at newer frames f body))
 
 step_keeps : (r : Role) (at : ℕ) (s : State) (x : ℕ) → shaken_in s ≡ true → shaken_in (step r at s x).state ≡ true

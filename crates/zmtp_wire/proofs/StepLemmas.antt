@@ -31,8 +31,8 @@ is_past (greeted g) = false
 is_past (shaken g items) = true
 
 -- the state where a test fails at the octet `at`
-abbrev pub stopped_at : Come → ℕ → Cause → State
-stopped_at come at c = Failed (is_past come) (fault_at at c)
+abbrev pub failure_after : Come → ℕ → Cause → State
+failure_after come at c = Failed (is_past come) (fault_at at c)
 
 -- what stands open, where the size isn't whole, and where it is
 pub at_size : (f : ℕ) (r : List ℕ) → length r < size_len f → unit_at (f ∷ r) ≡ Size f r

@@ -18,11 +18,11 @@ use Rattle.zmtp_wire.specs.Stream.{Item, frame, command, item_of, Heads, Spells,
 use Rattle.zmtp_wire.specs.Stream as W
 use Rattle.zmtp_wire.proofs.UnitLemmas.{cells-of}
 use Rattle.zmtp_wire.proofs.HandshakeLemmas.{cause_tells}
-use Rattle.zmtp_wire.proofs.StepLemmas.{unit_at, state_of, stopped_at, at_size, at_whole_size, at_longer_body, step_size, step_size_end, step_body}
+use Rattle.zmtp_wire.proofs.StepLemmas.{unit_at, state_of, failure_after, at_size, at_whole_size, at_longer_body, step_size, step_size_end, step_body}
 use Rattle.zmtp_wire.proofs.ListLemmas.{take_front, drop_front, take_drop, len_take, take_more_same, pick_false, pick_true, one_more, drop_more_same, is_less, is_not_less, same_number, is_zero, not_zero, zeros, len_zeros, some_of_len, len_of_some, same_list, full_take}
 
 pub data Turn (role : Role) (at : ℕ) (come : Come) (q : List ℕ) (t : Took) : Type 0 where
-  wrong : (c : Cause) → Wrong role come q c → t ≡ quiet (stopped_at come at c) → Turn role at come q t
+  wrong : (c : Cause) → Wrong role come q c → t ≡ quiet (failure_after come at c) → Turn role at come q t
   whole : (next : Come) → Completes come q next → t.state ≡ state_of next [] → messages_come role next ≡ messages_come role come ++ t.messages → contexts_come next ≡ contexts_come come ++ t.owed
       → Turn role at come q t
   part : (missing : List ℕ) → missing ≢ [] → (next : Come) → Completes come (q ++ missing) next → t ≡ quiet (state_of come q) → Turn role at come q t

@@ -19,21 +19,22 @@ use Rattle.zmtp_wire.proofs.ListLemmas.{take_drop, len_take}
 use Rattle.zmtp_wire.proofs.ListLemmas.{same_start}
 use Rattle.zmtp_wire.proofs.ListLemmas.{len_of_some}
 use Rattle.zmtp_wire.proofs.TurnLemmas.{size_pos}
-use Rattle.zmtp_wire.proofs.FrontLemmas.{size_front, all_true, LaterFits, later_passes, later_part, fails_later, Sized, heads, front_of, cut_body}
+use Rattle.zmtp_wire.proofs.FrontLemmas.{size_front, all_true, LaterFits, later_passes, later_part, fails_later}
+use Rattle.zmtp_wire.proofs.FrontLemmas.{HasSize, heads, front_of, cut_body}
 
 -- the flag was passed where these frames stand open
-pub record Flagged (items : List Item) (b : List ℕ) (f : ℕ) (r : List ℕ) (frames : List (List ℕ)) : Type 0 where
+pub record HasFlag (items : List Item) (b : List ℕ) (f : ℕ) (r : List ℕ) (frames : List (List ℕ)) : Type 0 where
   pub stands : open_after [] items ≡ frames
   pub spelled : b ≡ f ∷ r
   pub allowed : is_allowed f ≡ true
   pub few : (is_more f && nat_eq (length frames) 63) ≡ false
 
 few_items : (items : List Item) (b : List ℕ) (f : ℕ) (r : List ℕ) (frames : List (List ℕ))
-    → Flagged items b f r frames → (is_more f && nat_eq (length (open_after [] items)) 63) ≡ false
+    → HasFlag items b f r frames → (is_more f && nat_eq (length (open_after [] items)) 63) ≡ false
 few_items items b f r frames h = ap (λ t. is_more f && nat_eq (length t) 63) h.stands ∙ h.few
 
 pub later_size_part : (role : Role) (g : List ℕ) (items : List Item) (b : List ℕ) (f : ℕ) (r : List ℕ)
-    (frames : List (List ℕ)) → Flagged items b f r frames → length r < size_len f → IsPart role (shaken g items) b
+    (frames : List (List ℕ)) → HasFlag items b f r frames → length r < size_len f → IsPart role (shaken g items) b
 later_size_part role g items b f r frames h w =
     let fits : LaterFits g items f r = record {
       allowed = h.allowed;
@@ -58,7 +59,7 @@ no_error f size rest t e c w s =
     absurd (cc)
 
 pub later_body_part : (role : Role) (g : List ℕ) (items : List Item) (b : List ℕ) (f : ℕ) (r : List ℕ)
-    (frames : List (List ℕ)) (size room : ℕ) (rest : List ℕ) → Flagged items b f r frames → Sized f r size rest
+    (frames : List (List ℕ)) (size room : ℕ) (rest : List ℕ) → HasFlag items b f r frames → HasSize f r size rest
     → room ≡ room_beside frames f → size ≤ room
     → begins_error f size rest ≡ false → length rest < size
     → IsPart role (shaken g items) b
@@ -76,8 +77,8 @@ later_body_part role g items b f r frames size room rest h s e w x l =
     (later_part role g items f r (record { allowed = h.allowed; within = λ k. within }) fits)
 
 pub later_too_long : (role : Role) (g : List ℕ) (items : List Item) (at : ℕ) (b : List ℕ) (f : ℕ) (r : List ℕ)
-    (frames : List (List ℕ)) (size room n last : ℕ) (rest : List ℕ) (e : WireFault) → Flagged items b f r frames
-    → Sized f r size rest
+    (frames : List (List ℕ)) (size room n last : ℕ) (rest : List ℕ) (e : WireFault) → HasFlag items b f r frames
+    → HasSize f r size rest
     → room ≡ room_beside frames f → room < size → n ≡ size_len f → last ≡ clip (at + n)
     → e ≡ fault_at last (cause.TooLong size) → Fails role (shaken g items) at b e
 later_too_long role g items at b f r frames size room n last rest e h s ro w nn l x =
@@ -103,7 +104,7 @@ later_too_long role g items at b f r frames size room n last rest e h s ro w nn 
 
 pub later_error : (role : Role) (g : List ℕ) (items : List Item) (at : ℕ) (b : List ℕ) (f : ℕ) (r : List ℕ)
     (frames : List (List ℕ)) (size room n last place : ℕ) (rest : List ℕ) (e : WireFault)
-    → Flagged items b f r frames → Sized f r size rest
+    → HasFlag items b f r frames → HasSize f r size rest
     → room ≡ room_beside frames f → size ≤ room
     → begins_error f size rest ≡ true → n ≡ size_len f
     → last ≡ clip (at + n) → place ≡ clip (last + 6)
@@ -140,8 +141,8 @@ later_error role g items at b f r frames size room n last place rest e h s ro w 
     (x ∙ ap (λ y. fault_at y cause.PeerError) here)
 
 pub later_takes : (role : Role) (g : List ℕ) (items : List Item) (b : List ℕ) (f : ℕ) (r : List ℕ)
-    (frames : List (List ℕ)) (size room : ℕ) (rest body after : List ℕ) → Flagged items b f r frames
-    → Sized f r size rest
+    (frames : List (List ℕ)) (size room : ℕ) (rest body after : List ℕ) → HasFlag items b f r frames
+    → HasSize f r size rest
     → room ≡ room_beside frames f → size ≤ room
     → begins_error f size rest ≡ false → rest ≡ body ++ after
     → length body ≡ size

@@ -95,7 +95,7 @@ comes_broken role b come rest at e k l f =
 -- ---- the units
 
 -- the handshake and units have come: the messages that they gave, the frames that stand open, and what follows
-pub record Begun (role : Role) (b : List ℕ) (newer : Bool) (frames : List (List ℕ)) (ms : List Message)
+pub record HasUnits (role : Role) (b : List ℕ) (newer : Bool) (frames : List (List ℕ)) (ms : List Message)
     (rest : List ℕ) : Type 0 where
   pub greeting : List ℕ
   pub items : List Item
@@ -104,11 +104,11 @@ pub record Begun (role : Role) (b : List ℕ) (newer : Bool) (frames : List (Lis
   pub stand : open_after [] items ≡ frames
   pub gave : ms ≡ messages_of role newer [] items
 
-pub begun_first : (role : Role) (b first units : List ℕ) (newer : Bool) (frames : List (List ℕ))
+pub units_first : (role : Role) (b first units : List ℕ) (newer : Bool) (frames : List (List ℕ))
     (ms : List Message) → ((g : List ℕ) × Takes role nothing (greeted g) b first × (newer ≡ speaks g))
     → ((g : List ℕ) → Takes role (greeted g) (shaken g []) first units) → frames ≡ [] → ms ≡ []
-    → Begun role b newer frames ms units
-begun_first role b first units newer frames ms t r f m =
+    → HasUnits role b newer frames ms units
+units_first role b first units newer frames ms t r f m =
     record {
       greeting = t.0;
       items = [];
@@ -119,13 +119,13 @@ begun_first role b first units newer frames ms t r f m =
       gave = m;
     }
 
-pub begun_next : (role : Role) (b : List ℕ) (newer : Bool) (frames frames' : List (List ℕ)) (ms ms' : List Message)
-    (rest after : List ℕ) (i : Item) → Begun role b newer frames ms rest
+pub units_next : (role : Role) (b : List ℕ) (newer : Bool) (frames frames' : List (List ℕ)) (ms ms' : List Message)
+    (rest after : List ℕ) (i : Item) → HasUnits role b newer frames ms rest
     → ((g : List ℕ) (items : List Item) → open_after [] items ≡ frames
     → Takes role (shaken g items) (shaken g (items ++ i ∷ [])) rest after)
     → frames' ≡ open_after frames (i ∷ []) → ms' ≡ ms ++ messages_of role newer frames (i ∷ [])
-    → Begun role b newer frames' ms' after
-begun_next role b newer frames frames' ms ms' rest after i k t f m =
+    → HasUnits role b newer frames' ms' after
+units_next role b newer frames frames' ms ms' rest after i k t f m =
     record {
       greeting = k.greeting;
       items = k.items ++ i ∷ [];
@@ -162,61 +162,61 @@ greeting_len : (p g : List ℕ) → Completes nothing p (greeted g) → length p
 greeting_len _ _ (greeting g h) = h
 
 -- a greeting was read, and tells whether its sender speaks 3.1
-abbrev pub Greeted : Role → List ℕ → List ℕ → Bool → Type 0
-Greeted role b first newer = (g : List ℕ) × Takes role nothing (greeted g) b first × (newer ≡ speaks g)
+abbrev pub HasGreeting : Role → List ℕ → List ℕ → Bool → Type 0
+HasGreeting role b first newer = (g : List ℕ) × Takes role nothing (greeted g) b first × (newer ≡ speaks g)
 
 pub greeting_broken : (role : Role) (b : List ℕ) (e : WireFault) → Fails role nothing 0 b e → BreaksAs b role e
 unfolding comes_none
 greeting_broken role b e f = comes_broken role b nothing b 0 e (comes_none role b) refl f
 
-comes_greeted : (role : Role) (b first g : List ℕ) → Takes role nothing (greeted g) b first
+comes_greeting : (role : Role) (b first g : List ℕ) → Takes role nothing (greeted g) b first
     → Comes role b (greeted g) first
-comes_greeted role b first g t = comes_more role b nothing (greeted g) b first (comes_none role b) t
+comes_greeting role b first g t = comes_more role b nothing (greeted g) b first (comes_none role b) t
 
-pub ready_broken : (role : Role) (b first : List ℕ) (newer : Bool) (e : WireFault) → Greeted role b first newer
+pub ready_broken : (role : Role) (b first : List ℕ) (newer : Bool) (e : WireFault) → HasGreeting role b first newer
     → ((g : List ℕ) → Fails role (greeted g) 64 first e) → BreaksAs b role e
-unfolding comes_greeted comes_more comes_none
+unfolding comes_greeting comes_more comes_none
 ready_broken role b first newer e t f = comes_broken role b (greeted t.0) first 64 e
-    (comes_greeted role b first t.0 t.1) (sym (greeting_len t.1.front t.0 t.1.completes)) (f t.0)
+    (comes_greeting role b first t.0 t.1) (sym (greeting_len t.1.front t.0 t.1.completes)) (f t.0)
 
-pub ready_scan : (role : Role) (b first : List ℕ) (newer : Bool) (ms : List Message) → Greeted role b first newer
+pub ready_scan : (role : Role) (b first : List ℕ) (newer : Bool) (ms : List Message) → HasGreeting role b first newer
     → ((g : List ℕ) → IsPart role (greeted g) first) → ms ≡ [] → Scans b role ms (length first)
 ready_scan role b first newer ms t p m = comes_scan role b (greeted t.0) first ms (length first)
-    (comes_greeted role b first t.0 t.1) (p t.0) m refl
+    (comes_greeting role b first t.0 t.1) (p t.0) m refl
 
-pub ready_shaken : (role : Role) (b first : List ℕ) (newer : Bool) → Greeted role b first newer
+pub ready_shaken : (role : Role) (b first : List ℕ) (newer : Bool) → HasGreeting role b first newer
     → ((g : List ℕ) → IsPart role (greeted g) first) → IsTrue false ↔ IsShaken role b
 ready_shaken role b first newer t p = comes_shaken role b (greeted t.0) first false
-    (comes_greeted role b first t.0 t.1) (p t.0) refl
+    (comes_greeting role b first t.0 t.1) (p t.0) refl
 
 -- after units a part follows
 abbrev pub PartAfter : Role → List (List ℕ) → List ℕ → Type 0
 PartAfter role frames rest = (g : List ℕ) (items : List Item) → open_after [] items ≡ frames
     → IsPart role (shaken g items) rest
 
-pub begun_scan : (role : Role) (b : List ℕ) (newer : Bool) (frames : List (List ℕ)) (ms : List Message)
-    (rest : List ℕ) → Begun role b newer frames ms rest → PartAfter role frames rest → Scans b role ms (length rest)
-begun_scan role b newer frames ms rest k p =
+pub units_scan : (role : Role) (b : List ℕ) (newer : Bool) (frames : List (List ℕ)) (ms : List Message)
+    (rest : List ℕ) → HasUnits role b newer frames ms rest → PartAfter role frames rest → Scans b role ms (length rest)
+units_scan role b newer frames ms rest k p =
     comes_scan role b (shaken k.greeting k.items) rest ms (length rest) k.comes (p k.greeting k.items k.stand)
     (k.gave ∙ ap (λ n. messages_of role n [] k.items) k.speaks_newer) refl
 
-pub begun_shaken : (role : Role) (b : List ℕ) (newer : Bool) (frames : List (List ℕ)) (ms : List Message)
-    (rest : List ℕ) → Begun role b newer frames ms rest → PartAfter role frames rest → IsTrue true ↔ IsShaken role b
-begun_shaken role b newer frames ms rest k p = comes_shaken role b (shaken k.greeting k.items) rest true k.comes
+pub units_shaken : (role : Role) (b : List ℕ) (newer : Bool) (frames : List (List ℕ)) (ms : List Message)
+    (rest : List ℕ) → HasUnits role b newer frames ms rest → PartAfter role frames rest → IsTrue true ↔ IsShaken role b
+units_shaken role b newer frames ms rest k p = comes_shaken role b (shaken k.greeting k.items) rest true k.comes
     (p k.greeting k.items k.stand) refl
 
-pub begun_broken : (role : Role) (b : List ℕ) (newer : Bool) (frames : List (List ℕ)) (ms : List Message)
-    (rest : List ℕ) (at : ℕ) (e : WireFault) → Begun role b newer frames ms rest → at ≡ length b - length rest
+pub units_broken : (role : Role) (b : List ℕ) (newer : Bool) (frames : List (List ℕ)) (ms : List Message)
+    (rest : List ℕ) (at : ℕ) (e : WireFault) → HasUnits role b newer frames ms rest → at ≡ length b - length rest
     → ((g : List ℕ) (items : List Item) → open_after [] items ≡ frames → Fails role (shaken g items) at rest e)
     → BreaksAs b role e
-begun_broken role b newer frames ms rest at e k l f =
+units_broken role b newer frames ms rest at e k l f =
     let all = ap length k.comes.spelled in
     let place : at ≡ length k.comes.front = omega (arith, length-append k.comes.front rest) in
     comes_broken role b (shaken k.greeting k.items) rest at e k.comes place (f k.greeting k.items k.stand)
 
-pub begun_less : (role : Role) (b : List ℕ) (newer : Bool) (frames : List (List ℕ)) (ms : List Message)
-    (rest after : List ℕ) (i : Item) → Begun role b newer frames ms rest
+pub units_less : (role : Role) (b : List ℕ) (newer : Bool) (frames : List (List ℕ)) (ms : List Message)
+    (rest after : List ℕ) (i : Item) → HasUnits role b newer frames ms rest
     → ((g : List ℕ) (items : List Item) → open_after [] items ≡ frames
     → Takes role (shaken g items) (shaken g (items ++ i ∷ [])) rest after) → length after < length rest
-begun_less role b newer frames ms rest after i k t = takes_less role (shaken k.greeting k.items)
+units_less role b newer frames ms rest after i k t = takes_less role (shaken k.greeting k.items)
     (shaken k.greeting (k.items ++ i ∷ [])) rest after (t k.greeting k.items k.stand)

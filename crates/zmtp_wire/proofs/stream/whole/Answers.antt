@@ -2,8 +2,8 @@ use Rattle.std.proofs.Common.{false, refl}
 use Rattle.std.proofs.lemmas.Result.{err_from_is_err_and}
 use Rattle.zmtp_wire.specs.Stream.{nothing, item_of}
 use Rattle.zmtp_wire.proofs.WholeLemmas.{comes_none, comes_scan, comes_shaken, none_given, some_given}
-use Rattle.zmtp_wire.proofs.WholeLemmas.{greeting_broken, ready_broken, ready_scan, ready_shaken, begun_first}
-use Rattle.zmtp_wire.proofs.WholeLemmas.{begun_next, begun_less, begun_scan, begun_shaken, begun_broken, PartAfter}
+use Rattle.zmtp_wire.proofs.WholeLemmas.{greeting_broken, ready_broken, ready_scan, ready_shaken, units_first}
+use Rattle.zmtp_wire.proofs.WholeLemmas.{units_next, units_less, units_scan, units_shaken, units_broken, PartAfter}
 use Rattle.zmtp_wire.proofs.stream.whole.Goals as goal
 
 pub returns-in_err-newer-clause-broken : goal.returns-in_err-newer-clause-broken
@@ -46,14 +46,14 @@ returns-in_default-2-clause-shaken c =
 pub loop-frames-init : goal.loop-frames-init
 loop-frames-init c =
     let t = some_given _ _ _ c.in-Some.is c.in_ok-newer.ensures.whole c.args.role in
-    begun_first c.args.role c.args.bytes.now c.in-Some.first.now c.in-Some-2.units.now c.in-Some.newer
+    units_first c.args.role c.args.bytes.now c.in-Some.first.now c.in-Some-2.units.now c.in-Some.newer
     c.new-frames.result c.new-messages.result t (λ g. some_given _ _ _ c.in-Some-2.is
     (c.in_ok-units.ensures.whole g)) c.new-frames.ensures c.new-messages.ensures
 
 pub returns-in_err-unit-clause-broken : goal.returns-in_err-unit-clause-broken
 returns-in_err-unit-clause-broken c =
     let p = err_from_is_err_and c.from_residual-in_err-unit.result c.from_residual-in_err-unit.ensures.1 in
-    rw (p.1, p.2) (λ n. begun_broken c.args.role c.args.bytes.now c.in-Some.newer c.loop-frames.frames
+    rw (p.1, p.2) (λ n. units_broken c.args.role c.args.bytes.now c.in-Some.newer c.loop-frames.frames
     c.loop-frames.messages c.loop-frames.rest.now _ c.in_err-unit.field-0.0 c.loop-frames.invariant refl
     (c.in_err-unit.ensures.broken c.args.role))
 
@@ -65,14 +65,14 @@ returns-in_err-take_unit-clause-broken c =
 
 pub loop-frames-smaller : goal.loop-frames-smaller
 loop-frames-smaller c =
-    begun_less c.args.role c.args.bytes.now c.in-Some.newer c.loop-frames.frames c.loop-frames.messages
+    units_less c.args.role c.args.bytes.now c.in-Some.newer c.loop-frames.frames c.loop-frames.messages
     c.loop-frames.rest.now c.in-Some-3.unit.after.now
     (item_of c.in-Some-3.unit.flag c.in-Some-3.unit.body.now) c.loop-frames.invariant
     (λ g items o. some_given _ _ _ c.in-Some-3.is (c.in_ok-unit.ensures.whole c.args.role g items o))
 
 pub loop-frames-preserved : goal.loop-frames-preserved
 loop-frames-preserved c =
-    begun_next c.args.role c.args.bytes.now c.in-Some.newer c.loop-frames.frames c.take_unit.new.frames
+    units_next c.args.role c.args.bytes.now c.in-Some.newer c.loop-frames.frames c.take_unit.new.frames
     c.loop-frames.messages c.take_unit.new.out c.loop-frames.rest.now c.in-Some-3.unit.after.now
     (item_of c.in-Some-3.unit.flag c.in-Some-3.unit.body.now) c.loop-frames.invariant
     (λ g items o. some_given _ _ _ c.in-Some-3.is (c.in_ok-unit.ensures.whole c.args.role g items o))
@@ -82,12 +82,12 @@ pub returns-clause-stream : goal.returns-clause-stream
 returns-clause-stream c =
     let part : PartAfter c.args.role c.loop-frames.frames c.loop-frames.rest.now = λ g items o. none_given _ _
     c.in_default-3.is (c.in_ok-unit.ensures.part c.args.role g items o) in
-    begun_scan c.args.role c.args.bytes.now c.in-Some.newer c.loop-frames.frames c.loop-frames.messages
+    units_scan c.args.role c.args.bytes.now c.in-Some.newer c.loop-frames.frames c.loop-frames.messages
     c.loop-frames.rest.now c.loop-frames.invariant part
 
 pub returns-clause-shaken : goal.returns-clause-shaken
 returns-clause-shaken c =
     let part : PartAfter c.args.role c.loop-frames.frames c.loop-frames.rest.now = λ g items o. none_given _ _
     c.in_default-3.is (c.in_ok-unit.ensures.part c.args.role g items o) in
-    begun_shaken c.args.role c.args.bytes.now c.in-Some.newer c.loop-frames.frames c.loop-frames.messages
+    units_shaken c.args.role c.args.bytes.now c.in-Some.newer c.loop-frames.frames c.loop-frames.messages
     c.loop-frames.rest.now c.loop-frames.invariant part
