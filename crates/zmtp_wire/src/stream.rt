@@ -1,4 +1,5 @@
-//! The plain reader of a whole stream.
+//! The plain reader of a whole stream, beside the decoder: it has all octets before it, and keeps
+//! from unit to unit only the frames of the unfinished message.
 ghost use Rattle.std.specs.Prelude.{◌≡◌, ◌≢◌, ◌++◌, ◌∷◌, [], ◌↔◌, IfOk, IfErr, IsTrue, OnOk};
 ghost use Rattle.zmtp_wire.specs.declared.fault.WireFault.TheVariants.{NoMemory as Starved};
 ghost use Rattle.zmtp_wire.specs.Stream.{Scans, BreaksAs, IsShaken, item_of, open_after};
