@@ -63,8 +63,34 @@ fn listen(rt: &HostRuntime, role: Role, octets: &[u8], size: usize) -> Result<He
     })
 }
 
+/// Whether the plain reader and the decoder tell the same of each front of the octets.
+fn agree_on_fronts(rt: &HostRuntime, role: Role, octets: &[u8]) -> Result<bool, Fail> {
+    for len in 0..=octets.len() {
+        let (front, _) = octets.split_at(len);
+        let heard = listen(rt, role, front, 2)?;
+        match whole(rt.alloc(), role, front) {
+            Ok(scan) => {
+                let mut found = Bytes::new(rt.alloc());
+                put_joined(&scan.messages, &mut found)?;
+                if heard.answer != Ok(()) || heard.shaken != scan.shaken {
+                    return Ok(false);
+                }
+                if heard.messages.bytes() != found.bytes() {
+                    return Ok(false);
+                }
+            }
+            Err(fault) => {
+                if heard.answer != Err(fault) {
+                    return Ok(false);
+                }
+            }
+        }
+    }
+    Ok(true)
+}
+
 /// Whether the plain reader and the decoder, in pieces of 1, 2, 3 and all octets, give this fault
-/// and these messages.
+/// and these messages, and agree on each front of the octets.
 fn refuses(
     rt: &HostRuntime,
     role: Role,
@@ -86,11 +112,11 @@ fn refuses(
             return Ok(false);
         }
     }
-    Ok(true)
+    agree_on_fronts(rt, role, octets)
 }
 
 /// Whether the plain reader and the decoder, in pieces of 1, 2, 3 and all octets, give these
-/// messages and contexts.
+/// messages and contexts, and agree on each front of the octets.
 fn reads(
     rt: &HostRuntime,
     role: Role,
@@ -117,7 +143,7 @@ fn reads(
             return Ok(false);
         }
     }
-    Ok(true)
+    agree_on_fronts(rt, role, octets)
 }
 
 #[test]
@@ -162,7 +188,7 @@ fn a_stream_gives_its_messages_and_a_rest(rt: HostRuntime) -> Result<(), Fail> {
 
 #[test]
 fn what_peers_send_is_read(rt: HostRuntime) -> Result<(), Fail> {
-    let tails: [(Role, Role, &[u8], &[u8], &[u8]); 10] = [
+    let tails: [(Role, Role, &[u8], &[u8], &[u8]); 13] = [
         // A second READY and commands that nobody knows are passed over, between frames too.
         (
             Role::Dealer,
@@ -225,6 +251,16 @@ fn what_peers_send_is_read(rt: HostRuntime) -> Result<(), Fail> {
             b"",
         ),
         (Role::Req, Role::Rep, b"\x01\0\x00\x04ping", b"|ping|/", b""),
+        // What is nearly an ERROR: five octets of it, another last octet, and a frame.
+        (Role::Req, Role::Rep, b"\x04\x05\x05ERRO", b"", b""),
+        (Role::Req, Role::Rep, b"\x04\x06\x05ERROX", b"", b""),
+        (
+            Role::Req,
+            Role::Rep,
+            b"\x00\x06\x05ERROR",
+            b"\x05ERROR|/",
+            b"",
+        ),
     ];
     for (role, peer, tail, messages, owed) in tails {
         let octets = stream(&rt, peer, tail)?;
@@ -328,7 +364,7 @@ fn the_case_of_a_property_name_is_free(rt: HostRuntime) -> Result<(), Fail> {
 
 #[test]
 fn a_unit_is_refused_at_its_octet(rt: HostRuntime) -> Result<(), Fail> {
-    let rows: [(&[u8], WireFault, &[u8]); 7] = [
+    let rows: [(&[u8], WireFault, &[u8]); 8] = [
         (b"\x08\0", WireFault::Flags { at: 94 }, b""),
         (b"\x00\x01A\x05", WireFault::Flags { at: 97 }, b"A|/"),
         (
@@ -354,6 +390,11 @@ fn a_unit_is_refused_at_its_octet(rt: HostRuntime) -> Result<(), Fail> {
             b"\x00\x01A\x04\xFF\x05ERROR",
             WireFault::PeerError { at: 104 },
             b"A|/",
+        ),
+        (
+            b"\x06\0\0\0\0\0\0\0\x06\x05ERROR",
+            WireFault::PeerError { at: 108 },
+            b"",
         ),
         (
             b"\x06\x80\0\0\0\0\0\0\0",

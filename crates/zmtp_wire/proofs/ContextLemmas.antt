@@ -1,10 +1,10 @@
 -- The context of a PING has at most 16 octets.
 use Rattle.std.proofs.lemmas.Bool.{and_parts}
-use Rattle.std.proofs.Common.{◌≡◌, ℕ, ◌+◌, ◌-◌, ◌≤◌, Bool, true, false, cond, nat_le, nat_eq, ◌&&◌, List, [], ◌∷◌, ◌++◌, length, drop, codes, refl, sym, subst, arith, length-drop}
+use Rattle.std.proofs.Common.{◌≡◌, ℕ, ◌≤◌, Bool, true, false, cond, nat_le, nat_eq, ◌&&◌, List, [], ◌∷◌, ◌++◌, length, drop, codes, refl, sym, subst, arith, length-drop}
 use Rattle.std.proofs.lemmas.Bool.Decides.{nat_tests}
 use Rattle.std.specs.List.{AllByRecursion, starts_with}
 use Rattle.zmtp_wire.specs.declared.role.Role.{Role}
-use Rattle.zmtp_wire.specs.Command.{is_ping, command_contexts}
+use Rattle.zmtp_wire.specs.Command.{is_ping}
 use Rattle.zmtp_wire.specs.Stream.{Message, Context, Item, frame, command, Come, nothing, greeted, shaken, contexts_of, contexts_come, Gives, stream, broken}
 use Rattle.zmtp_wire.specs.Greeting.{speaks}
 use Rattle.zmtp_wire.specs.Decoder.{Answer}

@@ -1,5 +1,5 @@
 -- The decoder over pieces.
-use Rattle.std.proofs.Common.{◌≡◌, ℕ, zero, suc, ◌+◌, ◌≤◌, ◌<◌, ◌^◌, min, List, [], ◌∷◌, ◌++◌, length, Result, Ok, Err, Bool, get_or, refl, ap, sym, ◌∙◌, arith, length-append, append_assoc, append-nil}
+use Rattle.std.proofs.Common.{◌≡◌, ℕ, ◌+◌, List, [], ◌∷◌, ◌++◌, length, Err, Bool, get_or, refl, ap, sym, ◌∙◌, arith, length-append, append_assoc, append-nil}
 use Rattle.zmtp_wire.specs.declared.role.Role.{Role}
 use Rattle.zmtp_wire.specs.declared.fault.WireFault.{WireFault}
 use Rattle.zmtp_wire.specs.declared.state.State.{State}
@@ -7,7 +7,7 @@ use Rattle.zmtp_wire.specs.declared.state.State.TheVariants.{Greeting, Units, Fa
 use Rattle.zmtp_wire.specs.declared.decoder.Decoder.{Decoder}
 use Rattle.zmtp_wire.specs.Fault.{clip}
 use Rattle.zmtp_wire.specs.Decoder.{StandsFor, answer_in}
-use Rattle.zmtp_wire.specs.Machine.{Took, before, quiet, tick, ticks, step, run, reading}
+use Rattle.zmtp_wire.specs.Machine.{Took, before, quiet, tick, ticks, run, reading}
 use Rattle.zmtp_wire.proofs.RunLemmas.{run-append}
 
 pub new-stands : (d : Decoder) → d.at ≡ 0 → d.version.major ≡ 0 → d.version.minor ≡ 0 → d.state ≡ Greeting [] → d.owed ≡ [] → StandsFor d [] []

@@ -1,19 +1,16 @@
 -- What octets give is what the machine reads.
-use Rattle.std.proofs.Common.{◌≡◌, ℕ, ◌+◌, ◌<◌, ◌^◌, List, [], ◌∷◌, ◌++◌, length, Result, Ok, Err, Bool, true, false, Option, None, Some, cond, nat_lt, refl, ap, sym, ◌∙◌, arith, append_assoc, append-nil, subst, ◌⊎◌, inl, inr}
+use Rattle.std.proofs.Common.{◌≡◌, ℕ, ◌<◌, List, [], ◌++◌, length, Ok, Err, Bool, None, Some, refl, ap, sym, ◌∙◌, arith, append-nil, subst}
 use Rattle.zmtp_wire.specs.declared.role.Role.{Role}
 use Rattle.zmtp_wire.specs.declared.fault.WireFault.{WireFault}
-use Rattle.zmtp_wire.specs.declared.state.State.{State}
-use Rattle.zmtp_wire.specs.declared.state.State.TheVariants.{Greeting, Units, Failed}
 use Rattle.zmtp_wire.specs.declared.decoder.Decoder.{Decoder}
-use Rattle.zmtp_wire.specs.Fault.{clip}
 use Rattle.zmtp_wire.specs.Greeting.{newer_of, speaks}
-use Rattle.zmtp_wire.specs.Stream.{Come, nothing, greeted, shaken, Stream, Broken, IsStream, IsBroken, Gives, stream, broken}
-use Rattle.zmtp_wire.specs.Machine.{Took, before, quiet, ticks, run, reading, GrowsBy}
+use Rattle.zmtp_wire.specs.Stream.{Come, nothing, greeted, shaken, Gives, stream, broken}
+use Rattle.zmtp_wire.specs.Machine.{Took, ticks, run, reading, GrowsBy}
 use Rattle.zmtp_wire.specs.Decoder.{StandsFor, Answer, answer_in, Brings, BringsSome}
 use Rattle.zmtp_wire.proofs.ListLemmas.{less, not_less, pick_true, pick_false}
-use Rattle.zmtp_wire.proofs.StepLemmas.{state_of, is_past}
+use Rattle.zmtp_wire.proofs.StepLemmas.{state_of}
 use Rattle.zmtp_wire.proofs.FeedLemmas.{fed, run-refused}
-use Rattle.zmtp_wire.proofs.OutcomeLemmas.{Outcome, reads, breaks, outcome, stream_reads, broken_reads, one_stream, one_fault, not_both}
+use Rattle.zmtp_wire.proofs.OutcomeLemmas.{reads, breaks, outcome, stream_reads, broken_reads}
 
 gives_same : (role : Role) (b : List ℕ) (ms ms' : List (List (List ℕ))) (owed owed' : List (List ℕ)) (a a' : Answer) → ms ≡ ms' → owed ≡ owed' → a ≡ a' → Gives role b ms owed a → Gives role b ms' owed' a'
 gives_same role b ms ms' owed owed' a a' e f h g =

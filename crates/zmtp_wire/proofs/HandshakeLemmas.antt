@@ -1,15 +1,13 @@
 -- The first command's tests are those of the grammar.
-use Rattle.std.proofs.Common.{◌≡◌, ℕ, zero, suc, ◌+◌, ◌≤◌, ◌<◌, Bool, true, false, cond, nat_lt, nat_eq, List, [], ◌∷◌, ◌++◌, length, take, drop, Option, None, Some, refl, ap, sym, ◌∙◌, arith, length-append, append-nil, subst, ◌&&◌}
-use Rattle.std.specs.Prelude.{eqb}
+use Rattle.std.proofs.Common.{◌≡◌, ℕ, zero, suc, ◌+◌, ◌≤◌, Bool, true, false, cond, nat_lt, nat_eq, List, [], ◌∷◌, ◌++◌, length, take, drop, Option, None, Some, refl, ap, sym, ◌∙◌, arith, length-append, subst}
 use Rattle.std.specs.List.{starts_with}
 use Rattle.std.specs.Int.{w32, from_be_bytes}
-use lib.Pointwise.{pointwise}
 use Rattle.zmtp_wire.specs.declared.role.Role.{Role}
 use Rattle.zmtp_wire.specs.declared.cause.Cause.{Cause}
 use Rattle.zmtp_wire.specs.declared.cause.Cause.TheVariants as cause
 use Rattle.zmtp_wire.specs.Command.{Property, SpellsProperties, none, one, SpellsNone, WrongReady, refused, unnamed, malformed, stranger, error_name, ready_name, is_peer, socket_type}
 use Rattle.zmtp_wire.specs.Machine.{with_property, properties_in, properties, ready_cause, handshake_cause}
-use Rattle.zmtp_wire.proofs.ListLemmas.{take_front, drop_front, take_drop, len_take, len_drop, pick_false, pick_true, not_less, less, is_less, is_not_less, same_start}
+use Rattle.zmtp_wire.proofs.ListLemmas.{take_front, drop_front, take_drop, len_take, len_drop, pick_false, is_not_less, same_start}
 use Rattle.zmtp_wire.proofs.ReadyLemmas.{one_by_parts}
 
 -- ---- what properties spell is read

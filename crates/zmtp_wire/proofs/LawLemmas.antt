@@ -1,11 +1,8 @@
 -- The laws in the form that the public functions state.
-use Rattle.std.proofs.Common.{◌≡◌, ℕ, List, ◌++◌, ◌⊎◌, inl, inr, refl, ap, sym, ◌∙◌}
+use Rattle.std.proofs.Common.{ℕ, List, ◌⊎◌, inl, inr}
 use Rattle.zmtp_wire.specs.declared.role.Role.{Role}
-use Rattle.zmtp_wire.specs.declared.decoder.Decoder.{Decoder}
-use Rattle.zmtp_wire.specs.Stream.{IsStream, IsBroken, Gives}
-use Rattle.zmtp_wire.specs.Decoder.{StandsFor, Answer, answer_in}
-use Rattle.zmtp_wire.proofs.OutcomeLemmas.{Outcome, reads, breaks, outcome, not_both}
-use Rattle.zmtp_wire.proofs.GivesLemmas.{gives_read}
+use Rattle.zmtp_wire.specs.Stream.{IsStream, IsBroken}
+use Rattle.zmtp_wire.proofs.OutcomeLemmas.{reads, breaks, outcome, not_both}
 
 pub either : (b : List ℕ) (r : Role) → IsStream b r ⊎ IsBroken b r
 either b r = elim (outcome r b) [ reads ms owed rest s ↦ inl (ms, owed, rest, s) | breaks e at ms owed k ↦ inr (e, at, ms, owed, k) ]

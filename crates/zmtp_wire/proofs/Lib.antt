@@ -12,6 +12,10 @@ pub mod OutcomeLemmas
 pub mod GivesLemmas
 pub mod ShakenLemmas
 pub mod VersionLemmas
+pub mod FrontLemmas
+pub mod UnitFronts
+pub mod ReadyFronts
+pub mod GreetingFronts
 pub mod WholeLemmas
 pub mod WriteLemmas
 pub mod WritingLemmas

@@ -1,5 +1,5 @@
 -- The functions of Meaning, each beside its relation.
-use Rattle.std.proofs.Common.{◌≡◌, ℕ, ◌+◌, ◌-◌, ◌≤◌, ◌<◌, Bool, true, false, cond, nat_lt, List, [], ◌∷◌, ◌++◌, length, drop, get_or}
+use Rattle.std.proofs.Common.{◌≡◌, ℕ, ◌-◌, ◌≤◌, ◌<◌, Bool, true, false, cond, nat_lt, List, [], ◌∷◌, ◌++◌, length, drop, get_or}
 use Rattle.std.proofs.Common.{Option, None, Some, Ok, Err, refl, ap, sym, ◌∙◌, arith, length-append, append_assoc, append-nil, subst, ◌⊎◌, inl, inr, ◌↔◌}
 use Rattle.std.proofs.lemmas.List.{get_or_append_left}
 use Rattle.zmtp_wire.specs.declared.role.Role.{Role}
@@ -11,13 +11,13 @@ use Rattle.zmtp_wire.specs.declared.decoder.Decoder.{Decoder}
 use Rattle.zmtp_wire.specs.Fault.{clip, fault_at, place_of}
 use Rattle.zmtp_wire.specs.Greeting.{is_newer, speaks, newer_of}
 use Rattle.zmtp_wire.specs.Stream.{Message, Context, Stream, Broken, IsShaken, Gives, stream, broken}
-use Rattle.zmtp_wire.specs.Machine.{Took, quiet, before, run, reading, ticks}
-use Rattle.zmtp_wire.specs.Decoder.{Answer, StandsFor, Brings, answer_in, answer_of, role_of, rest_len}
+use Rattle.zmtp_wire.specs.Machine.{Took, run, reading, ticks}
+use Rattle.zmtp_wire.specs.Decoder.{Answer, StandsFor, Brings, answer_in, answer_of, rest_len}
 use Rattle.zmtp_wire.specs.Meaning.{messages_in, contexts_in, answer_to, is_shaken, rest_in, Place, fault_or, fault_after, fault_in, Begins, Adds}
 use Rattle.zmtp_wire.proofs.ListLemmas.{drop_front, is_not_less, not_less, pick_false}
 use Rattle.zmtp_wire.proofs.FeedLemmas.{reading-append, run-refused}
-use Rattle.zmtp_wire.proofs.OutcomeLemmas.{Outcome, reads, breaks, outcome, stream_reads, state_len}
-use Rattle.zmtp_wire.proofs.GivesLemmas.{gives_reading, gives_read, gives_one}
+use Rattle.zmtp_wire.proofs.OutcomeLemmas.{reads, breaks, outcome, stream_reads, state_len}
+use Rattle.zmtp_wire.proofs.GivesLemmas.{gives_reading, gives_one}
 use Rattle.zmtp_wire.proofs.ShakenLemmas.{shows_shaken, shaken_shows, shaken_longer}
 
 -- ---- what octets give

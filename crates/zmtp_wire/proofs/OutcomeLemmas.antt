@@ -1,34 +1,21 @@
 -- Each list of octets is a stream or broken, and in one way.
-use Rattle.std.proofs.Common.{◌≡◌, ◌≢◌, ℕ, zero, suc, ◌+◌, ◌-◌, ◌≤◌, ◌<◌, ◌^◌, Bool, true, false, cond, nat_lt, nat_le, nat_eq, List, [], ◌∷◌, ◌++◌, length, take, drop, Option, None, Some, refl, ap, sym, ◌∙◌, arith, length-append, append_assoc, append-nil, ◌⊎◌, inl, inr, subst, ◌&&◌}
-use Rattle.std.proofs.lemmas.Bool.Decides.{nat_tests}
-use Rattle.std.specs.Prelude.{sum_by, eqb, fold}
-use Rattle.std.specs.List.{starts_with}
-use lib.Pointwise.{pointwise}
+use Rattle.std.proofs.Common.{◌≡◌, ℕ, zero, suc, ◌<◌, Bool, true, false, nat_lt, List, [], ◌∷◌, ◌++◌, length, take, refl, ap, sym, ◌∙◌, arith, length-append, append_assoc, append-nil, ◌⊎◌, inl, inr, subst}
 use Rattle.zmtp_wire.specs.declared.role.Role.{Role}
 use Rattle.zmtp_wire.specs.declared.fault.WireFault.{WireFault}
 use Rattle.zmtp_wire.specs.declared.cause.Cause.{Cause}
-use Rattle.zmtp_wire.specs.declared.cause.Cause.TheVariants as cause
 use Rattle.zmtp_wire.specs.declared.state.State.{State}
-use Rattle.zmtp_wire.specs.declared.state.State.TheVariants.{Greeting, Units, Failed}
-use Rattle.zmtp_wire.specs.declared.state.Phase.{Phase}
-use Rattle.zmtp_wire.specs.declared.state.Phase.TheVariants.{Handshake, Traffic}
-use Rattle.zmtp_wire.specs.declared.state.Open.{Open}
-use Rattle.zmtp_wire.specs.declared.state.Open.TheVariants.{Fresh, Size, Body}
-use Rattle.zmtp_wire.specs.Command.{Property, is_peer, socket_type, ready_name, command_messages, command_contexts, error_name}
+use Rattle.zmtp_wire.specs.declared.state.State.TheVariants.{Failed}
 use Rattle.zmtp_wire.specs.Decoder.{open_len, rest_len}
 use Rattle.zmtp_wire.specs.Fault.{clip, fault_at}
-use Rattle.zmtp_wire.specs.Frame.{MOST, is_allowed, is_command, is_more, is_long, size_len, size_of}
-use Rattle.zmtp_wire.specs.Greeting.{speaks, passes, greeting_cause}
-use Rattle.zmtp_wire.specs.Machine.{ready_cause, properties, handshake_cause, before, ticks, tick, run, reading, Took, quiet, step, unit_step, size_step, body_step, greeting_step, flag_step, flag_state, finish, after_handshake, room_in, room_left, is_error}
+use Rattle.zmtp_wire.specs.Frame.{size_len}
+use Rattle.zmtp_wire.specs.Machine.{before, ticks, tick, run, reading, Took, quiet, step}
 use Rattle.zmtp_wire.specs.Stream.{Item, frame, command, item_of, Heads, Spells, Come, nothing, greeted, shaken, Completes, greeting, ready, unit, open_after, messages_of, contexts_of, messages_come, contexts_come, Wrong, IsPart, Passes, Reads, start, more, Splits, Stream, Broken, room_for, room_after}
 use Rattle.zmtp_wire.specs.Stream as W
-use Rattle.zmtp_wire.proofs.UnitLemmas.{one_next, no_cells, Cells, cells-of, of-cells}
-use Rattle.zmtp_wire.proofs.StepLemmas.{unit_at, state_of, is_past, stopped_at, at_size, at_body, at_whole_size, at_longer_body, step_size, step_size_end, step_body}
-use Rattle.zmtp_wire.proofs.TurnLemmas.{Turn, wrong, whole, part, turn}
+use Rattle.zmtp_wire.proofs.StepLemmas.{unit_at, state_of, is_past}
+use Rattle.zmtp_wire.proofs.TurnLemmas.{wrong, whole, part, turn}
 use Rattle.zmtp_wire.proofs.WrongLemmas.{stops, no_snoc}
-use Rattle.zmtp_wire.proofs.RunLemmas.{run-append}
 use Rattle.zmtp_wire.proofs.FeedLemmas.{reading-append, run-failed, place_clips}
-use Rattle.zmtp_wire.proofs.StreamLemmas.{ReadsAs, splits_as}
+use Rattle.zmtp_wire.proofs.StreamLemmas.{splits_as}
 use Rattle.zmtp_wire.proofs.ListLemmas.{len_drop, pick_false, pick_true, is_not_less, zeros, some_of_len}
 
 -- no test fails where no octet stands
@@ -55,7 +42,7 @@ never_failed nothing p over e h = absurd (cc)
 never_failed (greeted g) p over e h = absurd (cc)
 never_failed (shaken g items) p over e h = absurd (cc)
 
-take_snoc : (k : ℕ) (r : List ℕ) (x : ℕ) → ((j : ℕ) × (take k (r ++ x ∷ []) ≡ take j r)) ⊎ (take k (r ++ x ∷ []) ≡ r ++ x ∷ [])
+pub take_snoc : (k : ℕ) (r : List ℕ) (x : ℕ) → ((j : ℕ) × (take k (r ++ x ∷ []) ≡ take j r)) ⊎ (take k (r ++ x ∷ []) ≡ r ++ x ∷ [])
 take_snoc zero r x = inl (0, refl)
 take_snoc (suc k) [] x = inr (ap (λ t. x ∷ t) (take_none k))
 take_snoc (suc k) (y ∷ r) x = elim (take_snoc k r x) [ inl j ↦ inl (suc j.0, ap (λ t. y ∷ t) j.1) | inr e ↦ inr (ap (λ t. y ∷ t) e) ]
@@ -71,7 +58,7 @@ passes_more role at come next p q x ps st = λ k e w.
     ]
 
 -- what comes next can begin
-begins : (role : Role) (come : Come) → IsPart role come []
+pub begins : (role : Role) (come : Come) → IsPart role come []
 begins role nothing = record { missing = zeros 64; some = some_of_len (zeros 64) (omega arith); next = greeted (zeros 64); completes = greeting (zeros 64) refl; passes = passes_none role nothing }
 begins role (greeted g) =
     record {

@@ -1,9 +1,8 @@
 -- The loop over the properties of READY.
-use Rattle.std.proofs.Common.{◌≡◌, ℕ, zero, suc, ◌+◌, ◌≤◌, ◌<◌, Bool, true, false, cond, nat_lt, nat_le, nat_eq, List, [], ◌∷◌, ◌++◌, length, take, drop, Option, None, Some, refl, ap, sym, ◌∙◌, arith, length-drop, length-take, get_or}
+use Rattle.std.proofs.Common.{◌≡◌, ℕ, zero, suc, ◌+◌, ◌≤◌, ◌<◌, Bool, true, false, cond, nat_lt, nat_eq, List, [], ◌∷◌, length, take, drop, Option, None, Some, refl, ap, sym, ◌∙◌, arith, length-drop, get_or}
 use Rattle.std.proofs.lemmas.Bool.Decides.{nat_tests}
 use Rattle.std.specs.Int.{w32, from_be_bytes}
 use Rattle.zmtp_wire.specs.declared.role.Role.{Role}
-use Rattle.zmtp_wire.specs.declared.fault.WireFault.{WireFault}
 use Rattle.zmtp_wire.specs.declared.cause.Cause.{Cause}
 use Rattle.zmtp_wire.specs.declared.cause.Cause.TheVariants as cause
 use Rattle.zmtp_wire.specs.Command.{Property, is_type_name, is_peer, socket_type}

@@ -1,12 +1,12 @@
 -- The machine over many octets.
-use Rattle.std.proofs.Common.{◌≡◌, ℕ, zero, suc, ◌+◌, ◌≤◌, ◌<◌, ◌^◌, min, Bool, true, false, cond, nat_lt, nat_le, nat_eq, List, [], ◌∷◌, ◌++◌, length, take, drop, Option, None, Some, refl, ap, sym, ◌∙◌, arith, length-append, append_assoc, append-nil, ◌&&◌, ◌⊎◌, inl, inr}
+use Rattle.std.proofs.Common.{◌≡◌, ℕ, suc, ◌+◌, ◌≤◌, ◌<◌, ◌^◌, Bool, true, false, nat_lt, nat_eq, List, [], ◌∷◌, ◌++◌, length, refl, ap, sym, ◌∙◌, arith, length-append, append_assoc, append-nil, ◌&&◌, ◌⊎◌, inl, inr}
 use Rattle.std.proofs.lemmas.Bool.Decides.{nat_tests}
 use Rattle.zmtp_wire.specs.declared.role.Role.{Role}
 use Rattle.zmtp_wire.specs.declared.state.State.{State}
-use Rattle.zmtp_wire.specs.declared.state.State.TheVariants.{Greeting, Units, Failed}
+use Rattle.zmtp_wire.specs.declared.state.State.TheVariants.{Units}
 use Rattle.zmtp_wire.specs.declared.state.Phase.{Phase}
 use Rattle.zmtp_wire.specs.declared.state.Phase.TheVariants.{Handshake, Traffic}
-use Rattle.zmtp_wire.specs.declared.state.Open.TheVariants.{Fresh, Size, Body}
+use Rattle.zmtp_wire.specs.declared.state.Open.TheVariants.{Body}
 use Rattle.zmtp_wire.specs.Frame.{is_command}
 use Rattle.zmtp_wire.specs.Machine.{GrowsBy, Took, before, quiet, tick, ticks, step, run, body_step, is_error}
 

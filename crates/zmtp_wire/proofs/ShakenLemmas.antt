@@ -1,22 +1,19 @@
 -- Whether READY was read shows in the state, and stays.
 use Rattle.std.proofs.Common.{◌≡◌, ℕ, List, [], ◌∷◌, ◌++◌, length, Bool, true, false, cond, nat_lt, nat_eq, refl, ap, sym, ◌∙◌, append_assoc, append-nil, subst, ◌&&◌, IsTrue, ◌↔◌, rules}
 use Rattle.zmtp_wire.specs.declared.role.Role.{Role}
-use Rattle.zmtp_wire.specs.declared.fault.WireFault.{WireFault}
 use Rattle.zmtp_wire.specs.declared.cause.Cause.TheVariants as cause
 use Rattle.zmtp_wire.specs.declared.state.State.{State}
 use Rattle.zmtp_wire.specs.declared.state.State.TheVariants.{Greeting, Units, Failed}
-use Rattle.zmtp_wire.specs.declared.state.Phase.{Phase}
 use Rattle.zmtp_wire.specs.declared.state.Phase.TheVariants.{Handshake, Traffic}
-use Rattle.zmtp_wire.specs.declared.state.Open.{Open}
 use Rattle.zmtp_wire.specs.declared.state.Open.TheVariants.{Fresh, Size, Body}
 use Rattle.zmtp_wire.specs.Frame.{is_allowed, is_command, is_more, size_of, size_len}
-use Rattle.zmtp_wire.specs.Stream.{Come, nothing, greeted, shaken, Completes, greeting, ready, unit, Reads, start, more, Stream, Broken, IsShaken, Gives, stream, broken, messages_come, contexts_come}
-use Rattle.zmtp_wire.specs.Machine.{Took, before, quiet, stopped, is_error, room_in, tick, ticks, step, run, reading, unit_step, flag_step, flag_state, size_step, body_step, finish}
+use Rattle.zmtp_wire.specs.Stream.{Come, nothing, greeted, shaken, greeting, ready, unit, Reads, start, more, IsShaken, Gives, stream, broken, messages_come, contexts_come}
+use Rattle.zmtp_wire.specs.Machine.{Took, quiet, failure, is_error, room_in, tick, ticks, step, run, reading, flag_step, size_step, body_step, finish}
 use Rattle.zmtp_wire.specs.Decoder.{shaken_in, Answer}
 use Rattle.zmtp_wire.proofs.StepLemmas.{state_of, is_past}
 use Rattle.zmtp_wire.proofs.FeedLemmas.{reading-append}
 use Rattle.zmtp_wire.proofs.StreamLemmas.{reads_as}
-use Rattle.zmtp_wire.proofs.OutcomeLemmas.{Outcome, reads, breaks, outcome, stream_reads, broken_reads}
+use Rattle.zmtp_wire.proofs.OutcomeLemmas.{reads, breaks, outcome, stream_reads, broken_reads}
 
 pub is_true : (b : Bool) → IsTrue b → b ≡ true
 is_true b h = search rules
@@ -47,7 +44,7 @@ unfolding size_step
 size_keeps r at newer frames f size =
     let phase = Traffic newer frames in
     let on = quiet (Units phase (Body f size [])) in
-    keeps_took (nat_lt (room_in phase f) size) (quiet (stopped phase at (cause.TooLong size))) (cond (nat_eq size 0) (finish r at phase f []) on) refl
+    keeps_took (nat_lt (room_in phase f) size) (quiet (failure phase at (cause.TooLong size))) (cond (nat_eq size 0) (finish r at phase f []) on) refl
     (keeps_took (nat_eq size 0) (finish r at phase f []) on (finish_keeps r at newer frames f []) refl)
 
 body_keeps : (r : Role) (at : ℕ) (newer : Bool) (frames : List (List ℕ)) (f size : ℕ) (body : List ℕ) → shaken_in (body_step r at (Traffic newer frames) f size body).state ≡ true
@@ -55,7 +52,7 @@ unfolding body_step
 body_keeps r at newer frames f size body =
     let phase = Traffic newer frames in
     let on = quiet (Units phase (Body f size body)) in
-    keeps_took (is_error phase f body) (quiet (stopped phase at cause.PeerError)) (cond (nat_lt (length body) size) on (finish r at phase f body)) refl
+    keeps_took (is_error phase f body) (quiet (failure phase at cause.PeerError)) (cond (nat_lt (length body) size) on (finish r at phase f body)) refl
     (keeps_took (nat_lt (length body) size) on (finish r at phase f body) refl (finish_keeps r at newer frames f body))
 
 step_keeps : (r : Role) (at : ℕ) (s : State) (x : ℕ) → shaken_in s ≡ true → shaken_in (step r at s x).state ≡ true
@@ -86,7 +83,7 @@ past_shaken role _ _ (more front p _ _ r (ready g _ body s) ps) h =
     record { front = front ++ p; rest = []; greeting = g; spelled = sym (append-nil (front ++ p)); reads = more front p _ _ r (ready g p body s) ps }
 past_shaken role _ _ (more front p _ _ r (unit g items item _ s) ps) h = shaken_longer role front p (past_shaken role front (shaken g items) r refl)
 
-past_in : (come : Come) (rest : List ℕ) → shaken_in (state_of come rest) ≡ is_past come
+pub past_in : (come : Come) (rest : List ℕ) → shaken_in (state_of come rest) ≡ is_past come
 past_in nothing rest = refl
 past_in (greeted g) rest = refl
 past_in (shaken g items) rest = refl

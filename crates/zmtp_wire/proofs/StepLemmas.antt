@@ -1,6 +1,5 @@
 -- The states of the machine as parts of units, and one step on them.
-use Rattle.std.proofs.Common.{◌≡◌, ◌≢◌, ℕ, zero, suc, ◌+◌, ◌-◌, ◌≤◌, ◌<◌, ◌^◌, Bool, true, false, cond, nat_lt, nat_le, nat_eq, List, [], ◌∷◌, ◌++◌, length, take, drop, Option, None, Some, refl, ap, sym, ◌∙◌, arith, length-append, append_assoc, append-nil, ◌⊎◌, inl, inr, subst}
-use Rattle.std.proofs.lemmas.Bool.Decides.{nat_tests}
+use Rattle.std.proofs.Common.{◌≡◌, ℕ, ◌+◌, ◌≤◌, ◌<◌, Bool, true, false, cond, nat_lt, List, [], ◌∷◌, ◌++◌, length, take, drop, ap, sym, ◌∙◌, arith, append-nil}
 use Rattle.zmtp_wire.specs.declared.role.Role.{Role}
 use Rattle.zmtp_wire.specs.declared.cause.Cause.{Cause}
 use Rattle.zmtp_wire.specs.Fault.{fault_at}
@@ -10,9 +9,9 @@ use Rattle.zmtp_wire.specs.declared.state.Phase.{Phase}
 use Rattle.zmtp_wire.specs.declared.state.Phase.TheVariants.{Handshake, Traffic}
 use Rattle.zmtp_wire.specs.declared.state.Open.{Open}
 use Rattle.zmtp_wire.specs.declared.state.Open.TheVariants.{Fresh, Size, Body}
-use Rattle.zmtp_wire.specs.Frame.{is_allowed, is_command, is_more, is_long, size_len, size_of}
+use Rattle.zmtp_wire.specs.Frame.{size_len, size_of}
 use Rattle.zmtp_wire.specs.Greeting.{speaks}
-use Rattle.zmtp_wire.specs.Machine.{Took, quiet, step, unit_step, size_step, body_step}
+use Rattle.zmtp_wire.specs.Machine.{quiet, unit_step, size_step, body_step}
 use Rattle.zmtp_wire.specs.Stream.{Come, nothing, greeted, shaken, open_after}
 use Rattle.zmtp_wire.proofs.ListLemmas.{take_front, drop_front, take_more_same, not_less, less, pick_false, pick_true, one_more, drop_more_same}
 
@@ -32,8 +31,8 @@ is_past (greeted g) = false
 is_past (shaken g items) = true
 
 -- the state where a test fails at the octet `at`
-abbrev pub stopped_at : Come → ℕ → Cause → State
-stopped_at come at c = Failed (is_past come) (fault_at at c)
+abbrev pub failure_after : Come → ℕ → Cause → State
+failure_after come at c = Failed (is_past come) (fault_at at c)
 
 -- what stands open, where the size isn't whole, and where it is
 pub at_size : (f : ℕ) (r : List ℕ) → length r < size_len f → unit_at (f ∷ r) ≡ Size f r

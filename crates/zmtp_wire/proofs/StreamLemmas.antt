@@ -1,31 +1,13 @@
 -- The machine computes the relation: each list of octets is a stream or broken, and in one way.
-use Rattle.std.proofs.Common.{◌≡◌, ◌≢◌, ℕ, zero, suc, ◌+◌, ◌-◌, ◌≤◌, ◌<◌, ◌^◌, Bool, true, false, cond, nat_lt, nat_le, nat_eq, List, [], ◌∷◌, ◌++◌, length, take, drop, Option, None, Some, refl, ap, sym, ◌∙◌, arith, length-append, append_assoc, append-nil, ◌⊎◌, inl, inr, subst, ◌&&◌}
-use Rattle.std.proofs.lemmas.Bool.Decides.{nat_tests}
-use Rattle.std.specs.Prelude.{sum_by, eqb, fold}
-use Rattle.std.specs.List.{starts_with}
-use lib.Pointwise.{pointwise}
+use Rattle.std.proofs.Common.{◌≡◌, ◌≢◌, ℕ, zero, suc, List, [], ◌∷◌, ◌++◌, length, take, refl, ap, sym, ◌∙◌, arith, length-append, append_assoc, append-nil, subst}
 use Rattle.zmtp_wire.specs.declared.role.Role.{Role}
-use Rattle.zmtp_wire.specs.declared.fault.WireFault.{WireFault}
 use Rattle.zmtp_wire.specs.declared.cause.Cause.{Cause}
-use Rattle.zmtp_wire.specs.declared.cause.Cause.TheVariants as cause
-use Rattle.zmtp_wire.specs.declared.state.State.{State}
-use Rattle.zmtp_wire.specs.declared.state.State.TheVariants.{Greeting, Units, Failed}
-use Rattle.zmtp_wire.specs.declared.state.Phase.{Phase}
-use Rattle.zmtp_wire.specs.declared.state.Phase.TheVariants.{Handshake, Traffic}
-use Rattle.zmtp_wire.specs.declared.state.Open.{Open}
-use Rattle.zmtp_wire.specs.declared.state.Open.TheVariants.{Fresh, Size, Body}
-use Rattle.zmtp_wire.specs.Command.{Property, is_peer, socket_type, ready_name, command_messages, command_contexts, error_name}
-use Rattle.zmtp_wire.specs.Frame.{MOST, is_allowed, is_command, is_more, is_long, size_len, size_of}
-use Rattle.zmtp_wire.specs.Greeting.{speaks, passes, greeting_cause}
-use Rattle.zmtp_wire.specs.Machine.{ready_cause, properties, handshake_cause, before, ticks, tick, run, reading, Took, quiet, step, unit_step, size_step, body_step, greeting_step, flag_step, flag_state, finish, after_handshake, room_in, room_left, is_error}
-use Rattle.zmtp_wire.specs.Stream.{Item, frame, command, item_of, Heads, Spells, Come, nothing, greeted, shaken, Completes, greeting, ready, unit, open_after, messages_of, contexts_of, messages_come, contexts_come, Wrong, IsPart, Passes, Reads, start, more, Splits, Stream, Broken, room_for, room_after}
-use Rattle.zmtp_wire.specs.Stream as W
-use Rattle.zmtp_wire.proofs.UnitLemmas.{one_next, no_cells, Cells, cells-of, of-cells}
-use Rattle.zmtp_wire.proofs.StepLemmas.{unit_at, state_of, at_size, at_body, at_whole_size, at_longer_body, step_size, step_size_end, step_body}
-use Rattle.zmtp_wire.proofs.TurnLemmas.{Turn, wrong, whole, part, turn}
-use Rattle.zmtp_wire.proofs.WrongLemmas.{stops, no_snoc}
-use Rattle.zmtp_wire.proofs.RunLemmas.{run-append}
-use Rattle.zmtp_wire.proofs.FeedLemmas.{reading-append, run-failed}
+use Rattle.zmtp_wire.specs.Machine.{before, ticks, tick, run, reading, Took, quiet, step}
+use Rattle.zmtp_wire.specs.Stream.{command, Come, Completes, greeting, ready, unit, messages_come, contexts_come, Wrong, Passes, Reads, start, more, Splits}
+use Rattle.zmtp_wire.proofs.UnitLemmas.{one_next, no_cells}
+use Rattle.zmtp_wire.proofs.StepLemmas.{state_of}
+use Rattle.zmtp_wire.proofs.TurnLemmas.{wrong, whole, part, turn}
+use Rattle.zmtp_wire.proofs.FeedLemmas.{reading-append}
 use Rattle.zmtp_wire.proofs.ListLemmas.{take_front, some_of_len, len_of_some}
 
 take_part : (k : ℕ) (q p : List ℕ) → (j : ℕ) × (take k q ≡ take j (q ++ p))
@@ -42,7 +24,7 @@ passes_here role come q p e h w = h (length q) e (subst (λ (t : List ℕ). Wron
 regroup : (q p : List ℕ) (x : ℕ) → q ++ x ∷ p ≡ (q ++ x ∷ []) ++ p
 regroup q p x = sym (append_assoc q (x ∷ []) p)
 
-not_empty : (come next : Come) → Completes come [] next → ⊥
+pub not_empty : (come next : Come) → Completes come [] next → ⊥
 not_empty _ _ (greeting _ e) = omega (arith, e)
 not_empty _ _ (ready _ _ body s) = no_cells (command body) s
 not_empty _ _ (unit _ _ item _ s) = no_cells item s

@@ -1,33 +1,28 @@
 -- One octet more: a test fails, or something is whole, or a part has grown.
 use Rattle.std.proofs.lemmas.Bool.{and_parts}
-use Rattle.std.proofs.Common.{◌≡◌, ◌≢◌, ℕ, zero, suc, ◌+◌, ◌-◌, ◌≤◌, ◌<◌, ◌^◌, Bool, true, false, cond, nat_lt, nat_le, nat_eq, List, [], ◌∷◌, ◌++◌, length, take, drop, Option, None, Some, refl, ap, sym, ◌∙◌, arith, length-append, append_assoc, append-nil, ◌⊎◌, inl, inr, subst, ◌&&◌}
+use Rattle.std.proofs.Common.{◌≡◌, ◌≢◌, ℕ, zero, suc, ◌+◌, ◌-◌, ◌≤◌, ◌<◌, Bool, true, false, cond, nat_lt, nat_eq, List, [], ◌∷◌, ◌++◌, length, take, drop, Option, None, Some, refl, ap, sym, ◌∙◌, arith, length-append, append_assoc, append-nil, ◌⊎◌, inl, inr, subst, ◌&&◌}
 use Rattle.std.proofs.lemmas.Bool.Decides.{nat_tests}
-use Rattle.std.specs.Prelude.{sum_by, eqb, fold}
+use Rattle.std.specs.Prelude.{sum_by, fold}
 use Rattle.std.specs.List.{starts_with}
-use lib.Pointwise.{pointwise}
 use Rattle.zmtp_wire.specs.declared.role.Role.{Role}
-use Rattle.zmtp_wire.specs.declared.fault.WireFault.{WireFault}
 use Rattle.zmtp_wire.specs.declared.cause.Cause.{Cause}
 use Rattle.zmtp_wire.specs.declared.cause.Cause.TheVariants as cause
-use Rattle.zmtp_wire.specs.declared.state.State.{State}
-use Rattle.zmtp_wire.specs.declared.state.State.TheVariants.{Greeting, Units, Failed}
-use Rattle.zmtp_wire.specs.declared.state.Phase.{Phase}
+use Rattle.zmtp_wire.specs.declared.state.State.TheVariants.{Greeting, Units}
 use Rattle.zmtp_wire.specs.declared.state.Phase.TheVariants.{Handshake, Traffic}
-use Rattle.zmtp_wire.specs.declared.state.Open.{Open}
-use Rattle.zmtp_wire.specs.declared.state.Open.TheVariants.{Fresh, Size, Body}
+use Rattle.zmtp_wire.specs.declared.state.Open.TheVariants.{Fresh, Size}
 use Rattle.zmtp_wire.specs.Command.{command_messages, command_contexts, error_name}
 use Rattle.zmtp_wire.specs.Frame.{MOST, is_allowed, is_command, is_more, is_long, size_len, size_of}
 use Rattle.zmtp_wire.specs.Greeting.{speaks, passes, greeting_cause}
-use Rattle.zmtp_wire.specs.Machine.{handshake_cause, Took, quiet, step, unit_step, size_step, body_step, greeting_step, flag_step, flag_state, finish, after_handshake, room_in, room_left, is_error}
+use Rattle.zmtp_wire.specs.Machine.{handshake_cause, Took, quiet, step, unit_step, size_step, body_step, greeting_step, flag_step, finish, after_handshake, room_in, room_left, is_error}
 use Rattle.zmtp_wire.specs.Stream.{Item, frame, command, item_of, Heads, Spells, Come, nothing, greeted, shaken, Completes, greeting, ready, unit, open_after, messages_of, contexts_of, messages_come, contexts_come, Wrong, IsPart, room_for, room_after}
 use Rattle.zmtp_wire.specs.Stream as W
-use Rattle.zmtp_wire.proofs.UnitLemmas.{Cells, cells-of, of-cells}
+use Rattle.zmtp_wire.proofs.UnitLemmas.{cells-of}
 use Rattle.zmtp_wire.proofs.HandshakeLemmas.{cause_tells}
-use Rattle.zmtp_wire.proofs.StepLemmas.{unit_at, state_of, stopped_at, at_size, at_body, at_whole_size, at_longer_body, step_size, step_size_end, step_body}
+use Rattle.zmtp_wire.proofs.StepLemmas.{unit_at, state_of, failure_after, at_size, at_whole_size, at_longer_body, step_size, step_size_end, step_body}
 use Rattle.zmtp_wire.proofs.ListLemmas.{take_front, drop_front, take_drop, len_take, take_more_same, pick_false, pick_true, one_more, drop_more_same, is_less, is_not_less, same_number, is_zero, not_zero, zeros, len_zeros, some_of_len, len_of_some, same_list, full_take}
 
 pub data Turn (role : Role) (at : ℕ) (come : Come) (q : List ℕ) (t : Took) : Type 0 where
-  wrong : (c : Cause) → Wrong role come q c → t ≡ quiet (stopped_at come at c) → Turn role at come q t
+  wrong : (c : Cause) → Wrong role come q c → t ≡ quiet (failure_after come at c) → Turn role at come q t
   whole : (next : Come) → Completes come q next → t.state ≡ state_of next [] → messages_come role next ≡ messages_come role come ++ t.messages → contexts_come next ≡ contexts_come come ++ t.owed
       → Turn role at come q t
   part : (missing : List ℕ) → missing ≢ [] → (next : Come) → Completes come (q ++ missing) next → t ≡ quiet (state_of come q) → Turn role at come q t

@@ -1,8 +1,7 @@
 -- Units as octets: how long one is, and that none begins another.
-use Rattle.std.proofs.Common.{◌≡◌, ℕ, zero, suc, ◌+◌, ◌-◌, ◌≤◌, ◌<◌, ◌^◌, Bool, true, false, cond, nat_lt, nat_le, nat_eq, List, [], ◌∷◌, ◌++◌, length, take, drop, replicate, Option, None, Some, refl, ap, sym, ◌∙◌, arith, length-append, append_assoc, append-nil, ◌⊎◌, inl, inr, subst}
-use Rattle.std.proofs.lemmas.Bool.Decides.{nat_tests}
-use Rattle.zmtp_wire.specs.Frame.{is_allowed, is_command, is_more, is_long, size_len, size_of}
-use Rattle.zmtp_wire.specs.Stream.{Item, frame, command, item_of, Heads, Spells, Come, nothing, greeted, shaken, Completes, greeting, ready, unit}
+use Rattle.std.proofs.Common.{◌≡◌, ℕ, ◌+◌, ◌≤◌, true, List, [], ◌∷◌, ◌++◌, length, take, drop, refl, ap, sym, ◌∙◌, arith, length-append, append-nil, subst}
+use Rattle.zmtp_wire.specs.Frame.{is_allowed, size_len, size_of}
+use Rattle.zmtp_wire.specs.Stream.{Item, item_of, Spells, Come, greeted, shaken, Completes, greeting, ready, unit}
 use Rattle.zmtp_wire.proofs.ListLemmas.{take_front, drop_front, take_drop, len_take, take_more_same, len_drop, nil_of_len}
 
 -- a unit by its cells

@@ -1,40 +1,30 @@
 -- What we write is read back.
-use Rattle.std.proofs.Common.{◌≡◌, ◌≢◌, ℕ, zero, suc, ◌+◌, ◌-◌, ◌≤◌, ◌<◌, ◌^◌, Bool, true, false, cond, nat_lt, nat_le, nat_eq, List, [], ◌∷◌, ◌++◌, length, take, drop, Option, None, Some, refl, ap, sym, ◌∙◌, arith, length-append, append_assoc, append-nil, ◌⊎◌, inl, inr, subst, ◌&&◌}
+use Rattle.std.proofs.Common.{◌≡◌, ℕ, ◌+◌, ◌≤◌, ◌<◌, ◌^◌, Bool, true, false, nat_lt, nat_eq, List, [], ◌∷◌, ◌++◌, length, take, None, Some, refl, ap, sym, ◌∙◌, arith, length-append, append_assoc, append-nil, subst, ◌&&◌}
 use Rattle.std.proofs.lemmas.Bool.Decides.{nat_tests}
-use Rattle.std.specs.Prelude.{sum_by, eqb, fold}
+use Rattle.std.specs.Prelude.{sum_by}
 use Rattle.std.specs.List.{starts_with}
 use lib.Pointwise.{pointwise}
 use Rattle.zmtp_wire.specs.declared.role.Role.{Role}
-use Rattle.zmtp_wire.specs.declared.fault.WireFault.{WireFault}
-use Rattle.zmtp_wire.specs.declared.cause.Cause.{Cause}
-use Rattle.zmtp_wire.specs.declared.cause.Cause.TheVariants as cause
 use Rattle.zmtp_wire.specs.declared.state.State.{State}
 use Rattle.zmtp_wire.specs.declared.state.State.TheVariants.{Greeting, Units, Failed}
 use Rattle.zmtp_wire.specs.declared.state.Phase.{Phase}
 use Rattle.zmtp_wire.specs.declared.state.Phase.TheVariants.{Handshake, Traffic}
-use Rattle.zmtp_wire.specs.declared.state.Open.{Open}
 use Rattle.zmtp_wire.specs.declared.state.Open.TheVariants.{Fresh, Size, Body}
-use Rattle.zmtp_wire.specs.Command.{Property, is_peer, socket_type, ready_name, command_messages, command_contexts, error_name}
+use Rattle.zmtp_wire.specs.Command.{is_peer, command_messages, command_contexts, error_name}
 use Rattle.zmtp_wire.specs.Decoder.{rest_len}
-use Rattle.zmtp_wire.specs.Frame.{MOST, is_allowed, is_command, is_more, is_long, size_len, size_of}
-use Rattle.zmtp_wire.specs.Greeting.{speaks, passes, greeting_cause}
-use Rattle.zmtp_wire.specs.Machine.{properties_in, ready_cause, properties, handshake_cause, before, ticks, tick, run, reading, Took, quiet, step, unit_step, size_step, body_step, greeting_step, flag_step, flag_state, finish, after_handshake, room_in, room_left, is_error}
-use Rattle.zmtp_wire.specs.Stream.{Message, Context, Item, frame, command, item_of, Heads, Spells, Come, nothing, greeted, shaken, Completes, greeting, ready, unit, open_after, messages_of, contexts_of, messages_come, contexts_come, Wrong, IsPart, Passes, Reads, start, more, Splits, Stream, Broken, room_for, room_after}
+use Rattle.zmtp_wire.specs.Frame.{MOST, is_allowed, is_command, is_more, size_len, size_of}
+use Rattle.zmtp_wire.specs.Machine.{properties_in, handshake_cause, before, ticks, tick, run, reading, Took, quiet, unit_step, size_step, body_step, greeting_step, flag_step, finish, after_handshake, room_in, room_left, is_error}
+use Rattle.zmtp_wire.specs.Stream.{Message, Context, Stream}
 use Rattle.zmtp_wire.specs.Writing.{greeting_octets, ready_octets, ready_body, role_name, unit_octets, frame_octets, command_octets, message_octets, has_more, IsMessage, AreMessages, all_octets, Writing, message, AreWritings, writing_octets, messages_heard, contexts_heard}
 use Rattle.zmtp_wire.specs.Writing as Written
-use Rattle.zmtp_wire.specs.Stream as W
-use Rattle.zmtp_wire.proofs.UnitLemmas.{one_next, no_cells, Cells, cells-of, of-cells}
-use Rattle.zmtp_wire.proofs.StepLemmas.{unit_at, state_of, is_past, at_size, at_body, at_whole_size, at_longer_body, step_size, step_size_end, step_body}
+use Rattle.zmtp_wire.proofs.StepLemmas.{is_past}
 use Rattle.std.proofs.lemmas.List.Sums.{sum_by-cons, sum_by_push}
-use Rattle.std.specs.Int.{w64, to_be_bytes, from_be_bytes}
+use Rattle.std.specs.Int.{w64, to_be_bytes}
 use Rattle.std.proofs.lemmas.Nat.{from_be_bytes-to_be_bytes_8}
 use Rattle.zmtp_wire.specs.declared.role.Role.TheVariants as role
-use Rattle.zmtp_wire.proofs.RunLemmas.{body_middle}
-use Rattle.zmtp_wire.proofs.OutcomeLemmas.{Outcome, reads, breaks, outcome, stream_reads, broken_reads, never_failed, state_len}
-use Rattle.zmtp_wire.proofs.TurnLemmas.{room_same, size_pos, Turn, wrong, whole, part, turn}
-use Rattle.zmtp_wire.proofs.WrongLemmas.{stops, no_snoc}
-use Rattle.zmtp_wire.proofs.RunLemmas.{run-append}
-use Rattle.zmtp_wire.proofs.FeedLemmas.{reading-append, run-failed}
+use Rattle.zmtp_wire.proofs.OutcomeLemmas.{reads, breaks, outcome, stream_reads, broken_reads, state_len}
+use Rattle.zmtp_wire.proofs.TurnLemmas.{room_same, size_pos}
+use Rattle.zmtp_wire.proofs.FeedLemmas.{reading-append}
 use Rattle.zmtp_wire.proofs.ListLemmas.{nil_of_len, not_less, less, pick_false, pick_true, one_more, same_number, take_more_same}
 
 -- reading b from s brings t, and goes on as the state of t

@@ -1,8 +1,8 @@
 -- What is written one after another.
-use Rattle.std.proofs.Common.{◌≡◌, ℕ, true, Bool, List, [], ◌∷◌, ◌++◌, map, refl, ap, sym, ◌∙◌, append_assoc}
+use Rattle.std.proofs.Common.{◌≡◌, true, List, [], ◌∷◌, ◌++◌, map, refl, ap, sym, ◌∙◌, append_assoc}
 use Rattle.zmtp_wire.specs.declared.role.Role.{Role}
 use Rattle.zmtp_wire.specs.Command.{command_messages, command_contexts}
-use Rattle.zmtp_wire.specs.Stream.{Message, Context}
+use Rattle.zmtp_wire.specs.Stream.{Message}
 use Rattle.zmtp_wire.specs.Writing.{Writing, message, command, command_octets, message_octets, all_octets, AreMessages, AreWritings, writing_octets, messages_heard, contexts_heard}
 
 pub octets_join : (ws vs : List Writing) → writing_octets (ws ++ vs) ≡ writing_octets ws ++ writing_octets vs

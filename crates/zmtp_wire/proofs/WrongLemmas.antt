@@ -1,36 +1,28 @@
 -- Where a test fails, the machine stops with its fault.
-use Rattle.std.proofs.Common.{◌≡◌, ◌≢◌, ℕ, zero, suc, ◌+◌, ◌-◌, ◌≤◌, ◌<◌, ◌^◌, Bool, true, false, cond, nat_lt, nat_le, nat_eq, List, [], ◌∷◌, ◌++◌, length, take, drop, Option, None, Some, refl, ap, sym, ◌∙◌, arith, length-append, append_assoc, append-nil, ◌⊎◌, inl, inr, subst, ◌&&◌}
+use Rattle.std.proofs.Common.{◌≡◌, ℕ, ◌+◌, ◌≤◌, ◌<◌, Bool, true, false, cond, nat_lt, nat_eq, List, [], ◌∷◌, ◌++◌, length, take, drop, Some, refl, ap, sym, ◌∙◌, arith, length-append, append-nil, subst, ◌&&◌}
 use Rattle.std.proofs.lemmas.Bool.Decides.{nat_tests}
-use Rattle.std.specs.Prelude.{sum_by, eqb, fold}
-use Rattle.std.specs.List.{starts_with}
-use lib.Pointwise.{pointwise}
 use Rattle.zmtp_wire.specs.declared.role.Role.{Role}
-use Rattle.zmtp_wire.specs.declared.fault.WireFault.{WireFault}
 use Rattle.zmtp_wire.specs.declared.cause.Cause.{Cause}
 use Rattle.zmtp_wire.specs.declared.cause.Cause.TheVariants as cause
-use Rattle.zmtp_wire.specs.declared.state.State.{State}
-use Rattle.zmtp_wire.specs.declared.state.State.TheVariants.{Greeting, Units, Failed}
+use Rattle.zmtp_wire.specs.declared.state.State.TheVariants.{Failed}
 use Rattle.zmtp_wire.specs.declared.state.Phase.{Phase}
 use Rattle.zmtp_wire.specs.declared.state.Phase.TheVariants.{Handshake, Traffic}
-use Rattle.zmtp_wire.specs.declared.state.Open.{Open}
-use Rattle.zmtp_wire.specs.declared.state.Open.TheVariants.{Fresh, Size, Body}
-use Rattle.zmtp_wire.specs.Command.{command_messages, command_contexts, error_name}
-use Rattle.zmtp_wire.specs.Frame.{MOST, is_allowed, is_command, is_more, is_long, size_len, size_of}
+use Rattle.zmtp_wire.specs.Command.{error_name}
+use Rattle.zmtp_wire.specs.Frame.{MOST, is_allowed, is_command, is_more, size_len, size_of}
 use Rattle.zmtp_wire.specs.Greeting.{speaks, passes, greeting_cause}
-use Rattle.zmtp_wire.specs.Machine.{handshake_cause, Took, quiet, step, unit_step, size_step, body_step, greeting_step, flag_step, flag_state, finish, after_handshake, room_in, room_left, is_error}
+use Rattle.zmtp_wire.specs.Machine.{handshake_cause, quiet, step, size_step, body_step, greeting_step, flag_step, finish, after_handshake, room_in}
 use Rattle.zmtp_wire.specs.Stream.{Item, frame, command, item_of, Heads, Spells, Come, nothing, greeted, shaken, Completes, greeting, ready, unit, open_after, messages_of, contexts_of, messages_come, contexts_come, Wrong, IsPart, room_for, room_after}
 use Rattle.zmtp_wire.specs.Stream as W
-use Rattle.zmtp_wire.proofs.UnitLemmas.{Cells, cells-of, of-cells}
-use Rattle.zmtp_wire.specs.Machine.{stopped}
+use Rattle.zmtp_wire.specs.Machine.{failure}
 use Rattle.zmtp_wire.specs.Fault.{fault_at}
 use Rattle.zmtp_wire.specs.Command.{WrongReady}
 use Rattle.zmtp_wire.proofs.HandshakeLemmas.{cause_told}
-use Rattle.zmtp_wire.proofs.StepLemmas.{unit_at, state_of, stopped_at, at_size, at_body, at_whole_size, at_longer_body, step_size, step_size_end, step_body}
+use Rattle.zmtp_wire.proofs.StepLemmas.{state_of, failure_after, step_size_end, step_body}
 use Rattle.zmtp_wire.proofs.TurnLemmas.{size_pos, room_is}
 use Rattle.zmtp_wire.proofs.ListLemmas.{take_front, drop_front, take_more_same, not_less, less, pick_false, pick_true, one_more, drop_more_same}
 
 abbrev Stops : Role → ℕ → Come → List ℕ → ℕ → Cause → Type 0
-Stops role at come p x e = step role at (state_of come p) x ≡ quiet (stopped_at come at e)
+Stops role at come p x e = step role at (state_of come p) x ≡ quiet (failure_after come at e)
 
 moved : (role : Role) (at : ℕ) (come : Come) (p p' : List ℕ) (x x' : ℕ) (e : Cause) → p' ≡ p → x' ≡ x → Stops role at come p' x' e → Stops role at come p x e
 moved role at come p p' x x' e h k s = sym (ap (λ q. step role at (state_of come q) x') h ∙ ap (λ y. step role at (state_of come p) y) k) ∙ s
@@ -42,7 +34,7 @@ single : (f x : ℕ) (p : List ℕ) → f ∷ [] ≡ p ++ x ∷ [] → ([] ≡ p
 single f x [] e = (refl, cc)
 single f x (y ∷ p) e = let k : [] ≡ p ++ x ∷ [] = cc in absurd (no_snoc p x k)
 
-snoc_same : (p q : List ℕ) (x y : ℕ) → p ++ x ∷ [] ≡ q ++ y ∷ [] → (p ≡ q) × (x ≡ y)
+pub snoc_same : (p q : List ℕ) (x y : ℕ) → p ++ x ∷ [] ≡ q ++ y ∷ [] → (p ≡ q) × (x ≡ y)
 snoc_same [] [] x y e = (refl, cc)
 snoc_same [] (z ∷ q) x y e = let k : [] ≡ q ++ y ∷ [] = cc in absurd (no_snoc q y k)
 snoc_same (z ∷ p) [] x y e = let k : [] ≡ p ++ x ∷ [] = cc in absurd (no_snoc p x k)
@@ -120,7 +112,7 @@ handshake_stops role at g f octets (y ∷ body) p x e h z w q =
     ∙ ap (λ o. body_step role at (Handshake (speaks g)) f (size_of o) (drop (size_len f) d.front ++ x ∷ [])) c.size
     ∙ ap (body_step role at (Handshake (speaks g)) f (size_of octets)) c.body_is ∙ body_stops role at (speaks g) f (size_of octets) (y ∷ body) e z w)
 
-error_stops : (role : Role) (at : ℕ) (newer : Bool) (frames : List (List ℕ)) (f size : ℕ) → is_command f ≡ true → body_step role at (Traffic newer frames) f size error_name ≡ quiet (stopped (Traffic newer frames) at cause.PeerError)
+error_stops : (role : Role) (at : ℕ) (newer : Bool) (frames : List (List ℕ)) (f size : ℕ) → is_command f ≡ true → body_step role at (Traffic newer frames) f size error_name ≡ quiet (failure (Traffic newer frames) at cause.PeerError)
 unfolding body_step
 error_stops role at newer frames f size c = pick_true _ _ _ (ap (λ b. b && true && true) c)
 
@@ -128,24 +120,24 @@ greeting_stops : (role : Role) (at : ℕ) (p : List ℕ) (x : ℕ) → passes (l
 unfolding greeting_step
 greeting_stops role at p x e = ap quiet (pick_false _ _ _ e)
 
-flag_stops : (at : ℕ) (phase : Phase) (f : ℕ) → is_allowed f ≡ false → flag_step at phase f ≡ stopped phase at cause.Flags
+flag_stops : (at : ℕ) (phase : Phase) (f : ℕ) → is_allowed f ≡ false → flag_step at phase f ≡ failure phase at cause.Flags
 unfolding flag_step
 flag_stops at phase f e = pick_false _ _ _ e
 
-frame_stops : (at : ℕ) (newer : Bool) (f : ℕ) → is_allowed f ≡ true → is_command f ≡ false → flag_step at (Handshake newer) f ≡ stopped (Handshake newer) at cause.Command
+frame_stops : (at : ℕ) (newer : Bool) (f : ℕ) → is_allowed f ≡ true → is_command f ≡ false → flag_step at (Handshake newer) f ≡ failure (Handshake newer) at cause.Command
 unfolding flag_step
 frame_stops at newer f a c = pick_true _ _ _ a ∙ pick_false _ _ _ c
 
 more_allowed : (f : ℕ) → is_more f ≡ true → is_allowed f ≡ true
 more_allowed f e = grind (arith, nat_tests)
 
-many_stops : (at : ℕ) (newer : Bool) (frames : List (List ℕ)) (f : ℕ) → is_more f ≡ true → length frames ≡ 63 → flag_step at (Traffic newer frames) f ≡ stopped (Traffic newer frames) at cause.TooMany
+many_stops : (at : ℕ) (newer : Bool) (frames : List (List ℕ)) (f : ℕ) → is_more f ≡ true → length frames ≡ 63 → flag_step at (Traffic newer frames) f ≡ failure (Traffic newer frames) at cause.TooMany
 unfolding flag_step
 many_stops at newer frames f m l =
     let k : nat_eq (length frames) 63 ≡ true = grind (arith, nat_tests) in
     pick_true _ _ _ (more_allowed f m) ∙ pick_true _ _ _ (ap (λ b. b && nat_eq (length frames) 63) m ∙ k)
 
-long_stops : (role : Role) (at : ℕ) (phase : Phase) (f size : ℕ) → room_in phase f < size → size_step role at phase f size ≡ quiet (stopped phase at (cause.TooLong size))
+long_stops : (role : Role) (at : ℕ) (phase : Phase) (f size : ℕ) → room_in phase f < size → size_step role at phase f size ≡ quiet (failure phase at (cause.TooLong size))
 unfolding size_step
 long_stops role at phase f size h = pick_true _ _ _ (less _ _ h)
 

@@ -3,6 +3,7 @@ pub mod Greeting
 pub mod Frame
 pub mod Command
 pub mod Stream
+pub mod Front
 pub mod Machine
 pub mod Decoder
 pub mod Meaning

@@ -1,5 +1,5 @@
 -- The decoder's steps: what each octet does to its state. They are compared with the relation of Stream by the laws.
-use Rattle.std.specs.Prelude.{◌≡◌, ℕ, ◌+◌, ◌-◌, ◌^◌, min, Bool, true, false, cond, ◌&&◌, nat_lt, nat_eq, List, [], ◌∷◌, ◌++◌, length, take, drop, Option, None, Some, zero, suc}
+use Rattle.std.specs.Prelude.{◌≡◌, ℕ, ◌+◌, ◌-◌, Bool, true, false, cond, ◌&&◌, nat_lt, nat_eq, List, [], ◌∷◌, ◌++◌, length, take, drop, Option, None, Some, zero, suc}
 use Rattle.std.specs.List.{starts_with}
 use Rattle.std.specs.Int.{w32, from_be_bytes}
 use Rattle.zmtp_wire.specs.declared.role.Role.{Role}
@@ -75,8 +75,8 @@ is_over (Handshake newer) = false
 is_over (Traffic newer frames) = true
 
 -- the state at the octet `at` that failed in this phase
-abbrev pub stopped : Phase → ℕ → Cause → State
-stopped phase at c = Failed (is_over phase) (fault_at at c)
+abbrev pub failure : Phase → ℕ → Cause → State
+failure phase at c = Failed (is_over phase) (fault_at at c)
 
 -- ---- one octet
 
@@ -89,12 +89,12 @@ greeting_step at p x =
 
 -- what an allowed flag octet brings
 abbrev pub flag_state : ℕ → Phase → ℕ → State
-flag_state at (Handshake newer) f = cond (is_command f) (Units (Handshake newer) (Size f [])) (stopped (Handshake newer) at cause.Command)
-flag_state at (Traffic newer frames) f = cond (is_more f && nat_eq (length frames) 63) (stopped (Traffic newer frames) at cause.TooMany) (Units (Traffic newer frames) (Size f []))
+flag_state at (Handshake newer) f = cond (is_command f) (Units (Handshake newer) (Size f [])) (failure (Handshake newer) at cause.Command)
+flag_state at (Traffic newer frames) f = cond (is_more f && nat_eq (length frames) 63) (failure (Traffic newer frames) at cause.TooMany) (Units (Traffic newer frames) (Size f []))
 
 -- what a flag octet brings
 unfoldable pub flag_step : ℕ → Phase → ℕ → State
-flag_step at phase f = cond (is_allowed f) (flag_state at phase f) (stopped phase at cause.Flags)
+flag_step at phase f = cond (is_allowed f) (flag_state at phase f) (failure phase at cause.Flags)
 
 -- how many octets are left of the room beside these frames
 abbrev pub room_left : ℕ → List (List ℕ) → ℕ
@@ -109,7 +109,7 @@ room_in (Traffic newer frames) f = cond (is_command f) MOST (room_left MOST fram
 -- what a first command brings
 abbrev pub after_handshake : ℕ → Bool → Option Cause → State
 after_handshake at newer None = Units (Traffic newer []) Fresh
-after_handshake at newer (Some c) = stopped (Handshake newer) at c
+after_handshake at newer (Some c) = failure (Handshake newer) at c
 
 -- what a whole unit brings
 unfoldable pub finish : Role → ℕ → Phase → ℕ → List ℕ → Took
@@ -124,7 +124,7 @@ finish r at (Traffic newer frames) f body =
 -- what a whole size brings
 unfoldable pub size_step : Role → ℕ → Phase → ℕ → ℕ → Took
 size_step r at phase f size =
-    cond (nat_lt (room_in phase f) size) (quiet (stopped phase at (cause.TooLong size)))
+    cond (nat_lt (room_in phase f) size) (quiet (failure phase at (cause.TooLong size)))
     (cond (nat_eq size 0) (finish r at phase f []) (quiet (Units phase (Body f size []))))
 
 -- after the handshake an ERROR shows at its sixth octet
@@ -135,7 +135,7 @@ is_error (Traffic newer frames) f body = is_command f && nat_eq (length body) 6 
 -- what an octet of a body brings
 unfoldable pub body_step : Role → ℕ → Phase → ℕ → ℕ → List ℕ → Took
 body_step r at phase f size body =
-    cond (is_error phase f body) (quiet (stopped phase at cause.PeerError))
+    cond (is_error phase f body) (quiet (failure phase at cause.PeerError))
     (cond (nat_lt (length body) size) (quiet (Units phase (Body f size body))) (finish r at phase f body))
 
 -- what an octet of a unit brings

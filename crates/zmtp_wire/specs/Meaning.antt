@@ -1,6 +1,6 @@
 -- What octets are as a stream (RFC 23 and RFC 37), as functions beside the relations of Stream. The laws tie each to its relation.
 use Rattle.std.specs.Prelude.{◌≡◌, ℕ, ◌-◌, Bool, List, [], ◌∷◌, ◌++◌, length, drop}
-use Rattle.std.specs.Prelude.{Option, None, Some, Result, Ok, Err}
+use Rattle.std.specs.Prelude.{Option, None, Some, Ok, Err}
 use Rattle.zmtp_wire.specs.declared.role.Role.{Role}
 use Rattle.zmtp_wire.specs.declared.fault.WireFault.{WireFault}
 use Rattle.zmtp_wire.specs.Decoder.{Answer, answer_in, rest_len, shaken_in}

@@ -1,5 +1,5 @@
 -- What we write: a greeting, READY and messages, in the shortest form (RFC 23, RFC 37).
-use Rattle.std.specs.Prelude.{ℕ, ◌+◌, Bool, true, false, cond, nat_lt, List, [], ◌∷◌, ◌++◌, length, codes, replicate, ◌≤◌, ◌<◌, sum_by}
+use Rattle.std.specs.Prelude.{ℕ, Bool, true, false, cond, nat_lt, List, [], ◌∷◌, ◌++◌, length, codes, replicate, ◌≤◌, ◌<◌, sum_by}
 use Rattle.std.specs.Int.{w64, to_be_bytes}
 use Rattle.zmtp_wire.specs.declared.role.Role.{Role}
 use Rattle.zmtp_wire.specs.declared.role.Role.TheVariants as role

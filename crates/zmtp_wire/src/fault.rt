@@ -1,5 +1,6 @@
 //! Why a stream was refused.
 ghost use Rattle.std.specs.Prelude.{◌≡◌};
+ghost use Rattle.zmtp_wire.specs.declared.fault.WireFault.TheVariants.{NoMemory as Starved};
 ghost use Rattle.zmtp_wire.specs.Fault.{number_of, place_of};
 
 use jtext::NoMemory;
@@ -83,6 +84,8 @@ impl WireFault {
 }
 
 impl From<NoMemory> for WireFault {
+    ghost from_gives = { λ _ e. e ≡ Starved };
+
     fn from(_refused: NoMemory) -> WireFault
         ensures { result ≡ WireFault.NoMemory }
     {

@@ -1,6 +1,6 @@
 //! ZMTP 3.0 and 3.1 (RFC 23 and RFC 37 of the ZeroMQ project), read and written as octets. It does
-//! no IO. `Decoder` reads a peer's stream in pieces, `whole` all of it at once, `laws` says what
-//! the definitions imply.
+//! no IO. `Decoder` reads a peer's stream in pieces, `whole` all of it at once by a plain program
+//! of its own, `laws` says what the definitions imply.
 #![tactic(auto)]
 
 mod cause;
@@ -9,6 +9,7 @@ mod decoder;
 mod fault;
 mod flag;
 mod frame;
+mod front;
 mod handshake;
 pub mod laws;
 mod machine;

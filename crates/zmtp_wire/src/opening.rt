@@ -40,7 +40,7 @@ pub fn greeting_step(at: u64, so_far: Bytes, octet: u8) -> Result<State, NoMemor
 }
 
 /// Whether the octet may stand at `i`.
-fn passes(i: usize, octet: u8) -> bool
+pub fn passes(i: usize, octet: u8) -> bool
     ensures { result ≡ passes i octet }
 {
     match i {
@@ -55,7 +55,7 @@ fn passes(i: usize, octet: u8) -> bool
     }
 }
 
-fn greeting_cause(i: usize) -> Cause
+pub fn greeting_cause(i: usize) -> Cause
     ensures { result ≡ greeting_cause i }
 {
     if i < 10 {
@@ -68,7 +68,7 @@ fn greeting_cause(i: usize) -> Cause
 }
 
 /// Whether the sender of the greeting speaks 3.1.
-fn speaks(greeting: &[u8]) -> bool
+pub fn speaks(greeting: &[u8]) -> bool
     requires { length greeting.now ≡ 64 }
     ensures { result ≡ speaks greeting.now }
 {

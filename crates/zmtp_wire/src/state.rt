@@ -6,7 +6,7 @@
 //! `Size`, the last octet of a size `Body`.
 ghost use Rattle.std.specs.Prelude.{◌≡◌};
 ghost use Rattle.zmtp_wire.specs.Decoder.{shaken_in};
-ghost use Rattle.zmtp_wire.specs.Machine.{is_over, stopped};
+ghost use Rattle.zmtp_wire.specs.Machine.{is_over, failure};
 
 use crate::cause::Cause;
 use crate::fault::WireFault;
@@ -54,8 +54,8 @@ impl Phase {
     }
 
     /// The state where the octet at `at` failed in this phase.
-    pub fn stopped(&self, at: u64, cause: Cause) -> State
-        ensures { result ≡ stopped self.now at cause }
+    pub fn failure(&self, at: u64, cause: Cause) -> State
+        ensures { result ≡ failure self.now at cause }
     {
         State::Failed(self.is_over(), cause.at(at))
     }

@@ -1,17 +1,19 @@
-//! The plain reader of a whole stream.
-ghost use Rattle.std.specs.Prelude.{◌≡◌, ◌≢◌, ◌<◌, ◌^◌, ◌↔◌, IfOk, IfErr, IsTrue};
+//! The plain reader of a whole stream, beside the decoder: it has all octets before it, and keeps
+//! from unit to unit only the frames of the unfinished message.
+ghost use Rattle.std.specs.Prelude.{◌≡◌, ◌≢◌, ◌++◌, ◌∷◌, [], ◌↔◌, IfOk, IfErr, IsTrue, OnOk};
 ghost use Rattle.zmtp_wire.specs.declared.fault.WireFault.TheVariants.{NoMemory as Starved};
-ghost use Rattle.zmtp_wire.specs.Decoder.{rest_len};
-ghost use Rattle.zmtp_wire.specs.Stream.{Scans, BreaksAs, IsShaken};
+ghost use Rattle.zmtp_wire.specs.Stream.{Scans, BreaksAs, IsShaken, item_of, open_after};
+ghost use Rattle.zmtp_wire.specs.Stream.{messages_of};
 
+use crate::command::put_meaning;
 use crate::fault::WireFault;
-use crate::flag::size_len;
-use crate::machine::run;
+use crate::flag::{is_command, is_more};
+use crate::front::{Unit, read_greeting, read_ready, read_unit};
 use crate::parts::{Messages, Parts};
 use crate::role::Role;
-use crate::state::{Open, State};
-use jtext::Bytes;
+use jtext::{Bytes, NoMemory};
 use std::alloc::Global;
+use std::mem;
 
 /// What a stream gives.
 #[derive(Debug, Drop)]
@@ -32,44 +34,54 @@ pub fn whole(alloc: Global, role: Role, bytes: &[u8]) -> Result<Scan, WireFault>
     // Where it isn't, the fault is the one that breaks it.
     ensures broken { IfErr result (λ e. e ≢ Starved → BreaksAs bytes.now role e) }
 {
-    let _len = bytes.len();
     let mut messages = Messages::new(alloc);
-    let mut owed = Parts::new(alloc);
-    let start = State::Greeting(Bytes::new(alloc));
-    match run(alloc, role, 0, start, bytes, &mut messages, &mut owed) {
-        Ok(state) => {
-            let rest = rest_len(&state);
-            let shaken = state.is_shaken();
-            match state {
-                State::Failed(_, fault) => Err(fault),
-                State::Greeting(_) => Ok(Scan {
-                    messages,
-                    rest,
-                    shaken,
-                }),
-                State::Units(_, _) => Ok(Scan {
-                    messages,
-                    rest,
-                    shaken,
-                }),
-            }
-        }
-        Err(_) => Err(WireFault::NoMemory),
+    let Some((newer, first)) = read_greeting(bytes)? else {
+        return Ok(Scan {
+            messages,
+            rest: bytes.len() as u64,
+            shaken: false,
+        });
+    };
+    let Some(units) = read_ready(role, 64, first)? else {
+        return Ok(Scan {
+            messages,
+            rest: first.len() as u64,
+            shaken: false,
+        });
+    };
+    let mut frames = Parts::new(alloc);
+    let mut rest = units;
+    while let Some(unit) = read_unit((bytes.len() - rest.len()) as u64, &frames, rest)? {
+        take_unit(alloc, role, newer, unit, &mut frames, &mut messages)?;
+        rest = unit.after;
     }
+    Ok(Scan {
+        messages,
+        rest: rest.len() as u64,
+        shaken: true,
+    })
 }
 
-/// How many octets of what comes next a state has.
-fn rest_len(state: &State) -> u64
-    requires { rest_len state.now < 2 ^ 64 }
-    ensures { result ≡ rest_len state.now }
+/// Appends the messages that end in a unit, and keeps the frames that stand open after it.
+fn take_unit(
+    alloc: Global,
+    role: Role,
+    newer: bool,
+    unit: Unit,
+    frames: &mut Parts,
+    out: &mut Messages,
+) -> Result<(), NoMemory>
+    ensures frames { OnOk result
+        (frames.new ≡ open_after frames.old (item_of unit.entry.flag unit.entry.body.now ∷ [])) }
+    ensures messages { OnOk result (out.new ≡ out.old ++
+        messages_of role newer frames.old (item_of unit.entry.flag unit.entry.body.now ∷ [])) }
 {
-    match state {
-        State::Greeting(octets) => octets.len() as u64,
-        State::Units(_, so_far) => match so_far {
-            Open::Fresh => 0,
-            Open::Size(_, octets) => octets.len() as u64 + 1,
-            Open::Body(flag, _, body) => size_len(*flag) as u64 + body.len() as u64 + 1,
-        },
-        State::Failed(_, _) => 0,
+    if is_command(unit.flag) {
+        return put_meaning(alloc, role, newer, unit.body, out);
     }
+    frames.push(Bytes::of(alloc, unit.body)?)?;
+    if !is_more(unit.flag) {
+        out.push(mem::replace(frames, Parts::new(alloc)))?;
+    }
+    Ok(())
 }

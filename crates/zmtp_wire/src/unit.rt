@@ -58,19 +58,19 @@ fn flag_step(alloc: Global, at: u64, phase: Phase, flag: u8) -> State
     ensures { result ≡ flag_step at phase flag }
 {
     if !is_allowed(flag) {
-        return phase.stopped(at, Cause::Flags);
+        return phase.failure(at, Cause::Flags);
     }
     match phase {
         Phase::Handshake(newer) => {
             if is_command(flag) {
                 State::Units(Phase::Handshake(newer), Open::Size(flag, Bytes::new(alloc)))
             } else {
-                Phase::Handshake(newer).stopped(at, Cause::Command)
+                Phase::Handshake(newer).failure(at, Cause::Command)
             }
         }
         Phase::Traffic(newer, frames) => {
             if is_more(flag) && frames.len() == 63 {
-                Phase::Traffic(newer, frames).stopped(at, Cause::TooMany)
+                Phase::Traffic(newer, frames).failure(at, Cause::TooMany)
             } else {
                 State::Units(
                     Phase::Traffic(newer, frames),
@@ -100,7 +100,7 @@ fn size_step(
     ensures starved { OnErr result (out.new ≡ out.old) }
 {
     if room_in(&phase, flag) < size {
-        return Ok(phase.stopped(at, Cause::TooLong(size)));
+        return Ok(phase.failure(at, Cause::TooLong(size)));
     }
     if size == 0 {
         return finish(alloc, role, at, phase, flag, Bytes::new(alloc), out, owed);
@@ -129,7 +129,7 @@ fn body_step(
     ensures starved { OnErr result (out.new ≡ out.old) }
 {
     if is_error(&phase, flag, body.bytes()) {
-        return Ok(phase.stopped(at, Cause::PeerError));
+        return Ok(phase.failure(at, Cause::PeerError));
     }
     if (body.len() as u64) < size {
         return Ok(State::Units(phase, Open::Body(flag, size, body)));
@@ -158,7 +158,7 @@ fn finish(
     match phase {
         Phase::Handshake(newer) => match handshake_cause(role, body.bytes()) {
             None => Ok(State::Units(Phase::Traffic(newer, Parts::new(alloc)), Open::Fresh)),
-            Some(cause) => Ok(Phase::Handshake(newer).stopped(at, cause)),
+            Some(cause) => Ok(Phase::Handshake(newer).failure(at, cause)),
         },
         Phase::Traffic(newer, mut frames) => {
             if is_command(flag) {

@@ -1,4 +1,4 @@
-use Rattle.std.proofs.Common.{rules, ◌≡◌, arith, sym, ◌∙◌, false, Bool, true}
+use Rattle.std.proofs.Common.{sym, ◌∙◌}
 use Rattle.zmtp_wire.proofs.ReadyLemmas.{end_true, end_false, end_none}
 use Rattle.zmtp_wire.proofs.handshake.ready_cause.Goals as goal
 

@@ -1,4 +1,4 @@
-use Rattle.std.proofs.Common.{◌≡◌, ℕ, ◌≤◌, length, true, false, arith, sym, ap, ◌∙◌}
+use Rattle.std.proofs.Common.{◌≡◌, ◌≤◌, length, true, false, arith, sym, ap, ◌∙◌}
 use Rattle.zmtp_wire.specs.declared.state.State.TheVariants.{Units}
 use Rattle.zmtp_wire.specs.Frame.{is_command}
 use Rattle.zmtp_wire.proofs.RunLemmas.{run-filled}

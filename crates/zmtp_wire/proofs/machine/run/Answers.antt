@@ -1,6 +1,6 @@
-use Rattle.std.proofs.Common.{rules, arith, sym, ap, ◌∙◌, ◌++◌}
-use Rattle.zmtp_wire.specs.Machine.{step, run, ticks, quiet}
-use Rattle.zmtp_wire.proofs.RunLemmas.{run-turn, goes_start, goes_on, goes_done, goes_starved, run-done}
+use Rattle.std.proofs.Common.{arith, sym, ◌∙◌}
+use Rattle.zmtp_wire.specs.Machine.{step, run}
+use Rattle.zmtp_wire.proofs.RunLemmas.{run-turn, goes_start, goes_on, goes_done, run-done}
 use Rattle.zmtp_wire.proofs.machine.run.Goals as goal
 
 pub loop-rest-init : goal.loop-rest-init

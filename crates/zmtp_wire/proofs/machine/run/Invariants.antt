@@ -1,5 +1,5 @@
-use Rattle.std.proofs.Common.{◌≡◌, ◌++◌, length, ◌<◌, ◌^◌, List, ℕ}
-use Rattle.zmtp_wire.specs.Machine.{run, before, Took}
+use Rattle.std.proofs.Common.{length, ◌<◌, ◌^◌}
+use Rattle.zmtp_wire.specs.Machine.{run}
 use Rattle.zmtp_wire.proofs.RunLemmas.{Goes}
 use Rattle.zmtp_wire.proofs.machine.run.Given as goal
 

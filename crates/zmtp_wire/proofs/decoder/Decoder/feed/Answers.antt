@@ -1,8 +1,8 @@
-use Rattle.std.proofs.Common.{◌≡◌, refl, sym, ap, ◌∙◌, append-nil, ◌++◌}
+use Rattle.std.proofs.Common.{refl, sym, ap, ◌∙◌, ◌++◌}
 use Rattle.zmtp_wire.specs.declared.decoder.Decoder.{Decoder}
-use Rattle.zmtp_wire.specs.Machine.{run, Took}
+use Rattle.zmtp_wire.specs.Machine.{run}
 use Rattle.zmtp_wire.specs.Decoder.{answer_in}
-use Rattle.zmtp_wire.proofs.FeedLemmas.{fed-stands, Fed, refused-fed, run-refused}
+use Rattle.zmtp_wire.proofs.FeedLemmas.{fed-stands, Fed, refused-fed}
 use Rattle.zmtp_wire.proofs.GivesLemmas.{brings, brings_some, grows_none, grows_all, grows_same, refused-brings}
 use Rattle.zmtp_wire.proofs.decoder.Decoder.feed.Goals as goal
 
