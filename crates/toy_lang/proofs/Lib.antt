@@ -5,3 +5,5 @@ pub mod LineSteps
 pub mod LastEffects
 pub mod LiteralsRead
 pub mod LiteralsSpelled
+pub mod LineWords
+pub mod Rows

@@ -1,6 +1,7 @@
 -- What a text of the toy language does, from its lines down.
 pub mod Runs
 pub mod Lines
+pub mod Table
 pub mod Expressions
 pub mod Spellings
 pub mod Literals

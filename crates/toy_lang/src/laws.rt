@@ -1,11 +1,16 @@
 //! What holds of every text of the toy language.
 ghost use Rattle.std.specs.Prelude.{◌≡◌, ◌∷◌, ◌++◌, ◌↔◌, [], ℕ, List, true, Some};
 ghost use Rattle.toy_lang.specs.declared.effect.Effect.{Effect};
+ghost use Rattle.toy_lang.specs.Expressions.{is_number};
 ghost use Rattle.toy_lang.specs.Spellings.{IsLiteral};
 ghost use Rattle.toy_lang.specs.Literals.{literal_text};
 ghost use Rattle.toy_lang.specs.Runs.{effects, is_last};
 ghost use Rattle.toy_lang.specs.Variables.{Variables};
+ghost use Rattle.toy_lang.specs.declared.verb.Verb.{Verb};
+ghost use Rattle.toy_lang.specs.Lines.{statement};
+ghost use Rattle.toy_lang.specs.Table.{IsStatement};
 ghost use Rattle.std.specs.Str.{chars};
+ghost use Rattle.jtext.specs.Number.{IsNumber};
 
 /// Nothing follows an error, nor the end of the kernel.
 pub fn nothing_follows_the_last()
@@ -18,4 +23,15 @@ pub fn nothing_follows_the_last()
 pub fn literals_are_read_by_the_grammar()
     ensures { (literal text : List ℕ) →
         (literal_text literal ≡ Some text) ↔ IsLiteral text (chars literal) }
+{}
+
+/// A line with an expression is read as the row of the table that it is, and no other line is read.
+pub fn statements_are_the_rows_of_the_table()
+    ensures { (line word expression : List ℕ) (verb : Verb) →
+        (statement line ≡ Some (verb, word, expression)) ↔ IsStatement verb word expression line }
+{}
+
+/// An expression is taken as a number exactly where it is one of JSON (RFC 8259, section 6).
+pub fn numbers_are_those_of_json()
+    ensures { (text : List ℕ) → (is_number text ≡ true) ↔ IsNumber text }
 {}
