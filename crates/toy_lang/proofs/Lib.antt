@@ -7,3 +7,4 @@ pub mod LiteralsRead
 pub mod LiteralsSpelled
 pub mod LineWords
 pub mod Rows
+pub mod Published

@@ -1,4 +1,5 @@
 -- What a text of the toy language does, from its lines down.
+pub mod ToyOut
 pub mod Runs
 pub mod Lines
 pub mod Table
