@@ -1,0 +1,10 @@
+pub mod NumberTests
+pub mod VariableSteps
+pub mod LiteralSteps
+pub mod LineSteps
+pub mod LastEffects
+pub mod LiteralsRead
+pub mod LiteralsSpelled
+pub mod LineWords
+pub mod Rows
+pub mod Published
