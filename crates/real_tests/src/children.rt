@@ -1,0 +1,125 @@
+//! Child programs of the system.
+use crate::worlds::{open_descriptors, real_world, start_script, status, text, texts};
+use jtext::Fields;
+use std::test::Fail;
+use std::time::{Duration, Instant};
+use std::{fs, process};
+use world::{Did, Kids, Reports, Wire};
+
+#[test]
+fn children_of_several_jobs_end_with_their_own_status(rt: HostRuntime) -> Result<(), Fail> {
+    let mut w = real_world(&rt)?;
+    let rows = [
+        (0u8, "exit 0", 0),
+        (3, "exit 7", 7),
+        (7, "kill -9 $$", 137),
+        (15, "kill -15 $$", 143),
+    ];
+    for (job, script, _) in rows {
+        assert!(rt; start_script(&rt, &mut w, job, script)?, "{script}");
+    }
+    for (job, script, ended) in rows {
+        assert_eq!(rt; status(&mut w, job), Some(ended), "{script}");
+        assert_eq!(rt; w.look(job), Some(ended), "{script}, looked at again");
+        w.end(job);
+        assert_eq!(rt; w.look(job), None, "{script}, after its end");
+    }
+    assert_eq!(rt; w.child_faults(), 0);
+    Ok(())
+}
+
+#[test]
+fn a_child_that_ignores_its_end_is_killed(rt: HostRuntime) -> Result<(), Fail> {
+    let mut w = real_world(&rt)?;
+    let script = "trap '' TERM INT HUP; echo $$ > stubborn.tmp; mv stubborn.tmp stubborn; \
+        while :; do sleep 1; done";
+    assert!(rt; start_script(&rt, &mut w, 1, script)?);
+    let mut reports = Reports { ready: [false; 64] };
+    for _ in 0..1000u32 {
+        if fs::exists(&rt, "stubborn")? {
+            break;
+        }
+        w.wait(10, &mut reports);
+    }
+    let number = fs::read_to_string(&rt, "stubborn")?;
+    let here = format!(in rt.alloc(); "/proc/{}", number.as_str().trim())?;
+    assert!(rt; fs::exists(&rt, here.as_str())?, "{here}");
+    assert_eq!(rt; w.look(1), None);
+    let start = Instant::now(&rt)?;
+    w.end(1);
+    assert!(rt; start.elapsed(&rt)? < Duration::from_secs(5));
+    assert!(rt; !fs::exists(&rt, here.as_str())?, "{here}");
+    fs::remove_file(&rt, "stubborn")?;
+    Ok(())
+}
+
+#[test]
+fn a_second_start_ends_the_first_child(rt: HostRuntime) -> Result<(), Fail> {
+    let mut w = real_world(&rt)?;
+    assert!(rt; start_script(&rt, &mut w, 0, "exec sleep 30")?);
+    assert!(rt; start_script(&rt, &mut w, 0, "exit 3")?);
+    assert_eq!(rt; status(&mut w, 0), Some(3));
+    w.end(0);
+    Ok(())
+}
+
+#[test]
+fn a_program_that_is_not_there_can_not_be_started(rt: HostRuntime) -> Result<(), Fail> {
+    let mut w = real_world(&rt)?;
+    let env = Fields::new(rt.alloc());
+    let rows = [("./no-such-program", "."), ("/bin/sh", "no-such-folder")];
+    for (program, folder) in rows {
+        let argv = texts(&rt, &[program])?;
+        assert_eq!(rt; argv.len(), 1);
+        assert_eq!(rt;
+            w.start(0, &argv, &env, &text(&rt, folder)?),
+            Did::Failed,
+            "{program}"
+        );
+        assert_eq!(rt; w.look(0), None, "{program}");
+    }
+    assert_eq!(rt; w.child_faults(), 2);
+    Ok(())
+}
+
+/// What a script writes into a file.
+fn written(rt: &HostRuntime, script: &str) -> Result<String, Fail> {
+    let mut w = real_world(rt)?;
+    if !start_script(rt, &mut w, 0, script)? {
+        return Err(Fail::new("not started"));
+    }
+    let ended = status(&mut w, 0);
+    w.end(0);
+    if ended != Some(0) {
+        return Err(Fail::new("the script failed"));
+    }
+    let text = fs::read_to_string(rt, "written")?;
+    fs::remove_file(rt, "written")?;
+    Ok(text)
+}
+
+#[test]
+fn a_child_knows_who_started_it(rt: HostRuntime) -> Result<(), Fail> {
+    let ours = format!(in rt.alloc(); "{}\n", process::id(rt.process()))?;
+    let told = written(&rt, "echo $JPY_PARENT_PID > written")?;
+    assert_eq!(rt; told.as_str(), ours.as_str());
+    let streams = "for i in 0 1 2; do s=\"$s $(readlink /proc/$$/fd/$i)\"; done; \
+        echo $s > written";
+    let null = written(&rt, streams)?;
+    assert_eq!(rt; null.as_str(), "/dev/null /dev/null /dev/null\n");
+    Ok(())
+}
+
+#[test]
+fn no_descriptor_is_left_over_by_children(rt: HostRuntime) -> Result<(), Fail> {
+    let before = open_descriptors(&rt)?;
+    let mut w = real_world(&rt)?;
+    for job in 0..16u8 {
+        assert!(rt; start_script(&rt, &mut w, job, "exit 0")?);
+    }
+    for job in 0..16u8 {
+        w.end(job);
+    }
+    assert_eq!(rt; open_descriptors(&rt)?, before);
+    Ok(())
+}

@@ -1,0 +1,127 @@
+//! Files: each call does what it says, and one that the system refuses is a counted failure.
+use crate::worlds::{Real, real_world, text};
+use std::fs;
+use std::os::unix::fs::{MetadataExt, PermissionsExt};
+use std::test::Fail;
+use world::{Did, Disk, ReadFile, Wrote};
+
+/// What the world reads there, at most so many bytes.
+fn found(rt: &HostRuntime, w: &mut Real, path: &str, most: u64) -> Result<ReadFile, Fail> {
+    Ok(w.read_file(rt.alloc(), &text(rt, path)?, most))
+}
+
+/// Whether the file has just these bytes.
+fn holds(rt: &HostRuntime, path: &str, bytes: &[u8]) -> Result<bool, Fail> {
+    Ok(fs::read(rt, path)?.as_slice() == bytes)
+}
+
+#[test]
+fn pieces_are_appended_to_an_emptied_file(rt: HostRuntime) -> Result<(), Fail> {
+    let mut w = real_world(&rt)?;
+    fs::write(&rt, "pieces", "what was there")?;
+    let path = text(&rt, "pieces")?;
+    assert_eq!(rt; w.create(&path), Did::Done);
+    assert!(rt; holds(&rt, "pieces", b"")?);
+    assert_eq!(rt; Disk::write(&mut w, &path, b"one "), Wrote::Took(4));
+    assert_eq!(rt; Disk::write(&mut w, &path, b"two"), Wrote::Took(3));
+    assert_eq!(rt; w.sync(&path), Did::Done);
+    assert!(rt; holds(&rt, "pieces", b"one two")?);
+    assert_eq!(rt; w.remove(&path), Did::Done);
+    assert!(rt; fs::read(&rt, "pieces").is_err());
+    assert_eq!(rt; w.disk_faults(), 0);
+    Ok(())
+}
+
+#[test]
+fn a_file_is_read_whole_up_to_a_limit(rt: HostRuntime) -> Result<(), Fail> {
+    let mut w = real_world(&rt)?;
+    fs::write(&rt, "seven", "1234567")?;
+    let rows = [
+        (0, false),
+        (6, false),
+        (7, true),
+        (8, true),
+        (u64::MAX, true),
+    ];
+    for (most, whole) in rows {
+        match found(&rt, &mut w, "seven", most)? {
+            ReadFile::Whole(bytes) => {
+                assert!(rt;
+                    whole && bytes.bytes() == b"1234567".as_slice(),
+                    "at most {most}"
+                );
+            }
+            ReadFile::Big => assert!(rt; !whole, "at most {most}"),
+            _ => assert!(rt; false, "at most {most}"),
+        }
+    }
+    assert_eq!(rt; w.disk_faults(), 0);
+    fs::remove_file(&rt, "seven")?;
+    Ok(())
+}
+
+#[test]
+fn a_rename_moves_the_first_name_onto_the_second(rt: HostRuntime) -> Result<(), Fail> {
+    let mut w = real_world(&rt)?;
+    fs::write(&rt, "moved-from", "new")?;
+    fs::write(&rt, "moved-to", "old")?;
+    let (from, to) = (text(&rt, "moved-from")?, text(&rt, "moved-to")?);
+    assert_eq!(rt; w.rename(&from, &to), Did::Done);
+    assert!(rt; fs::read(&rt, "moved-from").is_err());
+    assert!(rt; holds(&rt, "moved-to", b"new")?);
+    assert_eq!(rt; w.sync_dir(&text(&rt, ".")?), Did::Done);
+    fs::remove_file(&rt, "moved-to")?;
+    Ok(())
+}
+
+#[test]
+fn what_the_system_refuses_fails_and_is_counted(rt: HostRuntime) -> Result<(), Fail> {
+    let mut w = real_world(&rt)?;
+    let (absent, inside) = (text(&rt, "absent")?, text(&rt, "absent/file")?);
+    assert_eq!(rt; w.sync(&absent), Did::Failed);
+    assert_eq!(rt; w.sync_dir(&absent), Did::Failed);
+    assert_eq!(rt; w.rename(&absent, &inside), Did::Failed);
+    assert_eq!(rt; w.remove(&absent), Did::Failed);
+    assert_eq!(rt; w.create(&inside), Did::Failed);
+    assert_eq!(rt; Disk::write(&mut w, &absent, b"x"), Wrote::Failed);
+    assert_eq!(rt; w.disk_faults(), 6);
+    assert!(rt; matches!(&found(&rt, &mut w, "absent", 9)?, ReadFile::Failed));
+    assert!(rt;
+        matches!(&found(&rt, &mut w, ".", 9)?, ReadFile::Failed),
+        "a folder"
+    );
+    assert_eq!(rt; w.disk_faults(), 8);
+    Ok(())
+}
+
+#[test]
+fn a_full_device_takes_nothing(rt: HostRuntime) -> Result<(), Fail> {
+    let mut w = real_world(&rt)?;
+    let full = text(&rt, "/dev/full")?;
+    assert_eq!(rt; Disk::write(&mut w, &full, b"x"), Wrote::Failed);
+    assert_eq!(rt; w.disk_faults(), 1);
+    Ok(())
+}
+
+#[test]
+fn a_connection_file_is_for_its_owner_alone(rt: HostRuntime) -> Result<(), Fail> {
+    let mut w = real_world(&rt)?;
+    fs::write(&rt, "there.nbrun-kernel.json", "open to all")?;
+    fs::set_permissions(
+        &rt,
+        "there.nbrun-kernel.json",
+        fs::Permissions::from_mode(0o666),
+    )?;
+    let rows = [
+        ("there.nbrun-kernel.json", true),
+        ("fresh.nbrun-kernel.json", true),
+        ("fresh.nbrun-kernel.jso", false),
+    ];
+    for (path, alone) in rows {
+        assert_eq!(rt; w.create(&text(&rt, path)?), Did::Done, "{path}");
+        let mode = fs::metadata(&rt, path)?.mode() % 0o1000;
+        assert_eq!(rt; mode == 0o600, alone, "{path} has {mode}");
+        fs::remove_file(&rt, path)?;
+    }
+    Ok(())
+}
