@@ -64,10 +64,15 @@ fn a_second_start_ends_the_first_child(rt: HostRuntime) -> Result<(), Fail> {
 }
 
 #[test]
-fn a_program_that_is_not_there_can_not_be_started(rt: HostRuntime) -> Result<(), Fail> {
+fn what_is_no_program_can_not_be_started(rt: HostRuntime) -> Result<(), Fail> {
     let mut w = real_world(&rt)?;
     let env = Fields::new(rt.alloc());
-    let rows = [("./no-such-program", "."), ("/bin/sh", "no-such-folder")];
+    fs::write(&rt, "unmarked", "exit 0")?;
+    let rows = [
+        ("./no-such-program", "."),
+        ("./unmarked", "."),
+        ("/bin/sh", "no-such-folder"),
+    ];
     for (program, folder) in rows {
         let argv = texts(&rt, &[program])?;
         assert_eq!(rt; argv.len(), 1);
@@ -78,7 +83,8 @@ fn a_program_that_is_not_there_can_not_be_started(rt: HostRuntime) -> Result<(),
         );
         assert_eq!(rt; w.look(0), None, "{program}");
     }
-    assert_eq!(rt; w.child_faults(), 2);
+    assert_eq!(rt; w.child_faults(), 3);
+    fs::remove_file(&rt, "unmarked")?;
     Ok(())
 }
 

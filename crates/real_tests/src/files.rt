@@ -1,9 +1,9 @@
 //! Files: each call does what it says, and one that the system refuses is a counted failure.
-use crate::worlds::{Real, real_world, text};
+use crate::worlds::{Real, real_world, start_script, status, text};
 use std::fs;
 use std::os::unix::fs::{MetadataExt, PermissionsExt};
 use std::test::Fail;
-use world::{Did, Disk, ReadFile, Wrote};
+use world::{Did, Disk, Kids, ReadFile, Wrote};
 
 /// What the world reads there, at most so many bytes.
 fn found(rt: &HostRuntime, w: &mut Real, path: &str, most: u64) -> Result<ReadFile, Fail> {
@@ -57,6 +57,26 @@ fn a_file_is_read_whole_up_to_a_limit(rt: HostRuntime) -> Result<(), Fail> {
     }
     assert_eq!(rt; w.disk_faults(), 0);
     fs::remove_file(&rt, "seven")?;
+    Ok(())
+}
+
+#[test]
+fn a_file_of_32_mib_is_whole_and_one_byte_more_is_too_many(rt: HostRuntime) -> Result<(), Fail> {
+    let mut w = real_world(&rt)?;
+    let script = "head -c 33554432 /dev/zero > most; head -c 33554433 /dev/zero > large";
+    assert!(rt; start_script(&rt, &mut w, 0, script)?);
+    assert_eq!(rt; status(&mut w, 0), Some(0));
+    w.end(0);
+    match found(&rt, &mut w, "most", 33_554_432)? {
+        ReadFile::Whole(bytes) => assert_eq!(rt; bytes.len(), 33_554_432),
+        _ => assert!(rt; false, "not whole"),
+    }
+    match found(&rt, &mut w, "large", 33_554_432)? {
+        ReadFile::Big => {}
+        _ => assert!(rt; false, "not too big"),
+    }
+    fs::remove_file(&rt, "most")?;
+    fs::remove_file(&rt, "large")?;
     Ok(())
 }
 

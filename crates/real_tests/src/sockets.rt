@@ -1,4 +1,6 @@
 //! Connections, with the far end in the same program.
+ghost use Rattle.std.specs.Prelude.{◌<◌};
+
 use crate::worlds::{Real, open_descriptors, real_world};
 use mio::net::{TcpListener, TcpStream};
 use std::io::{ErrorKind, Read, Write};
@@ -17,8 +19,11 @@ const PLACE: usize = 8;
 /// How often a test waits 10 ms for what has to come.
 const TURNS: u32 = 1000;
 
-/// A megabyte.
-const MEGABYTE: usize = 1 << 20;
+/// Ten megabytes.
+const MUCH: usize = 10 << 20;
+
+/// The channels of a job, by their places.
+const CHANNELS: [Chan; 4] = [Chan::Shell, Chan::Control, Chan::Iopub, Chan::Heart];
 
 /// The far end of the connection, which was taken up.
 fn taken_up(rt: &HostRuntime, w: &mut Real) -> Result<TcpStream, Fail> {
@@ -27,6 +32,11 @@ fn taken_up(rt: &HostRuntime, w: &mut Real) -> Result<TcpStream, Fail> {
     if w.connect(SHELL, port) != Connected::Begun {
         return Err(Fail::new("not begun"));
     }
+    accepted(w, &listener)
+}
+
+/// The far end of a connection that was begun to this listener.
+fn accepted(w: &mut Real, listener: &TcpListener) -> Result<TcpStream, Fail> {
     let mut reports = Reports { ready: [false; 64] };
     for _ in 0..TURNS {
         match listener.accept() {
@@ -153,10 +163,10 @@ fn peer_takes(mut peer: &TcpStream, had: usize) -> Result<usize, Fail> {
     }
 }
 
-/// Lets the far end send what it can of a megabyte, and answers how many bytes there are in all.
+/// Lets the far end send what it can of ten megabytes, and answers how many bytes there are in all.
 fn peer_sends(mut peer: &TcpStream, had: usize) -> Result<usize, Fail> {
     let bytes = sent(had);
-    let most = bytes.len().min(MEGABYTE.saturating_sub(had));
+    let most = bytes.len().min(MUCH.saturating_sub(had));
     if most == 0 {
         return Ok(had);
     }
@@ -167,10 +177,10 @@ fn peer_sends(mut peer: &TcpStream, had: usize) -> Result<usize, Fail> {
     }
 }
 
-/// Puts what it can of a megabyte, and answers how many bytes there are in all.
+/// Puts what it can of ten megabytes, and answers how many bytes there are in all.
 fn puts(w: &mut Real, had: usize) -> Result<usize, Fail> {
     let bytes = sent(had);
-    let most = bytes.len().min(MEGABYTE.saturating_sub(had));
+    let most = bytes.len().min(MUCH.saturating_sub(had));
     if most == 0 {
         return Ok(had);
     }
@@ -192,18 +202,18 @@ fn gets(w: &mut Real, had: usize) -> Result<usize, Fail> {
 }
 
 #[test]
-fn a_megabyte_passes_each_way(rt: HostRuntime) -> Result<(), Fail> {
+fn ten_megabytes_pass_each_way(rt: HostRuntime) -> Result<(), Fail> {
     let mut w = real_world(&rt)?;
     let peer = taken_up(&rt, &mut w)?;
     let mut reports = Reports { ready: [false; 64] };
     let (mut put, mut got, mut peer_put, mut peer_got) = (0, 0, 0, 0);
-    for _ in 0..20_000u32 {
+    for _ in 0..200_000u32 {
         let before = (put, got, peer_put, peer_got);
         put = puts(&mut w, put)?;
         peer_put = peer_sends(&peer, peer_put)?;
         got = gets(&mut w, got)?;
         peer_got = peer_takes(&peer, peer_got)?;
-        if got == MEGABYTE && peer_got == MEGABYTE {
+        if got == MUCH && peer_got == MUCH {
             return Ok(());
         }
         if before == (put, got, peer_put, peer_got) {
@@ -211,6 +221,51 @@ fn a_megabyte_passes_each_way(rt: HostRuntime) -> Result<(), Fail> {
         }
     }
     Err(Fail::new(format_args!("{put} {got} {peer_put} {peer_got}")))
+}
+
+/// The first byte that comes on a connection, once it is reported.
+fn first_byte(w: &mut Real, conn: Conn) -> Option<u8>
+    requires { conn.job < 16 }
+{
+    let mut reports = Reports { ready: [false; 64] };
+    let mut buf = [0u8; 8];
+    for _ in 0..TURNS {
+        match w.read(conn, &mut buf) {
+            Got::Piece(_) => return Some(buf[0]),
+            Got::Dry => {}
+            _ => return None,
+        }
+        w.wait(10, &mut reports);
+    }
+    None
+}
+
+#[test]
+fn all_64_connections_stand_beside_each_other(rt: HostRuntime) -> Result<(), Fail> {
+    let mut w = real_world(&rt)?;
+    let listener = TcpListener::bind(&rt, SocketAddr::from((Ipv4Addr::LOCALHOST, 0)))?;
+    let port = listener.local_addr()?.port();
+    let mut peers = Vec::new(rt.alloc());
+    let mut number = 0u8;
+    for job in 0..16u8 {
+        for chan in CHANNELS {
+            assert_eq!(rt; w.connect(Conn { job, chan }, port), Connected::Begun);
+            let mut peer = accepted(&mut w, &listener)?;
+            peer.write_all(&[number])?;
+            peers.push(peer)?;
+            number = number.wrapping_add(1);
+        }
+    }
+    number = 0;
+    for job in 0..16u8 {
+        for chan in CHANNELS {
+            assert_eq!(rt; first_byte(&mut w, Conn { job, chan }), Some(number));
+            number = number.wrapping_add(1);
+        }
+    }
+    assert_eq!(rt; number, 64);
+    assert_eq!(rt; w.net_faults(), 0);
+    Ok(())
 }
 
 #[test]
