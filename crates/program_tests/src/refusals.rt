@@ -65,7 +65,10 @@ fn inputs_are_refused_with_the_place(rt: HostRuntime) -> Result<(), Fail> {
         let (code, row) = row.split_once('|').ok_or("no status")?;
         let (input, line) = row.split_once('|').ok_or("no line")?;
         let words = "in out --prepare-only -p a 1";
-        assert!(rt; refuses(&rt, words, input.as_bytes(), code, line)?, "{input}");
+        assert!(rt;
+            refuses(&rt, words, input.as_bytes(), code, line)?,
+            "{input}"
+        );
     }
     Ok(())
 }
