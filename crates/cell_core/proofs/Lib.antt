@@ -13,3 +13,4 @@ pub mod OverRuns
 pub mod InOrder
 pub mod Looks
 pub mod AskedWhereDue
+pub mod LookTurns

@@ -9,3 +9,4 @@ pub mod Moves
 pub mod Holds
 pub mod Laws
 pub mod Allowed
+pub mod LastLooks

@@ -8,6 +8,7 @@ ghost use Rattle.cell_core.specs.declared.why.Why.{Why};
 ghost use Rattle.cell_core.specs.declared.act.Act.TheVariants.{Send, Save, Stop};
 ghost use Rattle.cell_core.specs.Task.{Task, cell_of};
 ghost use Rattle.cell_core.specs.Acts.{act_of, heard, has_stopped, awaits_saved, wants_look_of, IsTimely, Meets};
+ghost use Rattle.cell_core.specs.LastLooks.{TakesTurns};
 ghost use Rattle.cell_core.specs.Laws.{IsOpen, IsSent, IsAskedFor, StopsBy, ComesToStand, GoesOn, AsksInOrder};
 ghost use Rattle.cell_core.specs.Saves.{unacked, why};
 ghost use Rattle.cell_core.specs.StandsFor.{StandsFor, task_of};
@@ -73,6 +74,13 @@ pub fn read_in_time()
     ensures { (task : Task) (now : ℕ) (events : List Event) → awaits_saved task events ≡ false
         → wants_look_of task events ≡ false → time (heard task events) ≤ now
         → IsTimely task (Moment now) events }
+{}
+
+/// Where each last look that was asked for is done before the clock is read again, unless the
+/// deadline that asked for it was answered first, every event comes in time.
+pub fn in_time_by_turns()
+    ensures { (task : Task) (events : List Event) → TakesTurns task events
+        → ForSome task.times.limit_ms (λ limit. 0 < limit) → Meets task events }
 {}
 
 /// Over every list of events in which each `Saved` comes where a save was asked for and the clock

@@ -3,6 +3,7 @@ ghost use Rattle.std.specs.Prelude.{◌≡◌, ℕ, List, [], ◌++◌, ◌<◌,
 ghost use Rattle.std.specs.Prelude.{Err, OnOk, OnErr, IsErr, IfSome, IfNone, IsTrue, true, false};
 ghost use Rattle.zmtp_wire.specs.declared.fault.WireFault.{WireFault};
 ghost use Rattle.zmtp_wire.specs.declared.fault.WireFault.TheVariants.{NoMemory as Starved};
+ghost use Rattle.zmtp_wire.specs.Command.{AreShort};
 ghost use Rattle.zmtp_wire.specs.Frame.{MOST};
 ghost use Rattle.zmtp_wire.specs.Stream.{IsShaken};
 ghost use Rattle.zmtp_wire.specs.Decoder.{IsUnstarved};
@@ -180,6 +181,7 @@ impl Peer {
         contexts: &Parts,
         out: &mut Bytes,
     ) -> Result<(), NoMemory>
+        requires { AreShort contexts.now }
         ensures ok { OnOk result
             ((out.new ≡ out.old ++ (subscription.now ++ pongs contexts.now)) ×
             (self.new ≡ self.old)) }

@@ -1,5 +1,6 @@
 //! What a socket says of itself beside its messages: the subscription of SUB, and PONGs.
-ghost use Rattle.std.specs.Prelude.{◌≡◌, ◌++◌, OnOk, OnErr};
+ghost use Rattle.std.specs.Prelude.{◌≡◌, ◌++◌, ◌≤◌, length, OnOk, OnErr};
+ghost use Rattle.zmtp_wire.specs.Command.{AreShort};
 ghost use Rattle.zmtp_peer.specs.Reply.{is_sub, subscription_octets, pong, pongs};
 
 use jtext::{Bytes, NoMemory};
@@ -34,6 +35,7 @@ pub fn put_replies(
     contexts: &Parts,
     out: &mut Bytes,
 ) -> Result<(), NoMemory>
+    requires { AreShort contexts.now }
     ensures ok { OnOk result (out.new ≡ out.old ++ (subscription.now ++ pongs contexts.now)) }
     ensures err { OnErr result (out.new ≡ out.old) }
 {
@@ -46,6 +48,7 @@ pub fn put_replies(
 
 /// Appends a PONG.
 fn put_pong(alloc: Global, context: &[u8], out: &mut Bytes) -> Result<(), NoMemory>
+    requires { length context.now ≤ 16 }
     ensures { OnOk result (out.new ≡ out.old ++ pong context.now) }
 {
     let mut body = Bytes::of(alloc, b"\x04PONG")?;

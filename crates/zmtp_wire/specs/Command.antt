@@ -1,5 +1,5 @@
 -- The commands of ZMTP 3.0 and 3.1 (RFC 23, "The NULL Security Mechanism"; RFC 37, "Commands" and "Heartbeats").
-use Rattle.std.specs.Prelude.{◌≡◌, ℕ, Bool, true, false, cond, ◌&&◌, nat_le, nat_eq, List, [], ◌∷◌, ◌++◌, length, drop, codes, Option, None, Some, map}
+use Rattle.std.specs.Prelude.{◌≡◌, ◌≤◌, ℕ, All, Bool, true, false, cond, ◌&&◌, nat_le, nat_eq, List, [], ◌∷◌, ◌++◌, length, drop, codes, Option, None, Some, map}
 use Rattle.std.specs.List.{starts_with, list_any}
 use Rattle.std.specs.Int.{w32, from_be_bytes}
 use Rattle.std.specs.Char.{to_ascii_lowercase}
@@ -89,6 +89,10 @@ is_ping body = starts_with nat_eq body (4 ∷ codes "PING") && nat_le 7 (length 
 -- the context that a peer's command has to have answered by a PONG, where the peer speaks 3.1
 abbrev pub command_contexts : Bool → List ℕ → List (List ℕ)
 command_contexts newer body = cond (newer && is_ping body) (drop 7 body ∷ []) []
+
+-- the contexts of PINGs have at most 16 octets each (RFC 37, "Heartbeats")
+abbrev pub AreShort : List (List ℕ) → Type 0
+AreShort contexts = All (λ context. length context ≤ 16) contexts
 
 -- the message that a peer's command means to the role, where the peer speaks 3.1: 01 and a prefix subscribes, 00 takes back
 abbrev pub command_messages : Role → Bool → List ℕ → List (List (List ℕ))

@@ -3,7 +3,7 @@
 //! between the frames of a message.
 ghost use Rattle.std.specs.Prelude.{◌≡◌, [], ◌∷◌, ◌++◌, ◌≤◌, length, OnOk, OnErr, IsTrue};
 ghost use Rattle.zmtp_wire.specs.Command.{command_messages, command_contexts, is_ping, is_pub};
-ghost use Rattle.zmtp_wire.specs.Command.{is_subscribe, is_cancel};
+ghost use Rattle.zmtp_wire.specs.Command.{is_subscribe, is_cancel, AreShort};
 
 use crate::parts::{Messages, Parts};
 use crate::role::Role;
@@ -53,6 +53,7 @@ pub fn put_context(
     owed: &mut Parts,
 ) -> Result<(), NoMemory>
     ensures ok { OnOk result (owed.new ≡ owed.old ++ command_contexts newer body.now) }
+    ensures short { AreShort owed.old → AreShort owed.new }
 {
     if newer && is_ping(body) {
         owed.push(Bytes::of(alloc, &body[7..])?)?;
@@ -62,7 +63,8 @@ pub fn put_context(
 
 /// Whether the body is a PING.
 fn is_ping(body: &[u8]) -> bool
-    ensures { result ≡ is_ping body.now }
+    ensures is { result ≡ is_ping body.now }
+    ensures len { IsTrue result → length body.now ≤ 23 }
 {
     body.starts_with(b"\x04PING") && 7 <= body.len() && body.len() <= 23
 }

@@ -1,13 +1,6 @@
 //! The decoder: it keeps the unfinished unit and the frames of the unfinished message, and what it
 //! still owes.
-ghost use Rattle.std.specs.Prelude.{◌≡◌, ℕ, List, [], ◌++◌, ◌↔◌, Err, None, IsTrue, false};
-ghost use Rattle.zmtp_wire.specs.declared.fault.WireFault.{WireFault};
-ghost use Rattle.zmtp_wire.specs.declared.fault.WireFault.TheVariants.{NoMemory as Starved};
-ghost use Rattle.zmtp_wire.specs.Greeting.{newer_of};
-ghost use Rattle.zmtp_wire.specs.Stream.{Context, IsShaken};
-ghost use Rattle.zmtp_wire.specs.Decoder.{StandsFor, IsUnstarved, IsStarved, Brings, BringsSome};
-ghost use Rattle.zmtp_wire.specs.Decoder.{answer_of, role_of};
-ghost use Rattle.zmtp_wire.specs.Meaning.{contexts_in};
+ghost use Rattle.zmtp_wire.specs.Command.{AreShort};
 
 use crate::fault::WireFault;
 use crate::machine::run;
@@ -28,9 +21,20 @@ pub struct Decoder {
     version: Version,
     state: State,
     owed: Parts,
+    ghost short: { AreShort owed },
 }
 
 impl Decoder {
+    ghost use Rattle.std.specs.Prelude.{◌≡◌, ℕ, List, [], ◌++◌, ◌↔◌, Err, None, IsTrue, false};
+    ghost use Rattle.zmtp_wire.specs.declared.fault.WireFault.{WireFault};
+    ghost use Rattle.zmtp_wire.specs.declared.fault.WireFault.TheVariants.{NoMemory as Starved};
+    ghost use Rattle.zmtp_wire.specs.Greeting.{newer_of};
+    ghost use Rattle.zmtp_wire.specs.Stream.{Context, IsShaken};
+    ghost use Rattle.zmtp_wire.specs.Decoder.{StandsFor, IsUnstarved, IsStarved, Brings, BringsSome};
+    ghost use Rattle.zmtp_wire.specs.Decoder.{answer_of, role_of};
+    ghost use Rattle.zmtp_wire.specs.Meaning.{contexts_in};
+    ghost use Rattle.zmtp_wire.specs.Command.{AreShort};
+
     /// A decoder for the stream of a peer that a socket of this role talks to. It takes no memory.
     pub fn new(alloc: Global, role: Role) -> Decoder
         ensures role { role_of result ≡ role }
@@ -143,6 +147,7 @@ impl Decoder {
         ensures contexts { (b : List ℕ) (given : List Context) →
             StandsFor self.old b given → given ++ result ≡ contexts_in (role_of self.old) b }
         ensures starved { IsStarved self.old → result ≡ [] }
+        ensures short { AreShort result }
     {
         if self.is_starved() {
             return Parts::new(self.alloc);

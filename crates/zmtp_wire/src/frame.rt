@@ -46,8 +46,10 @@ pub fn put_message(alloc: Global, parts: &Parts, out: &mut Bytes) -> Result<(), 
     out.add(octets.bytes())
 }
 
-/// Appends a command with this body, a name and data. Without memory nothing changes.
+/// Appends a command with this body, a name and data of at most 64 MiB. Without memory nothing
+/// changes.
 pub fn put_command(alloc: Global, body: &[u8], out: &mut Bytes) -> Result<(), NoMemory>
+    requires { length body.now ≤ MOST }
     ensures ok { OnOk result (out.new ≡ out.old ++ command_octets body.now) }
     ensures err { OnErr result (out.new ≡ out.old) }
 {

@@ -3,6 +3,7 @@
 ghost use Rattle.std.specs.Prelude.{◌≡◌, ℕ, List, ◌++◌, ◌+◌, ◌<◌, ◌≤◌, ◌⊎◌, length, IfOk, OnOk};
 ghost use Rattle.std.specs.Prelude.{OnErr};
 ghost use Rattle.zmtp_wire.specs.declared.role.Role.{Role};
+ghost use Rattle.zmtp_wire.specs.Command.{AreShort};
 ghost use Rattle.zmtp_wire.specs.Machine.{step, run, ticks, GrowsBy};
 
 use crate::flag::is_command;
@@ -28,6 +29,7 @@ pub fn run(
     ensures messages { OnOk result
         (out.new ≡ out.old ++ (run role start state piece.now).messages) }
     ensures owed { OnOk result (owed.new ≡ owed.old ++ (run role start state piece.now).owed) }
+    ensures short { AreShort owed.old → AreShort owed.new }
 
     // Without memory the first ones of the messages are there.
     ensures starved { OnErr result
@@ -60,6 +62,7 @@ fn step(
     ensures state { IfOk result (λ s. s ≡ (step role at state octet).state) }
     ensures messages { OnOk result (out.new ≡ out.old ++ (step role at state octet).messages) }
     ensures owed { OnOk result (owed.new ≡ owed.old ++ (step role at state octet).owed) }
+    ensures short { AreShort owed.old → AreShort owed.new }
     ensures starved { OnErr result (out.new ≡ out.old) }
 {
     match state {

@@ -1,5 +1,6 @@
 //! The steps within a unit: flag octet, size, body.
 ghost use Rattle.std.specs.Prelude.{◌≡◌, ◌++◌, IfOk, OnOk, OnErr};
+ghost use Rattle.zmtp_wire.specs.Command.{AreShort};
 ghost use Rattle.zmtp_wire.specs.Frame.{MOST};
 ghost use Rattle.zmtp_wire.specs.Machine.{unit_step, flag_step, size_step, body_step, finish};
 ghost use Rattle.zmtp_wire.specs.Machine.{room_in, room_left, is_error};
@@ -33,6 +34,7 @@ pub fn unit_step(
         (out.new ≡ out.old ++ (unit_step role at phase so_far octet).messages) }
     ensures owed { OnOk result
         (owed.new ≡ owed.old ++ (unit_step role at phase so_far octet).owed) }
+    ensures short { AreShort owed.old → AreShort owed.new }
     ensures starved { OnErr result (out.new ≡ out.old) }
 {
     match so_far {
@@ -97,6 +99,7 @@ fn size_step(
     ensures messages { OnOk result
         (out.new ≡ out.old ++ (size_step role at phase flag size).messages) }
     ensures owed { OnOk result (owed.new ≡ owed.old ++ (size_step role at phase flag size).owed) }
+    ensures short { AreShort owed.old → AreShort owed.new }
     ensures starved { OnErr result (out.new ≡ out.old) }
 {
     if room_in(&phase, flag) < size {
@@ -126,6 +129,7 @@ fn body_step(
         (out.new ≡ out.old ++ (body_step role at phase flag size body).messages) }
     ensures owed { OnOk result
         (owed.new ≡ owed.old ++ (body_step role at phase flag size body).owed) }
+    ensures short { AreShort owed.old → AreShort owed.new }
     ensures starved { OnErr result (out.new ≡ out.old) }
 {
     if is_error(&phase, flag, body.bytes()) {
@@ -153,6 +157,7 @@ fn finish(
     ensures messages { OnOk result
         (out.new ≡ out.old ++ (finish role at phase flag body).messages) }
     ensures owed { OnOk result (owed.new ≡ owed.old ++ (finish role at phase flag body).owed) }
+    ensures short { AreShort owed.old → AreShort owed.new }
     ensures starved { OnErr result (out.new ≡ out.old) }
 {
     match phase {

@@ -4,7 +4,7 @@ use Rattle.zmtp_wire.proofs.RunLemmas.{run-turn, goes_start, goes_on, goes_done,
 use Rattle.zmtp_wire.proofs.machine.run.Goals as goal
 
 pub loop-rest-init : goal.loop-rest-init
-loop-rest-init c = record { low = omega arith; goes = goes_start _ _ _ }
+loop-rest-init c = record { low = omega arith; goes = goes_start _ _ _; short = λ h. h }
 
 pub loop-rest-preserved-in-Some : goal.loop-rest-preserved-in-Some
 loop-rest-preserved-in-Some c =
@@ -18,7 +18,7 @@ loop-rest-preserved-in-Some c =
     let u = run r at c.in_ok-now.now c.in-Some.after.now in
     let w = run r l.at l.now l.rest.now in
     let turn = run-turn r l.at f.field-0-0 at l.now f.field-0-1 c.in_ok-now.now c.in-Some.octet.now l.rest.now f.field-0-2.now c.in-Some.after.now (f.ensures.run r) head n.state c.saturating_add-at.ensures in
-    record { low = c.saturating_add-at.type_inv; goes = goes_on _ w t u _ l.out c.step.new.out _ l.owed c.step.new.owed l.invariant.goes turn n.messages n.owed }
+    record { low = c.saturating_add-at.type_inv; goes = goes_on _ w t u _ l.out c.step.new.out _ l.owed c.step.new.owed l.invariant.goes turn n.messages n.owed; short = λ h. n.short (l.invariant.short h) }
 
 pub returns-clause-state : goal.returns-clause-state
 returns-clause-state c =

@@ -1,17 +1,15 @@
 use Rattle.std.proofs.Common.{refl, sym, ap, ◌∙◌, ◌++◌}
-use Rattle.zmtp_wire.specs.declared.decoder.Decoder.{Decoder}
 use Rattle.zmtp_wire.specs.Machine.{run}
 use Rattle.zmtp_wire.specs.Decoder.{answer_in}
-use Rattle.zmtp_wire.proofs.FeedLemmas.{fed-stands, Fed, refused-fed}
+use Rattle.zmtp_wire.proofs.FeedLemmas.{fed-stands, refused-fed}
 use Rattle.zmtp_wire.proofs.GivesLemmas.{brings, brings_some, grows_none, grows_all, grows_same, refused-brings}
 use Rattle.zmtp_wire.proofs.decoder.Decoder.feed.Goals as goal
 
 pub returns-in-Err-clause-stands : goal.returns-in-Err-clause-stands
 returns-in-Err-clause-stands c = λ u b given s.
     let d = c.args.self.now in
-    let d' : Decoder = record d { at = c.saturating_add-self.result; version = c.with-self.result } in
-    fed-stands d d' b c.args.piece.now given
-    (refused-fed d d' c.args.piece.now c.in-Err.fault (sym c.in-Err.ensures) refl refl refl c.saturating_add-self.ensures c.with-self.ensures.major c.with-self.ensures.minor) s
+    fed-stands d _ b c.args.piece.now given
+    (refused-fed d _ c.args.piece.now c.in-Err.fault (sym c.in-Err.ensures) refl refl refl c.saturating_add-self.ensures c.with-self.ensures.major c.with-self.ensures.minor) s
 
 pub returns-in-Err-clause-brings : goal.returns-in-Err-clause-brings
 returns-in-Err-clause-brings c = λ u b given s.
@@ -23,18 +21,17 @@ returns-in-Err-clause-starved c = λ u b given s. brings_some c.args.self.now b 
 pub returns-in-Ok-clause-stands : goal.returns-in-Ok-clause-stands
 returns-in-Ok-clause-stands c = λ u b given s.
     let d = c.args.self.now in
-    let d' : Decoder = record d { at = c.saturating_add-self.result; version = c.with-self.result; state = c.in-Ok.state; owed = c.run.new.owed } in
     let piece = c.args.piece.now in
     let was = c.replace-state.ensures.value in
-    let fed : Fed d d' piece = record {
+    fed-stands d _ b piece given
+    (record {
       role = refl;
       place = c.saturating_add-self.ensures;
       major = c.with-self.ensures.major;
       minor = c.with-self.ensures.minor;
       state = c.in-Ok.ensures.state ∙ ap (λ x. (run d.role d.at x piece).state) was;
       owed = c.in-Ok.ensures.owed ∙ ap (λ x. d.owed ++ (run d.role d.at x piece).owed) was;
-    } in
-    fed-stands d d' b piece given fed s
+    }) s
 
 pub returns-in-Ok-clause-brings : goal.returns-in-Ok-clause-brings
 returns-in-Ok-clause-brings c = λ u b given s.
