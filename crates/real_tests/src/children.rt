@@ -1,6 +1,8 @@
 //! Child programs of the system.
-use crate::worlds::{open_descriptors, real_world, start_script, status, text, texts};
-use jtext::Fields;
+use crate::worlds::{
+    children, open_descriptors, real_world, start_script, start_with, status, text, texts,
+};
+use jtext::{Fields, Json};
 use std::test::Fail;
 use std::time::{Duration, Instant};
 use std::{fs, process};
@@ -47,7 +49,10 @@ fn a_child_that_ignores_its_end_is_killed(rt: HostRuntime) -> Result<(), Fail> {
     assert_eq!(rt; w.look(1), None);
     let start = Instant::now(&rt)?;
     w.end(1);
-    assert!(rt; start.elapsed(&rt)? < Duration::from_secs(5));
+    assert!(rt;
+        start.elapsed(&rt)? >= Duration::from_millis(50),
+        "killed before it could end by itself"
+    );
     assert!(rt; !fs::exists(&rt, here.as_str())?, "{here}");
     fs::remove_file(&rt, "stubborn")?;
     Ok(())
@@ -88,10 +93,10 @@ fn what_is_no_program_can_not_be_started(rt: HostRuntime) -> Result<(), Fail> {
     Ok(())
 }
 
-/// What a script writes into a file.
-fn written(rt: &HostRuntime, script: &str) -> Result<String, Fail> {
+/// What a script that has these variables writes into a file.
+fn written(rt: &HostRuntime, script: &str, env: &Fields) -> Result<String, Fail> {
     let mut w = real_world(rt)?;
-    if !start_script(rt, &mut w, 0, script)? {
+    if !start_with(rt, &mut w, 0, script, env)? {
         return Err(Fail::new("not started"));
     }
     let ended = status(&mut w, 0);
@@ -107,25 +112,47 @@ fn written(rt: &HostRuntime, script: &str) -> Result<String, Fail> {
 #[test]
 fn a_child_knows_who_started_it(rt: HostRuntime) -> Result<(), Fail> {
     let ours = format!(in rt.alloc(); "{}\n", process::id(rt.process()))?;
-    let told = written(&rt, "echo $JPY_PARENT_PID > written")?;
+    let none = Fields::new(rt.alloc());
+    let told = written(&rt, "echo $JPY_PARENT_PID > written", &none)?;
     assert_eq!(rt; told.as_str(), ours.as_str());
     let streams = "for i in 0 1 2; do s=\"$s $(readlink /proc/$$/fd/$i)\"; done; \
         echo $s > written";
-    let null = written(&rt, streams)?;
+    let null = written(&rt, streams, &none)?;
     assert_eq!(rt; null.as_str(), "/dev/null /dev/null /dev/null\n");
     Ok(())
 }
 
 #[test]
-fn no_descriptor_is_left_over_by_children(rt: HostRuntime) -> Result<(), Fail> {
-    let before = open_descriptors(&rt)?;
+fn the_variables_of_a_kernel_spec_go_over_ours(rt: HostRuntime) -> Result<(), Fail> {
+    let mut env = Fields::new(rt.alloc());
+    for (name, value) in [("KERNEL_COLOUR", "dark red"), ("JPY_PARENT_PID", "none")] {
+        env.push((text(&rt, name)?, Json::Str(text(&rt, value)?)))?;
+    }
+    let script = "echo \"$KERNEL_COLOUR, $JPY_PARENT_PID\" > written";
+    let told = written(&rt, script, &env)?;
+    assert_eq!(rt; told.as_str(), "dark red, none\n");
+    Ok(())
+}
+
+#[test]
+fn sixteen_children_leave_no_descriptor_and_no_child(rt: HostRuntime) -> Result<(), Fail> {
+    let before = (open_descriptors(&rt)?, children(&rt)?);
     let mut w = real_world(&rt)?;
     for job in 0..16u8 {
-        assert!(rt; start_script(&rt, &mut w, job, "exit 0")?);
+        let script = format!(in rt.alloc(); "exit {job}")?;
+        assert!(rt; start_script(&rt, &mut w, job, script.as_str())?);
+    }
+    assert_eq!(rt;
+        children(&rt)?,
+        before.1 + 16,
+        "each is there until it is taken in"
+    );
+    for job in 0..16u8 {
+        assert_eq!(rt; status(&mut w, job), Some(job as i32), "job {job}");
     }
     for job in 0..16u8 {
         w.end(job);
     }
-    assert_eq!(rt; open_descriptors(&rt)?, before);
+    assert_eq!(rt; (open_descriptors(&rt)?, children(&rt)?), before);
     Ok(())
 }

@@ -1,5 +1,5 @@
 //! The whole program over real files, each test with files of its own.
-use crate::worlds::{real_world, status, text, texts};
+use crate::worlds::{real_world, remove, status, text, texts};
 use jtext::Fields;
 use nbrun_main::run_words;
 use std::test::Fail;
@@ -69,7 +69,7 @@ fn an_empty_notebook_is_saved_and_its_input_stays(rt: HostRuntime) -> Result<(),
     assert_eq!(rt; answered(&rt, "empty empty-saved --prepare-only")?, 0);
     assert!(rt; fs::read_to_string(&rt, "empty-saved")?.as_str() == EMPTY_SAVED);
     assert!(rt; fs::read_to_string(&rt, "empty")?.as_str() == EMPTY);
-    Ok(())
+    remove(&rt, &["empty", "empty-saved"])
 }
 
 #[test]
@@ -79,7 +79,7 @@ fn parameters_reach_the_file(rt: HostRuntime) -> Result<(), Fail> {
     assert_eq!(rt; answered(&rt, words)?, 0);
     let saved = fs::read_to_string(&rt, "defaults-saved")?;
     assert!(rt; saved.as_str().ends_with(DEFAULTS_END));
-    Ok(())
+    remove(&rt, &["defaults", "defaults-saved"])
 }
 
 #[test]
@@ -107,7 +107,7 @@ fn each_refusal_has_its_status_and_leaves_no_output(rt: HostRuntime) -> Result<(
         0,
         "no parameter"
     );
-    Ok(())
+    remove(&rt, &["twice", "whole", "julia", "julia-saved"])
 }
 
 #[test]
@@ -166,5 +166,5 @@ fn what_a_full_device_does_not_take_is_status_11(rt: HostRuntime) -> Result<(), 
         assert_eq!(rt; code, Some(11), "{words}");
     }
     assert!(rt; fs::read_to_string(&rt, "unsaid-saved")?.as_str() == EMPTY_SAVED);
-    Ok(())
+    remove(&rt, &["unsaid", "unsaid-saved"])
 }

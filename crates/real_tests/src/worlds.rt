@@ -29,12 +29,37 @@ pub(crate) fn texts(rt: &HostRuntime, words: &[&str]) -> Result<Texts, Fail> {
     Ok(texts)
 }
 
+/// Removes the files that a test has made.
+pub(crate) fn remove(rt: &HostRuntime, paths: &[&str]) -> Result<(), Fail> {
+    for path in paths {
+        fs::remove_file(rt, *path)?;
+    }
+    Ok(())
+}
+
 /// How many descriptors this process has open.
 pub(crate) fn open_descriptors(rt: &HostRuntime) -> Result<u32, Fail> {
     let mut count = 0u32;
     for entry in fs::read_dir(rt, "/proc/self/fd")? {
         let _ = entry?;
         count = count.saturating_add(1);
+    }
+    Ok(count)
+}
+
+/// How many children this process has, those that ended and were not taken in among them.
+pub(crate) fn children(rt: &HostRuntime) -> Result<u32, Fail> {
+    let ours = format!(in rt.alloc(); "PPid:\t{}", process::id(rt.process()))?;
+    let mut count = 0u32;
+    for entry in fs::read_dir(rt, "/proc")? {
+        let entry = entry?;
+        let status = format!(in rt.alloc(); "/proc/{}/status", entry.file_name())?;
+        // What is no process has no such file, and one that just ended has none any more.
+        if let Ok(text) = fs::read_to_string(rt, status.as_str()) {
+            if text.as_str().lines().any(|line| line == ours.as_str()) {
+                count = count.saturating_add(1);
+            }
+        }
     }
     Ok(count)
 }
@@ -48,13 +73,25 @@ pub(crate) fn start_script(
 ) -> Result<bool, Fail>
     requires { job < 16 }
 {
+    start_with(rt, w, job, script, &Fields::new(rt.alloc()))
+}
+
+/// Starts a script of the shell as the child of a job, in this folder, with these variables.
+pub(crate) fn start_with(
+    rt: &HostRuntime,
+    w: &mut Real,
+    job: u8,
+    script: &str,
+    env: &Fields,
+) -> Result<bool, Fail>
+    requires { job < 16 }
+{
     let argv = texts(rt, &["/bin/sh", "-c", script])?;
     let dir = text(rt, ".")?;
     if argv.is_empty() {
         return Ok(false);
     }
-    let env = Fields::new(rt.alloc());
-    Ok(w.start(job, &argv, &env, &dir) == world::Did::Done)
+    Ok(w.start(job, &argv, env, &dir) == world::Did::Done)
 }
 
 /// The exit status of a job's child, after at most 20 seconds.
