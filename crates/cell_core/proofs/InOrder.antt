@@ -19,7 +19,7 @@ use Rattle.cell_core.specs.Saves.{Prefix, prepared, saves}
 use Rattle.cell_core.specs.Acts.{has_stopped, heard, act_at}
 use Rattle.cell_core.specs.declared.clock.Clock.{Clock}
 use Rattle.cell_core.specs.declared.clock.Clock.TheVariants.{Unread}
-use Rattle.cell_core.specs.Holds.{awaits, now_of, is_past, read_again, clock_after, lost_after}
+use Rattle.cell_core.specs.Holds.{running_state, awaits, now_of, is_past, read_again, clock_after, lost_after}
 use Rattle.cell_core.specs.Moves.{move, stays, ends, fails, stops, in_preparing, start_due, look_or, in_starting, late, in_running, on_passed, in_passing, in_closing, in_failing, moved}
 use Rattle.cell_core.specs.StandsFor.{IsStarting, IsPassing, IsFailing, HasStopped, IsAt}
 use Rattle.cell_core.proofs.Requests.{reached_waits}
@@ -37,7 +37,7 @@ use Rattle.cell_core.proofs.Runs.{follows, awaits_is}
 abbrev pub SoFar : Task → State → List Event → List ℕ → Type 0
 SoFar task Preparing events asked = asked ≡ []
 SoFar task (Starting due) events asked = asked ≡ []
-SoFar task (Running k fatal idle due interrupted) events asked = asked ≡ settles (marks task k)
+SoFar task (Running r) events asked = asked ≡ settles (marks task r.at)
 SoFar task (Passing k) events asked = asked ≡ settles (marks task k ++ mark task k ∷ [])
 SoFar task (Failing k w) events asked = asked ≡ settles (marks task k ++ stop_mark task k ∷ [])
 SoFar task Closing events asked = 0 ∷ asked ≡ settles (saves task events)
@@ -71,14 +71,14 @@ ends_far : (task : Task) (k : ℕ) (fatal : Bool) (events : List Event) (asked :
 ends_far task k true events asked e = failing_far task k asked e
 ends_far task k false events asked e = passing_far task k asked e
 
-look_far : (task : Task) (k : ℕ) (fatal : Option Bool) (idle : Bool) (due : Option ℕ) (interrupted late : Bool) (events : List Event) (asked : List ℕ) → asked ≡ settles (marks task k) → Far task (look_or (Running k fatal idle due interrupted) late) events asked
+look_far : (task : Task) (k : ℕ) (fatal : Option Bool) (idle : Bool) (due : Option ℕ) (interrupted late : Bool) (events : List Event) (asked : List ℕ) → asked ≡ settles (marks task k) → Far task (look_or (running_state k fatal idle due interrupted) late) events asked
 look_far task k fatal idle due interrupted true events asked e = quietly asked _ e
 look_far task k fatal idle due interrupted false events asked e = quietly asked _ e
 
 late_far : (task : Task) (clock : Clock) (k : ℕ) (fatal : Option Bool) (idle interrupted : Bool) (events : List Event) (asked : List ℕ) → asked ≡ settles (marks task k) → Far task (late task clock k fatal idle interrupted) events asked
 late_far task clock k (Some f) idle interrupted events asked e = failing_far task k asked e
 late_far task clock k None idle interrupted events asked e =
-    far_if task events asked (task.times.interrupt && not interrupted) (move (Running k None idle (Some (now_of clock + 10000)) true) false Interrupt) (fails task k TimedOut) (quietly asked _ e) (failing_far task k asked e)
+    far_if task events asked (task.times.interrupt && not interrupted) (move (running_state k None idle (Some (now_of clock + 10000)) true) false Interrupt) (fails task k TimedOut) (quietly asked _ e) (failing_far task k asked e)
 
 running_far : (task : Task) (clock : Clock) (lost : Bool) (k : ℕ) (fatal : Option Bool) (idle : Bool) (due : Option ℕ) (interrupted : Bool) (event : Event) (events : List Event) (asked : List ℕ)
     → asked ≡ settles (marks task k) → Far task (in_running task clock lost k fatal idle due interrupted event) events asked
@@ -90,8 +90,8 @@ running_far task clock lost k (Some old) idle due interrupted (Reply f) events a
 running_far task clock lost k None true due interrupted (Reply f) events asked e = ends_far task k f events asked e
 running_far task clock lost k None false due interrupted (Reply f) events asked e = quietly asked _ e
 running_far task clock lost k fatal idle due interrupted Looked events asked e =
-    far_if task events asked lost (fails task k KernelLost) (if is_past clock due then late task clock k fatal idle interrupted else stays (Running k fatal idle due interrupted)) (failing_far task k asked e)
-    (far_if task events asked (is_past clock due) (late task clock k fatal idle interrupted) (stays (Running k fatal idle due interrupted)) (late_far task clock k fatal idle interrupted events asked e) (quietly asked _ e))
+    far_if task events asked lost (fails task k KernelLost) (if is_past clock due then late task clock k fatal idle interrupted else stays (running_state k fatal idle due interrupted)) (failing_far task k asked e)
+    (far_if task events asked (is_past clock due) (late task clock k fatal idle interrupted) (stays (running_state k fatal idle due interrupted)) (late_far task clock k fatal idle interrupted events asked e) (quietly asked _ e))
 running_far task clock lost k fatal idle due interrupted (Moment t) events asked e = look_far task k fatal idle due interrupted (is_past (read_again clock t) due) events asked e
 running_far task clock lost k fatal idle due interrupted Broken events asked e = failing_far task k asked e
 running_far task clock lost k fatal idle due interrupted Saved events asked e = quietly asked _ e
@@ -171,7 +171,7 @@ move_far task clock lost Preparing event past asked a live h e =
     subst (λ (x : Event). Far task (in_preparing task x) (x ∷ past) asked) (sym (saved_is event h))
     (subst (λ (es : List Event). Far task (in_preparing task Saved) (Saved ∷ es) asked) (sym a.0) (subst (λ (xs : List ℕ). Far task (in_preparing task Saved) (Saved ∷ []) xs) (sym e) (first_far task)))
 move_far task clock lost (Starting due) event past asked a live h e = starting_far task clock lost due event past asked a e
-move_far task clock lost (Running k fatal idle due interrupted) event past asked a live h e = running_far task clock lost k fatal idle due interrupted event (event ∷ past) asked e
+move_far task clock lost (Running r) event past asked a live h e = running_far task clock lost r.at r.fatal r.idle r.due r.interrupted event (event ∷ past) asked e
 move_far task clock lost (Passing k) event past asked a live h e = subst (λ (x : Event). Far task (in_passing task clock k x) (x ∷ past) asked) (sym (saved_is event h)) (passed_far task clock lost k past asked a e)
 move_far task clock lost Closing event past asked a live h e = subst (λ (x : Event). Far task (in_closing x) (x ∷ past) asked) (sym (saved_is event h)) (closed_far task clock lost past asked a e)
 move_far task clock lost (Failing k w) event past asked a live h e = subst (λ (x : Event). Far task (in_failing k w x) (x ∷ past) asked) (sym (saved_is event h)) (failed_far task k w past asked a e)
@@ -216,7 +216,7 @@ tally_step task event past clock lost (Stopped failing) a e h timely later =
     }
 tally_step task event past clock lost Preparing a e h timely later = tally_live task event past clock lost Preparing a e refl h timely later
 tally_step task event past clock lost (Starting due) a e h timely later = tally_live task event past clock lost (Starting due) a e refl h timely later
-tally_step task event past clock lost (Running k fatal idle due interrupted) a e h timely later = tally_live task event past clock lost (Running k fatal idle due interrupted) a e refl h timely later
+tally_step task event past clock lost (Running r) a e h timely later = tally_live task event past clock lost (Running r) a e refl h timely later
 tally_step task event past clock lost (Passing k) a e h timely later = tally_live task event past clock lost (Passing k) a e refl h timely later
 tally_step task event past clock lost Closing a e h timely later = tally_live task event past clock lost Closing a e refl h timely later
 tally_step task event past clock lost (Failing k w) a e h timely later = tally_live task event past clock lost (Failing k w) a e refl h timely later
@@ -243,10 +243,10 @@ order_by task clock lost (Starting due) events a e =
       all = ap settles (saves_none a.reached ∙ ap (λ (xs : List Prefix). prepared ∷ xs) (rest_none task a.planned)) ∙ ap (λ (xs : List ℕ). 0 ∷ (xs ++ [])) (sym e);
       whole = λ stopped. refl;
     }
-order_by task clock lost (Running k fatal idle due interrupted) events a e =
+order_by task clock lost (Running r) events a e =
     record {
       rest = [];
-      all = ap settles (saves_quiet a.stands (over_not_passed a.later a.on) (no_cause_on a) ∙ append-nil (prepared ∷ marks task k)) ∙ ap (λ (xs : List ℕ). 0 ∷ xs) (sym (quietly _ _ e));
+      all = ap settles (saves_quiet a.stands (over_not_passed a.later a.on) (no_cause_on a) ∙ append-nil (prepared ∷ marks task r.at)) ∙ ap (λ (xs : List ℕ). 0 ∷ xs) (sym (quietly _ _ e));
       whole = λ stopped. refl;
     }
 order_by task clock lost (Passing k) events a e =

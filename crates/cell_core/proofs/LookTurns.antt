@@ -15,7 +15,7 @@ use Rattle.cell_core.specs.declared.clock.Clock.TheVariants.{Unread}
 use Rattle.cell_core.specs.Task.{Task, cell_of}
 use Rattle.cell_core.specs.Events.{is_saved, is_looked, came}
 use Rattle.cell_core.specs.Acts.{act_of, awaits_saved, due_of, has_stopped, heard, Meets, IsTimely}
-use Rattle.cell_core.specs.Holds.{awaits, now_of, is_turned, is_past, looks_in, read_again, clock_after, lost_after, due_in}
+use Rattle.cell_core.specs.Holds.{running_state, awaits, now_of, is_turned, is_past, looks_in, read_again, clock_after, lost_after, due_in}
 use Rattle.cell_core.specs.LastLooks.{IsAnswered, IsLookedThrough, IsInTurn, TakesTurns}
 use Rattle.cell_core.specs.Moves.{move, stays, sent, limit_from, ends, fails, stops, in_preparing, start_due, look_or, in_starting, late, in_running, on_passed, in_passing, in_closing, in_failing, moved}
 use Rattle.cell_core.specs.StandsFor.{IsAt}
@@ -66,7 +66,7 @@ record Owes (task : Task) (clock : Clock) (lost : Bool) (due : Option ℕ) (even
 -- the same, by the state
 abbrev OwesIn : Task → Clock → Bool → State → List Event → Type 0
 OwesIn task clock lost (Starting due) events = Owes task clock lost due events
-OwesIn task clock lost (Running k fatal idle due interrupted) events = Owes task clock lost due events
+OwesIn task clock lost (Running r) events = Owes task clock lost r.due events
 OwesIn task clock lost (Passing k) events = lost ≡ true → Open task AtLoss events
 OwesIn task clock lost state events = Unit {0}
 
@@ -165,7 +165,7 @@ record Newest (task : Task) (clock : Clock) (lost : Bool) (due : Option ℕ) (to
 late_owes : (task : Task) (clock : Clock) (lost : Bool) (k : ℕ) (fatal : Option Bool) (idle interrupted : Bool) (events : List Event) → lost ≡ false → OwesIn task clock lost (late task clock k fatal idle interrupted).state events
 late_owes task clock lost k (Some f) idle interrupted events l = tt
 late_owes task clock lost k None idle interrupted events l =
-    if_owes task clock lost events (task.times.interrupt && not interrupted) (move (Running k None idle (Some (now_of clock + 10000)) true) false Interrupt) (fails task k TimedOut)
+    if_owes task clock lost events (task.times.interrupt && not interrupted) (move (running_state k None idle (Some (now_of clock + 10000)) true) false Interrupt) (fails task k TimedOut)
     (λ e. none_due l (not_past clock 10000 (omega arith))) (λ e. tt)
 
 running_owes : (task : Task) (clock : Clock) (lost : Bool) (k : ℕ) (fatal : Option Bool) (idle : Bool) (due : Option ℕ) (interrupted : Bool) (event : Event) (past : List Event)
@@ -179,12 +179,12 @@ running_owes task clock lost k (Some old) idle due interrupted (Reply f) past n 
 running_owes task clock lost k None true due interrupted (Reply f) past n = ends_owes task clock lost k f (Reply f ∷ past) (λ l. open_still (Reply f) refl (n.owed.loss l))
 running_owes task clock lost k None false due interrupted (Reply f) past n = new_due (Reply f) refl n.owed.loss (not_past clock 4000 (omega arith))
 running_owes task clock lost k fatal idle due interrupted Looked past n =
-    if_owes task clock lost (Looked ∷ past) lost (fails task k KernelLost) (if is_past clock due then late task clock k fatal idle interrupted else stays (Running k fatal idle due interrupted))
+    if_owes task clock lost (Looked ∷ past) lost (fails task k KernelLost) (if is_past clock due then late task clock k fatal idle interrupted else stays (running_state k fatal idle due interrupted))
     (λ l. tt)
-    (λ l. if_owes task clock lost (Looked ∷ past) (is_past clock due) (late task clock k fatal idle interrupted) (stays (Running k fatal idle due interrupted))
+    (λ l. if_owes task clock lost (Looked ∷ past) (is_past clock due) (late task clock k fatal idle interrupted) (stays (running_state k fatal idle due interrupted))
     (λ p. late_owes task clock lost k fatal idle interrupted (Looked ∷ past) l) (λ p. none_due l p))
 running_owes task clock lost k fatal idle due interrupted (Moment t) past n =
-    entry_due clock t (n.in_turn t refl).found (λ p. n.act ∙ ap (λ (b : Bool). (look_or (Running k fatal idle due interrupted) b).step.act) p) n.until
+    entry_due clock t (n.in_turn t refl).found (λ p. n.act ∙ ap (λ (b : Bool). (look_or (running_state k fatal idle due interrupted) b).step.act) p) n.until
 running_owes task clock lost k fatal idle due interrupted Broken past n = tt
 running_owes task clock lost k fatal idle due interrupted Saved past n = absurd (true≢false n.unsaved)
 running_owes task clock lost k fatal idle due interrupted Ready past n = same_due Ready refl n.owed
@@ -232,8 +232,8 @@ record Turned (task : Task) (events : List Event) : Type 0 where
 moment_calm : (task : Task) (clock : Clock) (lost : Bool) (state : State) (past : List Event) → IsAt task clock lost state (heard task past) → OwesIn task clock lost state past → awaits state ≡ false
     → IsLookedThrough task past → looks_in clock lost state ≡ false
 moment_calm task clock lost (Starting due) past a o w through = (let c = calm through (due_is task clock lost (Starting due) past a) o in rw (c.found, c.early) refl)
-moment_calm task clock lost (Running k fatal idle due interrupted) past a o w through =
-    (let c = calm through (due_is task clock lost (Running k fatal idle due interrupted) past a) o in rw (c.found, c.early) refl)
+moment_calm task clock lost (Running r) past a o w through =
+    (let c = calm through (due_is task clock lost (Running r) past a) o in rw (c.found, c.early) refl)
 moment_calm task clock lost Preparing past a o w through = refl
 moment_calm task clock lost (Passing k) past a o w through = refl
 moment_calm task clock lost Closing past a o w through = refl
@@ -277,14 +277,14 @@ owes_after task clock lost (Starting due) event past a o s h f later =
       act = sym f.act;
       until = due_is task (clock_after clock event) (lost_after lost event) (moved task clock lost (Starting due) event).state (event ∷ past) f.stands;
     })
-owes_after task clock lost (Running k fatal idle due interrupted) event past a o s h f later =
-    running_owes task clock lost k fatal idle due interrupted event past
+owes_after task clock lost (Running r) event past a o s h f later =
+    running_owes task clock lost r.at r.fatal r.idle r.due r.interrupted event past
     (record {
       unsaved = s;
       owed = o;
-      in_turn = calm_at event past h (shows task clock lost (Running k fatal idle due interrupted) (heard task past) a refl).goes_on (due_is task clock lost (Running k fatal idle due interrupted) past a) o;
+      in_turn = calm_at event past h (shows task clock lost (Running r) (heard task past) a refl).goes_on (due_is task clock lost (Running r) past a) o;
       act = sym f.act;
-      until = due_is task (clock_after clock event) (lost_after lost event) (moved task clock lost (Running k fatal idle due interrupted) event).state (event ∷ past) f.stands;
+      until = due_is task (clock_after clock event) (lost_after lost event) (moved task clock lost (Running r) event).state (event ∷ past) f.stands;
     })
 
 turned : (task : Task) (events : List Event) → TakesTurns task events → ForSome task.times.limit_ms (λ limit. 0 < limit) → Turned task events

@@ -43,9 +43,9 @@ looks_is task clock lost Preparing events a w = saved_first _ _ _ w
 looks_is task clock lost (Starting due) events a w =
     all_three _ _ _ _ w (why_waits a.reached a.planned ∙ no_cause_none a)
     (called a.hears _ due (ap (λ (v : Option Standing). due_at task v (heard task events)) (standing_none a.reached) ∙ a.until))
-looks_is task clock lost (Running k fatal idle due interrupted) events a w =
+looks_is task clock lost (Running r) events a w =
     all_three _ _ _ _ w (why_none_on a.stands (over_not_passed a.later a.on) (no_cause_on a))
-    (called a.hears _ due (ap (λ (v : Option Standing). due_at task v (heard task events)) (standing_is a.stands) ∙ a.until))
+    (called a.hears _ r.due (ap (λ (v : Option Standing). due_at task v (heard task events)) (standing_is a.stands) ∙ a.until))
 looks_is task clock lost (Passing k) events a w = saved_first _ _ _ w
 looks_is task clock lost Closing events a w = saved_first _ _ _ w
 looks_is task clock lost (Failing k cause) events a w = saved_first _ _ _ w
@@ -70,8 +70,8 @@ pub goes_on_is : (task : Task) (clock : Clock) (lost : Bool) (state : State) (ev
     → has_stopped task (heard task events) ≡ false → GoesOn task (heard task events)
 goes_on_is task clock lost Preparing events a w on = absurd (true≢false w)
 goes_on_is task clock lost (Starting due) events a w on = inl (standing_none a.reached, a.reached.acknowledged)
-goes_on_is task clock lost (Running k fatal idle due interrupted) events a w on =
-    inr (record { request = k; later = a.later }, standing_is a.stands, a.on, a.stands.reached.acknowledged)
+goes_on_is task clock lost (Running r) events a w on =
+    inr (record { request = r.at; later = a.later }, standing_is a.stands, a.on, a.stands.reached.acknowledged)
 goes_on_is task clock lost (Passing k) events a w on = absurd (true≢false w)
 goes_on_is task clock lost Closing events a w on = absurd (true≢false w)
 goes_on_is task clock lost (Failing k cause) events a w on = absurd (true≢false w)

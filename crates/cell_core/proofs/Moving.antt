@@ -12,7 +12,7 @@ use Rattle.cell_core.specs.Requests.{reply, is_over, is_fatal, after, Standing, 
 use Rattle.cell_core.specs.Saves.{late_cause, why_not_done, Prefix, prepared, why, unacked, is_done, is_whole}
 use Rattle.cell_core.specs.Acts.{is_empty, has_stopped, failing_at}
 use Rattle.cell_core.specs.declared.clock.Clock.{Clock}
-use Rattle.cell_core.specs.Holds.{awaits}
+use Rattle.cell_core.specs.Holds.{running_state, awaits}
 use Rattle.cell_core.specs.Deadlines.{deadline, start_deadline, looked_by}
 use Rattle.cell_core.proofs.Causes.{is_interruptible, late_is}
 use Rattle.cell_core.specs.StandsFor.{Reached, IsStarting, IsRunning, IsPassing, IsClosing, IsFailing, IsAt, failing_in}
@@ -70,7 +70,7 @@ no_cause_none {task} {clock} {lost} {due} {events} a =
     chain _ _ _ _ refl a.hears.unbroken a.hears.unseen (ap (λ (b : Bool). if b then Some NotReady else None) no_look)
 
 shows_running : (task : Task) (clock : Clock) (lost : Bool) (k : ℕ) (fatal : Option Bool) (idle : Bool) (due : Option ℕ) (interrupted : Bool) (events : List Event)
-    → IsRunning task clock lost k fatal idle due interrupted events → Shows task (Running k fatal idle due interrupted) events
+    → IsRunning task clock lost k fatal idle due interrupted events → Shows task (running_state k fatal idle due interrupted) events
 shows_running task clock lost k fatal idle due interrupted events a =
     let p = over_not_passed a.later a.on in
     record {
@@ -174,7 +174,7 @@ is_stopped _ = false
 pub shows : (task : Task) (clock : Clock) (lost : Bool) (state : State) (events : List Event) → IsAt task clock lost state events → is_stopped state ≡ false → Shows task state events
 shows task clock lost Preparing events a live = shows_preparing task clock lost events a
 shows task clock lost (Starting due) events a live = shows_starting task clock lost due events a
-shows task clock lost (Running k fatal idle due interrupted) events a live = shows_running task clock lost k fatal idle due interrupted events a
+shows task clock lost (Running r) events a live = shows_running task clock lost r.at r.fatal r.idle r.due r.interrupted events a
 shows task clock lost (Passing k) events a live = shows_passing task clock lost k events a
 shows task clock lost Closing events a live = shows_closing task clock lost events a
 shows task clock lost (Failing k w) events a live = shows_failing task k w events a

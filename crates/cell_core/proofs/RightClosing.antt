@@ -252,7 +252,7 @@ right task clock lost Preparing event past a live h keeps later =
     (subst (λ (es : List Event). Right task clock lost (in_preparing task Saved) Saved es) (sym a.0)
     (subst (λ (c : Clock). Right task c lost (in_preparing task Saved) Saved []) (sym a.1) (subst (λ (b : Bool). Right task Unread b (in_preparing task Saved) Saved []) (sym a.2) (right_first task))))
 right task clock lost (Starting due) event past a live h keeps later = right_starting task clock lost due event past a h keeps later
-right task clock lost (Running k fatal idle due interrupted) event past a live h keeps later = right_running task clock lost k fatal idle due interrupted event past a h keeps
+right task clock lost (Running r) event past a live h keeps later = right_running task clock lost r.at r.fatal r.idle r.due r.interrupted event past a h keeps
 right task clock lost (Passing k) event past a live h keeps later = subst (λ (e : Event). Right task clock lost (in_passing task clock k e) e past) (sym (saved_is event h)) (right_passing task clock lost k past a later)
 right task clock lost Closing event past a live h keeps later = subst (λ (e : Event). Right task clock lost (in_closing e) e past) (sym (saved_is event h)) (right_closing task clock lost past a)
 right task clock lost (Failing k w) event past a live h keeps later = subst (λ (e : Event). Right task clock lost (in_failing k w e) e past) (sym (saved_is event h)) (right_failing task clock lost k w past a)

@@ -17,7 +17,7 @@ use Rattle.cell_core.specs.Saves.{is_stop}
 use Rattle.cell_core.specs.Acts.{due_at, is_late, is_queued_now, calls_for_look, answers, is_used}
 use Rattle.cell_core.specs.declared.clock.Clock.{Clock}
 use Rattle.cell_core.specs.declared.clock.Clock.TheVariants.{Unread, Started, Turned}
-use Rattle.cell_core.specs.Holds.{now_of, is_read, is_turned, is_past, read_again, clock_after, lost_after}
+use Rattle.cell_core.specs.Holds.{running_state, now_of, is_read, is_turned, is_past, read_again, clock_after, lost_after}
 use Rattle.cell_core.specs.Deadlines.{entry_and_more, deadline, first_deadline, second_deadline, by_limit, looked_by, passed_by, queued, queues, is_first_look, is_unanswered}
 use Rattle.cell_core.specs.Moves.{move, stays, ends, fails, look_or, late, in_running}
 use Rattle.cell_core.specs.StandsFor.{Hears, Stands, Fails, IsAsked, IsRunning}
@@ -57,7 +57,7 @@ still_runs {task} {clock} {lost} {k} {fatal} {idle} {due} {interrupted} {past} e
 
 pub runs_right : {task : Task} {clock : Clock} {lost : Bool} {k : ℕ} {fatal : Option Bool} {idle : Bool} {due : Option ℕ} {interrupted : Bool} {later past : List Event} (event : Event) (takes : Bool) (act : Act) {b : ℕ}
     → Stands task k later b past → is_saved event ≡ false → IsRunning task (clock_after clock event) (lost_after lost event) k fatal idle due interrupted (event ∷ past) → answers task (Some (at k (event ∷ later))) (event ∷ past) ≡ act
-    → takes ≡ is_used event (Some (at k later)) → Right task clock lost (move (Running k fatal idle due interrupted) takes act) event past
+    → takes ≡ is_used event (Some (at k later)) → Right task clock lost (move (running_state k fatal idle due interrupted) takes act) event past
 runs_right event takes act s h a e t = record { stands = a; act = sym (act_on a (stands_more s event h) ∙ e); takes = t ∙ sym (used_is s event) }
 
 -- the message by which request k is over
@@ -165,7 +165,7 @@ late_now h t None = refl
 late_now {clock} {lost} {past} h t (Some d) = late_by clock t d (came is_moment past) h.read
 
 pub moment_right : {task : Task} {clock : Clock} {lost : Bool} {k : ℕ} {fatal : Option Bool} {idle : Bool} {due : Option ℕ} {interrupted : Bool} {past : List Event} (t : ℕ)
-    → IsRunning task clock lost k fatal idle due interrupted past → time past ≤ t → passed_by due past ≡ false → Right task clock lost (look_or (Running k fatal idle due interrupted) (is_past (read_again clock t) due)) (Moment t) past
+    → IsRunning task clock lost k fatal idle due interrupted past → time past ≤ t → passed_by due past ≡ false → Right task clock lost (look_or (running_state k fatal idle due interrupted) (is_past (read_again clock t) due)) (Moment t) past
 moment_right {task} {clock} {lost} {k} {fatal} {idle} {due} {interrupted} {past} t a rises quiet =
     runs_right (Moment t) false _ a.stands refl (moment_runs t a rises quiet)
     (ap (λ (v : Bool). if v then Look else Nothing) (ap (λ (o : Option ℕ). is_late o (Moment t ∷ past)) (moment_deadline t a) ∙ late_now a.hears t due)) refl
@@ -222,7 +222,7 @@ looked_queues {task} {clock} {lost} {k} {idle} {due} {interrupted} {past} None a
     not_first_look task k first past (asked_look task k first interrupted past (unheld_first None a quiet refl first f on) (a.asked refl first f on))
 
 pub looked_right : {task : Task} {clock : Clock} {k : ℕ} {fatal : Option Bool} {idle : Bool} {due : Option ℕ} {interrupted : Bool} {past : List Event}
-    → IsRunning task clock false k fatal idle due interrupted past → passed_by due past ≡ false → Right task clock false (stays (Running k fatal idle due interrupted)) Looked past
+    → IsRunning task clock false k fatal idle due interrupted past → passed_by due past ≡ false → Right task clock false (stays (running_state k fatal idle due interrupted)) Looked past
 looked_right {task} {clock} {k} {fatal} {idle} {due} {interrupted} {past} a quiet =
     runs_right Looked false Nothing a.stands refl (looked_runs a quiet)
     (ap (λ (b : Bool). if b then Interrupt else Nothing) (queues_by task k past None (first_deadline task (at k a.later) past) (looked_queues fatal a quiet))) refl
@@ -318,7 +318,7 @@ interrupted_until task clock k past later first between r f on q s m now =
     ∙ ap (λ (n : ℕ). Some (n + 10000)) (time_at first past between s m ∙ now)
 
 pub interrupt_right : {task : Task} {clock : Clock} {k : ℕ} {idle : Bool} {due : Option ℕ} {past : List Event}
-    → (a : IsRunning task clock false k None idle due false past) → passed_by due past ≡ true → task.times.interrupt ≡ true → Right task clock false (move (Running k None idle (Some (now_of clock + 10000)) true) false Interrupt) Looked past
+    → (a : IsRunning task clock false k None idle due false past) → passed_by due past ≡ true → task.times.interrupt ≡ true → Right task clock false (move (running_state k None idle (Some (now_of clock + 10000)) true) false Interrupt) Looked past
 interrupt_right {task} {clock} {k} {idle} {due} {past} a passed on =
     let l = limited a passed in
     let first = l.0 in
@@ -351,7 +351,7 @@ interrupt_right {task} {clock} {k} {idle} {due} {past} a passed on =
 
 pub late_on : (task : Task) (clock : Clock) (k : ℕ) (idle : Bool) (due : Option ℕ) (interrupted : Bool) (past : List Event)
     → IsRunning task clock false k None idle due interrupted past → passed_by due past ≡ true → task.times.interrupt ≡ true
-    → Right task clock false (if true && not interrupted then move (Running k None idle (Some (now_of clock + 10000)) true) false Interrupt else fails task k TimedOut) Looked past
+    → Right task clock false (if true && not interrupted then move (running_state k None idle (Some (now_of clock + 10000)) true) false Interrupt else fails task k TimedOut) Looked past
 late_on task clock k idle due true past a passed on = late_interrupted a passed on
 late_on task clock k idle due false past a passed on = interrupt_right a passed on
 
@@ -360,8 +360,8 @@ pub late_right : (task : Task) (clock : Clock) (k : ℕ) (fatal : Option Bool) (
 late_right task clock k (Some old) idle due interrupted past a passed = late_replied old a passed
 late_right task clock k None idle due interrupted past a passed =
     elim (cases_Bool task.times.interrupt) [
-      | inl on ↦ subst (λ (b : Bool). Right task clock false (if b && not interrupted then move (Running k None idle (Some (now_of clock + 10000)) true) false Interrupt else fails task k TimedOut) Looked past) (sym on) (late_on task clock k idle due interrupted past a passed on)
-      | inr off ↦ subst (λ (b : Bool). Right task clock false (if b && not interrupted then move (Running k None idle (Some (now_of clock + 10000)) true) false Interrupt else fails task k TimedOut) Looked past) (sym off) (late_plain a passed off)
+      | inl on ↦ subst (λ (b : Bool). Right task clock false (if b && not interrupted then move (running_state k None idle (Some (now_of clock + 10000)) true) false Interrupt else fails task k TimedOut) Looked past) (sym on) (late_on task clock k idle due interrupted past a passed on)
+      | inr off ↦ subst (λ (b : Bool). Right task clock false (if b && not interrupted then move (running_state k None idle (Some (now_of clock + 10000)) true) false Interrupt else fails task k TimedOut) Looked past) (sym off) (late_plain a passed off)
     ]
 
 pub looks_right : (task : Task) (clock : Clock) (lost : Bool) (k : ℕ) (fatal : Option Bool) (idle : Bool) (due : Option ℕ) (interrupted : Bool) (past : List Event)
@@ -370,8 +370,8 @@ looks_right task clock true k fatal idle due interrupted past a = lost_right a
 looks_right task clock false k fatal idle due interrupted past a =
     let same = past_is a.hears due in
     elim (cases_Bool (is_past clock due)) [
-      | inl yet ↦ subst (λ (b : Bool). Right task clock false (if b then late task clock k fatal idle interrupted else stays (Running k fatal idle due interrupted)) Looked past) (sym yet) (late_right task clock k fatal idle due interrupted past a (same ∙ yet))
-      | inr before ↦ subst (λ (b : Bool). Right task clock false (if b then late task clock k fatal idle interrupted else stays (Running k fatal idle due interrupted)) Looked past) (sym before) (looked_right a (same ∙ before))
+      | inl yet ↦ subst (λ (b : Bool). Right task clock false (if b then late task clock k fatal idle interrupted else stays (running_state k fatal idle due interrupted)) Looked past) (sym yet) (late_right task clock k fatal idle due interrupted past a (same ∙ yet))
+      | inr before ↦ subst (λ (b : Bool). Right task clock false (if b then late task clock k fatal idle interrupted else stays (running_state k fatal idle due interrupted)) Looked past) (sym before) (looked_right a (same ∙ before))
     ]
 
 pub broken_right : {task : Task} {clock : Clock} {lost : Bool} {k : ℕ} {fatal : Option Bool} {idle : Bool} {due : Option ℕ} {interrupted : Bool} {past : List Event}

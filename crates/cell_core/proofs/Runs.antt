@@ -18,7 +18,7 @@ use Rattle.cell_core.specs.Saves.{why, unacked}
 use Rattle.cell_core.specs.Acts.{is_empty, has_stopped, heard, act_at, due_at, is_used, awaits_saved}
 use Rattle.cell_core.specs.declared.clock.Clock.{Clock}
 use Rattle.cell_core.specs.declared.clock.Clock.TheVariants.{Unread, Started, Turned}
-use Rattle.cell_core.specs.Holds.{awaits, now_of, is_past, read_again, clock_after, lost_after}
+use Rattle.cell_core.specs.Holds.{running_state, awaits, now_of, is_past, read_again, clock_after, lost_after}
 use Rattle.cell_core.specs.Moves.{move, stays, sent, ends, fails, stops, in_preparing, start_due, look_or, in_starting, late, in_running, on_passed, in_passing, in_closing, in_failing, moved}
 use Rattle.cell_core.specs.StandsFor.{Stands, HasStopped, IsAt, failing_in}
 use Rattle.cell_core.proofs.Requests.{standing_is, standing_none}
@@ -67,7 +67,7 @@ follows task clock lost (Stopped failing) event past a h timely later =
     }
 follows task clock lost Preparing event past a h timely later = live task clock lost Preparing event past a refl h timely later
 follows task clock lost (Starting due) event past a h timely later = live task clock lost (Starting due) event past a refl h timely later
-follows task clock lost (Running k fatal idle due interrupted) event past a h timely later = live task clock lost (Running k fatal idle due interrupted) event past a refl h timely later
+follows task clock lost (Running r) event past a h timely later = live task clock lost (Running r) event past a refl h timely later
 follows task clock lost (Passing k) event past a h timely later = live task clock lost (Passing k) event past a refl h timely later
 follows task clock lost Closing event past a h timely later = live task clock lost Closing event past a refl h timely later
 follows task clock lost (Failing k w) event past a h timely later = live task clock lost (Failing k w) event past a refl h timely later
@@ -77,7 +77,7 @@ pub failing_is : (task : Task) (clock : Clock) (lost : Bool) (state : State) (ev
 failing_is task clock lost (Stopped failing) events a = a.names
 failing_is task clock lost Preparing events a = (shows task clock lost Preparing (heard task events) a refl).names
 failing_is task clock lost (Starting due) events a = (shows task clock lost (Starting due) (heard task events) a refl).names
-failing_is task clock lost (Running k fatal idle due interrupted) events a = (shows task clock lost (Running k fatal idle due interrupted) (heard task events) a refl).names
+failing_is task clock lost (Running r) events a = (shows task clock lost (Running r) (heard task events) a refl).names
 failing_is task clock lost (Passing k) events a = (shows task clock lost (Passing k) (heard task events) a refl).names
 failing_is task clock lost Closing events a = (shows task clock lost Closing (heard task events) a refl).names
 failing_is task clock lost (Failing k w) events a = (shows task clock lost (Failing k w) (heard task events) a refl).names
@@ -88,7 +88,7 @@ awaits_is task clock lost (Stopped failing) events a =
     ap not (and_parts (is_some (why task (heard task events))) (is_empty (unacked task (heard task events))) a.stopped).1
 awaits_is task clock lost Preparing events a = (shows task clock lost Preparing (heard task events) a refl).awaits_it
 awaits_is task clock lost (Starting due) events a = (shows task clock lost (Starting due) (heard task events) a refl).awaits_it
-awaits_is task clock lost (Running k fatal idle due interrupted) events a = (shows task clock lost (Running k fatal idle due interrupted) (heard task events) a refl).awaits_it
+awaits_is task clock lost (Running r) events a = (shows task clock lost (Running r) (heard task events) a refl).awaits_it
 awaits_is task clock lost (Passing k) events a = (shows task clock lost (Passing k) (heard task events) a refl).awaits_it
 awaits_is task clock lost Closing events a = (shows task clock lost Closing (heard task events) a refl).awaits_it
 awaits_is task clock lost (Failing k w) events a = (shows task clock lost (Failing k w) (heard task events) a refl).awaits_it
@@ -127,7 +127,7 @@ look_awaits state false h = h
 late_awaits : (task : Task) (clock : Clock) (k : ℕ) (fatal : Option Bool) (idle interrupted : Bool) → awaits (late task clock k fatal idle interrupted).state ≡ is_save (late task clock k fatal idle interrupted).step.act
 late_awaits task clock k (Some f) idle interrupted = refl
 late_awaits task clock k None idle interrupted =
-    if_awaits (task.times.interrupt && not interrupted) (move (Running k None idle (Some (now_of clock + 10000)) true) false Interrupt) (fails task k TimedOut) refl refl
+    if_awaits (task.times.interrupt && not interrupted) (move (running_state k None idle (Some (now_of clock + 10000)) true) false Interrupt) (fails task k TimedOut) refl refl
 
 ends_awaits : (task : Task) (k : ℕ) (fatal : Bool) → awaits (ends task k fatal).state ≡ is_save (ends task k fatal).step.act
 ends_awaits task k true = refl
@@ -147,9 +147,9 @@ running_awaits task clock lost k (Some old) idle due interrupted (Reply f) = ref
 running_awaits task clock lost k None true due interrupted (Reply f) = ends_awaits task k f
 running_awaits task clock lost k None false due interrupted (Reply f) = refl
 running_awaits task clock lost k fatal idle due interrupted Looked =
-    if_awaits lost (fails task k KernelLost) (if is_past clock due then late task clock k fatal idle interrupted else stays (Running k fatal idle due interrupted)) refl
-    (if_awaits (is_past clock due) (late task clock k fatal idle interrupted) (stays (Running k fatal idle due interrupted)) (late_awaits task clock k fatal idle interrupted) refl)
-running_awaits task clock lost k fatal idle due interrupted (Moment t) = look_awaits (Running k fatal idle due interrupted) (is_past (read_again clock t) due) refl
+    if_awaits lost (fails task k KernelLost) (if is_past clock due then late task clock k fatal idle interrupted else stays (running_state k fatal idle due interrupted)) refl
+    (if_awaits (is_past clock due) (late task clock k fatal idle interrupted) (stays (running_state k fatal idle due interrupted)) (late_awaits task clock k fatal idle interrupted) refl)
+running_awaits task clock lost k fatal idle due interrupted (Moment t) = look_awaits (running_state k fatal idle due interrupted) (is_past (read_again clock t) due) refl
 running_awaits task clock lost k fatal idle due interrupted Broken = refl
 running_awaits task clock lost k fatal idle due interrupted Saved = refl
 running_awaits task clock lost k fatal idle due interrupted Ready = refl
@@ -182,14 +182,14 @@ move_awaits task clock lost (Passing k) event h = subst (λ (e : Event). awaits 
 move_awaits task clock lost Closing event h = subst (λ (e : Event). awaits (in_closing e).state ≡ is_save (in_closing e).step.act) (sym (saved_is event h)) refl
 move_awaits task clock lost (Failing k w) event h = subst (λ (e : Event). awaits (in_failing k w e).state ≡ is_save (in_failing k w e).step.act) (sym (saved_is event h)) refl
 move_awaits task clock lost (Starting due) event h = starting_awaits task clock lost due event
-move_awaits task clock lost (Running k fatal idle due interrupted) event h = running_awaits task clock lost k fatal idle due interrupted event
+move_awaits task clock lost (Running r) event h = running_awaits task clock lost r.at r.fatal r.idle r.due r.interrupted event
 move_awaits task clock lost (Stopped failing) event h = refl
 
 -- a move names no place past the plan
 late_reach : (task : Task) (clock : Clock) (k : ℕ) (fatal : Option Bool) (idle interrupted : Bool) (n : ℕ) → k + 1 ≤ n → reach (late task clock k fatal idle interrupted).state ≤ n
 late_reach task clock k (Some f) idle interrupted n le = le
 late_reach task clock k None idle interrupted n le =
-    if_reach (task.times.interrupt && not interrupted) (move (Running k None idle (Some (now_of clock + 10000)) true) false Interrupt) (fails task k TimedOut) n le le
+    if_reach (task.times.interrupt && not interrupted) (move (running_state k None idle (Some (now_of clock + 10000)) true) false Interrupt) (fails task k TimedOut) n le le
 
 running_reach : (task : Task) (clock : Clock) (lost : Bool) (k : ℕ) (fatal : Option Bool) (idle : Bool) (due : Option ℕ) (interrupted : Bool) (event : Event) (n : ℕ) → k + 1 ≤ n
     → reach (in_running task clock lost k fatal idle due interrupted event).state ≤ n
@@ -201,8 +201,8 @@ running_reach task clock lost k (Some old) idle due interrupted (Reply f) n le =
 running_reach task clock lost k None true due interrupted (Reply f) n le = rw (ends_reach task k f) le
 running_reach task clock lost k None false due interrupted (Reply f) n le = le
 running_reach task clock lost k fatal idle due interrupted Looked n le =
-    if_reach lost (fails task k KernelLost) (if is_past clock due then late task clock k fatal idle interrupted else stays (Running k fatal idle due interrupted)) n le
-    (if_reach (is_past clock due) (late task clock k fatal idle interrupted) (stays (Running k fatal idle due interrupted)) n (late_reach task clock k fatal idle interrupted n le) le)
+    if_reach lost (fails task k KernelLost) (if is_past clock due then late task clock k fatal idle interrupted else stays (running_state k fatal idle due interrupted)) n le
+    (if_reach (is_past clock due) (late task clock k fatal idle interrupted) (stays (running_state k fatal idle due interrupted)) n (late_reach task clock k fatal idle interrupted n le) le)
 running_reach task clock lost k fatal idle due interrupted (Moment t) n le = le
 running_reach task clock lost k fatal idle due interrupted Broken n le = le
 running_reach task clock lost k fatal idle due interrupted Saved n le = le
@@ -235,7 +235,7 @@ starting_reach task clock lost due Lost n le = le
 starting_reach task clock lost due Broken n le = omega arith
 
 pub move_reach : (task : Task) (clock : Clock) (lost : Bool) (state : State) (event : Event) → is_saved event ≡ awaits state → reach state ≤ length task.plan → reach (moved task clock lost state event).state ≤ length task.plan
-move_reach task clock lost (Running k fatal idle due interrupted) event h le = running_reach task clock lost k fatal idle due interrupted event (length task.plan) le
+move_reach task clock lost (Running r) event h le = running_reach task clock lost r.at r.fatal r.idle r.due r.interrupted event (length task.plan) le
 move_reach task clock lost (Passing k) event h le = subst (λ (e : Event). reach (in_passing task clock k e).state ≤ length task.plan) (sym (saved_is event h)) (passed_reach task clock k)
 move_reach task clock lost Preparing event h le = subst (λ (e : Event). reach (in_preparing task e).state ≤ length task.plan) (sym (saved_is event h)) (first_reach task)
 move_reach task clock lost Closing event h le = subst (λ (e : Event). reach (in_closing e).state ≤ length task.plan) (sym (saved_is event h)) le
@@ -266,7 +266,7 @@ due_is task clock lost Preparing events a = due_unless _ _ (ap (λ (es : List Ev
 due_is task clock lost (Starting due) events a =
     ap (λ (v : Option Why). if is_some v then None else due_at task (standing task (heard task events)) (heard task events)) (why_waits a.reached a.planned ∙ no_cause_none a)
     ∙ ap (λ (v : Option Standing). due_at task v (heard task events)) (standing_none a.reached) ∙ a.until
-due_is task clock lost (Running k fatal idle due interrupted) events a =
+due_is task clock lost (Running r) events a =
     ap (λ (v : Option Why). if is_some v then None else due_at task (standing task (heard task events)) (heard task events)) (why_none_on a.stands (over_not_passed a.later a.on) (no_cause_on a))
     ∙ ap (λ (v : Option Standing). due_at task v (heard task events)) (standing_is a.stands) ∙ a.until
 due_is task clock lost (Passing k) events a = due_unless _ _ (over_due a.stands a.passed)

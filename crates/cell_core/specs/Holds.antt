@@ -6,13 +6,18 @@ use Rattle.cell_core.specs.declared.act.Act.{Act}
 use Rattle.cell_core.specs.declared.act.Act.TheVariants.{Save}
 use Rattle.cell_core.specs.declared.clock.Clock.{Clock}
 use Rattle.cell_core.specs.declared.clock.Clock.TheVariants.{Unread, Started, Turned}
+use Rattle.cell_core.specs.declared.request.Request.{Request}
 use Rattle.cell_core.specs.declared.state.State.{State}
 use Rattle.cell_core.specs.declared.state.State.TheVariants.{Preparing, Starting, Running, Passing, Closing, Failing, Stopped}
+
+-- request k stands: whether its reply is fatal, where it came; whether its idle came; its deadline; whether it was interrupted
+abbrev pub running_state : ℕ → Option Bool → Bool → Option ℕ → Bool → State
+running_state k fatal idle due interrupted = Running (record { at = k; fatal = fatal; idle = idle; due = due; interrupted = interrupted })
 
 -- the last place of the plan that a state names, and one more
 abbrev pub reach : State → ℕ
 reach (Starting due) = 1
-reach (Running k fatal idle due interrupted) = k + 1
+reach (Running r) = r.at + 1
 reach (Passing k) = k + 1
 reach (Failing k why) = k + 1
 reach (Stopped (Some k)) = k + 1
@@ -29,7 +34,7 @@ awaits _ = false
 -- the deadline that stands
 abbrev pub due_in : State → Option ℕ
 due_in (Starting due) = due
-due_in (Running k fatal idle due interrupted) = due
+due_in (Running r) = r.due
 due_in _ = None
 
 -- the act asks for a save
@@ -76,7 +81,7 @@ is_past clock (Some due) = is_turned clock && nat_le due (now_of clock)
 -- the kernel was found lost, or a turn's entry at or past the deadline that stands was read, and no save is awaited
 abbrev pub looks_in : Clock → Bool → State → Bool
 looks_in clock lost (Starting due) = lost || is_past clock due
-looks_in clock lost (Running k fatal idle due interrupted) = lost || is_past clock due
+looks_in clock lost (Running r) = lost || is_past clock r.due
 looks_in clock lost _ = false
 
 -- a moment that the clock can give

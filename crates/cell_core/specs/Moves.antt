@@ -13,7 +13,7 @@ use Rattle.cell_core.specs.declared.state.State.{State}
 use Rattle.cell_core.specs.declared.state.State.TheVariants.{Preparing, Starting, Running, Passing, Closing, Failing, Stopped}
 use Rattle.cell_core.specs.declared.moved.Moved.{Moved}
 use Rattle.cell_core.specs.Task.{Task, cell_of}
-use Rattle.cell_core.specs.Holds.{now_of, is_read, is_past, read_again}
+use Rattle.cell_core.specs.Holds.{running_state, now_of, is_read, is_past, read_again}
 
 -- to a state, with an answer
 abbrev pub move : State → Bool → Act → Moved
@@ -29,7 +29,7 @@ limit_from task now = option_map (λ limit. now + limit) task.times.limit_ms
 
 -- request k comes to stand, and is sent
 abbrev pub sent : Task → Clock → ℕ → Moved
-sent task clock k = move (Running k None false (limit_from task (now_of clock)) false) false (Send (cell_of task k))
+sent task clock k = move (running_state k None false (limit_from task (now_of clock)) false) false (Send (cell_of task k))
 
 -- request k and its reply and idle are there
 abbrev pub after_end : ℕ → Bool → State
@@ -77,34 +77,34 @@ in_starting task clock lost due _ = stays (Starting due)
 abbrev pub late : Task → Clock → ℕ → Option Bool → Bool → Bool → Moved
 late task clock k (Some fatal) idle interrupted = fails task k NoIdle
 late task clock k None idle interrupted =
-    if task.times.interrupt && not interrupted then move (Running k None idle (Some (now_of clock + 10000)) true) false Interrupt
+    if task.times.interrupt && not interrupted then move (running_state k None idle (Some (now_of clock + 10000)) true) false Interrupt
     else fails task k TimedOut
 
 -- a message of request k
 abbrev pub on_io : Task → ℕ → Option Bool → Bool → Option ℕ → Bool → Brief → Moved
-on_io task k fatal true due interrupted message = stays (Running k fatal true due interrupted)
-on_io task k fatal false due interrupted Else = move (Running k fatal false due interrupted) true Nothing
+on_io task k fatal true due interrupted message = stays (running_state k fatal true due interrupted)
+on_io task k fatal false due interrupted Else = move (running_state k fatal false due interrupted) true Nothing
 on_io task k (Some fatal) false due interrupted Idle = ends task k fatal
-on_io task k None false due interrupted Idle = move (Running k None true due interrupted) true Nothing
+on_io task k None false due interrupted Idle = move (running_state k None true due interrupted) true Nothing
 
 -- a reply to request k
 abbrev pub on_reply : Task → Clock → ℕ → Option Bool → Bool → Option ℕ → Bool → Bool → Moved
-on_reply task clock k (Some old) idle due interrupted fatal = stays (Running k (Some old) idle due interrupted)
+on_reply task clock k (Some old) idle due interrupted fatal = stays (running_state k (Some old) idle due interrupted)
 on_reply task clock k None true due interrupted fatal = ends task k fatal
-on_reply task clock k None false due interrupted fatal = move (Running k (Some fatal) false (Some (now_of clock + 4000)) interrupted) true Nothing
+on_reply task clock k None false due interrupted fatal = move (running_state k (Some fatal) false (Some (now_of clock + 4000)) interrupted) true Nothing
 
 -- while request k stands
 abbrev pub in_running : Task → Clock → Bool → ℕ → Option Bool → Bool → Option ℕ → Bool → Event → Moved
 in_running task clock lost k fatal idle due interrupted (Io message) = on_io task k fatal idle due interrupted message
 in_running task clock lost k fatal idle due interrupted (Reply failed) = on_reply task clock k fatal idle due interrupted failed
 in_running task clock lost k fatal idle due interrupted Broken = fails task k BadPeer
-in_running task clock lost k fatal idle due interrupted Lost = move (Running k fatal idle due interrupted) false Look
+in_running task clock lost k fatal idle due interrupted Lost = move (running_state k fatal idle due interrupted) false Look
 in_running task clock lost k fatal idle due interrupted Looked =
     if lost then fails task k KernelLost
     else if is_past clock due then late task clock k fatal idle interrupted
-    else stays (Running k fatal idle due interrupted)
-in_running task clock lost k fatal idle due interrupted (Moment t) = look_or (Running k fatal idle due interrupted) (is_past (read_again clock t) due)
-in_running task clock lost k fatal idle due interrupted _ = stays (Running k fatal idle due interrupted)
+    else stays (running_state k fatal idle due interrupted)
+in_running task clock lost k fatal idle due interrupted (Moment t) = look_or (running_state k fatal idle due interrupted) (is_past (read_again clock t) due)
+in_running task clock lost k fatal idle due interrupted _ = stays (running_state k fatal idle due interrupted)
 
 -- the save after request k is acknowledged
 abbrev pub on_passed : Task → Clock → ℕ → Moved
@@ -132,7 +132,7 @@ in_failing k why _ = stays (Failing k why)
 abbrev pub moved : Task → Clock → Bool → State → Event → Moved
 moved task clock lost Preparing event = in_preparing task event
 moved task clock lost (Starting due) event = in_starting task clock lost due event
-moved task clock lost (Running k fatal idle due interrupted) event = in_running task clock lost k fatal idle due interrupted event
+moved task clock lost (Running r) event = in_running task clock lost r.at r.fatal r.idle r.due r.interrupted event
 moved task clock lost (Passing k) event = in_passing task clock k event
 moved task clock lost Closing event = in_closing event
 moved task clock lost (Failing k why) event = in_failing k why event

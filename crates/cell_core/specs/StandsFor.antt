@@ -107,7 +107,7 @@ pub record HasStopped (task : Task) (failing : Option ℕ) (events : List Event)
 abbrev pub IsAt : Task → Clock → Bool → State → List Event → Type 0
 IsAt task clock lost Preparing events = (events ≡ []) × (clock ≡ Unread) × (lost ≡ false)
 IsAt task clock lost (Starting due) events = IsStarting task clock lost due events
-IsAt task clock lost (Running k fatal idle due interrupted) events = IsRunning task clock lost k fatal idle due interrupted events
+IsAt task clock lost (Running r) events = IsRunning task clock lost r.at r.fatal r.idle r.due r.interrupted events
 IsAt task clock lost (Passing k) events = IsPassing task clock lost k events
 IsAt task clock lost Closing events = ((length task.plan ≡ 0) × (0 < task.cells) × (events ≡ Saved ∷ [])) ⊎ ((k : ℕ) × IsClosing task k events)
 IsAt task clock lost (Failing k why) events = IsFailing task k why events

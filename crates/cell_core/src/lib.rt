@@ -11,6 +11,7 @@ mod event;
 pub mod laws;
 mod machine;
 mod moved;
+mod request;
 mod state;
 mod step;
 mod times;

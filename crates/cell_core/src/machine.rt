@@ -5,6 +5,7 @@ ghost use Rattle.cell_core.specs.Holds.{reach, now_of};
 
 use crate::clock::Clock;
 use crate::moved::Moved;
+use crate::request::Request;
 use crate::state::State;
 use crate::{Act, Brief, Event, Step, Times, Why};
 use nb_model::Plan;
@@ -36,7 +37,9 @@ impl Core {
     ghost use Rattle.std.specs.Prelude.{◌≡◌, ◌||◌, ℕ, ◌+◌, ◌<◌, ◌≤◌, ◌^◌, ◌↔◌, length, All, List, ◌∷◌, IsTrue, IsSome, [], Option, None, Some, ◌≢◌, Bool, true, false};
     ghost use Rattle.std.specs.Option.{ForSome};
     ghost use Rattle.cell_core.specs.declared.event.Event.{Event as TheEvent};
-    ghost use Rattle.cell_core.specs.Moves.{moved as moved_by, in_preparing, in_starting, in_running, after_end as after_end_by, sent as sent_by, fails as fails_by, limit_from as limit_by, start_due as start_by, late as late_by, ends as ends_by, in_passing, on_passed};
+    ghost use Rattle.cell_core.specs.declared.event.Event.TheVariants as event;
+    ghost use Rattle.cell_core.specs.declared.state.State.TheVariants.{Running as running};
+    ghost use Rattle.cell_core.specs.Moves.{moved as moved_by, in_preparing, in_starting, on_io, on_reply, after_end as after_end_by, sent as sent_by, fails as fails_by, limit_from as limit_by, start_due as start_by, late as late_by, ends as ends_by, in_passing, on_passed};
     ghost use Rattle.cell_core.specs.Task.{cell_of};
     ghost use Rattle.cell_core.specs.StandsFor.{StandsFor, task_of, failing_in, awaits_saved_of};
     ghost use Rattle.cell_core.specs.Acts.{act_of, takes_of, failing_of, due_of, wants_look_of, IsTimely};
@@ -112,13 +115,7 @@ impl Core {
     {
         match self.state {
             State::Starting { due } => self.is_late(due),
-            State::Running {
-                at: _,
-                fatal: _,
-                idle: _,
-                due,
-                interrupted: _,
-            } => self.is_late(due),
+            State::Running(request) => self.is_late(request.due),
             _ => false,
         }
     }
@@ -143,13 +140,7 @@ impl Core {
     {
         match self.state {
             State::Starting { due } => due,
-            State::Running {
-                at: _,
-                fatal: _,
-                idle: _,
-                due,
-                interrupted: _,
-            } => due,
+            State::Running(request) => request.due,
             _ => None,
         }
     }
@@ -183,13 +174,7 @@ impl Core {
         match self.state {
             State::Preparing => self.in_preparing(e),
             State::Starting { due } => self.in_starting(due, e),
-            State::Running {
-                at,
-                fatal,
-                idle,
-                due,
-                interrupted,
-            } => self.in_running(at, fatal, idle, due, interrupted, e),
+            State::Running(request) => self.in_running(request, e),
             State::Passing { at } => match e {
                 Event::Saved => self.on_passed(at),
                 _ => Moved::stays(self.state),
@@ -281,108 +266,110 @@ impl Core {
         requires { at < length self.now.plan }
         ensures { result ≡ sent_by (task_of self.now) self.now.clock at }
     {
-        let state = State::Running {
+        let request = Request {
             at,
             fatal: None,
             idle: false,
             due: self.limit_from(),
             interrupted: false,
         };
-        Moved::to(state, false, Act::Send(self.cell(at)))
+        Moved::to(State::Running(request), false, Act::Send(self.cell(at)))
     }
 
-    fn in_running(
-        &self,
-        at: usize,
-        fatal: Option<bool>,
-        idle: bool,
-        due: Option<u64>,
-        interrupted: bool,
-        e: Event,
-    ) -> Moved
-        requires planned { at < length self.now.plan }
+    fn in_running(&self, request: Request, e: Event) -> Moved
+        requires planned { request.at < length self.now.plan }
         requires small { IsSmall e }
-        ensures { result ≡ in_running (task_of self.now) self.now.clock self.now.lost at fatal idle
-            due interrupted e }
+        ensures { result ≡ moved_by (task_of self.now) self.now.clock self.now.lost
+            (running request) e }
     {
-        let state = State::Running {
-            at,
-            fatal,
-            idle,
-            due,
-            interrupted,
-        };
+        let state = State::Running(request);
         match e {
-            Event::Io(_) if idle => Moved::stays(state),
-            Event::Io(Brief::Else) => Moved::to(state, true, Act::Nothing),
-            Event::Io(Brief::Idle) => match fatal {
-                Some(failed) => self.ends(at, failed),
-                None => {
-                    let idle = State::Running {
-                        at,
-                        fatal,
-                        idle: true,
-                        due,
-                        interrupted,
-                    };
-                    Moved::to(idle, true, Act::Nothing)
-                }
-            },
-            Event::Reply { fatal: failed } => match fatal {
-                Some(_) => Moved::stays(state),
-                None => {
-                    if idle {
-                        self.ends(at, failed)
-                    } else {
-                        let replied = State::Running {
-                            at,
-                            fatal: Some(failed),
-                            idle,
-                            due: Some(self.clock.now() + IDLE_MS),
-                            interrupted,
-                        };
-                        Moved::to(replied, true, Act::Nothing)
-                    }
-                }
-            },
-            Event::Broken => self.fails(at, Why::BadPeer),
+            Event::Io(message) => self.on_io(request, message),
+            Event::Reply { fatal } => self.on_reply(request, fatal),
+            Event::Broken => self.fails(request.at, Why::BadPeer),
             Event::Lost => Moved::to(state, false, Act::Look),
-            Event::Looked => {
-                if self.lost {
-                    self.fails(at, Why::KernelLost)
-                } else if self.clock.is_past(due) {
-                    self.late(at, fatal, idle, interrupted)
-                } else {
-                    Moved::stays(state)
+            Event::Looked => self.on_look(request),
+            Event::Moment(now) => Moved::look_or(state, self.clock.read(now).is_past(request.due)),
+            Event::Saved => Moved::stays(state),
+            Event::Ready => Moved::stays(state),
+        }
+    }
+
+    /// A message of the request.
+    fn on_io(&self, request: Request, message: Brief) -> Moved
+        requires { request.at < length self.now.plan }
+        ensures { result ≡ on_io (task_of self.now) request.at request.fatal request.idle request.due
+            request.interrupted message }
+    {
+        match message {
+            _ if request.idle => Moved::stays(State::Running(request)),
+            Brief::Else => Moved::to(State::Running(request), true, Act::Nothing),
+            Brief::Idle => match request.fatal {
+                Some(fatal) => self.ends(request.at, fatal),
+                None => {
+                    let idle = Request {
+                        idle: true,
+                        ..request
+                    };
+                    Moved::to(State::Running(idle), true, Act::Nothing)
                 }
-            }
-            Event::Moment(now) => Moved::look_or(state, self.clock.read(now).is_past(due)),
-            _ => Moved::stays(state),
+            },
+        }
+    }
+
+    /// A reply to the request; only the first one counts.
+    fn on_reply(&self, request: Request, fatal: bool) -> Moved
+        requires { request.at < length self.now.plan }
+        ensures { result ≡ on_reply (task_of self.now) self.now.clock request.at request.fatal
+            request.idle request.due request.interrupted fatal }
+    {
+        if request.fatal.is_some() {
+            return Moved::stays(State::Running(request));
+        }
+        if request.idle {
+            return self.ends(request.at, fatal);
+        }
+        let replied = Request {
+            fatal: Some(fatal),
+            due: Some(self.clock.now() + IDLE_MS),
+            ..request
+        };
+        Moved::to(State::Running(replied), true, Act::Nothing)
+    }
+
+    /// A last look is done.
+    fn on_look(&self, request: Request) -> Moved
+        requires { request.at < length self.now.plan }
+        ensures { result ≡ moved_by (task_of self.now) self.now.clock self.now.lost
+            (running request) event.Looked }
+    {
+        if self.lost {
+            self.fails(request.at, Why::KernelLost)
+        } else if self.clock.is_past(request.due) {
+            self.late(request)
+        } else {
+            Moved::stays(State::Running(request))
         }
     }
 
     /// The look after the deadline brought nothing.
-    fn late(&self, at: usize, fatal: Option<bool>, idle: bool, interrupted: bool) -> Moved
-        requires { at < length self.now.plan }
-        ensures { result ≡ late_by (task_of self.now) self.now.clock at fatal idle interrupted }
+    fn late(&self, request: Request) -> Moved
+        requires { request.at < length self.now.plan }
+        ensures { result ≡ late_by (task_of self.now) self.now.clock request.at request.fatal
+            request.idle request.interrupted }
     {
-        match fatal {
-            Some(_) => self.fails(at, Why::NoIdle),
-            None => {
-                if self.limits.interrupt && !interrupted {
-                    let state = State::Running {
-                        at,
-                        fatal: None,
-                        idle,
-                        due: Some(self.clock.now() + INTERRUPT_MS),
-                        interrupted: true,
-                    };
-                    Moved::to(state, false, Act::Interrupt)
-                } else {
-                    self.fails(at, Why::TimedOut)
-                }
-            }
+        if request.fatal.is_some() {
+            return self.fails(request.at, Why::NoIdle);
         }
+        if !self.limits.interrupt || request.interrupted {
+            return self.fails(request.at, Why::TimedOut);
+        }
+        let asked = Request {
+            due: Some(self.clock.now() + INTERRUPT_MS),
+            interrupted: true,
+            ..request
+        };
+        Moved::to(State::Running(asked), false, Act::Interrupt)
     }
 
     /// The index of the cell of request `at`.
