@@ -11,26 +11,21 @@ use Rattle.nb_model.specs.declared.notebook.Notebook.{Notebook}
 use Rattle.nbrun_top.specs.declared.end.End.{End}
 use Rattle.nbrun_top.specs.declared.end.End.TheVariants as end
 use Rattle.nbrun_top.specs.Asked.{IsJob}
-use Rattle.nbrun_top.specs.Codes.{code_of}
+use Rattle.nbrun_top.specs.Codes.{code_of, end_of as load_end}
 use Rattle.nbrun_top.specs.Ended.{Answers, plain, not_said, Ended, acks_of}
-use Rattle.nbrun_top.specs.Loaded.{Refuses}
+use Rattle.nb_load.specs.declared.load_fault.LoadFault.{LoadFault}
+use Rattle.nb_load.specs.declared.load_fault.LoadFault.TheVariants as fault
 use Rattle.nbrun_top.specs.Ran.{SavesAs, Prepares, Ran, read_of, text_of}
 use Rattle.nbrun_top.specs.Ran as ran
 use Rattle.nbrun_top.proofs.Crashes.{one_ask}
 use Rattle.said_lines.proofs.SpeechLemmas.{says_since}
 
 -- the status of an end that saved nothing acknowledges nothing
-refused_acks : (a : Ask) (bytes : List ℕ) (e : End) → Refuses a bytes e → acks_of (code_of e) ≡ 0
-refused_acks a bytes (end.Done cells) why = absurd why
-refused_acks a bytes (end.Refused usage) why = refl
-refused_acks a bytes end.NotRead why = refl
-refused_acks a bytes end.TooLarge why = refl
-refused_acks a bytes (end.NotJson f) why = refl
-refused_acks a bytes (end.NotNotebook f) why = refl
-refused_acks a bytes (end.NoTranslator language) why = refl
-refused_acks a bytes (end.NotSaved f) why = refl
-refused_acks a bytes end.NoMemory why = refl
-refused_acks a bytes end.NotBuilt why = refl
+refused_acks : (f : LoadFault) → acks_of (code_of (load_end f)) ≡ 0
+refused_acks (fault.NotJson f) = refl
+refused_acks (fault.NotNotebook f) = refl
+refused_acks (fault.NoTranslator language) = refl
+refused_acks fault.NoMemory = refl
 
 saves_acks : (output : List ℕ) (n : Notebook) (e : End) (before after : List Entry) → acknowledged output before ≡ 0 → SavesAs output n before e after → acknowledged output after ≡ acks_of (code_of e)
 saves_acks output n e before after none (ran.not_saved why _ save) = (end_of {U = Unit {0}} output (text_of n) before (Err why) after save).count_is ∙ none
@@ -40,7 +35,7 @@ saves_acks output n e before after none ran.not_made = none
 prepares_acks : (a : Ask) (e : End) (after : List Entry) → Prepares a [] e after → acknowledged a.output after ≡ acks_of (code_of e)
 prepares_acks a e after ran.cannot_read = refl
 prepares_acks a e after ran.too_large = refl
-prepares_acks a e after (ran.not_accepted bytes _ why) = sym (refused_acks a bytes e why)
+prepares_acks a e after (ran.not_accepted bytes f why) = sym (refused_acks f)
 prepares_acks a e after (ran.saves bytes n _ _ accepted save) = saves_acks a.output n e (read_of a (found.Whole bytes) []) after refl save
 prepares_acks a e after (ran.no_memory_later answer) = refl
 

@@ -23,7 +23,7 @@ use Rattle.nbrun_top.specs.declared.end.End.{End}
 use Rattle.nbrun_top.specs.Asked.{IsJob}
 use Rattle.nbrun_top.specs.Crash.{IsTextOf, IsOldOrText, IsSafe}
 use Rattle.nbrun_top.specs.Ended.{Ended}
-use Rattle.nbrun_top.specs.Loaded.{Accepts}
+use Rattle.nb_load.specs.Loaded.{Accepts}
 use Rattle.nbrun_top.specs.Ran.{SavesAs, Prepares, Ran, read_of, text_of}
 use Rattle.nbrun_top.specs.Ran as ran
 use Rattle.said_lines.proofs.SpeechLemmas.{says_since}

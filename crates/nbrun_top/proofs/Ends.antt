@@ -13,8 +13,10 @@ use Rattle.nb_model.specs.declared.notebook.Notebook.{Notebook}
 use Rattle.nbrun_top.specs.declared.end.End.{End}
 use Rattle.nbrun_top.specs.declared.end.End.TheVariants as end
 use Rattle.nbrun_top.specs.Asked.{IsJob}
-use Rattle.nbrun_top.specs.Codes.{code_of}
-use Rattle.nbrun_top.specs.Loaded.{Accepts, Refuses}
+use Rattle.nbrun_top.specs.Codes.{code_of, end_of}
+use Rattle.nb_load.specs.declared.load_fault.LoadFault.{LoadFault}
+use Rattle.nb_load.specs.declared.load_fault.LoadFault.TheVariants as fault
+use Rattle.nb_load.specs.Loaded.{Accepts}
 use Rattle.nbrun_top.specs.Ran.{SavesAs, Prepares, Ran, IsDelivered, read_of, text_of}
 use Rattle.nbrun_top.specs.Ran as ran
 use Rattle.said_lines.proofs.SpeechLemmas.{says_since}
@@ -30,9 +32,10 @@ no_eleven (end.Done cells) is = cc
 no_eleven (end.Refused usage) is = cc
 no_eleven end.NotRead is = cc
 no_eleven end.TooLarge is = cc
-no_eleven (end.NotJson f) is = cc
-no_eleven (end.NotNotebook f) is = cc
-no_eleven (end.NoTranslator language) is = cc
+no_eleven (end.NotLoaded (fault.NotJson f)) is = cc
+no_eleven (end.NotLoaded (fault.NotNotebook f)) is = cc
+no_eleven (end.NotLoaded (fault.NoTranslator language)) is = cc
+no_eleven (end.NotLoaded fault.NoMemory) is = cc
 no_eleven (end.NotSaved f) is = cc
 no_eleven end.NoMemory is = cc
 no_eleven end.NotBuilt is = cc
@@ -64,22 +67,16 @@ saved_well a bytes n e before after zero_ accepted read (ran.done after_ saved) 
       leaves = leaves_text a.output (text_of n) before after saved;
     }
 
-refuses_no_end : (a : Ask) (bytes : List ℕ) (e : End) → Refuses a bytes e → code_of e ≡ 0 → ⊥
-refuses_no_end a bytes (end.Done cells) r z = r
-refuses_no_end a bytes (end.Refused usage) r z = cc
-refuses_no_end a bytes end.NotRead r z = cc
-refuses_no_end a bytes end.TooLarge r z = cc
-refuses_no_end a bytes (end.NotJson f) r z = cc
-refuses_no_end a bytes (end.NotNotebook f) r z = cc
-refuses_no_end a bytes (end.NoTranslator language) r z = cc
-refuses_no_end a bytes (end.NotSaved f) r z = cc
-refuses_no_end a bytes end.NoMemory r z = cc
-refuses_no_end a bytes end.NotBuilt r z = cc
+refuses_no_end : (f : LoadFault) → code_of (end_of f) ≡ 0 → ⊥
+refuses_no_end (fault.NotJson f) z = cc
+refuses_no_end (fault.NotNotebook f) z = cc
+refuses_no_end (fault.NoTranslator language) z = cc
+refuses_no_end fault.NoMemory z = cc
 
 prepared_well : (a : Ask) (e : End) (before after : List Entry) → before ≡ [] → code_of e ≡ 0 → Prepares a before e after → IsSaved a after
 prepared_well a e before after new zero_ ran.cannot_read = cc
 prepared_well a e before after new zero_ ran.too_large = cc
-prepared_well a e before after new zero_ (ran.not_accepted bytes e_ why) = absurd (refuses_no_end a bytes e why zero_)
+prepared_well a e before after new zero_ (ran.not_accepted bytes f why) = absurd (refuses_no_end f zero_)
 prepared_well a e before after new zero_ (ran.no_memory_later answer) = cc
 prepared_well a e before after new zero_ (ran.saves bytes n e_ after_ accepted saved) =
     saved_well a bytes n e (read_of a (found.Whole bytes) before) after zero_ accepted

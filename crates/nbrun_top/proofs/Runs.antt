@@ -4,9 +4,6 @@ use Rattle.std.proofs.lemmas.Grind.{common_steps}
 use Rattle.std.proofs.lemmas.List.{nil_from_length}
 use Rattle.std.specs.Prelude.{◌==◌}
 use Rattle.nb_model.specs.declared.notebook.Notebook.{Notebook}
-use Rattle.nb_params.specs.Refused as refused
-use Rattle.nb_params.specs.declared.fault.InjectFault.{InjectFault}
-use Rattle.nb_params.specs.declared.fault.InjectFault.TheVariants as inject_fault
 use Rattle.words.specs.declared.ask.Ask.{Ask}
 use Rattle.words.specs.declared.command.Command.{Command}
 use Rattle.words.specs.declared.command.Command.TheVariants as command
@@ -28,13 +25,14 @@ use Rattle.nb_model.specs.Tree.{notebook_tree}
 use Rattle.nbrun_top.specs.declared.reports.Reports.{Reports}
 use Rattle.nbrun_top.specs.Reported.{AreReports, report_of}
 use Rattle.nbrun_top.specs.Asked.{IsJob, IsNotBuilt, is_not_built}
-use Rattle.nbrun_top.specs.Codes.{code_of}
+use Rattle.nbrun_top.specs.Codes.{code_of, end_of}
 use Rattle.nbrun_top.specs.Ended.{Answers, Ended}
 use Rattle.said_lines.specs.Lines.{spoken_line, saved_line}
 use Rattle.nbrun_top.specs.Lines.{said, save}
 use Rattle.said_lines.specs.Speech.{Says}
 use Rattle.nbrun_top.specs.Said.{said_of}
-use Rattle.nbrun_top.specs.Loaded.{IsNotebook, HasNoTranslator, Accepts, Refuses}
+use Rattle.nb_load.specs.declared.load_fault.LoadFault.{LoadFault}
+use Rattle.nb_load.specs.Loaded.{Accepts, Refuses}
 use Rattle.nbrun_top.specs.Ran.{SavesAs, Prepares, Ran, read_of, text_of}
 use Rattle.nbrun_top.specs.Ran as ran
 
@@ -73,21 +71,14 @@ reports_of output cells r d w s n f = record { done = d; failed = by }
 pub not_made_at : (output : List ℕ) (n : Notebook) (e : End) → e ≡ end.NoMemory → (before : List Entry) → SavesAs output n before e before
 not_made_at output n e is before = subst (λ x. SavesAs output n before x before) (sym is) ran.not_made
 
--- ---- the bytes of the input
-
-pub no_translator : (a : Ask) (n : Notebook) (f : InjectFault) (l : List ℕ) → f ≡ inject_fault.NoTranslator l
-    → refused.Refuses n a.params f → (bytes : List ℕ) → IsNotebook bytes n → HasNoTranslator a bytes l
-no_translator a n f l is why bytes read =
-    let h = subst (refused.Refuses n a.params) is why in record { notebook = n; read = read; refused = h.0; named = h.1 }
-
 -- ---- by what the read answered
 
 pub refused_at : (a : Ask) (answer : ReadFile) (e given : End) → (given ≡ e) ⊎ (given ≡ end.NoMemory) → (past : List Entry) → Prepares a past e (read_of a answer past) → Prepares a past given (read_of a answer past)
 refused_at a answer e given (inl same) past it = subst (λ x. Prepares a past x (read_of a answer past)) (sym same) it
 refused_at a answer e given (inr memory) past it = subst (λ x. Prepares a past x (read_of a answer past)) (sym memory) (ran.no_memory_later answer)
 
-pub not_accepted_at : (a : Ask) (bytes : List ℕ) (e given : End) → Refuses a bytes e → (given ≡ e) ⊎ (given ≡ end.NoMemory) → (past : List Entry) → Prepares a past given (read_of a (found.Whole bytes) past)
-not_accepted_at a bytes e given why is past = refused_at a (found.Whole bytes) e given is past (ran.not_accepted bytes e why)
+pub not_accepted_at : (a : Ask) (bytes : List ℕ) (f : LoadFault) (given : End) → Refuses a bytes f → (given ≡ end_of f) ⊎ (given ≡ end.NoMemory) → (past : List Entry) → Prepares a past given (read_of a (found.Whole bytes) past)
+not_accepted_at a bytes f given why is past = refused_at a (found.Whole bytes) (end_of f) given is past (ran.not_accepted bytes f why)
 
 pub saved_at : (a : Ask) (bytes : List ℕ) (n : Notebook) (e : End) → Accepts a bytes n → (past read after : List Entry) → read ≡ read_of a (found.Whole bytes) past → SavesAs a.output n read e after → Prepares a past e after
 saved_at a bytes n e accepted past read after is saved = ran.saves bytes n e after accepted (subst (λ r. SavesAs a.output n r e after) is saved)
@@ -123,9 +114,7 @@ said_text words (end.Done cells) text result (inr is) m t = t (λ x. cc) ∙ is
 said_text words (end.Refused u) text result (inr is) m t = t (λ x. cc) ∙ is
 said_text words end.NotRead text result (inr is) m t = t (λ x. cc) ∙ is
 said_text words end.TooLarge text result (inr is) m t = t (λ x. cc) ∙ is
-said_text words (end.NotJson f) text result (inr is) m t = t (λ x. cc) ∙ is
-said_text words (end.NotNotebook f) text result (inr is) m t = t (λ x. cc) ∙ is
-said_text words (end.NoTranslator language) text result (inr is) m t = t (λ x. cc) ∙ is
+said_text words (end.NotLoaded f) text result (inr is) m t = t (λ x. cc) ∙ is
 said_text words (end.NotSaved f) text result (inr is) m t = t (λ x. cc) ∙ is
 said_text words end.NotBuilt text result (inr is) m t = t (λ x. cc) ∙ is
 

@@ -2,7 +2,6 @@ pub mod Codes
 pub mod Lines
 pub mod Reported
 pub mod Asked
-pub mod Loaded
 pub mod Ran
 pub mod Crash
 pub mod Said

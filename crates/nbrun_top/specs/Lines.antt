@@ -1,11 +1,7 @@
 -- The lines that are said at the end of a run, each ended by a line feed.
 use Rattle.std.specs.Prelude.{ℕ, List, [], ◌∷◌, ◌++◌, codes}
 use Rattle.std.specs.Fmt.{decimal}
-use Rattle.jtext.specs.declared.fault.JsonFault.{JsonFault}
-use Rattle.jtext.specs.declared.fault.JsonFault.TheVariants as json_fault
-use Rattle.jtext.specs.Print.{quoted}
-use Rattle.nb_model.specs.declared.nb_fault.NbFault.{NbFault}
-use Rattle.nb_model.specs.declared.nb_fault.NbFault.TheVariants as nb_fault
+use Rattle.nb_load.specs.Reasons.{reason}
 use Rattle.words.specs.declared.usage.Usage.{Usage}
 use Rattle.words.specs.declared.usage.Usage.TheVariants as usage_fault
 use Rattle.said_lines.specs.Lines.{spoken_line, saved_line}
@@ -31,22 +27,6 @@ usage (usage_fault.BadName i) = placed (codes "bad name") i
 usage (usage_fault.BadJobs pointer) = codes "bad jobs at " ++ pointer
 usage usage_fault.NoMemory = []
 
--- what is wrong with a text, and at which byte, counted from 0
-abbrev pub json : JsonFault → List ℕ
-json (json_fault.NotUtf8 at) = placed (codes "not JSON: utf8") at
-json (json_fault.Bad at) = placed (codes "not JSON: syntax") at
-json (json_fault.Deep at) = placed (codes "not JSON: depth") at
-json (json_fault.Repeated at) = placed (codes "not JSON: repeated key") at
-json (json_fault.Lone at) = placed (codes "not JSON: lone surrogate") at
-json json_fault.NoMemory = []
-
--- what is wrong with a tree, with the JSON pointer to the place
-abbrev pub notebook : NbFault → List ℕ
-notebook nb_fault.Version = codes "not nbformat 4.5: version"
-notebook (nb_fault.Shape pointer) = codes "not nbformat 4.5: shape at " ++ pointer
-notebook (nb_fault.SameId id) = codes "not nbformat 4.5: same id " ++ id
-notebook nb_fault.NoMemory = []
-
 -- which step of a save failed
 abbrev pub save : SaveFault → List ℕ
 save f = codes "cannot save: " ++ message f
@@ -57,9 +37,7 @@ last input output (end.Done cells) = spoken_line output (codes "done")
 last input output (end.Refused u) = spoken_line (codes "usage") (usage u)
 last input output end.NotRead = spoken_line output (codes "cannot read " ++ input)
 last input output end.TooLarge = spoken_line output (codes "too large")
-last input output (end.NotJson f) = spoken_line output (json f)
-last input output (end.NotNotebook f) = spoken_line output (notebook f)
-last input output (end.NoTranslator language) = spoken_line output (codes "no translator for " ++ quoted language)
+last input output (end.NotLoaded f) = spoken_line output (reason f)
 last input output (end.NotSaved f) = spoken_line output (save f)
 last input output end.NoMemory = spoken_line (codes "nbrun") (codes "no memory")
 last input output end.NotBuilt = spoken_line (codes "nbrun") (codes "not built")

@@ -19,7 +19,9 @@ use Rattle.save_disk.specs.declared.save_fault.SaveFault.{SaveFault}
 use Rattle.save_disk.specs.Entries.{SaveOf}
 use Rattle.save_disk.specs.Temporary.{temporary_of}
 use Rattle.nbrun_top.specs.Asked.{IsJob, IsNotBuilt}
-use Rattle.nbrun_top.specs.Loaded.{Accepts, Refuses}
+use Rattle.nb_load.specs.declared.load_fault.LoadFault.{LoadFault}
+use Rattle.nb_load.specs.Loaded.{Accepts, Refuses}
+use Rattle.nbrun_top.specs.Codes.{end_of}
 
 -- the journal after the read of the input, of which at most 32 MiB are read
 abbrev pub read_of : Ask → ReadFile → List Entry → List Entry
@@ -40,7 +42,7 @@ pub data SavesAs (output : List ℕ) (n : Notebook) (before : List Entry) : End 
 pub data Prepares (a : Ask) (before : List Entry) : End → List Entry → Type 0 where
   cannot_read : Prepares a before end.NotRead (read_of a found.Failed before)
   too_large : Prepares a before end.TooLarge (read_of a found.Big before)
-  not_accepted : (bytes : List ℕ) (e : End) → Refuses a bytes e → Prepares a before e (read_of a (found.Whole bytes) before)
+  not_accepted : (bytes : List ℕ) (f : LoadFault) → Refuses a bytes f → Prepares a before (end_of f) (read_of a (found.Whole bytes) before)
   saves : (bytes : List ℕ) (n : Notebook) (e : End) (after : List Entry) → Accepts a bytes n → SavesAs a.output n (read_of a (found.Whole bytes) before) e after
       → Prepares a before e after
   -- memory was refused before anything was written

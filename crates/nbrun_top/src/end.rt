@@ -2,8 +2,8 @@
 ghost use Rattle.std.specs.Prelude.{◌≡◌};
 ghost use Rattle.nbrun_top.specs.Codes.{code_of};
 
-use jtext::{JsonFault, NoMemory, Text};
-use nb_model::NbFault;
+use jtext::NoMemory;
+use nb_load::LoadFault;
 use save_disk::SaveFault;
 use words::Usage;
 
@@ -18,12 +18,8 @@ pub(crate) enum End {
     NotRead,
     /// The input has more bytes than are read.
     TooLarge,
-    /// The input is no JSON text.
-    NotJson(JsonFault),
-    /// The input is no notebook.
-    NotNotebook(NbFault),
-    /// Parameters can't be written in the language of the notebook's cells.
-    NoTranslator { language: Text },
+    /// The input gives no notebook that takes the parameters.
+    NotLoaded(LoadFault),
     /// The output can't be saved, for this step of the save.
     NotSaved(SaveFault),
     /// Memory was refused.
@@ -41,8 +37,11 @@ impl End {
             End::Done { .. } => 0,
             End::Refused(_) => 2,
             End::NotRead => 3,
-            End::TooLarge | End::NotJson(_) | End::NotNotebook(_) => 4,
-            End::NoTranslator { .. } => 5,
+            End::TooLarge => 4,
+            End::NotLoaded(LoadFault::NotJson(_)) => 4,
+            End::NotLoaded(LoadFault::NotNotebook(_)) => 4,
+            End::NotLoaded(LoadFault::NoTranslator { .. }) => 5,
+            End::NotLoaded(LoadFault::NoMemory) => 12,
             End::NotSaved(_) => 10,
             End::NoMemory => 12,
             End::NotBuilt => 70,

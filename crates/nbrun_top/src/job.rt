@@ -5,13 +5,14 @@ ghost use Rattle.world.specs.Counts.{DiskCause};
 ghost use Rattle.nbrun_top.specs.declared.end.End.TheVariants as ending;
 ghost use Rattle.save_disk.specs.declared.save_fault.SaveFault as fault;
 ghost use Rattle.said_lines.specs.Between.{Between, DiskRose};
+ghost use Rattle.nbrun_top.specs.Codes.{end_of};
 ghost use Rattle.nbrun_top.specs.Ran.{Prepares, SavesAs};
 ghost use Rattle.nbrun_top.specs.Said.{Speaks};
 
 use crate::answer::Answer;
 use crate::end::End;
-use crate::loading::loaded;
 use crate::parts::Parts;
+use nb_load::{LoadFault, load};
 use nb_model::Notebook;
 use save_disk::save;
 use std::alloc::Global;
@@ -36,14 +37,36 @@ pub(crate) fn prepare<W: Disk>(alloc: Global, ask: &Ask, w: &mut W) -> Answer
     match w.read_file(alloc, &ask.input, MOST) {
         ReadFile::Whole(bytes) => {
             let size = bytes.len();
-            match loaded(alloc, bytes, ask) {
+            match load(alloc, bytes, ask) {
                 Ok(notebook) => save_of(alloc, ask, &notebook, size, w),
-                Err(end) => refused(alloc, ask, end),
+                Err(fault) => not_loaded(alloc, ask, fault),
             }
         }
         ReadFile::Big => refused(alloc, ask, End::TooLarge),
         ReadFile::Failed => refused(alloc, ask, End::NotRead),
         ReadFile::NoMemory => Answer::no_memory(alloc),
+    }
+}
+
+fn not_loaded(alloc: Global, ask: &Ask, why: LoadFault) -> Answer
+    ensures end { (result.end ≡ end_of why) ⊎ (result.end ≡ ending.NoMemory) }
+    ensures text { Speaks ask.now.input ask.now.output result }
+    ensures built { result.end ≡ ending.NotBuilt → ⊥ }
+    ensures taken { (u : usages.Usage) → result.end ≡ ending.Refused u → ⊥ }
+    ensures read { result.end ≡ ending.NotRead → ⊥ }
+    ensures saves { (f : fault.SaveFault) → result.end ≡ ending.NotSaved f → ⊥ }
+{
+    match why {
+        LoadFault::NotJson(fault) => refused(alloc, ask, End::NotLoaded(LoadFault::NotJson(fault))),
+        LoadFault::NotNotebook(fault) => {
+            refused(alloc, ask, End::NotLoaded(LoadFault::NotNotebook(fault)))
+        }
+        LoadFault::NoTranslator { language } => refused(
+            alloc,
+            ask,
+            End::NotLoaded(LoadFault::NoTranslator { language }),
+        ),
+        LoadFault::NoMemory => Answer::no_memory(alloc),
     }
 }
 

@@ -8,7 +8,6 @@ mod end;
 mod job;
 mod limits;
 mod lines;
-mod loading;
 mod main_call;
 mod parts;
 mod reports;

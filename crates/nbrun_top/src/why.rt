@@ -3,8 +3,7 @@ ghost use Rattle.std.specs.Prelude.{◌≡◌, ◌++◌, codes, string_bytes, If
 ghost use Rattle.std.specs.Fmt.{decimal};
 ghost use Rattle.nbrun_top.specs.Lines as spec;
 
-use jtext::{JsonFault, NoMemory};
-use nb_model::NbFault;
+use jtext::NoMemory;
 use save_disk::SaveFault;
 use std::alloc::Global;
 use words::Usage;
@@ -24,34 +23,6 @@ pub(crate) fn usage(alloc: Global, usage: &Usage) -> Result<String, NoMemory>
         Usage::BadName { i } => placed(alloc, "bad name", *i as u64),
         Usage::BadJobs { pointer } => joined(alloc, "bad jobs at ", pointer.as_str()),
         Usage::NoMemory => owned(alloc, ""),
-    }
-}
-
-/// What is wrong with a text, and at which byte.
-pub(crate) fn json(alloc: Global, fault: &JsonFault) -> Result<String, NoMemory>
-    ensures { IfOk result (λ s. string_bytes s ≡ spec.json fault.now) }
-{
-    match fault {
-        JsonFault::NotUtf8 { at } => placed(alloc, "not JSON: utf8", *at),
-        JsonFault::Bad { at } => placed(alloc, "not JSON: syntax", *at),
-        JsonFault::Deep { at } => placed(alloc, "not JSON: depth", *at),
-        JsonFault::Repeated { at } => placed(alloc, "not JSON: repeated key", *at),
-        JsonFault::Lone { at } => placed(alloc, "not JSON: lone surrogate", *at),
-        JsonFault::NoMemory => owned(alloc, ""),
-    }
-}
-
-/// What is wrong with a tree, and at which value.
-pub(crate) fn notebook(alloc: Global, fault: &NbFault) -> Result<String, NoMemory>
-    ensures { IfOk result (λ s. string_bytes s ≡ spec.notebook fault.now) }
-{
-    match fault {
-        NbFault::Version => owned(alloc, "not nbformat 4.5: version"),
-        NbFault::Shape { pointer } => {
-            joined(alloc, "not nbformat 4.5: shape at ", pointer.as_str())
-        }
-        NbFault::SameId { id } => joined(alloc, "not nbformat 4.5: same id ", id.as_str()),
-        NbFault::NoMemory => owned(alloc, ""),
     }
 }
 

@@ -1,5 +1,5 @@
-use Rattle.nbrun_top.proofs.Runs.{no_translator}
-use Rattle.nbrun_top.proofs.loading.injected.Goals as goal
+use Rattle.nb_load.proofs.Loads.{no_translator}
+use Rattle.nb_load.proofs.loading.injected.Goals as goal
 
 pub returns-in-Err-NoTranslator-clause-err : goal.returns-in-Err-NoTranslator-clause-err
 returns-in-Err-NoTranslator-clause-err c =

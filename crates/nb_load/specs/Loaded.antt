@@ -13,8 +13,8 @@ use Rattle.nb_migrate.specs.Raised.{raised_tree}
 use Rattle.nb_migrate.specs.Accepted.{Accepted, accepted_notebook}
 use Rattle.nb_params.specs.Refused.{is_refused}
 use Rattle.words.specs.declared.ask.Ask.{Ask}
-use Rattle.nbrun_top.specs.declared.end.End.{End}
-use Rattle.nbrun_top.specs.declared.end.End.TheVariants as end
+use Rattle.nb_load.specs.declared.load_fault.LoadFault.{LoadFault}
+use Rattle.nb_load.specs.declared.load_fault.LoadFault.TheVariants as fault
 
 -- the bytes spell this tree, nested at most 128 deep
 pub record Gives (bytes : List ℕ) (t : Json) : Type 0 where
@@ -54,14 +54,8 @@ pub record Accepts (a : Ask) (bytes : List ℕ) (n : Notebook) : Type 0 where
   pub is : n ≡ injected_notebook notebook a.params a.report
 
 -- why nothing is made of the bytes
-abbrev pub Refuses : Ask → List ℕ → End → Type 0
-Refuses a bytes (end.NotJson f) = IsNoJson bytes f
-Refuses a bytes (end.NotNotebook f) = IsNoNotebook bytes f
-Refuses a bytes (end.NoTranslator language) = HasNoTranslator a bytes language
-Refuses a bytes end.NoMemory = Unit {0}
-Refuses a bytes (end.Done cells) = ⊥
-Refuses a bytes (end.Refused usage) = ⊥
-Refuses a bytes end.NotRead = ⊥
-Refuses a bytes end.TooLarge = ⊥
-Refuses a bytes (end.NotSaved f) = ⊥
-Refuses a bytes end.NotBuilt = ⊥
+abbrev pub Refuses : Ask → List ℕ → LoadFault → Type 0
+Refuses a bytes (fault.NotJson f) = IsNoJson bytes f
+Refuses a bytes (fault.NotNotebook f) = IsNoNotebook bytes f
+Refuses a bytes (fault.NoTranslator language) = HasNoTranslator a bytes language
+Refuses a bytes fault.NoMemory = Unit {0}

@@ -1,5 +1,5 @@
 use Rattle.std.proofs.lemmas.Result.{err_from_is_err_and}
-use Rattle.nbrun_top.proofs.loading.notebook_of.Goals as goal
+use Rattle.nb_load.proofs.loading.notebook_of.Goals as goal
 
 pub returns-in_err-tree-clause-err : goal.returns-in_err-tree-clause-err
 returns-in_err-tree-clause-err c =
