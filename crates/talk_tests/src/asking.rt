@@ -1,0 +1,50 @@
+//! When a kernel is asked and pinged, and when it is lost.
+use jtext::Text;
+use kernel_talk::{Asking, Pings};
+use std::test::Fail;
+
+#[test]
+fn a_kernel_is_asked_every_500_ms_until_it_is_ready(rt: HostRuntime) -> Result<(), Fail> {
+    let mut asking = Asking::new(rt.alloc());
+    assert!(rt; !asking.is_due(false, 1000), "it can't be asked yet");
+    assert_eq!(rt; asking.next(false, 1000), None);
+    assert!(rt; asking.is_due(true, 1000));
+    assert_eq!(rt; asking.next(true, 1000), Some(1000));
+    asking.on_request(Text::of(rt.alloc(), "s_1")?, 1000)?;
+    assert!(rt; !asking.is_due(true, 1499));
+    assert_eq!(rt; asking.next(true, 1100), Some(1500));
+    assert!(rt; asking.is_due(true, 1500));
+    asking.on_reply(&Text::of(rt.alloc(), "s_2")?);
+    asking.on_iopub();
+    assert!(rt; !asking.is_ready(), "a reply to another request");
+    asking.on_reply(&Text::of(rt.alloc(), "s_1")?);
+    assert!(rt; asking.is_ready());
+    assert!(rt; !asking.is_due(true, 9000));
+    assert_eq!(rt; asking.next(true, 9000), None);
+    Ok(())
+}
+
+#[test]
+fn ten_pings_without_an_echo_lose_the_kernel(rt: HostRuntime) -> Result<(), Fail> {
+    let mut pings = Pings::new();
+    let mut at = 0u64;
+    for number in 0..12u64 {
+        if number == 2 {
+            pings.on_echo();
+        }
+        assert!(rt; pings.is_due(true, at), "ping {number}");
+        pings.on_ping(at, 6 * (number + 1));
+        assert!(rt; !pings.is_due(true, at + 2999));
+        assert!(rt; !pings.is_lost(at + 2999, 1000), "ping {number}");
+        if at >= 1 << 40 {
+            return Err(Fail::new("a late moment"));
+        }
+        at += 3000;
+    }
+    assert_eq!(rt; pings.next(true, at), Some(at));
+    assert!(rt; !pings.is_lost(at, 71), "the tenth was not taken whole");
+    assert!(rt; pings.is_lost(at, 72));
+    pings.on_echo();
+    assert!(rt; !pings.is_lost(at, 72));
+    Ok(())
+}
