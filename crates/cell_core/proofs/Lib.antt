@@ -14,3 +14,4 @@ pub mod InOrder
 pub mod Looks
 pub mod AskedWhereDue
 pub mod LookTurns
+pub mod SendsLemmas

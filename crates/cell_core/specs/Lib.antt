@@ -10,3 +10,4 @@ pub mod Holds
 pub mod Laws
 pub mod Allowed
 pub mod LastLooks
+pub mod Sending

@@ -41,6 +41,7 @@ impl Core {
     ghost use Rattle.cell_core.specs.declared.state.State.TheVariants.{Running as running};
     ghost use Rattle.cell_core.specs.Moves.{moved as moved_by, in_preparing, in_starting, on_io, on_reply, after_end as after_end_by, sent as sent_by, fails as fails_by, limit_from as limit_by, start_due as start_by, late as late_by, ends as ends_by, in_passing, on_passed};
     ghost use Rattle.cell_core.specs.Task.{cell_of};
+    ghost use Rattle.cell_core.specs.Sending.{next_of, saves_ahead, IsInOrder, SendsOn};
     ghost use Rattle.cell_core.specs.StandsFor.{StandsFor, task_of, failing_in, awaits_saved_of};
     ghost use Rattle.cell_core.specs.Acts.{act_of, takes_of, failing_of, due_of, wants_look_of, IsTimely};
     ghost use Rattle.cell_core.specs.Events.{is_saved};
@@ -55,6 +56,7 @@ impl Core {
         ensures stands { StandsFor result [] }
         ensures of { task_of result ≡ record { plan = plan; cells = cells; times = limits } }
         ensures next { awaits_saved_of result ≡ true }
+        ensures first { next_of result ≡ 0 }
     {
         Core {
             plan,
@@ -85,6 +87,13 @@ impl Core {
         // The next event is `Saved` exactly after an act that asks for a save.
         ensures next { awaits_saved_of self.new ≡ is_save result.act }
         ensures same { task_of self.new ≡ task_of self.old }
+
+        // Requests are sent in the order of their cells, and a save settles cells of the notebook.
+        ensures sends { IsInOrder (task_of self.old) → SendsOn (task_of self.old)
+            (next_of self.old) (next_of self.new) result.act }
+
+        // An acknowledged save asks for at most one more, on which none follows.
+        ensures fewer { is_saved e ≡ true → saves_ahead self.new < saves_ahead self.old }
     {
         let moved = self.moved(e);
         self.clock = self.clock.after(e);

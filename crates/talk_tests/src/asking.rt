@@ -27,8 +27,8 @@ fn a_kernel_is_asked_every_500_ms_until_it_is_ready(rt: HostRuntime) -> Result<(
 #[test]
 fn ten_pings_without_an_echo_lose_the_kernel(rt: HostRuntime) -> Result<(), Fail> {
     let mut pings = Pings::new();
-    let mut at = 0u64;
     for number in 0..12u64 {
+        let at = 3000 * number;
         if number == 2 {
             pings.on_echo();
         }
@@ -36,11 +36,8 @@ fn ten_pings_without_an_echo_lose_the_kernel(rt: HostRuntime) -> Result<(), Fail
         pings.on_ping(at, 6 * (number + 1));
         assert!(rt; !pings.is_due(true, at + 2999));
         assert!(rt; !pings.is_lost(at + 2999, 1000), "ping {number}");
-        if at >= 1 << 40 {
-            return Err(Fail::new("a late moment"));
-        }
-        at += 3000;
     }
+    let at = 36_000;
     assert_eq!(rt; pings.next(true, at), Some(at));
     assert!(rt; !pings.is_lost(at, 71), "the tenth was not taken whole");
     assert!(rt; pings.is_lost(at, 72));
