@@ -1,6 +1,8 @@
 //! Identifiers and requests.
+ghost use Rattle.std.specs.Prelude.{◌<◌, ◌^◌};
+
 use jmsg::{Decoded, decode};
-use jtext::{Fields, Json, write_compact};
+use jtext::{Fields, Json};
 use kernel_talk::{Session, identifier};
 use std::test::Fail;
 
@@ -25,40 +27,50 @@ fn identifiers_are_version_4_uuids(rt: HostRuntime) -> Result<(), Fail> {
     Ok(())
 }
 
-/// What the frame of a request spells, by its place among the parts.
+/// Where the header of a request stands among its parts.
 const HEADER: usize = 2;
+
+/// Whether the next request, of this moment and kind, has this header and is signed under the key.
+fn has_header(
+    rt: &HostRuntime,
+    session: &mut Session,
+    ms: u64,
+    kind: &str,
+    header: &str,
+) -> Result<bool, Fail>
+    requires { ms < 2 ^ 47 }
+{
+    let content = Json::Obj(Fields::new(rt.alloc()));
+    let parts = session.request(ms, kind, content)?;
+    let is_signed = matches!(
+        &decode(rt.alloc(), session.key().bytes(), &parts)?,
+        Decoded::Good(_)
+    );
+    match parts.get(HEADER) {
+        Some(text) => Ok(is_signed && text.bytes() == header.as_bytes()),
+        None => Ok(false),
+    }
+}
 
 #[test]
 fn requests_are_numbered_signed_and_dated(rt: HostRuntime) -> Result<(), Fail> {
-    let alloc = rt.alloc();
-    let mut session = Session::new(alloc, (0, 0), (0, 1))?;
-    let headers = [
-        r#"{"msg_id":"00000000-0000-4000-8000-000000000000_1","session":"00000000-0000-4000-8000-000000000000","username":"nbrun","date":"1970-01-01T00:00:00.000Z","msg_type":"kernel_info_request","version":"5.3"}"#,
-        r#"{"msg_id":"00000000-0000-4000-8000-000000000000_2","session":"00000000-0000-4000-8000-000000000000","username":"nbrun","date":"2000-02-29T00:00:00.000Z","msg_type":"interrupt_request","version":"5.3"}"#,
-    ];
-    let asked = [
-        (0u64, "kernel_info_request"),
-        (951_782_400_000, "interrupt_request"),
-    ];
-    for ((ms, kind), header) in asked.into_iter().zip(headers) {
-        if ms >= 1 << 47 {
-            return Err(Fail::new("a late moment"));
-        }
-        let parts = session.request(ms, kind, Json::Obj(Fields::new(alloc)))?;
-        assert_eq!(rt; parts.len(), 6);
-        let Some(text) = parts.get(HEADER) else {
-            return Err(Fail::new("no header"));
-        };
-        assert!(rt; text.bytes() == header.as_bytes(), "{kind}");
-        let Decoded::Good(message) = decode(alloc, session.key().bytes(), &parts)? else {
-            return Err(Fail::new("not signed"));
-        };
-        assert!(rt; write_compact(alloc, &message.content)?.bytes() == b"{}".as_slice());
-    }
-    assert_eq!(rt; session.made(), 2);
-    assert_eq!(rt;
-        session.id(2)?.as_str(),
-        "00000000-0000-4000-8000-000000000000_2"
+    let mut session = Session::new(rt.alloc(), (0, 0), (0, 1))?;
+    let first =
+        r#"{"msg_id":"00000000-0000-4000-8000-000000000000_1","session":"00000000-0000-4000-8000-000000000000","username":"nbrun","date":"1970-01-01T00:00:00.000Z","msg_type":"kernel_info_request","version":"5.3"}"#;
+    assert!(rt; has_header(&rt, &mut session, 0, "kernel_info_request", first)?);
+    let second =
+        r#"{"msg_id":"00000000-0000-4000-8000-000000000000_2","session":"00000000-0000-4000-8000-000000000000","username":"nbrun","date":"2000-02-29T00:00:00.000Z","msg_type":"interrupt_request","version":"5.3"}"#;
+    assert!(rt;
+        has_header(
+            &rt,
+            &mut session,
+            951_782_400_000,
+            "interrupt_request",
+            second
+        )?
     );
+    assert_eq!(rt; session.made(), 2);
+    let id = session.id(2)?;
+    assert_eq!(rt; id.as_str(), "00000000-0000-4000-8000-000000000000_2");
     Ok(())
 }
