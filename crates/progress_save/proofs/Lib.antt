@@ -1,0 +1,5 @@
+mod KeptLemmas
+mod PutLemmas
+mod SafeLemmas
+mod SavedLemmas
+mod SettledCells
