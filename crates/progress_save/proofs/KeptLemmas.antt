@@ -108,3 +108,21 @@ fits_at k now cs i c fits same at = subst (λ o. IfSome o (λ t. t ≡ cell_text
     is : (o : Option (List ℕ)) → IfSome o (λ t. slice_get (map cell_text cs) i ≡ Some t) → IfSome o (λ t. t ≡ cell_text c)
     is None h = tt
     is (Some t) h = let e : Some t ≡ Some (cell_text c) = sym h ∙ slice_get-map cell_text cs i ∙ ap (option_map cell_text) at in cc
+
+-- after a save each text that is kept is that of its cell
+pub all_fit : (k : KeptTexts) (cs : List Cell) → KeepsAll k cs → Fits k cs
+all_fit k cs all i = subst (λ o. IfSome (text_at k i) (λ t. o ≡ Some t)) (all i) (own (text_at k i))
+  where
+    own : (o : Option (List ℕ)) → IfSome o (λ t. o ≡ Some t)
+    own None = tt
+    own (Some t) = refl
+
+-- where each cell that is another one has no kept text
+pub marked_fit : (k : KeptTexts) (old new : List Cell) → Fits k old → ((i : ℕ) → (text_at k i ≡ None) ⊎ (slice_get new i ≡ slice_get old i)) → Fits k new
+marked_fit k old new fits marked i = elim (marked i) [
+  | inl free ↦ subst (λ o. IfSome o (λ t. slice_get (map cell_text new) i ≡ Some t)) (sym free) tt
+  | inr same ↦
+      let texts : slice_get (map cell_text new) i ≡ slice_get (map cell_text old) i =
+      slice_get-map cell_text new i ∙ ap (option_map cell_text) same ∙ sym (slice_get-map cell_text old i) in
+      subst (λ o. IfSome (text_at k i) (λ t. o ≡ Some t)) (sym texts) (fits i)
+]

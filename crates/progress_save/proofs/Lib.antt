@@ -1,5 +1,9 @@
 mod KeptLemmas
+mod ManySaves
+mod MarkLemmas
+mod PrefixLemmas
 mod PutLemmas
 mod SafeLemmas
 mod SavedLemmas
 mod SettledCells
+mod ValidLemmas

@@ -7,17 +7,17 @@ use Rattle.std.proofs.lemmas.Option.{slice_get_cases}
 
 module _ {X : Type 0} (f : ℕ → X → X) where
   -- the element at this index, changed where the index is below the bound
-  abbrev changed : ℕ → ℕ → X → X
+  abbrev pub changed : ℕ → ℕ → X → X
   changed m i x = if nat_lt i m then f i x else x
 
   -- those from this index on
-  abbrev changed_from : ℕ → ℕ → List X → List X
+  abbrev pub changed_from : ℕ → ℕ → List X → List X
   changed_from m k xs = map (λ q. changed m q.0 q.1) (enumerate_from k xs)
 
-  below : (m i : ℕ) (x : X) → i < m → changed m i x ≡ f i x
+  pub below : (m i : ℕ) (x : X) → i < m → changed m i x ≡ f i x
   below m i x lt = cond-true (nat_lt i m) _ _ (grind (arith, lt))
 
-  above : (m i : ℕ) (x : X) → m ≤ i → changed m i x ≡ x
+  pub above : (m i : ℕ) (x : X) → m ≤ i → changed m i x ≡ x
   above m i x le = cond-false (nat_lt i m) _ _ (grind (arith, le))
 
   -- none is below the bound

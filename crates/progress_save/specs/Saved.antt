@@ -1,8 +1,12 @@
 -- What a save of a prefix adds to the journal, its newest entry first, and what it makes of the output.
 use Rattle.std.specs.Prelude.{◌≡◌, ◌⊎◌, ℕ, ◌+◌, List, length, Result, Ok, Err}
+use Rattle.jtext.specs.declared.json.Json.{Json}
 use Rattle.jtext.specs.Indent.{print}
+use Rattle.jtext.specs.Keyed.{Keyed}
+use Rattle.jtext.specs.Sorting.{sorted}
 use Rattle.nb_model.specs.declared.notebook.Notebook.{Notebook}
 use Rattle.nb_model.specs.Tree.{notebook_tree}
+use Rattle.nb_model.specs.Valid.{Valid}
 use Rattle.world.specs.declared.entry.Entry.{Entry}
 use Rattle.world.specs.Counts.{Counts, HasCause}
 use Rattle.world.specs.Disk.{Place, place}
@@ -18,6 +22,12 @@ use Rattle.progress_save.specs.declared.progress_fault.ProgressFault.TheVariants
 -- the text of a notebook, as it is saved
 abbrev pub text_of : Notebook → List ℕ
 text_of n = print (notebook_tree n)
+
+-- what may be read of that text: a valid notebook without a key twice, the same tree with its pairs sorted
+pub record IsReadOf (n : Notebook) (t : Json) : Type 0 where
+  pub valid : Valid t
+  pub keyed : Keyed t
+  pub same : t ≡ sorted (notebook_tree n)
 
 -- the line of an acknowledged save that settles so many of the notebook's cells
 abbrev pub line_of : List ℕ → ℕ → Notebook → List ℕ

@@ -5,6 +5,7 @@
 
 mod cell_parts;
 mod kept_texts;
+pub mod laws;
 mod planning;
 mod progress;
 mod progress_fault;
