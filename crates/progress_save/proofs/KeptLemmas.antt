@@ -1,7 +1,7 @@
 -- What is kept, as texts and flags change.
 use Rattle.std.proofs.Common.{◌≡◌, ◌≢◌, ◌⊎◌, inl, inr, ℕ, zero, suc, ◌+◌, ◌<◌, ◌≤◌, Bool, true, false, List, [], ◌∷◌, ◌++◌, map, length, Option, Some, None, refl, sym, ap, subst, ◌∙◌, arith, option_map}
 use Rattle.std.specs.Prelude.{slice_get, unwrap_or, IfSome, if◌then◌else◌}
-use Rattle.std.proofs.lemmas.Bool.{cond-true, cond-false, cases_lt}
+use Rattle.std.proofs.lemmas.Bool.{cond-true, cond-false, cases_eq, cases_lt}
 use Rattle.std.proofs.lemmas.List.{length-map}
 use Rattle.std.proofs.lemmas.Option.{slice_get_past, slice_get-map}
 use Rattle.nb_model.specs.declared.cell.Cell.{Cell}
@@ -9,16 +9,6 @@ use Rattle.nb_text.specs.Cells.{cell_text}
 use Rattle.progress_save.specs.declared.kept_texts.KeptTexts.{KeptTexts}
 use Rattle.progress_save.specs.Kept.{is_kept, text_at, Fits, KeepsSame, KeepsAll, IsComplete, IsPut}
 use Rattle.progress_save.proofs.PutLemmas.{same_items}
-
-equal_or_not : (i j : ℕ) → (j ≡ i) ⊎ (j ≢ i)
-equal_or_not i j =
-    elim (cases_lt i j) [
-      | inl lt ↦ inr (λ e. absurd (omega (arith, lt, e)))
-      | inr ge ↦ elim (cases_lt j i) [
-        | inl lt ↦ inr (λ e. absurd (omega (arith, lt, e)))
-        | inr le ↦ inl (omega (arith, ge, le))
-      ]
-    ]
 
 pub free_at : (k : KeptTexts) (i : ℕ) → is_kept k i ≡ false → text_at k i ≡ None
 free_at k i e = cond-false (is_kept k i) _ _ e
@@ -37,7 +27,7 @@ more_places (s ∷ ss) (suc j) = more_places ss j
 pub same_kept : (old new : KeptTexts) (i : ℕ) → ((j : ℕ) → is_kept new j ≡ is_kept old j) → is_kept old i ≡ false
     → ((j : ℕ) → j ≢ i → slice_get new.texts j ≡ slice_get old.texts j) → KeepsSame old new
 same_kept old new i flags free texts j =
-    elim (equal_or_not i j) [
+    elim (cases_eq j i) [
       | inl e ↦
           let was : is_kept old j ≡ false = ap (is_kept old) e ∙ free in
           free_at new j (flags j ∙ was) ∙ sym (free_at old j was)
@@ -81,7 +71,7 @@ pub record Made (k : KeptTexts) (cs : List Cell) (i : ℕ) : Type 0 where
 
 pub made_more : (old new : KeptTexts) (cs : List Cell) (i : ℕ) (c : Cell) → slice_get cs i ≡ Some c → i < length cs → Made old cs i → IsPut old new i (cell_text c) → Made new cs (i + 1)
 made_more old new cs i c at lt made put = record {
-  texts = λ j below. elim (equal_or_not i j) [
+  texts = λ j below. elim (cases_eq j i) [
     | inl e ↦ ap (slice_get new.texts) e ∙ put.is ∙ sym (slice_get-map cell_text cs i ∙ ap (option_map cell_text) at) ∙ ap (slice_get (map cell_text cs)) (sym e)
     | inr ne ↦ put.others j ne ∙ made.texts j (lower j below ne)
   ];
@@ -117,9 +107,16 @@ all_fit k cs all i = subst (λ o. IfSome (text_at k i) (λ t. o ≡ Some t)) (al
     own None = tt
     own (Some t) = refl
 
--- where each cell that is another one has no kept text
-pub marked_fit : (k : KeptTexts) (old new : List Cell) → Fits k old → ((i : ℕ) → (text_at k i ≡ None) ⊎ (slice_get new i ≡ slice_get old i)) → Fits k new
-marked_fit k old new fits marked i = elim (marked i) [
+-- fewer texts are kept
+pub fewer_fit : (old new : KeptTexts) (cs : List Cell) → ((i : ℕ) → (text_at new i ≡ None) ⊎ (text_at new i ≡ text_at old i)) → Fits old cs → Fits new cs
+fewer_fit old new cs fewer fits i = elim (fewer i) [
+  | inl free ↦ subst (λ o. IfSome o (λ t. slice_get (map cell_text cs) i ≡ Some t)) (sym free) tt
+  | inr same ↦ subst (λ o. IfSome o (λ t. slice_get (map cell_text cs) i ≡ Some t)) (sym same) (fits i)
+]
+
+-- each cell that is another one has no kept text
+pub others_fit : (k : KeptTexts) (old new : List Cell) → ((i : ℕ) → (text_at k i ≡ None) ⊎ (slice_get new i ≡ slice_get old i)) → Fits k old → Fits k new
+others_fit k old new others fits i = elim (others i) [
   | inl free ↦ subst (λ o. IfSome o (λ t. slice_get (map cell_text new) i ≡ Some t)) (sym free) tt
   | inr same ↦
       let texts : slice_get (map cell_text new) i ≡ slice_get (map cell_text old) i =

@@ -2,7 +2,7 @@ mod KeptLemmas
 mod ManySaves
 mod MarkLemmas
 mod PrefixLemmas
-mod PutLemmas
+pub mod PutLemmas
 mod SafeLemmas
 mod SavedLemmas
 mod SettledCells

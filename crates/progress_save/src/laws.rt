@@ -86,12 +86,16 @@ pub fn prefixes_read_back()
 
 // ---- kept texts
 
-/// After a save each text that is kept is that of its cell. It still is in a notebook where each cell
-/// that is another one has been marked.
+/// After a save each text that is kept is that of its cell. So it is where fewer texts are kept, and
+/// in a notebook where each cell that is another one has no kept text.
 pub fn kept_texts_fit()
     ensures saved { (p : progress.Progress) (cs : List cell.Cell) → KeepsAll p cs → Fits p cs }
-    ensures marked { (p : progress.Progress) (old new : List cell.Cell) → Fits p old →
-        ((i : ℕ) → (kept_text p i ≡ None) ⊎ (slice_get new i ≡ slice_get old i)) → Fits p new }
+    ensures fewer { (p q : progress.Progress) (cs : List cell.Cell) →
+        ((i : ℕ) → (kept_text q i ≡ None) ⊎ (kept_text q i ≡ kept_text p i)) →
+        Fits p cs → Fits q cs }
+    ensures others { (p : progress.Progress) (old new : List cell.Cell) →
+        ((i : ℕ) → (kept_text p i ≡ None) ⊎ (slice_get new i ≡ slice_get old i)) →
+        Fits p old → Fits p new }
 {}
 
 // ---- many saves

@@ -2,6 +2,8 @@
 #![tactic(auto)]
 
 #[cfg(test)]
+mod kept_texts;
+#[cfg(test)]
 mod notebooks;
 #[cfg(test)]
 mod saves;

@@ -4,7 +4,8 @@ use nb_model::{Notebook, of_json, prepare};
 use std::test::Fail;
 
 /// The notebook before the run.
-const GIVEN: &str = r#"{"cells":[{"cell_type":"code","execution_count":null,"id":"a","metadata":{},"outputs":[],"source":"print 1"},{"cell_type":"code","execution_count":7,"id":"b","metadata":{},"outputs":[],"source":["result 2"]}],"metadata":{"kernelspec":{"display_name":"Toy","name":"toy"}},"nbformat":4,"nbformat_minor":5}"#;
+const GIVEN: &str =
+    r#"{"cells":[{"cell_type":"code","execution_count":null,"id":"a","metadata":{},"outputs":[],"source":"print 1"},{"cell_type":"code","execution_count":7,"id":"b","metadata":{},"outputs":[],"source":["result 2"]}],"metadata":{"kernelspec":{"display_name":"Toy","name":"toy"}},"nbformat":4,"nbformat_minor":5}"#;
 
 /// The notebook prepared.
 pub(crate) fn prepared(rt: &HostRuntime) -> Result<Notebook, Fail> {

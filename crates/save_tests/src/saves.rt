@@ -1,13 +1,16 @@
 //! Saves over a disk in memory, and calls of it that fail.
 use crate::notebooks::prepared;
-use jtext::Text;
+use jtext::{NoMemory, Text};
+use nb_model::Notebook;
 use nb_text::text;
 use progress_save::{Progress, ProgressFault};
+use save_disk::SaveFault;
+use std::alloc::Global;
 use std::test::Fail;
 use world_mem::{Files, MemDisk, Sizes};
 
 /// A disk without files, on which the call with this number fails.
-fn disk(rt: &HostRuntime, fail: Option<u64>) -> Result<MemDisk, Fail> {
+pub(crate) fn disk(rt: &HostRuntime, fail: Option<u64>) -> Result<MemDisk, Fail> {
     let alloc = rt.alloc();
     let mut fails = Sizes::new(alloc);
     if let Some(number) = fail {
@@ -25,21 +28,38 @@ d/../o";
 
 #[test]
 fn a_save_writes_the_text_and_says_its_line(rt: HostRuntime) -> Result<(), Fail> {
-    let alloc = rt.alloc();
-    let notebook = prepared(&rt)?;
-    let wanted = text(alloc, &notebook)?;
     for output in OUTPUTS.lines() {
-        let path = Text::of(alloc, output)?;
-        let mut disk = disk(&rt, None)?;
-        let mut progress = Progress::new(alloc, &path)?;
-        let saved = progress.save_prefix(&mut disk, &notebook, 0);
-        assert_eq!(rt; saved, Ok(()));
-        let file = disk.file(&path).map(|bytes| bytes.bytes());
-        assert!(rt; file == Some(wanted.bytes()), "{output}");
-        let line = format!(in alloc; "saved 0/2 {output}\n")?;
-        assert!(rt; disk.said().bytes() == line.as_bytes(), "{output}");
+        let line = format!(in rt.alloc(); "saved 0/2 {output}\n")?;
+        assert!(rt; saves(&rt, output, line.as_str())?, "{output}");
     }
     Ok(())
+}
+
+/// Whether a save to this output leaves the notebook's text there, and says this line.
+fn saves(rt: &HostRuntime, output: &str, line: &str) -> Result<bool, Fail> {
+    let alloc = rt.alloc();
+    let path = Text::of(alloc, output)?;
+    let mut disk = disk(rt, None)?;
+    let notebook = prepared(rt)?;
+    let mut progress = Progress::new(alloc, &path)?;
+    let answer = progress.save_prefix(&mut disk, &notebook, 0);
+    let left = left_at(alloc, &disk, &path, &notebook)?;
+    Ok(answer == Ok(()) && left == "whole" && disk.said().bytes() == line.as_bytes())
+}
+
+/// What stands at the path: no file, the whole text of the notebook, or another text.
+fn left_at(
+    alloc: Global,
+    disk: &MemDisk,
+    path: &Text,
+    n: &Notebook,
+) -> Result<&'static str, NoMemory> {
+    let wanted = text(alloc, n)?;
+    match disk.file(path) {
+        Some(bytes) if bytes.bytes() == wanted.bytes() => Ok("whole"),
+        Some(_) => Ok("other"),
+        None => Ok("no"),
+    }
 }
 
 /// A line a call that fails: its number, whether the output is there, what is said, and what the
@@ -62,7 +82,10 @@ fn each_failed_call_has_its_fault_and_closes(rt: HostRuntime) -> Result<(), Fail
         let (line, answer) = row.split_once(' ').ok_or("no line")?;
         let number = number.parse::<u64>().map_err(|_| "no number")?;
         let mut disk = disk(&rt, Some(number))?;
-        assert!(rt; fails(&rt, &mut disk, output, line, answer)?, "call {number}");
+        assert!(rt;
+            fails(&rt, &mut disk, output, line, answer)?,
+            "call {number}"
+        );
     }
     Ok(())
 }
@@ -81,21 +104,31 @@ fn fails(
     let notebook = prepared(rt)?;
     let mut progress = Progress::new(alloc, &path)?;
     let first = progress.save_prefix(disk, &notebook, 0);
-    let left = match disk.file(&path) {
-        Some(bytes) if bytes.bytes() == text(alloc, &notebook)?.bytes() => "whole",
-        Some(_) => "other",
-        None => "no",
-    };
-    let heard = match disk.said().bytes() {
+    let left = left_at(alloc, disk, &path, &notebook)?;
+    if left != output || heard(disk) != line || name_of(&first) != answer {
+        return Ok(false);
+    }
+    let next = progress.save_prefix(disk, &notebook, 0);
+    Ok(first.is_err() == (next == Err(ProgressFault::Closed)))
+}
+
+/// What was said: the line of the save, nothing, or something else.
+fn heard(disk: &MemDisk) -> &'static str {
+    match disk.said().bytes() {
         b"saved 0/2 o\n" => "line",
         b"" => "-",
         _ => "other",
-    };
-    let said = match &first {
-        Ok(()) => String::from_str(alloc, "ok")?,
-        Err(fault) => format!(in alloc; "{fault}")?,
-    };
-    let next = progress.save_prefix(disk, &notebook, 0);
-    let closes = first.is_err() == (next == Err(ProgressFault::Closed));
-    Ok(left == output && heard == line && said.as_str() == answer && closes)
+    }
+}
+
+fn name_of(answer: &Result<(), ProgressFault>) -> &'static str {
+    match answer {
+        Ok(()) => "ok",
+        Err(ProgressFault::Save(SaveFault::Write)) => "write",
+        Err(ProgressFault::Save(SaveFault::Sync)) => "sync",
+        Err(ProgressFault::Save(SaveFault::Rename)) => "rename",
+        Err(ProgressFault::Save(SaveFault::DirSync)) => "directory sync",
+        Err(ProgressFault::Closed) => "closed",
+        Err(ProgressFault::NoMemory) => "no memory",
+    }
 }
