@@ -20,7 +20,7 @@ use Rattle.out_fold.specs.Cells.{outputs_of, count_of, dates_of}
 use Rattle.out_fold.specs.Stands.{SameCell}
 use Rattle.progress_save.specs.Prefix.{with_mark, stops_at, executed_cell, folded_cell, marked_cell, settled_cell, saved_cell, prefix}
 use Rattle.progress_save.proofs.MarkLemmas.{mark_again, mark_and_dates_again, mark_elsewhere}
-use Rattle.progress_save.proofs.SettledCells.{changed, changed_from, below, above}
+use Rattle.progress_save.proofs.SettledCells.{changed, changed_from, below, above, none_changed}
 
 -- ---- cell by cell
 
@@ -32,6 +32,9 @@ module _ {X : Type 0} (f : ℕ → X → X) (m : ℕ) where
 
 pub cell_of_prefix : (merge : Bool) (us : List Used) (p : ℕ) (stop : Option ℕ) (n : Notebook) (i : ℕ) → slice_get (prefix merge us p stop n).cells i ≡ option_map (saved_cell merge us p stop i) (slice_get n.cells i)
 cell_of_prefix merge us p stop n i = get_changed (settled_cell merge us stop) p 0 i i n.cells (omega arith)
+
+pub empty_prefix : (merge : Bool) (us : List Used) (n : Notebook) → prefix merge us 0 None n ≡ n
+empty_prefix merge us n = same_notebook refl (none_changed (settled_cell merge us None) 0 0 n.cells (omega arith))
 
 -- ---- a cell that nothing touches
 

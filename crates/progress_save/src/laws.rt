@@ -1,5 +1,5 @@
-//! Laws of prefixes, of the texts that are kept of their cells, and of what a crash leaves over many
-//! saves. The functions change nothing: their contracts are the laws.
+//! Laws of prefixes, of the texts that are kept of their cells, and of what a crash leaves over
+//! many saves. The functions change nothing: their contracts are the laws.
 ghost use Rattle.std.specs.Prelude.{◌≡◌, ◌⊎◌, ℕ, ◌<◌, ◌≤◌, Bool, false, List, ◌∷◌, ◌++◌, Option, None, slice_get, option_map};
 ghost use Rattle.jtext.specs.declared.json.Json as tree;
 ghost use Rattle.jtext.specs.Grammar.{Spells};
@@ -28,13 +28,16 @@ ghost use Rattle.world.specs.Touched.{touches};
 
 // ---- prefixes
 
-/// A prefix is the notebook cell by cell: those before its index are settled, the others stay.
+/// A prefix is the notebook cell by cell: those before its index are settled, the others stay. The
+/// prefix that settles none is the notebook itself.
 pub fn cells_of_prefixes()
     ensures each { (merge : Bool) (us : List used.Used) (p : ℕ) (stop : Option ℕ)
         (n : notebook.Notebook) (i : ℕ) → slice_get (prefix merge us p stop n).cells i
         ≡ option_map (saved_cell merge us p stop i) (slice_get n.cells i) }
     ensures waiting { (merge : Bool) (us : List used.Used) (p : ℕ) (stop : Option ℕ) (i : ℕ)
         (c : cell.Cell) → p ≤ i → saved_cell merge us p stop i c ≡ c }
+    ensures none { (merge : Bool) (us : List used.Used) (n : notebook.Notebook) →
+        prefix merge us 0 None n ≡ n }
 {}
 
 /// A cell of which the same is saved is the same in a later prefix, unless the run stopped at it.
@@ -67,15 +70,16 @@ pub fn prefixes_stay_valid()
         Valid (notebook_tree (prefix merge us p stop (prepared_notebook n))) }
 {}
 
-/// Where no object of a notebook has a key twice, none has in a prefix of the prepared notebook.
+/// Where no object of a notebook has a key twice, and the contents of all messages were read, none
+/// has in a prefix of the prepared notebook.
 pub fn prefixes_stay_keyed()
     ensures { (merge : Bool) (us : List used.Used) (p : ℕ) (stop : Option ℕ)
         (n : notebook.Notebook) → AreRead us → Keyed (notebook_tree n) →
         Keyed (notebook_tree (prefix merge us p stop (prepared_notebook n))) }
 {}
 
-/// What is read of the text of a prefix is a valid notebook in which no object has a key twice: the
-/// tree of that prefix, with its pairs sorted.
+/// What is read of the text of a prefix is a valid notebook in which no object has a key twice:
+/// the tree of that prefix, with its pairs sorted.
 pub fn prefixes_read_back()
     ensures { (merge : Bool) (us : List used.Used) (p : ℕ) (stop : Option ℕ)
         (n : notebook.Notebook) (t : tree.Json) →
@@ -86,8 +90,8 @@ pub fn prefixes_read_back()
 
 // ---- kept texts
 
-/// After a save each text that is kept is that of its cell. So it is where fewer texts are kept, and
-/// in a notebook where each cell that is another one has no kept text.
+/// After a save each text that is kept is that of its cell. So it is where fewer texts are kept,
+/// and in a notebook where each cell that is another one has no kept text.
 pub fn kept_texts_fit()
     ensures saved { (p : progress.Progress) (cs : List cell.Cell) → KeepsAll p cs → Fits p cs }
     ensures fewer { (p q : progress.Progress) (cs : List cell.Cell) →
@@ -128,8 +132,8 @@ pub fn other_parts_stay_safe()
         IsHeld output texts after }
 {}
 
-/// A call for another file, a sync of the output's folder among them, leaves an output safe where it
-/// acknowledges no save of it.
+/// A call for another file, a sync of the output's folder among them, leaves an output safe where
+/// it acknowledges no save of it.
 pub fn other_files_stay_safe()
     ensures safe { (output : List ℕ) (texts : List (List ℕ)) (entry : Entry) (past : List Entry) →
         touches output entry ≡ false →

@@ -3,10 +3,9 @@ ghost use Rattle.std.specs.Prelude.{◌≡◌, ◌<◌, length, OnOk};
 ghost use Rattle.progress_save.specs.State.{Fits};
 
 use crate::notebooks::prepared;
-use crate::saves::disk;
+use crate::saves::{disk, left_at};
 use jtext::Text;
 use nb_model::{Cell, Notebook};
-use nb_text::text;
 use progress_save::{Progress, laws};
 use std::test::Fail;
 use world_mem::MemDisk;
@@ -34,22 +33,28 @@ fn change(progress: &mut Progress, n: &mut Notebook, cell: Cell)
     let _ = n.cells.put(1, cell);
 }
 
+/// The second cell under another id.
+fn other_cell(rt: &HostRuntime) -> Result<Cell, Fail> {
+    let mut notebook = prepared(rt)?;
+    if notebook.cells.len() != 2 {
+        return Err("another notebook".into());
+    }
+    let mut cell = notebook.cells.take(1);
+    cell.id = Text::of(rt.alloc(), "c")?;
+    Ok(cell)
+}
+
 #[test]
 fn a_marked_cell_has_its_new_text(rt: HostRuntime) -> Result<(), Fail> {
-    let alloc = rt.alloc();
-    let path = Text::of(alloc, "o")?;
-    let mut disk = disk(&rt, None)?;
     let mut notebook = prepared(&rt)?;
-    let mut progress = Progress::new(alloc, &path)?;
     assert_eq!(rt; notebook.cells.len(), 2);
-    let mut other = prepared(&rt)?;
-    assert_eq!(rt; other.cells.len(), 2);
-    let mut cell = other.cells.take(1);
-    cell.id = Text::of(alloc, "c")?;
+    let cell = other_cell(&rt)?;
+    let mut disk = disk(&rt, None)?;
+    let path = Text::of(rt.alloc(), "o")?;
+    let mut progress = Progress::new(rt.alloc(), &path)?;
     save(&mut progress, &mut disk, &notebook)?;
     change(&mut progress, &mut notebook, cell);
     save(&mut progress, &mut disk, &notebook)?;
-    let wanted = text(alloc, &notebook)?;
-    assert!(rt; disk.file(&path).map(|bytes| bytes.bytes()) == Some(wanted.bytes()));
+    assert_eq!(rt; left_at(rt.alloc(), &disk, &path, &notebook)?, "whole");
     Ok(())
 }

@@ -48,7 +48,7 @@ fn saves(rt: &HostRuntime, output: &str, line: &str) -> Result<bool, Fail> {
 }
 
 /// What stands at the path: no file, the whole text of the notebook, or another text.
-fn left_at(
+pub(crate) fn left_at(
     alloc: Global,
     disk: &MemDisk,
     path: &Text,
