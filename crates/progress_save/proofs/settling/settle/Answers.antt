@@ -1,0 +1,35 @@
+use Rattle.std.proofs.Common.{inl, refl, sym, ◌∙◌, arith, Result, Ok, Err}
+use Rattle.std.specs.Prelude.{OnErr}
+use Rattle.out_fold.specs.Stands.{merge_of}
+use Rattle.progress_save.specs.Prefix.{settled_cell}
+use Rattle.progress_save.proofs.SettledCells.{none_changed, settle_more, part_way}
+use Rattle.progress_save.proofs.settling.settle.Goals as goal
+
+on_err : {U E : Type 0} {P : Type 0} (r : Result U E) → P → OnErr r P
+on_err (Ok u) p = tt
+on_err (Err e) p = p
+
+pub loop-i-init : goal.loop-i-init
+loop-i-init c = record {
+  cells = λ us stands. sym (none_changed (settled_cell (merge_of c.args.f.now) us c.args.stop) 0 0 c.args.n.now.cells (omega arith));
+  count = refl;
+  metadata = refl;
+}
+
+pub loop-i-preserved : goal.loop-i-preserved
+loop-i-preserved c = record {
+  cells = λ us stands. settle_more (settled_cell (merge_of c.args.f.now) us c.args.stop) c.loop-i.i c.args.n.now.cells c.loop-i.n.cells c.settle_cell.new.cells
+      (c.loop-i.invariant.cells us stands)
+      (omega (arith, c.requires.cells, c.loop-i-test.true))
+      (λ x at. c.in_ok-settle_cell.ensures.settled us x stands at);
+  count = c.in_ok-settle_cell.ensures.count ∙ c.loop-i.invariant.count;
+  metadata = c.loop-i.invariant.metadata;
+}
+
+pub returns-in_err-settle_cell-clause-refused : goal.returns-in_err-settle_cell-clause-refused
+returns-in_err-settle_cell-clause-refused c = on_err c.from_residual.result (λ us stands. record {
+  metadata = inl c.loop-i.invariant.metadata;
+  cells = part_way (settled_cell (merge_of c.args.f.now) us c.args.stop) c.loop-i.i c.args.p c.args.n.now.cells c.settle_cell.new.cells
+      (c.in_err-settle_cell.ensures.refused ∙ c.loop-i.invariant.cells us stands)
+      (omega (arith, c.loop-i-test.true));
+})

@@ -1,0 +1,6 @@
+pub mod Kept
+pub mod Messages
+pub mod Prefix
+pub mod Safe
+pub mod Saved
+pub mod State

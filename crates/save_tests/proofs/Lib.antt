@@ -1,0 +1,1 @@
+-- the answers of tests alone
