@@ -1,0 +1,4 @@
+pub mod CallLemmas
+pub mod ReadLemmas
+pub mod StandLemmas
+pub mod TableLemmas

@@ -1,0 +1,100 @@
+-- How long a wait may last, and what waiting adds to a journal, its newest entry first.
+use Rattle.std.specs.Prelude.{
+  ◌≡◌,
+  ◌<◌,
+  ◌≤◌,
+  ◌+◌,
+  ◌-◌,
+  ◌⊎◌,
+  ℕ,
+  List,
+  [],
+  ◌∷◌,
+  Bool,
+  true,
+  false,
+  Option,
+  Some,
+  None,
+  Result,
+  Ok,
+  Err,
+  slice_get,
+}
+use Rattle.world.specs.declared.did.Did.{Did}
+use Rattle.world.specs.declared.did.Did.TheVariants.{Done, Failed}
+use Rattle.world.specs.declared.entry.Entry.{Entry}
+use Rattle.world.specs.declared.entry.Entry.TheVariants as made
+use Rattle.world.specs.declared.reports.Reports.{Reports}
+use Rattle.world.specs.Moments.{Since}
+use Rattle.world.specs.Places.{Status, status, time}
+use Rattle.ready_loop.specs.declared.fault.LoopFault.{LoopFault}
+use Rattle.ready_loop.specs.declared.fault.LoopFault.TheVariants.{NetFault, Spent}
+use Rattle.ready_loop.specs.declared.link.Link.{Link}
+use Rattle.ready_loop.specs.declared.readiness.Loop.{Loop}
+use Rattle.ready_loop.specs.History.{History}
+use Rattle.ready_loop.specs.Offers.{LookMoment, IsFailureOf}
+use Rattle.ready_loop.specs.Standing.{StandsFor}
+use Rattle.ready_loop.specs.States.{IsCalm}
+
+-- what a wait may last at most: 500 ms, up to the moment that was handed in, or up to a moment at which
+-- a refused connection is begun again; one that is past counts as 0
+pub data Timer (due : Option ℕ) (last : ℕ) (refused : ℕ → Option ℕ) : ℕ → Type 0 where
+  most : Timer due last refused 500
+  handed : (moment : ℕ) → due ≡ Some moment → Timer due last refused (moment - last)
+  connect : (p at : ℕ) → p < 64 → refused p ≡ Some at → Timer due last refused (at + 200 - last)
+
+-- the least of these
+pub record IsLeast (due : Option ℕ) (last : ℕ) (refused : ℕ → Option ℕ) (ms : ℕ) : Type 0 where
+  pub one : Timer due last refused ms
+  pub least : (n : ℕ) → Timer due last refused n → ms ≤ n
+
+-- the limit of a wait: 0 where a connection is awake, and else the least of these
+pub record IsLimit (due : Option ℕ) (last : ℕ) (awake : ℕ → Bool) (refused : ℕ → Option ℕ) (ms : ℕ) : Type 0 where
+  pub awaits : (p : ℕ) → p < 64 → awake p ≡ true → ms ≡ 0
+  pub rests : ((p : ℕ) → p < 64 → awake p ≡ false) → IsLeast due last refused ms
+
+-- a connection that needs nothing before a wait: no call of it failed, it gave bytes 64 times where it is
+-- awake, and where it is open to writing all that was queued was put
+pub record IsServed (queued : List ℕ) (s : Status) : Type 0 where
+  pub sound : s.failed ≡ false
+  pub drained : s.awake ≡ true → 64 ≤ s.count
+  pub sent : s.writable ≡ true → s.put ≡ queued
+
+-- before a wait no connection needs anything
+abbrev pub AllServed : History → List Entry → Type 0
+AllServed h past = (p : ℕ) → p < 64 → IsServed (h.queued p) (status p past)
+
+-- no refused connection is due to be begun again
+abbrev pub NoneDue : List Entry → Type 0
+NoneDue past = (p at : ℕ) → p < 64 → (status p past).refused ≡ Some at → time past < at + 200
+
+-- a wait of a turn
+pub record IsTurnWait (due : Option ℕ) (h : History) (ms : ℕ) (past : List Entry) : Type 0 where
+  pub limit : IsLimit due (time past) (λ p. (status p past).awake) (λ p. (status p past).refused) ms
+  pub served : AllServed h past
+
+pub record Waits (due : Option ℕ) (h : History) (did : Did) (before after : List Entry) : Type 0 where
+  pub ms : ℕ
+  pub reports : Reports
+  pub is : after ≡ made.Waited ms reports did ∷ before
+  pub rule : IsTurnWait due h ms before
+
+-- a wait that was done, and directly behind it the clock
+pub record WaitsThenLooks (due : Option ℕ) (h : History) (now : ℕ) (before after : List Entry) : Type 0 where
+  pub past : List Entry
+  pub waits : Waits due h Done before past
+  pub is : after ≡ made.Moment now ∷ past
+
+-- the entries of a turn, by its answer
+abbrev pub TurnCame : Option ℕ → Result ℕ LoopFault → History → List Entry → List Entry → Type 0
+TurnCame due (Ok now) h before after = WaitsThenLooks due h now before after
+TurnCame due (Err (NetFault None)) h before after = Waits due h Failed before after
+TurnCame due (Err (NetFault (Some conn))) h before after = ⊥
+TurnCame due (Err Spent) h before after = after ≡ before
+
+-- a turn took a loop from each journal for which it stood to one for which it stands then
+pub record Turned (due : Option ℕ) (result : Result ℕ LoopFault) (last : ℕ) (old new : Loop) (before after : List Entry) : Type 0 where
+  pub so : (h : History) → StandsFor old h before → StandsFor new h after × TurnCame due result h before after
+  -- where nothing was due before it, nothing is at its wait
+  pub calm : (h : History) → StandsFor old h before → IsCalm last old → NoneDue before
