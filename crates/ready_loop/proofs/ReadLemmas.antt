@@ -92,41 +92,41 @@ is_one conn room got.Ended buffer = at_own conn
 is_one conn room got.Refused buffer = at_own conn
 is_one conn room got.Failed buffer = at_own conn
 
-same_but_got : (answer : Got) (q : ℕ) (h : History) → SameBut q h (after_got answer q h)
-same_but_got (got.Piece n) q h = same_but q h
-same_but_got got.Dry q h = same_but q h
-same_but_got got.Ended q h = named_but q h
-same_but_got got.Refused q h = same_but q h
-same_but_got got.Failed q h = same_but q h
+same_but_got : (answer : Got) (conn : Conn) (h : History) → SameBut (place_of conn) h (after_got answer conn h)
+same_but_got (got.Piece n) conn h = same_but (place_of conn) h
+same_but_got got.Dry conn h = same_but (place_of conn) h
+same_but_got got.Ended conn h = named_but (place_of conn) h
+same_but_got got.Refused conn h = same_but (place_of conn) h
+same_but_got got.Failed conn h = same_but (place_of conn) h
 
 -- its own place after it
-own_history : {link : Link} {held : Held} {s : Status} {e : Bool} (answer : Got) (q : ℕ) (h : History)
-    → StandsAt link held (h.begun q) (h.queued q) (named_read answer (h.named q)) s e
-    → let k = after_got answer q h in StandsAt link held (k.begun q) (k.queued q) (k.named q) s e
-own_history (got.Piece n) q h m = m
-own_history got.Dry q h m = m
-own_history got.Ended q h m = stands_as refl refl refl (or_own q (h.named q)) refl refl m
-own_history got.Refused q h m = m
-own_history got.Failed q h m = m
+own_history : {link : Link} {held : Held} {s : Status} {e : Bool} (answer : Got) (conn : Conn) (h : History) → let q = place_of conn in
+    StandsAt link held (h.begun q) (h.queued q) (named_read answer (h.named q)) s e
+    → let k = after_got answer conn h in StandsAt link held (k.begun q) (k.queued q) (k.named q) s e
+own_history (got.Piece n) conn h m = m
+own_history got.Dry conn h m = m
+own_history got.Ended conn h m = stands_as refl refl refl (or_own (place_of conn) (h.named (place_of conn))) refl refl m
+own_history got.Refused conn h m = m
+own_history got.Failed conn h m = m
 
 -- a read of a connection that may be read
 pub read_goes : (conn : Conn) (p room : ℕ) (answer : Got) (buffer : List ℕ) (l : Loop) (links : List Link) (link : Link) (last : ℕ) (past : List Entry)
     → place_of conn ≡ p → slice_get l.links p ≡ Some link → MayRead link → links ≡ set l.links p (read_link answer last link) → last ≡ time past
     → (answer ≡ got.Refused → IsUnused (place_of conn) past)
-    → Goes ReadMoment (after_got answer p) l (record l { links = links }) past (read_entry conn room answer buffer ∷ past)
+    → Goes ReadMoment (after_got answer conn) l (record l { links = links }) past (read_entry conn room answer buffer ∷ past)
 read_goes conn p room answer buffer l links link last past place found may is clock unused =
     let entry : Entry = read_entry conn room answer buffer in
     let here : slice_get l.links (place_of conn) ≡ Some link = subst (λ i. slice_get l.links i ≡ Some link) (sym place) found in
     record {
       so = λ h stand.
           let m = stand.each (place_of conn) link here in
-          let own = own_history answer (place_of conn) h
+          let own = own_history answer conn h
           (stands_as refl refl refl refl (status_own conn room answer buffer past) (ended_own_read conn room answer buffer past)
           (stands_read link _ _ _ _ _ _ answer buffer last (time past) clock may.awake (λ e. (unused e).0) m)) in
           let r = stand_at entry (place_of conn) (read_link answer last link) (within l.links (place_of conn) here) (no_wait conn room answer buffer)
-          (λ q ne. concerns_not conn room answer buffer q ne) (λ q ne. refl) (same_but_got answer (place_of conn) h) own stand in (
-            subst (λ ls. Stand ls l.queues l.left (after_got answer p h) (entry ∷ past)) (sym is)
-                (subst (λ i. Stand (set l.links i (read_link answer last link)) l.queues l.left (after_got answer i h) (entry ∷ past)) place r),
+          (λ q ne. concerns_not conn room answer buffer q ne) (λ q ne. refl) (same_but_got answer conn h) own stand in (
+            subst (λ ls. Stand ls l.queues l.left (after_got answer conn h) (entry ∷ past)) (sym is)
+                (subst (λ i. Stand (set l.links i (read_link answer last link)) l.queues l.left (after_got answer conn h) (entry ∷ past)) place r),
             more start (conn, record {
               read = is_one conn room answer buffer;
               awake = sym m.awake ∙ may.awake;

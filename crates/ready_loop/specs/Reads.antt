@@ -1,11 +1,11 @@
 -- What reading adds to a journal, its newest entry first.
-use Rattle.std.specs.Prelude.{◌≡◌, ◌<◌, ℕ, List, [], ◌∷◌, true, false, Result, Ok, Err, Option, Some, None, take}
+use Rattle.std.specs.Prelude.{◌≡◌, ◌<◌, ◌||◌, ℕ, Bool, List, [], ◌∷◌, true, false, Result, Ok, Err, Option, Some, None, take}
 use Rattle.world.specs.declared.conn.Conn.{Conn}
 use Rattle.world.specs.declared.side.Side.TheVariants as side
 use Rattle.world.specs.declared.entry.Entry.{Entry}
 use Rattle.world.specs.declared.entry.Entry.TheVariants as made
 use Rattle.world.specs.Moments.{Since}
-use Rattle.world.specs.Places.{status, is_read, place_of}
+use Rattle.world.specs.Places.{status, is_at, is_read, place_of}
 use Rattle.ready_loop.specs.declared.fault.LoopFault.{LoopFault}
 use Rattle.ready_loop.specs.declared.fault.LoopFault.TheVariants.{NetFault, Spent}
 use Rattle.ready_loop.specs.declared.next.Next.{Next}
@@ -49,9 +49,17 @@ NextCame (Err (NetFault None)) room buffer before after = ⊥
 NextCame (Err Spent) room buffer before after = ⊥
 
 -- what is asked of the loop after one read: the end that it finds is named
-abbrev pub after_got : Got → ℕ → History → History
-after_got (got.Piece n) place h = h
-after_got got.Dry place h = h
-after_got got.Ended place h = with_named place h
-after_got got.Refused place h = h
-after_got got.Failed place h = h
+abbrev pub after_got : Got → Conn → History → History
+after_got (got.Piece n) conn h = h
+after_got got.Dry conn h = h
+after_got got.Ended conn h = with_named (place_of conn) h
+after_got got.Refused conn h = h
+after_got got.Failed conn h = h
+
+-- whether a connection has failed after one read of another or of it
+abbrev pub failed_got : Got → Conn → ℕ → Bool → Bool
+failed_got (got.Piece n) conn p was = was
+failed_got got.Dry conn p was = was
+failed_got got.Ended conn p was = was
+failed_got got.Refused conn p was = was
+failed_got got.Failed conn p was = is_at p conn || was

@@ -34,9 +34,13 @@ EachBelow n links P = (p : ℕ) (link : Link) → p < n → slice_get links p �
 abbrev pub Each : List Link → (ℕ → Link → Type 0) → Type 0
 Each links P = EachBelow 64 links P
 
+-- a connection is not to be read any more
+abbrev pub NotRead : ℕ → Link → Type 0
+NotRead p link = MayRead link → ⊥
+
 -- no connection is to be read any more
 pub record IsDrained (l : Loop) : Type 0 where
-  pub each : Each l.links (λ p link. MayRead link → ⊥)
+  pub each : Each l.links NotRead
 
 -- nothing is queued on a connection that takes bytes
 pub record IsOffered (l : Loop) : Type 0 where

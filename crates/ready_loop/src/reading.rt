@@ -1,14 +1,14 @@
 //! Reading what a wait reported.
-ghost use Rattle.std.specs.Prelude.{◌≡◌, ◌<◌, ◌∷◌, ℕ, length, slice_get, slice_set, IsErr, IsSomeAnd, Ok};
-ghost use Rattle.std.specs.Option.{ForSome};
+ghost use Rattle.std.specs.Prelude.{◌≡◌, ◌<◌, ◌+◌, ℕ, length, slice_get, IsErr, IsSomeAnd, Ok};
 ghost use Rattle.world.specs.Counts.{CountsBy, NetCause};
 ghost use Rattle.world.specs.Places.{place_of};
 ghost use Rattle.world.specs.Told.{Adds, GotSome, read_entry};
-ghost use Rattle.ready_loop.specs.Link.{MayRead, read_link};
+ghost use Rattle.ready_loop.specs.Link.{MayRead};
 ghost use Rattle.ready_loop.specs.History.{after_next};
-ghost use Rattle.ready_loop.specs.Reads.{ReadMoment, NextCame, after_got};
+ghost use Rattle.ready_loop.specs.Reads.{ReadMoment, NextCame, after_got, failed_got};
 ghost use Rattle.ready_loop.specs.Standing.{Goes, Follows};
-ghost use Rattle.ready_loop.specs.States.{IsDrained, IsOffered, FailsOnly};
+ghost use Rattle.ready_loop.specs.States.{IsDrained, IsOffered, FailsOnly, EachBelow};
+ghost use Rattle.ready_loop.specs.States.{NotRead, failed_at};
 
 use crate::conn_place::conn_at;
 use crate::{Loop, LoopFault, Next};
@@ -60,9 +60,12 @@ impl Loop {
         ensures tells { Adds W.journal w.old w.new
             (read_entry conn (length buf.old) result buf.new) }
         ensures goes { Follows W.journal w.old w.new
-            (Goes ReadMoment (after_got result place) self.old self.new) }
-        ensures link { ForSome (slice_get self.old.links place) (λ link. self.new.links
-            ≡ slice_set self.old.links place (read_link result (W.counts w.new).last link)) }
+            (Goes ReadMoment (after_got result conn) self.old self.new) }
+        ensures below { result ≡ Got.Dry → EachBelow place self.old.links NotRead
+            → EachBelow (place + 1) self.new.links NotRead }
+        ensures offered { IsOffered self.old → IsOffered self.new }
+        ensures failed { (p : ℕ) → failed_at self.new p
+            ≡ failed_got result conn p (failed_at self.old p) }
         ensures same { self.new ≡ record self.old { links = self.new.links } }
         ensures cause { CountsBy NetCause W.counts w.old w.new (result ≡ Got.Failed) }
     {
