@@ -78,7 +78,7 @@ known_of_begun Fresh e = cc
 known_of_begun Begun e = refl
 known_of_begun Closed e = cc
 
-stage_of_begun : (stage : Stage) → is_begun stage ≡ true → stage ≡ Begun
+pub stage_of_begun : (stage : Stage) → is_begun stage ≡ true → stage ≡ Begun
 stage_of_begun Fresh e = cc
 stage_of_begun Begun e = refl
 stage_of_begun Closed e = cc
@@ -98,6 +98,11 @@ ends_found {end} {b} {n} {e} whole known m =
 
 ends_again : {end : End} {b n e : Bool} → end ≡ No → EndIs end b n e → EndIs end b n false
 ends_again {end} {b} {n} whole m = record { found = ap is_found whole ∙ never_ended b n; told = m.told }
+
+
+-- one that is up was begun by this loop
+pub known_up : {link : Link} {held : Held} {b : Bool} {q : List ℕ} {n : Bool} {s : Status} {e : Bool} → StandsAt link held b q n s e → s.up ≡ true → b ≡ true
+known_up {link} m up = sym m.known ∙ known_of_begun link.stage (m.stage ∙ m.up_begun up)
 
 
 -- ---- a read
@@ -276,7 +281,7 @@ sends_took {held} {q} {p} k some m = record {
 }
 
 -- the same where this loop has begun it
-put_known : {b : Bool} {xs : List ℕ} → b ≡ true → put_by b xs ≡ xs
+pub put_known : {b : Bool} {xs : List ℕ} → b ≡ true → put_by b xs ≡ xs
 put_known {b} {xs} k = ap (λ x. put_by x xs) k
 
 pub stands_write : (link : Link) (held : Held) (b : Bool) (q : List ℕ) (n : Bool) (s : Status) (e : Bool) (answer : Put) (last clock : ℕ)

@@ -1,4 +1,5 @@
 pub mod CallLemmas
+pub mod OfferLemmas
 pub mod ReadLemmas
 pub mod StandLemmas
 pub mod StateLemmas

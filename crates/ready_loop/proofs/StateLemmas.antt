@@ -10,6 +10,9 @@ use Rattle.std.proofs.Common.{
   ◌≤◌,
   ◌||◌,
   ◌==◌,
+  ◌∷◌,
+  drop,
+  length-drop,
   ℕ,
   Bool,
   true,
@@ -35,13 +38,20 @@ use Rattle.std.proofs.lemmas.Bool.{cases_eq, cases_lt, eq-eqb, ne_eqb, false≢t
 use Rattle.world.specs.declared.conn.Conn.{Conn}
 use Rattle.world.specs.declared.got.Got.{Got}
 use Rattle.world.specs.declared.got.Got.TheVariants as got
+use Rattle.world.specs.declared.connected.Connected.{Connected}
+use Rattle.world.specs.declared.connected.Connected.TheVariants as connected
+use Rattle.world.specs.declared.put.Put.{Put}
+use Rattle.world.specs.declared.put.Put.TheVariants as put
 use Rattle.world.specs.Places.{place_of, is_at}
+use Rattle.world.specs.Told.{PutSome}
 use Rattle.ready_loop.specs.declared.link.Link.{Link}
 use Rattle.ready_loop.specs.declared.readiness.Loop.{Loop}
-use Rattle.ready_loop.specs.Link.{MayRead, MayWrite, read_link}
-use Rattle.ready_loop.specs.Queues.{Held, rest_at}
+use Rattle.ready_loop.specs.Link.{MayRead, MayWrite, IsToBegin, read_link, connect_link, write_link}
+use Rattle.ready_loop.specs.Queues.{Held, held_in, rest_at, put_count}
 use Rattle.ready_loop.specs.Reads.{failed_got}
-use Rattle.ready_loop.specs.States.{EachBelow, Each, IsDrained, IsOffered, IsSound, NotRead, failed_in, failed_at}
+use Rattle.ready_loop.specs.States.{EachBelow, Each, IsDrained, IsOffered, IsSound, NotRead, failed_in, failed_at, failed_connect, failed_put, IsCalmAt, IsOfferedAt, AllOfferedBelow, OnlyAt, flag, writable_in, load}
+use Rattle.ready_loop.proofs.CallLemmas.{held_write}
+use Rattle.ready_loop.proofs.OfferLemmas.{held_set}
 use Rattle.ready_loop.proofs.TableLemmas.{slice_get-set_same, slice_get-set_other, some_is, within}
 
 -- ---- a table with one link replaced
@@ -145,3 +155,179 @@ may_here P links q link found may = subst (λ o. IsSomeAnd o P) found may
 
 pub and_here : (P : Link → Type 0) (links : List Link) (q : ℕ) (link : Link) → slice_get links q ≡ Some link → P link → IsSomeAnd (slice_get links q) P
 and_here P links q link found may = subst (λ o. IsSomeAnd o P) (sym found) may
+
+-- ---- a connect and a write
+
+-- where a link was replaced that may be read only where the old one may
+pub drained_set : (l new : Loop) (q : ℕ) (link then : Link) → slice_get l.links q ≡ Some link → q < 64 → new.links ≡ set l.links q then
+    → (MayRead then → MayRead link) → IsDrained l → IsDrained new
+drained_set l new q link then found low is only d = record {
+  each = subst (λ (ls : List Link). Each ls NotRead) (sym is)
+      (each_set {P = NotRead} 64 q l.links then (within l.links q found) (λ m. d.each q link low found (only m)) d.each);
+}
+
+pub only_set : (l new : Loop) (q : ℕ) (link : Link) → new.links ≡ set l.links q link → new.queues ≡ l.queues → new.left ≡ l.left → OnlyAt q l new
+only_set l new q link is queues left = record {
+  links = λ p ne. ap (λ ls. slice_get ls p) is ∙ slice_get-set_other l.links q p link ne;
+  held = λ p ne. ap (λ qs. held_in (slice_get qs p)) queues;
+  left = left;
+}
+
+pub connect_reads : (how : Connected) (last : ℕ) (link : Link) → MayRead (connect_link how last link) → MayRead link
+connect_reads connected.Begun last link m = record { awake = m.awake; sound = m.sound; reads = m.reads }
+connect_reads connected.Refused last link m = record { awake = m.awake; sound = m.sound; reads = m.reads }
+connect_reads connected.Failed last link m = absurd (false≢true (sym m.sound))
+
+connect_failed : (how : Connected) (last : ℕ) (link : Link) (conn : Conn) → (connect_link how last link).failed ≡ failed_connect how conn (place_of conn) link.failed
+connect_failed connected.Begun last link conn = refl
+connect_failed connected.Refused last link conn = refl
+connect_failed connected.Failed last link conn = ap (λ b. b || link.failed) (sym (eq-eqb (place_of conn) (place_of conn) refl))
+
+failed_connect_other : (how : Connected) (conn : Conn) (p : ℕ) (b : Bool) → p ≢ place_of conn → failed_connect how conn p b ≡ b
+failed_connect_other connected.Begun conn p b ne = refl
+failed_connect_other connected.Refused conn p b ne = refl
+failed_connect_other connected.Failed conn p b ne = ap (λ x. x || b) (ne_eqb p (place_of conn) ne)
+
+pub connect_fails : (how : Connected) (conn : Conn) (last q : ℕ) (links now : List Link) (link : Link) → place_of conn ≡ q → slice_get links q ≡ Some link
+    → now ≡ set links q (connect_link how last link) → (p : ℕ) → failed_in (slice_get now p) ≡ failed_connect how conn p (failed_in (slice_get links p))
+connect_fails how conn last q links now link place found is p =
+    failed_set (λ i b. failed_connect how conn i b) links now (place_of conn) (connect_link how last link) link (subst (λ i. slice_get links i ≡ Some link) (sym place) found)
+    (is ∙ ap (λ i. set links i (connect_link how last link)) (sym place)) (connect_failed how last link conn) (λ i b ne. failed_connect_other how conn i b ne) p
+
+some_at : {a b : ℕ} → Some a ≡ Some b → a ≡ b
+some_at e = cc
+
+connect_calm : (how : Connected) (last : ℕ) (link : Link) (at : ℕ) → (connect_link how last link).refused ≡ Some at → last < at + 200
+connect_calm connected.Begun last link at e = cc
+connect_calm connected.Refused last link at e = let k = some_at e in omega arith
+connect_calm connected.Failed last link at e = cc
+
+pub calm_connected : (how : Connected) (last later q : ℕ) (l new : Loop) (link : Link) → slice_get l.links q ≡ Some link → new.links ≡ set l.links q (connect_link how last link) → last ≡ later → IsCalmAt q later new
+calm_connected how last later q l new link found is clock = record {
+  at = λ x at_q at refused.
+      let here : slice_get (set l.links q (connect_link how last link)) q ≡ Some x = subst (λ (ls : List Link). slice_get ls q ≡ Some x) is at_q in
+      let x_is : connect_link how last link ≡ x = some_is (sym (slice_get-set_same l.links q (connect_link how last link) (within l.links q found)) ∙ here) in
+      subst (λ n. n < at + 200) clock (connect_calm how last link at (ap (λ y. y.refused) x_is ∙ refused));
+}
+
+pub write_reads : (answer : Put) (last : ℕ) (link : Link) → MayRead (write_link answer last link) → MayRead link
+write_reads (put.Took n) last link m = m
+write_reads put.Stuck last link m = record { awake = m.awake; sound = m.sound; reads = m.reads }
+write_reads put.Ended last link m = absurd (false≢true m.awake)
+write_reads put.Refused last link m = absurd (false≢true m.awake)
+write_reads put.Failed last link m = absurd (false≢true (sym m.sound))
+
+write_failed : (answer : Put) (last : ℕ) (link : Link) (conn : Conn) → (write_link answer last link).failed ≡ failed_put answer conn (place_of conn) link.failed
+write_failed (put.Took n) last link conn = refl
+write_failed put.Stuck last link conn = refl
+write_failed put.Ended last link conn = refl
+write_failed put.Refused last link conn = refl
+write_failed put.Failed last link conn = ap (λ b. b || link.failed) (sym (eq-eqb (place_of conn) (place_of conn) refl))
+
+failed_put_other : (answer : Put) (conn : Conn) (p : ℕ) (b : Bool) → p ≢ place_of conn → failed_put answer conn p b ≡ b
+failed_put_other (put.Took n) conn p b ne = refl
+failed_put_other put.Stuck conn p b ne = refl
+failed_put_other put.Ended conn p b ne = refl
+failed_put_other put.Refused conn p b ne = refl
+failed_put_other put.Failed conn p b ne = ap (λ x. x || b) (ne_eqb p (place_of conn) ne)
+
+pub write_fails : (answer : Put) (conn : Conn) (last q : ℕ) (links now : List Link) (link : Link) → place_of conn ≡ q → slice_get links q ≡ Some link
+    → now ≡ set links q (write_link answer last link) → (p : ℕ) → failed_in (slice_get now p) ≡ failed_put answer conn p (failed_in (slice_get links p))
+write_fails answer conn last q links now link place found is p =
+    failed_set (λ i b. failed_put answer conn i b) links now (place_of conn) (write_link answer last link) link (subst (λ i. slice_get links i ≡ Some link) (sym place) found)
+    (is ∙ ap (λ i. set links i (write_link answer last link)) (sym place)) (write_failed answer last link conn) (λ i b ne. failed_put_other answer conn i b ne) p
+
+write_calm : (answer : Put) (last was : ℕ) (link : Link) → ((at : ℕ) → link.refused ≡ Some at → was < at + 200) → last ≡ was
+    → (at : ℕ) → (write_link answer last link).refused ≡ Some at → last < at + 200
+write_calm (put.Took n) last was link calm clock at e = let k = calm at e in omega arith
+write_calm put.Stuck last was link calm clock at e = let k = calm at e in omega arith
+write_calm put.Ended last was link calm clock at e = let k = calm at e in omega arith
+write_calm put.Refused last was link calm clock at e = let k = some_at e in omega arith
+write_calm put.Failed last was link calm clock at e = let k = calm at e in omega arith
+
+pub calm_written : (answer : Put) (last was later q : ℕ) (l new : Loop) (link : Link) → slice_get l.links q ≡ Some link → new.links ≡ set l.links q (write_link answer last link)
+    → last ≡ later → later ≡ was → IsCalmAt q was l → IsCalmAt q later new
+calm_written answer last was later q l new link found is clock same calm = record {
+  at = λ x at_q at refused.
+      let here : slice_get (set l.links q (write_link answer last link)) q ≡ Some x = subst (λ (ls : List Link). slice_get ls q ≡ Some x) is at_q in
+      let x_is : write_link answer last link ≡ x = some_is (sym (slice_get-set_same l.links q (write_link answer last link) (within l.links q found)) ∙ here) in
+      subst (λ n. n < at + 200) clock (write_calm answer last was link (calm.at link found) (clock ∙ same) at (ap (λ y. y.refused) x_is ∙ refused));
+}
+
+pub only_written : (l new : Loop) (q : ℕ) (link : Link) (held : Held) → new.links ≡ set l.links q link → new.queues ≡ set l.queues q held → new.left ≡ l.left → OnlyAt q l new
+only_written l new q link held is queues left = record {
+  links = λ p ne. ap (λ ls. slice_get ls p) is ∙ slice_get-set_other l.links q p link ne;
+  held = λ p ne. ap (λ qs. held_in (slice_get qs p)) queues ∙ ap held_in (slice_get-set_other l.queues q p held ne);
+  left = left;
+}
+
+-- each write leaves less to be done
+less_here : (answer : Put) (last : ℕ) (link : Link) (rest : List ℕ) → link.writable ≡ true → PutSome answer (length rest)
+    → length (drop (put_count answer) rest) + flag ((write_link answer last link).writable) < length rest + flag link.writable
+less_here (put.Took n) last link rest w some = omega (arith, length-drop n rest, some.0, some.1)
+less_here put.Stuck last link rest w some = let k = ap flag w in omega arith
+less_here put.Ended last link rest w some = let k = ap flag w in omega arith
+less_here put.Refused last link rest w some = let k = ap flag w in omega arith
+less_here put.Failed last link rest w some = let k = ap flag w in omega arith
+
+pub load_less : (answer : Put) (last q : ℕ) (l new : Loop) (link : Link) → slice_get l.links q ≡ Some link → link.writable ≡ true → 0 < length (rest_at l.queues q)
+    → PutSome answer (length (rest_at l.queues q)) → new.links ≡ set l.links q (write_link answer last link)
+    → new.queues ≡ set l.queues q (held_write answer (held_in (slice_get l.queues q))) → load q new < load q l
+load_less answer last q l new link found w some took is queues =
+    let rest_is : rest_at new.queues q ≡ drop (put_count answer) (rest_at l.queues q) = ap (λ qs. (held_in (slice_get qs q)).rest) queues
+    ∙ ap (λ h. h.rest) (held_set l.queues q (held_write answer (held_in (slice_get l.queues q))) some) in
+    let flag_is : writable_in (slice_get new.links q) ≡ flag ((write_link answer last link).writable) = ap (λ ls. writable_in (slice_get ls q)) is
+    ∙ ap writable_in (slice_get-set_same l.links q (write_link answer last link) (within l.links q found)) in
+    let was_is : writable_in (slice_get l.links q) ≡ flag link.writable = ap writable_in found in
+    let length_is = ap length rest_is in
+    let less = less_here answer last link (rest_at l.queues q) w took in
+    omega arith
+
+-- ---- places one after another
+
+-- nothing is left at a place that has neither
+pub offered_then : (place last : ℕ) (l : Loop) → IsCalmAt place last l → (IsSomeAnd (slice_get l.links place) MayWrite × (0 < length (rest_at l.queues place)) → ⊥)
+    → IsOfferedAt place last l
+offered_then place last l calm none = record {
+  calm = calm;
+  sent = λ link found may. empty (rest_at l.queues place) (λ lt. none (subst (λ o. IsSomeAnd o MayWrite) (sym found) may, lt));
+}
+  where
+    empty : (xs : List ℕ) → (0 < length xs → ⊥) → xs ≡ []
+    empty [] h = refl
+    empty (x ∷ xs) h = absurd (h (omega arith))
+
+-- one that is not to be begun again is calm
+pub calm_none : (place last : ℕ) (forced : Bool) (l : Loop) (link : Link) → slice_get l.links place ≡ Some link → (IsToBegin forced last link → ⊥) → IsCalmAt place last l
+calm_none place last forced l link found none = record {
+  at = λ x at_x at refused.
+      let x_is : link ≡ x = some_is (sym found ∙ at_x) in
+      elim (cases_lt last (at + 200)) [
+        | inl lt ↦ lt
+        | inr le ↦ absurd (none (record { at = at; refused = ap (λ y. y.refused) x_is ∙ refused; due = inr le }))
+      ];
+}
+
+pub only_start : (place : ℕ) (l : Loop) → OnlyAt place l l
+only_start place l = record { links = λ p ne. refl; held = λ p ne. refl; left = refl }
+
+pub only_then : {place : ℕ} {a b c : Loop} → OnlyAt place a b → OnlyAt place b c → OnlyAt place a c
+only_then m n = record {
+  links = λ p ne. n.links p ne ∙ m.links p ne;
+  held = λ p ne. n.held p ne ∙ m.held p ne;
+  left = n.left ∙ m.left;
+}
+
+-- one place more
+pub offered_more : (n last later : ℕ) (old new : Loop) → later ≡ last → OnlyAt n old new → IsOfferedAt n later new → AllOfferedBelow n last old → AllOfferedBelow (n + 1) later new
+offered_more n last later old new clock only here below = record {
+  each = λ p low. elim (cases_eq p n) [
+    | inl e ↦ subst (λ i. IsOfferedAt i later new) (sym e) here
+    | inr ne ↦
+        let was = below.each p (omega arith) in
+        record {
+          calm = record { at = λ link found at refused. subst (λ k. k < at + 200) (sym clock) (was.calm.at link (sym (only.links p ne) ∙ found) at refused) };
+          sent = λ link found may. ap (λ h. h.rest) (only.held p ne) ∙ was.sent link (sym (only.links p ne) ∙ found) may;
+        }
+  ];
+}

@@ -30,6 +30,7 @@ use Rattle.world.specs.declared.connected.Connected.TheVariants as connected
 use Rattle.world.specs.declared.entry.Entry.{Entry}
 use Rattle.world.specs.declared.entry.Entry.TheVariants as made
 use Rattle.world.specs.declared.put.Put.{Put}
+use Rattle.world.specs.declared.put.Put.TheVariants as put
 use Rattle.world.specs.Told.{write_entry}
 use Rattle.world.specs.Moments.{Since}
 use Rattle.world.specs.Places.{status, time, place_of}
@@ -81,6 +82,20 @@ IsFailureOf conn [] = ⊥
 IsFailureOf conn (made.Connected c port connected.Failed ∷ past) = c ≡ conn
 IsFailureOf conn (made.PutFailed c ∷ past) = c ≡ conn
 IsFailureOf conn _ = ⊥
+
+-- a connect, where it failed
+abbrev pub ConnectCame : Conn → Connected → List Entry → Type 0
+ConnectCame conn connected.Begun after = Unit {0}
+ConnectCame conn connected.Refused after = Unit {0}
+ConnectCame conn connected.Failed after = IsFailureOf conn after
+
+-- a write, where it failed
+abbrev pub PutCame : Conn → Put → List Entry → Type 0
+PutCame conn (put.Took n) after = Unit {0}
+PutCame conn put.Stuck after = Unit {0}
+PutCame conn put.Ended after = Unit {0}
+PutCame conn put.Refused after = Unit {0}
+PutCame conn put.Failed after = IsFailureOf conn after
 
 -- a fault names the connection of the failed call; no other fault comes
 abbrev pub FaultCame : {T : Type 0} → Result T LoopFault → List Entry → Type 0

@@ -18,13 +18,20 @@ use Rattle.std.specs.Prelude.{
   Err,
   slice_get,
 }
+use Rattle.std.proofs.Common.{◌≢◌, length, IsSomeAnd}
+use Rattle.world.specs.declared.conn.Conn.{Conn}
+use Rattle.world.specs.declared.connected.Connected.{Connected}
+use Rattle.world.specs.declared.connected.Connected.TheVariants as connected
+use Rattle.world.specs.declared.put.Put.{Put}
+use Rattle.world.specs.declared.put.Put.TheVariants as put
 use Rattle.world.specs.Places.{is_at}
 use Rattle.ready_loop.specs.declared.fault.LoopFault.{LoopFault}
 use Rattle.ready_loop.specs.declared.fault.LoopFault.TheVariants.{NetFault, Spent}
 use Rattle.ready_loop.specs.declared.link.Link.{Link}
 use Rattle.ready_loop.specs.declared.readiness.Loop.{Loop}
-use Rattle.ready_loop.specs.Link.{MayRead, MayWrite}
-use Rattle.ready_loop.specs.Queues.{Held, rest_at}
+use Rattle.ready_loop.specs.Link.{MayRead, MayWrite, named_link}
+use Rattle.ready_loop.specs.Queues.{Held, held_in, rest_at}
+use Rattle.ready_loop.specs.Standing.{is_found}
 
 -- so it is of the connections at all places below this one
 abbrev pub EachBelow : ℕ → List Link → (ℕ → Link → Type 0) → Type 0
@@ -78,4 +85,62 @@ failed_after (Ok x) p was = was
 
 -- an answer leaves no other connection failed than those that were, and the one that it names
 pub record FailsOnly {T : Type 0} (result : Result T LoopFault) (old new : Loop) : Type 0 where
-  pub each : (p : ℕ) → p < 64 → failed_at new p ≡ failed_after result p (failed_at old p)
+  pub each : (p : ℕ) → failed_at new p ≡ failed_after result p (failed_at old p)
+
+-- so it is after a connect
+abbrev pub failed_connect : Connected → Conn → ℕ → Bool → Bool
+failed_connect connected.Begun conn p was = was
+failed_connect connected.Refused conn p was = was
+failed_connect connected.Failed conn p was = is_at p conn || was
+
+-- and after a write
+abbrev pub failed_put : Put → Conn → ℕ → Bool → Bool
+failed_put (put.Took n) conn p was = was
+failed_put put.Stuck conn p was = was
+failed_put put.Ended conn p was = was
+failed_put put.Refused conn p was = was
+failed_put put.Failed conn p was = is_at p conn || was
+
+-- the connection at a place is not due to be begun again
+pub record IsCalmAt (place last : ℕ) (l : Loop) : Type 0 where
+  pub at : (link : Link) → slice_get l.links place ≡ Some link → (at : ℕ) → link.refused ≡ Some at → last < at + 200
+
+-- nothing is to be done at a place before a wait
+pub record IsOfferedAt (place last : ℕ) (l : Loop) : Type 0 where
+  pub calm : IsCalmAt place last l
+  pub sent : (link : Link) → slice_get l.links place ≡ Some link → MayWrite link → rest_at l.queues place ≡ []
+
+-- nor at any place below this one
+pub record AllOfferedBelow (n last : ℕ) (l : Loop) : Type 0 where
+  pub each : (p : ℕ) → p < n → IsOfferedAt p last l
+
+-- only what is kept of this place may have changed
+pub record OnlyAt (place : ℕ) (old new : Loop) : Type 0 where
+  pub links : (p : ℕ) → p ≢ place → slice_get new.links p ≡ slice_get old.links p
+  pub held : (p : ℕ) → p ≢ place → held_in (slice_get new.queues p) ≡ held_in (slice_get old.queues p)
+  pub left : new.left ≡ old.left
+
+-- what falls with each write at a place: the bytes held, and whether it takes any
+abbrev pub flag : Bool → ℕ
+flag true = 1
+flag false = 0
+
+abbrev pub writable_in : Option Link → ℕ
+writable_in None = 0
+writable_in (Some link) = flag link.writable
+
+abbrev pub load : ℕ → Loop → ℕ
+load place l = length (rest_at l.queues place) + writable_in (slice_get l.links place)
+
+-- a write found the connection at a place ended, and no answer has named it
+abbrev pub found_in : Option Link → Bool
+found_in None = false
+found_in (Some link) = is_found link.end
+
+abbrev pub found_at : Loop → ℕ → Bool
+found_at l p = found_in (slice_get l.links p)
+
+-- each end that was found is named
+pub record Alike (old new : Loop) : Type 0 where
+  pub size : length new.links ≡ length old.links
+  pub each : (p : ℕ) (link : Link) → slice_get new.links p ≡ Some link → IsSomeAnd (slice_get old.links p) (λ was. link ≡ named_link was)

@@ -9,6 +9,7 @@ mod fault;
 mod link;
 mod links;
 mod next;
+mod offering;
 mod queue;
 mod queues;
 mod readiness;
