@@ -53,9 +53,9 @@ use Rattle.ready_loop.specs.declared.end.End.TheVariants.{No, Found, Named}
 use Rattle.ready_loop.specs.declared.link.Link.{Link}
 use Rattle.ready_loop.specs.declared.stage.Stage.{Stage}
 use Rattle.ready_loop.specs.declared.stage.Stage.TheVariants.{Fresh, Begun, Closed}
-use Rattle.ready_loop.specs.Link.{MayRead, MayWrite, IsToBegin, read_link, write_link, connect_link, begun_link, closed_link, wait_link, found_end, named_end, named_link}
+use Rattle.ready_loop.specs.Link.{MayRead, MayWrite, IsToBegin, read_link, write_link, connect_link, begun_link, closed_link, wait_link, found_end, named_end, named_link, is_found, is_named}
 use Rattle.ready_loop.specs.Queues.{Held, put_count}
-use Rattle.ready_loop.specs.Standing.{StandsAt, Sends, EndIs, put_by, is_known, is_begun, is_found, is_named}
+use Rattle.ready_loop.specs.Standing.{StandsAt, Sends, EndIs, put_by, is_known, is_begun}
 use Rattle.ready_loop.proofs.TableLemmas.{not_some}
 
 -- ---- small facts

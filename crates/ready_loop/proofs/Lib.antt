@@ -1,4 +1,6 @@
 pub mod CallLemmas
+pub mod MapLemmas
+pub mod NameLemmas
 pub mod OfferLemmas
 pub mod ReadLemmas
 pub mod StandLemmas

@@ -7,6 +7,7 @@ use Rattle.std.proofs.Common.{
   inr,
   ◌+◌,
   ◌<◌,
+  ◌≤◌,
   ◌==◌,
   ◌||◌,
   ℕ,
@@ -41,6 +42,7 @@ use Rattle.world.specs.declared.got.Got.TheVariants as got
 use Rattle.world.specs.declared.put.Put.{Put}
 use Rattle.world.specs.declared.put.Put.TheVariants as put
 use Rattle.world.specs.declared.side.Side.TheVariants as side
+use Rattle.world.specs.Counts.{Counts, NetCause}
 use Rattle.world.specs.Moments.{Since, start, more}
 use Rattle.world.proofs.MomentsLemmas.{since_then, since_as}
 use Rattle.world.specs.Places.{Status, status, is_at, place_of, concerns}
@@ -149,3 +151,12 @@ goes_then {f = f} u v m n = record {
 pub goes_as : {P Q : History → List Entry → Type 0} {f : History → History} {a b : Loop} {i j : List Entry}
     → ((h : History) (now : List Entry) → P h now → Q h now) → Goes P f a b i j → Goes Q f a b i j
 goes_as u m = record { so = λ h s. let r = m.so h s in (r.0, since_as (u h) r.1) }
+
+-- two calls of the wire that did not fail
+pub cause_then : {a b c : Counts} {F G : Type 0} → NetCause a b F → NetCause b c G → (F → ⊥) → (G → ⊥) → NetCause a c ⊥
+cause_then {a} {b} {c} m n f g =
+    let with_net : Counts → Counts = λ k. record k { net = c.net } in
+    record {
+      others = n.others ∙ ap with_net m.others;
+      net = record { later = omega (arith, m.net.later, n.net.later); cause = λ h. absurd h };
+    }

@@ -331,3 +331,10 @@ offered_more n last later old new clock only here below = record {
         }
   ];
 }
+
+pub not_failed : (answer : Put) (conn : Conn) (p : ℕ) (was : Bool) → (answer ≡ put.Failed → ⊥) → failed_put answer conn p was ≡ was
+not_failed (put.Took n) conn p was ne = refl
+not_failed put.Stuck conn p was ne = refl
+not_failed put.Ended conn p was ne = refl
+not_failed put.Refused conn p was ne = refl
+not_failed put.Failed conn p was ne = absurd (ne refl)

@@ -3,6 +3,7 @@ use Rattle.std.proofs.Common.{
   ◌≡◌,
   ◌≢◌,
   ◌<◌,
+  ◌≤◌,
   ℕ,
   zero,
   suc,
@@ -86,3 +87,21 @@ tells_with {R = R} {Q = Q} {entry = entry} P s q p so =
 pub tells_now : {i j : Option (List Entry)} {R : List Entry → List Entry → Type 0} {entry : Entry} (P : List Entry → Type 0)
     → Tells i j entry → IfSome j P → ((past : List Entry) → P (entry ∷ past) → R past (entry ∷ past)) → Told i j R
 tells_now {R = R} {entry = entry} P s p so = told_as (told_now {P = P} s p) (λ x y h. subst (λ w. R x w) (sym h.0) (so x (subst (λ w. P w) h.0 h.1)))
+
+module _ {X : Type 0} where
+  -- a place that is within has something
+  pub some_at : (xs : List X) (i : ℕ) → i < length xs → (x : X) × (slice_get xs i ≡ Some x)
+  some_at [] i lt = absurd (omega arith)
+  some_at (x ∷ xs) zero lt = (x, refl)
+  some_at (x ∷ xs) (suc i) lt = some_at xs i (omega arith)
+
+  -- one that is not has nothing
+  pub none_at : (xs : List X) (i : ℕ) → length xs ≤ i → slice_get xs i ≡ None
+  none_at [] i le = refl
+  none_at (x ∷ xs) zero le = absurd (omega arith)
+  none_at (x ∷ xs) (suc i) le = none_at xs i (omega arith)
+
+  pub beyond : (xs : List X) (i : ℕ) → slice_get xs i ≡ None → length xs ≤ i
+  beyond [] i e = omega arith
+  beyond (x ∷ xs) zero e = cc
+  beyond (x ∷ xs) (suc i) e = let le = beyond xs i e in omega arith

@@ -61,6 +61,18 @@ read_link got.Ended last link = record link { awake = false; writable = false; e
 read_link got.Refused last link = record link { awake = false; writable = false; refused = Some last }
 read_link got.Failed last link = record link { awake = false; failed = true }
 
+-- a write found it ended, and no answer has named it
+abbrev pub is_found : End → Bool
+is_found No = false
+is_found Found = true
+is_found Named = false
+
+-- an answer has named it
+abbrev pub is_named : End → Bool
+is_named No = false
+is_named Found = false
+is_named Named = true
+
 -- an end that a write found
 abbrev pub found_end : End → End
 found_end No = Found

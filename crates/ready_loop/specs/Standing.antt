@@ -34,6 +34,7 @@ use Rattle.ready_loop.specs.declared.readiness.Loop.{Loop}
 use Rattle.ready_loop.specs.declared.stage.Stage.{Stage}
 use Rattle.ready_loop.specs.declared.stage.Stage.TheVariants.{Fresh, Begun, Closed}
 use Rattle.ready_loop.specs.History.{History}
+use Rattle.ready_loop.specs.Link.{is_found, is_named}
 use Rattle.ready_loop.specs.Queues.{Held, held_in}
 
 -- whether a write has found the connection at a place ended since its last connect, after an entry
@@ -67,16 +68,6 @@ abbrev pub is_begun : Stage → Bool
 is_begun Fresh = false
 is_begun Begun = true
 is_begun Closed = false
-
-abbrev pub is_found : End → Bool
-is_found No = false
-is_found Found = true
-is_found Named = false
-
-abbrev pub is_named : End → Bool
-is_named No = false
-is_named Found = false
-is_named Named = true
 
 -- all that was queued is what was put and what is still held, in this order, and those put are counted
 pub record Sends (held : Held) (queued put : List ℕ) : Type 0 where

@@ -2,6 +2,7 @@
 use Rattle.std.specs.Prelude.{
   ◌≡◌,
   ◌<◌,
+  ◌≤◌,
   ◌+◌,
   ◌||◌,
   ℕ,
@@ -29,9 +30,8 @@ use Rattle.ready_loop.specs.declared.fault.LoopFault.{LoopFault}
 use Rattle.ready_loop.specs.declared.fault.LoopFault.TheVariants.{NetFault, Spent}
 use Rattle.ready_loop.specs.declared.link.Link.{Link}
 use Rattle.ready_loop.specs.declared.readiness.Loop.{Loop}
-use Rattle.ready_loop.specs.Link.{MayRead, MayWrite, named_link}
+use Rattle.ready_loop.specs.Link.{MayRead, MayWrite, named_link, is_found}
 use Rattle.ready_loop.specs.Queues.{Held, held_in, rest_at}
-use Rattle.ready_loop.specs.Standing.{is_found}
 
 -- so it is of the connections at all places below this one
 abbrev pub EachBelow : ℕ → List Link → (ℕ → Link → Type 0) → Type 0
@@ -140,7 +140,16 @@ found_in (Some link) = is_found link.end
 abbrev pub found_at : Loop → ℕ → Bool
 found_at l p = found_in (slice_get l.links p)
 
+-- a link after a step through the table that has come to this place
+pub record MapsTo (n : ℕ) (f : ℕ → Link → Link) (p : ℕ) (link was : Link) : Type 0 where
+  pub below : p < n → link ≡ f p was
+  pub above : n ≤ p → link ≡ was
+
+-- at each place below this one the link was changed so, and no other
+pub record MapsBelow (n : ℕ) (f : ℕ → Link → Link) (old new : List Link) : Type 0 where
+  pub size : length new ≡ length old
+  pub each : (p : ℕ) (link : Link) → slice_get new p ≡ Some link → IsSomeAnd (slice_get old p) (MapsTo n f p link)
+
 -- each end that was found is named
-pub record Alike (old new : Loop) : Type 0 where
-  pub size : length new.links ≡ length old.links
-  pub each : (p : ℕ) (link : Link) → slice_get new.links p ≡ Some link → IsSomeAnd (slice_get old.links p) (λ was. link ≡ named_link was)
+abbrev pub NamesAll : List Link → List Link → Type 0
+NamesAll old new = MapsBelow 64 (λ p. named_link) old new

@@ -2,7 +2,7 @@
 ghost use Rattle.std.specs.Prelude.{◌≡◌, ◌≢◌, ◌↔◌, ◌<◌, ◌+◌, Some, true, false, IsTrue};
 ghost use Rattle.ready_loop.specs.Link.{MayRead, MayWrite, fresh_link, read_link, wait_link};
 ghost use Rattle.ready_loop.specs.Link.{begun_link, connect_link, write_link, closed_link};
-ghost use Rattle.ready_loop.specs.Link.{IsToBegin, named_link};
+ghost use Rattle.ready_loop.specs.Link.{IsToBegin, named_link, is_found};
 
 use crate::end::End;
 use crate::stage::Stage;
@@ -85,7 +85,7 @@ impl Link {
 
     /// Whether a write found it ended that no answer has named.
     pub fn is_found(&self) -> bool
-        ensures { IsTrue result ↔ (self.now.end ≡ End.Found) }
+        ensures { result ≡ is_found self.now.end }
     {
         matches!(self.end, End::Found)
     }

@@ -12,7 +12,7 @@ ghost use Rattle.ready_loop.specs.Queues.{rest_at};
 ghost use Rattle.ready_loop.specs.Standing.{Goes, Follows};
 ghost use Rattle.ready_loop.specs.States.{IsDrained, IsOffered, IsCalm, IsCalmAt, FailsOnly};
 ghost use Rattle.ready_loop.specs.States.{IsOfferedAt, AllOfferedBelow, OnlyAt, load, failed_at};
-ghost use Rattle.ready_loop.specs.States.{failed_connect, failed_put, found_at, Alike};
+ghost use Rattle.ready_loop.specs.States.{failed_connect, failed_put, found_at, NamesAll};
 
 use crate::conn_place::conn_at;
 use crate::{Loop, LoopFault};
@@ -38,8 +38,10 @@ impl Loop {
         ensures left { self.new.left ≡ self.old.left }
         ensures cause { CountsBy NetCause W.counts w.old w.new (IsErr result) }
     {
-        self.offer_all(w)?;
-        Ok(self.name_ends())
+        match self.offer_all(w) {
+            Ok(()) => Ok(self.name_ends()),
+            Err(fault) => Err(fault),
+        }
     }
 
     /// Begins again what is due and offers what is queued, at each place.
@@ -199,7 +201,7 @@ impl Loop {
     /// Names the connections that a write found ended and that no answer has named.
     pub(crate) fn name_ends(&mut self) -> [bool; 64]
         ensures named { (p : ℕ) → p < 64 → slice_get result p ≡ Some (found_at self.old p) }
-        ensures alike { Alike self.old self.new }
+        ensures all { NamesAll self.old.links self.new.links }
         ensures same { self.new ≡ record self.old { links = self.new.links } }
     {
         let mut names = [false; 64];
