@@ -1,8 +1,11 @@
+pub mod BeginLemmas
 pub mod CallLemmas
 pub mod MapLemmas
 pub mod NameLemmas
+pub mod NewLemmas
 pub mod OfferLemmas
 pub mod ReadLemmas
 pub mod StandLemmas
 pub mod StateLemmas
 pub mod TableLemmas
+pub mod WaitLemmas

@@ -160,3 +160,8 @@ cause_then {a} {b} {c} m n f g =
       others = n.others ∙ ap with_net m.others;
       net = record { later = omega (arith, m.net.later, n.net.later); cause = λ h. absurd h };
     }
+
+-- the same under an equal step
+pub goes_step : {P : History → List Entry → Type 0} {f g : History → History} {a b : Loop} {i j : List Entry} → ((h : History) → f h ≡ g h)
+    → Goes P f a b i j → Goes P g a b i j
+goes_step {b = b} {j = j} same m = record { so = λ h s. let r = m.so h s in (subst (λ k. StandsFor b k j) (same h) r.0, r.1) }

@@ -178,12 +178,12 @@ connect_reads connected.Begun last link m = record { awake = m.awake; sound = m.
 connect_reads connected.Refused last link m = record { awake = m.awake; sound = m.sound; reads = m.reads }
 connect_reads connected.Failed last link m = absurd (false≢true (sym m.sound))
 
-connect_failed : (how : Connected) (last : ℕ) (link : Link) (conn : Conn) → (connect_link how last link).failed ≡ failed_connect how conn (place_of conn) link.failed
+pub connect_failed : (how : Connected) (last : ℕ) (link : Link) (conn : Conn) → (connect_link how last link).failed ≡ failed_connect how conn (place_of conn) link.failed
 connect_failed connected.Begun last link conn = refl
 connect_failed connected.Refused last link conn = refl
 connect_failed connected.Failed last link conn = ap (λ b. b || link.failed) (sym (eq-eqb (place_of conn) (place_of conn) refl))
 
-failed_connect_other : (how : Connected) (conn : Conn) (p : ℕ) (b : Bool) → p ≢ place_of conn → failed_connect how conn p b ≡ b
+pub failed_connect_other : (how : Connected) (conn : Conn) (p : ℕ) (b : Bool) → p ≢ place_of conn → failed_connect how conn p b ≡ b
 failed_connect_other connected.Begun conn p b ne = refl
 failed_connect_other connected.Refused conn p b ne = refl
 failed_connect_other connected.Failed conn p b ne = ap (λ x. x || b) (ne_eqb p (place_of conn) ne)

@@ -83,6 +83,11 @@ pub tells_with : {i j : Option (List Entry)} {R Q : List Entry → List Entry �
 tells_with {R = R} {Q = Q} {entry = entry} P s q p so =
     told_as (told_both s (told_now {P = P} q p)) (λ x y h. subst (λ w. R x w) (sym h.0) (so x (subst (λ w. Q x w) h.0 h.1.0) (subst (λ w. P w) h.0 h.1.1)))
 
+-- one call, and what else is known of it
+pub tells_both : {i j : Option (List Entry)} {R Q : List Entry → List Entry → Type 0} {entry : Entry} → Tells i j entry → Told i j Q
+    → ((past : List Entry) → Q past (entry ∷ past) → R past (entry ∷ past)) → Told i j R
+tells_both {R = R} {Q = Q} {entry = entry} s q so = told_as (told_both s q) (λ x y h. subst (λ w. R x w) (sym h.0) (so x (subst (λ w. Q x w) h.0 h.1)))
+
 -- one call, and what holds of the journal after it
 pub tells_now : {i j : Option (List Entry)} {R : List Entry → List Entry → Type 0} {entry : Entry} (P : List Entry → Type 0)
     → Tells i j entry → IfSome j P → ((past : List Entry) → P (entry ∷ past) → R past (entry ∷ past)) → Told i j R

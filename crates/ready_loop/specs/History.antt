@@ -1,13 +1,10 @@
 -- What the callers of a loop have handed in, and what its answers have told them.
 use Rattle.std.specs.Prelude.{
   ℕ,
-  zero,
-  suc,
   ◌==◌,
   ◌||◌,
   ◌++◌,
-  ◌*◌,
-  ◌+◌,
+  ◌∷◌,
   List,
   [],
   Bool,
@@ -21,12 +18,34 @@ use Rattle.std.specs.Prelude.{
   Ok,
   Err,
 }
+use Rattle.world.specs.declared.chan.Chan.{Chan}
+use Rattle.world.specs.declared.chan.Chan.TheVariants.{Shell, Control, Iopub, Heart}
 use Rattle.world.specs.declared.conn.Conn.{Conn}
-use Rattle.world.specs.Places.{place_of, chan_number, is_reported}
+use Rattle.world.specs.Places.{place_of, is_reported}
 use Rattle.ready_loop.specs.declared.fault.LoopFault.{LoopFault}
 use Rattle.ready_loop.specs.declared.fault.LoopFault.TheVariants.{NetFault, Spent}
 use Rattle.ready_loop.specs.declared.next.Next.{Next}
 use Rattle.ready_loop.specs.declared.next.Next.TheVariants.{Piece, Ended, Refused, Quiet}
+
+-- the connection of a job to a channel
+abbrev pub conn_of : ℕ → Chan → Conn
+conn_of job chan = record { job = job; chan = chan }
+
+-- the heartbeat, where it is wanted
+abbrev pub heart_chan : Bool → List Chan
+heart_chan true = Heart ∷ []
+heart_chan false = []
+
+-- the channels that are begun, in this order
+abbrev pub chans : Bool → List Chan
+chans heart = Shell ∷ Control ∷ Iopub ∷ heart_chan heart
+
+-- these up to and with this one
+abbrev pub chans_to : Chan → List Chan
+chans_to Shell = Shell ∷ []
+chans_to Control = Shell ∷ Control ∷ []
+chans_to Iopub = Shell ∷ Control ∷ Iopub ∷ []
+chans_to Heart = Shell ∷ Control ∷ Iopub ∷ Heart ∷ []
 
 -- what was asked of a loop so far
 pub record History : Type 0 where
@@ -52,10 +71,10 @@ same h = h
 abbrev pub with_begun : ℕ → History → History
 with_begun place h = record h { begun = λ p. p == place || h.begun p }
 
--- so many connections were begun, from this place on
-abbrev pub with_begun_from : ℕ → ℕ → History → History
-with_begun_from first zero h = h
-with_begun_from first (suc n) h = with_begun (first + n) (with_begun_from first n h)
+-- connections of a job were begun on these channels
+abbrev pub with_all_begun : ℕ → List Chan → History → History
+with_all_begun job [] h = h
+with_all_begun job (chan ∷ rest) h = with_all_begun job rest (with_begun (place_of (conn_of job chan)) h)
 
 -- bytes were queued at this place
 abbrev pub with_queued : ℕ → List ℕ → History → History
@@ -70,11 +89,10 @@ with_named place h = record h { named = λ p. p == place || h.named p }
 abbrev pub with_all_named : List Bool → History → History
 with_all_named names h = record h { named = λ p. is_reported p names || h.named p }
 
--- after `begin`: it begins the channels in the order of their numbers, up to one that fails
+-- after `begin`: up to a channel that fails
 abbrev pub after_begin : {U : Type 0} → ℕ → Bool → Result U LoopFault → History → History
-after_begin job heart (Ok u) h = with_begun_from (4 * job) (if heart then 4 else 3) h
-after_begin job heart (Err (NetFault (Some conn))) h =
-    with_begun_from (4 * job) (chan_number conn.chan + 1) h
+after_begin job heart (Ok u) h = with_all_begun job (chans heart) h
+after_begin job heart (Err (NetFault (Some conn))) h = with_all_begun job (chans_to conn.chan) h
 after_begin job heart (Err (NetFault None)) h = h
 after_begin job heart (Err Spent) h = h
 

@@ -64,6 +64,16 @@ pub record MayWait (l : Loop) : Type 0 where
   pub offered : IsOffered l
   pub sound : IsSound l
 
+-- whether the connection at a place is awake
+abbrev pub awake_in : Option Link → Bool
+awake_in None = false
+awake_in (Some link) = link.awake
+
+-- the clock before the connection at a place was refused, while it is
+abbrev pub refused_in : Option Link → Option ℕ
+refused_in None = None
+refused_in (Some link) = link.refused
+
 -- no refused connection is due to be begun again at this moment
 pub record IsCalm (last : ℕ) (l : Loop) : Type 0 where
   pub each : Each l.links (λ p link. (at : ℕ) → link.refused ≡ Some at → last < at + 200)

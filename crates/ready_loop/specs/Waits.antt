@@ -20,6 +20,7 @@ use Rattle.std.specs.Prelude.{
   Ok,
   Err,
   slice_get,
+  min,
 }
 use Rattle.world.specs.declared.did.Did.{Did}
 use Rattle.world.specs.declared.did.Did.TheVariants.{Done, Failed}
@@ -27,7 +28,8 @@ use Rattle.world.specs.declared.entry.Entry.{Entry}
 use Rattle.world.specs.declared.entry.Entry.TheVariants as made
 use Rattle.world.specs.declared.reports.Reports.{Reports}
 use Rattle.world.specs.Moments.{Since}
-use Rattle.world.specs.Places.{Status, status, time}
+use Rattle.world.specs.Counts.{Counts, WaitCause}
+use Rattle.world.specs.Places.{Status, status, time, is_reported}
 use Rattle.ready_loop.specs.declared.fault.LoopFault.{LoopFault}
 use Rattle.ready_loop.specs.declared.fault.LoopFault.TheVariants.{NetFault, Spent}
 use Rattle.ready_loop.specs.declared.link.Link.{Link}
@@ -35,24 +37,30 @@ use Rattle.ready_loop.specs.declared.readiness.Loop.{Loop}
 use Rattle.ready_loop.specs.History.{History}
 use Rattle.ready_loop.specs.Offers.{LookMoment, IsFailureOf}
 use Rattle.ready_loop.specs.Standing.{StandsFor}
-use Rattle.ready_loop.specs.States.{IsCalm}
+use Rattle.ready_loop.specs.Link.{wait_link}
+use Rattle.ready_loop.specs.States.{IsCalm, MapsBelow}
 
 -- what a wait may last at most: 500 ms, up to the moment that was handed in, or up to a moment at which
 -- a refused connection is begun again; one that is past counts as 0
-pub data Timer (due : Option ℕ) (last : ℕ) (refused : ℕ → Option ℕ) : ℕ → Type 0 where
-  most : Timer due last refused 500
-  handed : (moment : ℕ) → due ≡ Some moment → Timer due last refused (moment - last)
-  connect : (p at : ℕ) → p < 64 → refused p ≡ Some at → Timer due last refused (at + 200 - last)
+pub data Timer (places : ℕ) (due : Option ℕ) (last : ℕ) (refused : ℕ → Option ℕ) : ℕ → Type 0 where
+  most : Timer places due last refused 500
+  handed : (moment : ℕ) → due ≡ Some moment → Timer places due last refused (moment - last)
+  connect : (p at : ℕ) → p < places → refused p ≡ Some at → Timer places due last refused (at + 200 - last)
 
--- the least of these
-pub record IsLeast (due : Option ℕ) (last : ℕ) (refused : ℕ → Option ℕ) (ms : ℕ) : Type 0 where
-  pub one : Timer due last refused ms
-  pub least : (n : ℕ) → Timer due last refused n → ms ≤ n
+-- the least of these, with the connections at so many places
+pub record IsLeast (places : ℕ) (due : Option ℕ) (last : ℕ) (refused : ℕ → Option ℕ) (ms : ℕ) : Type 0 where
+  pub one : Timer places due last refused ms
+  pub least : (n : ℕ) → Timer places due last refused n → ms ≤ n
+
+-- the milliseconds to the next connect of a connection, at most 500
+abbrev pub connect_wait : Option ℕ → ℕ → ℕ
+connect_wait None last = 500
+connect_wait (Some at) last = min (at + 200 - last) 500
 
 -- the limit of a wait: 0 where a connection is awake, and else the least of these
 pub record IsLimit (due : Option ℕ) (last : ℕ) (awake : ℕ → Bool) (refused : ℕ → Option ℕ) (ms : ℕ) : Type 0 where
   pub awaits : (p : ℕ) → p < 64 → awake p ≡ true → ms ≡ 0
-  pub rests : ((p : ℕ) → p < 64 → awake p ≡ false) → IsLeast due last refused ms
+  pub rests : ((p : ℕ) → p < 64 → awake p ≡ false) → IsLeast 64 due last refused ms
 
 -- a connection that needs nothing before a wait: no call of it failed, it gave bytes 64 times where it is
 -- awake, and where it is open to writing all that was queued was put
@@ -92,6 +100,20 @@ TurnCame due (Ok now) h before after = WaitsThenLooks due h now before after
 TurnCame due (Err (NetFault None)) h before after = Waits due h Failed before after
 TurnCame due (Err (NetFault (Some conn))) h before after = ⊥
 TurnCame due (Err Spent) h before after = after ≡ before
+
+-- one wait, after which a loop stands for each journal for which it stood before
+pub record WaitCame (ms : ℕ) (did : Did) (old new : Loop) (before after : List Entry) : Type 0 where
+  pub reports : Reports
+  pub is : after ≡ made.Waited ms reports did ∷ before
+  pub stands : (h : History) → StandsFor old h before → StandsFor new h after
+  pub links : MapsBelow 64 (λ p. wait_link did (is_reported p reports.ready)) old.links new.links
+
+-- the counts after a turn: of a wait and of the clock, and a fault only where that of the wire rose
+abbrev pub TurnCounts : Result ℕ LoopFault → Counts → Counts → Type 0
+TurnCounts (Ok now) old new = WaitCause old (record new { last = old.last }) ⊥ × (new.last ≡ now)
+TurnCounts (Err (NetFault None)) old new = WaitCause old new (Unit {0})
+TurnCounts (Err (NetFault (Some conn))) old new = ⊥
+TurnCounts (Err Spent) old new = new ≡ old
 
 -- a turn took a loop from each journal for which it stood to one for which it stands then
 pub record Turned (due : Option ℕ) (result : Result ℕ LoopFault) (last : ℕ) (old new : Loop) (before after : List Entry) : Type 0 where

@@ -3,6 +3,7 @@
 //! and `specs/` says which. It does no IO but by the world that it is lent.
 #![tactic(auto)]
 
+mod beginning;
 mod conn_place;
 mod end;
 mod fault;
@@ -15,6 +16,8 @@ mod queues;
 mod readiness;
 mod reading;
 mod stage;
+mod timer;
+mod waiting;
 
 pub use fault::LoopFault;
 pub use next::Next;

@@ -4,6 +4,8 @@ ghost use Rattle.ready_loop.specs.Link.{fresh_link};
 ghost use Rattle.ready_loop.specs.declared.link.Link.{Link};
 
 use crate::link::Link;
+use jtext::NoMemory;
+use std::alloc::Global;
 use std::marker::Model;
 
 /// What the loop keeps of the connections, by their places.
@@ -22,6 +24,15 @@ impl Model for Links {
 }
 
 impl Links {
+    /// No connection is begun.
+    pub fn new(_alloc: Global) -> Result<Links, NoMemory>
+        ensures { IfOk result (λ links. links ≡ replicate 64 fresh_link) }
+    {
+        Ok(Links {
+            links: [Link::fresh(); 64],
+        })
+    }
+
     /// What is kept of the connection at a place.
     pub fn at(&self, place: usize) -> Link
         requires { place < 64 }

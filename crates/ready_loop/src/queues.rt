@@ -68,6 +68,7 @@ impl Queues {
         ensures ok { OnOk result (self.new ≡ slice_set self.old place
             (record { rest = rest_at self.old place ++ more; taken = taken_at self.old place })) }
         ensures err { OnErr result (self.new ≡ self.old) }
+        ensures size { length self.old ≡ 64 }
     {
         self.all[place].push(more)
     }

@@ -1,0 +1,101 @@
+-- What beginning and closing a job's connections adds to a journal, its newest entry first.
+use Rattle.std.specs.Prelude.{
+  ◌≡◌,
+  ◌⊎◌,
+  ℕ,
+  List,
+  [],
+  ◌∷◌,
+  Bool,
+  true,
+  false,
+  if◌then◌else◌,
+  Option,
+  Some,
+  None,
+  Result,
+  Ok,
+  Err,
+  IsSomeAnd,
+  slice_get,
+  slice_index,
+}
+use Rattle.std.proofs.Common.{◌≢◌}
+use Rattle.world.specs.declared.chan.Chan.{Chan}
+use Rattle.world.specs.declared.chan.Chan.TheVariants.{Shell, Control, Iopub, Heart}
+use Rattle.world.specs.declared.conn.Conn.{Conn}
+use Rattle.world.specs.declared.connected.Connected.{Connected}
+use Rattle.world.specs.declared.connected.Connected.TheVariants as connected
+use Rattle.world.specs.declared.entry.Entry.{Entry}
+use Rattle.world.specs.declared.entry.Entry.TheVariants as made
+use Rattle.world.specs.Places.{place_of, status}
+use Rattle.ready_loop.specs.declared.fault.LoopFault.{LoopFault}
+use Rattle.ready_loop.specs.declared.fault.LoopFault.TheVariants.{NetFault, Spent}
+use Rattle.ready_loop.specs.declared.link.Link.{Link}
+use Rattle.ready_loop.specs.declared.readiness.Loop.{Loop}
+use Rattle.ready_loop.specs.declared.stage.Stage.TheVariants.{Fresh, Begun, Closed}
+use Rattle.ready_loop.specs.History.{History, conn_of, chans}
+use Rattle.ready_loop.specs.Standing.{StandsFor, is_begun}
+
+-- the port of a channel, of those for shell, iopub, stdin, control and heartbeat
+abbrev pub port_of : List ℕ → Chan → ℕ
+port_of ports Shell = slice_index ports 0
+port_of ports Iopub = slice_index ports 1
+port_of ports Control = slice_index ports 3
+port_of ports Heart = slice_index ports 4
+
+-- the newest entry begins a connection that was not begun, or was closed
+abbrev pub BeginMoment : History → List Entry → Type 0
+BeginMoment h [] = ⊥
+BeginMoment h (made.Connected conn port how ∷ past) = (status (place_of conn) past).begun ≡ false
+BeginMoment h (_ ∷ past) = ⊥
+
+-- connects of a job's channels, in this order, each on its port, up to one that fails; with the answer
+pub data Begins {U : Type 0} (job : ℕ) (ports : List ℕ) : List Chan → Result U LoopFault → List Entry → List Entry → Type 0 where
+  done : (u : U) (past : List Entry) → Begins job ports [] (Ok u) past past
+  more : (chan : Chan) (rest : List Chan) (how : Connected) (result : Result U LoopFault) (before after : List Entry) → how ≢ connected.Failed
+      → Begins job ports rest result (made.Connected (conn_of job chan) (port_of ports chan) how ∷ before) after
+      → Begins job ports (chan ∷ rest) result before after
+  failed : (chan : Chan) (rest : List Chan) (before : List Entry)
+      → Begins job ports (chan ∷ rest) (Err (NetFault (Some (conn_of job chan)))) before
+      (made.Connected (conn_of job chan) (port_of ports chan) connected.Failed ∷ before)
+
+-- one connect, with its answer
+abbrev pub BeginsOne : {U : Type 0} → Conn → ℕ → Result U LoopFault → List Entry → List Entry → Type 0
+BeginsOne conn port (Ok u) before after = (how : Connected) × (how ≢ connected.Failed) × (after ≡ made.Connected conn port how ∷ before)
+BeginsOne conn port (Err (NetFault (Some c))) before after = (c ≡ conn) × (after ≡ made.Connected conn port connected.Failed ∷ before)
+BeginsOne conn port (Err (NetFault None)) before after = ⊥
+BeginsOne conn port (Err Spent) before after = ⊥
+
+-- no connect was called for the connection at this place
+abbrev pub IsFreshAt : ℕ → Loop → Type 0
+IsFreshAt place l = IsSomeAnd (slice_get l.links place) (λ link. link.stage ≡ Fresh)
+
+-- nor for any of a job
+pub record IsFresh (job : ℕ) (l : Loop) : Type 0 where
+  pub each : (chan : Chan) → IsFreshAt (place_of (conn_of job chan)) l
+
+-- a connect was called for the connection at this place, and it may have been closed since
+abbrev pub IsKnownAt : ℕ → Loop → Type 0
+IsKnownAt place l = IsSomeAnd (slice_get l.links place) (λ link. link.stage ≢ Fresh)
+
+-- the newest entry closes a connection that was begun
+abbrev pub CloseMoment : History → List Entry → Type 0
+CloseMoment h [] = ⊥
+CloseMoment h (made.Closed conn ∷ past) = (status (place_of conn) past).begun ≡ true
+CloseMoment h (_ ∷ past) = ⊥
+
+-- the entry that closes a connection, where one is to be closed
+abbrev pub closing : Bool → Conn → List Entry → List Entry
+closing true conn past = made.Closed conn ∷ past
+closing false conn past = past
+
+-- the journal after each of these channels that was begun by this journal is closed, in this order
+abbrev pub closings : ℕ → List Entry → List Chan → List Entry → List Entry
+closings job before [] past = past
+closings job before (chan ∷ rest) past =
+    closings job before rest (closing (status (place_of (conn_of job chan)) before).begun (conn_of job chan) past)
+
+-- the entries of a close: one for each connection of the job for which connect was called, in the order of the channels
+pub record CloseCame (job : ℕ) (old : Loop) (before after : List Entry) : Type 0 where
+  pub so : (h : History) → StandsFor old h before → after ≡ closings job before (chans true) before

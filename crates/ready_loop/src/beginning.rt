@@ -1,0 +1,113 @@
+//! Beginning and closing the connections of a job.
+ghost use Rattle.std.specs.Prelude.{◌≡◌, ◌<◌, ℕ, IsErr, IfErr, Some};
+ghost use Rattle.world.specs.Counts.{CountsBy, NetCause};
+ghost use Rattle.world.specs.Places.{place_of};
+ghost use Rattle.world.specs.Told.{Adds};
+ghost use Rattle.world.specs.declared.entry.Entry.{Entry};
+ghost use Rattle.ready_loop.specs.Begins.{BeginMoment, Begins, BeginsOne, IsFresh, IsFreshAt};
+ghost use Rattle.ready_loop.specs.History.{with_begun, after_begin, chans};
+ghost use Rattle.ready_loop.specs.Standing.{Goes, Follows};
+ghost use Rattle.ready_loop.specs.States.{IsDrained, FailsOnly, OnlyAt, failed_at};
+ghost use Rattle.ready_loop.specs.States.{failed_connect};
+
+use crate::conn_place::place_at;
+use crate::{Loop, LoopFault};
+use world::{Chan, Conn, Connected, World};
+
+impl Loop {
+    /// Begins the connections of a job that was not begun before, the heartbeat connection only where
+    /// `heart` is true. The ports are those of shell, iopub, stdin, control and heartbeat.
+    pub fn begin<W: World>(
+        &mut self,
+        w: &mut W,
+        job: u8,
+        ports: [u16; 5],
+        heart: bool,
+    ) -> Result<(), LoopFault>
+        requires job { job < 16 }
+        requires fresh { IsFresh job self.old }
+        // One connect for each channel, on its port, up to one that fails: its connection is named.
+        ensures came { Follows W.journal w.old w.new (Begins job ports (chans heart) result) }
+        ensures goes { Follows W.journal w.old w.new
+            (Goes BeginMoment (after_begin job heart result) self.old self.new) }
+
+        ensures drained { IsDrained self.old → IsDrained self.new }
+        ensures failed { FailsOnly result self.old self.new }
+        ensures same { self.new ≡ record self.old { links = self.new.links } }
+        ensures cause { CountsBy NetCause W.counts w.old w.new (IsErr result) }
+    {
+        let shell = Conn {
+            job,
+            chan: Chan::Shell,
+        };
+        match self.begin_on(w, shell, ports[0]) {
+            Ok(()) => {}
+            Err(fault) => return Err(fault),
+        }
+        let control = Conn {
+            job,
+            chan: Chan::Control,
+        };
+        match self.begin_on(w, control, ports[3]) {
+            Ok(()) => {}
+            Err(fault) => return Err(fault),
+        }
+        let iopub = Conn {
+            job,
+            chan: Chan::Iopub,
+        };
+        match self.begin_on(w, iopub, ports[1]) {
+            Ok(()) => {}
+            Err(fault) => return Err(fault),
+        }
+        if !heart {
+            return Ok(());
+        }
+        let chan = Chan::Heart;
+        self.begin_on(w, Conn { job, chan }, ports[4])
+    }
+
+    /// Begins a connection, which has to go well.
+    fn begin_on<W: World>(&mut self, w: &mut W, conn: Conn, port: u16) -> Result<(), LoopFault>
+        requires job { conn.job < 16 }
+        requires fresh { IsFreshAt (place_of conn) self.old }
+        ensures came { Follows W.journal w.old w.new (BeginsOne conn port result) }
+        ensures fault { IfErr result (λ fault. fault ≡ LoopFault.NetFault (Some conn)) }
+        ensures goes { Follows W.journal w.old w.new
+            (Goes BeginMoment (with_begun (place_of conn)) self.old self.new) }
+        ensures only { OnlyAt (place_of conn) self.old self.new }
+        ensures drained { IsDrained self.old → IsDrained self.new }
+        ensures failed { FailsOnly result self.old self.new }
+        ensures same { self.new ≡ record self.old { links = self.new.links } }
+        ensures cause { CountsBy NetCause W.counts w.old w.new (IsErr result) }
+    {
+        match self.begin_at(w, conn, port) {
+            Connected::Begun => Ok(()),
+            Connected::Refused => Ok(()),
+            Connected::Failed => Err(LoopFault::NetFault { conn: Some(conn) }),
+        }
+    }
+
+    /// Begins a connection.
+    fn begin_at<W: World>(&mut self, w: &mut W, conn: Conn, port: u16) -> Connected
+        requires job { conn.job < 16 }
+        requires fresh { IsFreshAt (place_of conn) self.old }
+        ensures tells { Adds W.journal w.old w.new (Entry.Connected conn port result) }
+        ensures goes { Follows W.journal w.old w.new
+            (Goes BeginMoment (with_begun (place_of conn)) self.old self.new) }
+        ensures only { OnlyAt (place_of conn) self.old self.new }
+        ensures drained { IsDrained self.old → IsDrained self.new }
+        ensures failed { (p : ℕ) → failed_at self.new p
+            ≡ failed_connect result conn p (failed_at self.old p) }
+        ensures same { self.new ≡ record self.old { links = self.new.links } }
+        ensures cause { CountsBy NetCause W.counts w.old w.new (result ≡ Connected.Failed) }
+    {
+        let place = place_at(conn);
+        let how = w.connect(conn, port);
+        let last = w.last();
+        let link = self.links.at(place);
+        self.links
+            .put(place, link.begun_on(port).after_connect(how, last));
+        how
+    }
+}
