@@ -37,7 +37,7 @@ use Rattle.std.proofs.Common.{
   length-take,
 }
 use Rattle.std.proofs.lemmas.List.{take-append-drop}
-use Rattle.std.proofs.lemmas.Bool.{false≢true}
+use Rattle.std.proofs.lemmas.Bool.{false≢true, false_from_ne_true}
 use Rattle.world.specs.declared.connected.Connected.{Connected}
 use Rattle.world.specs.declared.connected.Connected.TheVariants as connected
 use Rattle.world.specs.declared.did.Did.{Did}
@@ -53,9 +53,9 @@ use Rattle.ready_loop.specs.declared.end.End.TheVariants.{No, Found, Named}
 use Rattle.ready_loop.specs.declared.link.Link.{Link}
 use Rattle.ready_loop.specs.declared.stage.Stage.{Stage}
 use Rattle.ready_loop.specs.declared.stage.Stage.TheVariants.{Fresh, Begun, Closed}
-use Rattle.ready_loop.specs.Link.{MayRead, MayWrite, IsToBegin, read_link, write_link, connect_link, begun_link, closed_link, wait_link, found_end, named_end, named_link, is_found, is_named}
+use Rattle.ready_loop.specs.Link.{MayRead, MayWrite, IsToBegin, read_link, write_link, connect_link, begun_link, closed_link, wait_link, found_end, named_end, named_link, is_found, is_named, is_known, is_begun, closed_stage}
 use Rattle.ready_loop.specs.Queues.{Held, put_count}
-use Rattle.ready_loop.specs.Standing.{StandsAt, Sends, EndIs, put_by, is_known, is_begun}
+use Rattle.ready_loop.specs.Standing.{StandsAt, Sends, EndIs, put_by}
 use Rattle.ready_loop.proofs.TableLemmas.{not_some}
 
 -- ---- small facts
@@ -136,6 +136,7 @@ stands_read link held b q n s e (got.Piece k) buffer last clock t awake unused m
   known = m.known;
   stage = m.stage;
   port = m.port;
+  failed_begun = m.failed_begun;
   reported = m.reported;
   open_up = m.open_up;
   up_begun = m.up_begun;
@@ -159,6 +160,7 @@ stands_read link held b q n s e got.Dry buffer last clock t awake unused m =
   known = m.known;
   stage = m.stage;
   port = m.port;
+  failed_begun = m.failed_begun;
   reported = λ a. absurd (false≢true a);
   open_up = m.open_up;
   up_begun = m.up_begun;
@@ -183,6 +185,7 @@ stands_read link held b q n s e got.Ended buffer last clock t awake unused m =
   known = m.known;
   stage = m.stage;
   port = m.port;
+  failed_begun = m.failed_begun;
   reported = λ a. absurd (false≢true a);
   open_up = λ a. absurd (false≢true a);
   up_begun = λ a. absurd (false≢true a);
@@ -207,6 +210,7 @@ stands_read link held b q n s e got.Refused buffer last clock t awake unused m =
   known = m.known;
   stage = m.stage;
   port = m.port;
+  failed_begun = m.failed_begun;
   reported = λ a. absurd (false≢true a);
   open_up = λ a. absurd (false≢true a);
   up_begun = λ a. absurd (false≢true a);
@@ -230,6 +234,7 @@ stands_read link held b q n s e got.Failed buffer last clock t awake unused m =
   known = m.known;
   stage = m.stage;
   port = m.port;
+  failed_begun = λ f. m.up_begun (m.reported (sym m.awake ∙ awake));
   reported = λ a. absurd (false≢true a);
   open_up = m.open_up;
   up_begun = m.up_begun;
@@ -300,6 +305,7 @@ stands_write link held b q n s e (put.Took k) last clock t writable some unused 
   known = m.known;
   stage = m.stage;
   port = m.port;
+  failed_begun = m.failed_begun;
   reported = m.reported;
   open_up = m.open_up;
   up_begun = m.up_begun;
@@ -323,6 +329,7 @@ stands_write link held b q n s e put.Stuck last clock t writable some unused m =
   known = m.known;
   stage = m.stage;
   port = m.port;
+  failed_begun = m.failed_begun;
   reported = m.reported;
   open_up = λ a. absurd (false≢true a);
   up_begun = m.up_begun;
@@ -348,6 +355,7 @@ stands_write link held b q n s e put.Ended last clock t writable some unused m =
   known = m.known;
   stage = m.stage;
   port = m.port;
+  failed_begun = m.failed_begun;
   reported = λ a. absurd (false≢true a);
   open_up = λ a. absurd (false≢true a);
   up_begun = λ a. absurd (false≢true a);
@@ -372,6 +380,7 @@ stands_write link held b q n s e put.Refused last clock t writable some unused m
   known = m.known;
   stage = m.stage;
   port = m.port;
+  failed_begun = m.failed_begun;
   reported = λ a. absurd (false≢true a);
   open_up = λ a. absurd (false≢true a);
   up_begun = λ a. absurd (false≢true a);
@@ -395,6 +404,7 @@ stands_write link held b q n s e put.Failed last clock t writable some unused m 
   known = m.known;
   stage = m.stage;
   port = m.port;
+  failed_begun = λ f. m.up_begun (m.open_up (sym m.writable ∙ writable));
   reported = m.reported;
   open_up = λ a. absurd (false≢true a);
   up_begun = m.up_begun;
@@ -428,6 +438,7 @@ stands_again link held b q n s e connected.Begun last clock at t refused m =
   known = m.known;
   stage = m.stage ∙ m.refused_begun at was;
   port = λ st. refl;
+  failed_begun = λ f. refl;
   reported = λ a. refl;
   open_up = λ a. refl;
   up_begun = λ u. refl;
@@ -452,6 +463,7 @@ stands_again link held b q n s e connected.Refused last clock at t refused m =
   known = m.known;
   stage = m.stage ∙ m.refused_begun at was;
   port = λ st. refl;
+  failed_begun = λ f. refl;
   reported = λ a. not_some (m.up_calm (m.reported a)) was;
   open_up = λ a. not_some (m.up_calm (m.open_up a)) was;
   up_begun = λ u. refl;
@@ -476,6 +488,7 @@ stands_again link held b q n s e connected.Failed last clock at t refused m =
   known = m.known;
   stage = m.stage ∙ m.refused_begun at was;
   port = λ st. refl;
+  failed_begun = λ f. refl;
   reported = m.reported;
   open_up = m.open_up;
   up_begun = λ u. refl;
@@ -515,6 +528,7 @@ stands_begun link held b q n s e connected.Begun number last clock t fresh m =
   known = refl;
   stage = refl;
   port = λ st. refl;
+  failed_begun = λ f. refl;
   reported = λ a. refl;
   open_up = λ a. refl;
   up_begun = λ u. refl;
@@ -542,6 +556,7 @@ stands_begun link held b q n s e connected.Refused number last clock t fresh m =
   known = refl;
   stage = refl;
   port = λ st. refl;
+  failed_begun = λ f. refl;
   reported = λ a. absurd (down (m.reported a));
   open_up = λ a. absurd (down (m.open_up a));
   up_begun = λ u. refl;
@@ -569,6 +584,7 @@ stands_begun link held b q n s e connected.Failed number last clock t fresh m =
   known = refl;
   stage = refl;
   port = λ st. refl;
+  failed_begun = λ f. refl;
   reported = m.reported;
   open_up = m.open_up;
   up_begun = λ u. refl;
@@ -584,17 +600,36 @@ stands_begun link held b q n s e connected.Failed number last clock t fresh m =
 
 -- ---- a close
 
-pub stands_closed : (link : Link) (held : Held) (b : Bool) (q : List ℕ) (n : Bool) (s : Status) (e : Bool) → link.stage ≡ Begun → StandsAt link held b q n s e → StandsAt (closed_link link) held b q n (closed_after s) e
-stands_closed link held b q n s e begun m =
+known_closed : (stage : Stage) → is_known (closed_stage stage) ≡ is_known stage
+known_closed Fresh = refl
+known_closed Begun = refl
+known_closed Closed = refl
+
+begun_closed : (stage : Stage) → is_begun (closed_stage stage) ≡ false
+begun_closed Fresh = refl
+begun_closed Begun = refl
+begun_closed Closed = refl
+
+not_begun : {X : Type 0} (stage : Stage) → closed_stage stage ≡ Begun → X
+not_begun stage e = let f = sym (begun_closed stage) ∙ ap is_begun e in absurd (false≢true f)
+
+fresh_closed : (stage : Stage) → closed_stage stage ≡ Fresh → stage ≡ Fresh
+fresh_closed Fresh e = refl
+fresh_closed Begun e = cc
+fresh_closed Closed e = cc
+
+pub stands_closed : (link : Link) (held : Held) (b : Bool) (q : List ℕ) (n : Bool) (s : Status) (e : Bool) → StandsAt link held b q n s e → StandsAt (closed_link link) held b q n (closed_after s) e
+stands_closed link held b q n s e m =
     record {
   awake = refl;
   writable = refl;
   failed = refl;
   refused = refl;
   reads = λ a. absurd (false≢true a);
-  known = sym (ap is_known begun) ∙ m.known;
-  stage = refl;
-  port = λ st. cc;
+  known = known_closed link.stage ∙ m.known;
+  stage = begun_closed link.stage;
+  port = λ st. not_begun link.stage st;
+  failed_begun = λ a. absurd (false≢true a);
   reported = λ a. absurd (false≢true a);
   open_up = λ a. absurd (false≢true a);
   up_begun = λ a. absurd (false≢true a);
@@ -603,7 +638,41 @@ stands_closed link held b q n s e begun m =
   refused_begun = λ k is. not_some refl is;
   refused_unused = λ k is. not_some refl is;
   refused_whole = λ k is. not_some refl is;
-  fresh_whole = λ st. cc;
+  fresh_whole = λ st. m.fresh_whole (fresh_closed link.stage st);
+  sends = m.sends;
+  ends = m.ends;
+}
+
+down : {a : Bool} → (a ≡ true → false ≡ true) → false ≡ a
+down {a} f = sym (false_from_ne_true a (λ e. false≢true (f e)))
+
+none_is : (o : Option ℕ) → ((at : ℕ) → o ≡ Some at → false ≡ true) → None ≡ o
+none_is None f = refl
+none_is (Some at) f = absurd (false≢true (f at refl))
+
+-- one that is not begun has nothing to be closed
+pub stands_unbegun : (link : Link) (held : Held) (b : Bool) (q : List ℕ) (n : Bool) (s : Status) (e : Bool) → is_begun link.stage ≡ false → StandsAt link held b q n s e → StandsAt (closed_link link) held b q n s e
+stands_unbegun link held b q n s e shut m =
+    let not_up : s.up ≡ true → false ≡ true = λ u. sym shut ∙ m.stage ∙ m.up_begun u in
+    record {
+  awake = down (λ a. not_up (m.reported a));
+  writable = down (λ a. not_up (m.open_up a));
+  failed = down (λ f. sym shut ∙ m.stage ∙ m.failed_begun f);
+  refused = none_is s.refused (λ at is. sym shut ∙ m.stage ∙ m.refused_begun at is);
+  reads = λ a. absurd (false≢true a);
+  known = known_closed link.stage ∙ m.known;
+  stage = begun_closed link.stage ∙ sym shut ∙ m.stage;
+  port = λ st. not_begun link.stage st;
+  failed_begun = m.failed_begun;
+  reported = m.reported;
+  open_up = m.open_up;
+  up_begun = m.up_begun;
+  up_calm = m.up_calm;
+  up_whole = m.up_whole;
+  refused_begun = m.refused_begun;
+  refused_unused = m.refused_unused;
+  refused_whole = m.refused_whole;
+  fresh_whole = λ st. m.fresh_whole (fresh_closed link.stage st);
   sends = m.sends;
   ends = m.ends;
 }
@@ -626,6 +695,7 @@ stands_waited link held b q n s e did.Done ready p up m =
   known = m.known;
   stage = m.stage;
   port = m.port;
+  failed_begun = m.failed_begun;
   reported = either_up (is_reported p ready) s.awake up m.reported;
   open_up = either_up (is_reported p ready) s.writable up m.open_up;
   up_begun = m.up_begun;
@@ -649,6 +719,7 @@ stands_waited link held b q n s e did.Failed ready p up m =
   known = m.known;
   stage = m.stage;
   port = m.port;
+  failed_begun = m.failed_begun;
   reported = m.reported;
   open_up = m.open_up;
   up_begun = m.up_begun;
@@ -687,6 +758,7 @@ stands_named link held b q n s e m =
   known = m.known;
   stage = m.stage;
   port = m.port;
+  failed_begun = m.failed_begun;
   reported = m.reported;
   open_up = m.open_up;
   up_begun = m.up_begun;
@@ -714,6 +786,7 @@ stands_queued link held b q n s e more m =
   known = m.known;
   stage = m.stage;
   port = m.port;
+  failed_begun = m.failed_begun;
   reported = m.reported;
   open_up = m.open_up;
   up_begun = m.up_begun;

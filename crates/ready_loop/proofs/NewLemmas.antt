@@ -87,6 +87,7 @@ fresh_stands p turns journal shut = record {
   known = refl;
   stage = sym shut.begun;
   port = λ e. cc;
+  failed_begun = λ a. absurd (false≢true (sym shut.failed ∙ a));
   reported = λ a. absurd (false≢true (sym shut.awake ∙ a));
   open_up = λ a. absurd (false≢true (sym shut.writable ∙ a));
   up_begun = λ a. absurd (false≢true (sym shut.up ∙ a));

@@ -1,7 +1,7 @@
 -- What beginning and closing a job's connections adds to a journal, its newest entry first.
 use Rattle.std.specs.Prelude.{
   ◌≡◌,
-  ◌⊎◌,
+  ◌||◌,
   ℕ,
   List,
   [],
@@ -28,14 +28,15 @@ use Rattle.world.specs.declared.connected.Connected.{Connected}
 use Rattle.world.specs.declared.connected.Connected.TheVariants as connected
 use Rattle.world.specs.declared.entry.Entry.{Entry}
 use Rattle.world.specs.declared.entry.Entry.TheVariants as made
-use Rattle.world.specs.Places.{place_of, status}
+use Rattle.world.specs.Places.{place_of, is_at, status}
 use Rattle.ready_loop.specs.declared.fault.LoopFault.{LoopFault}
 use Rattle.ready_loop.specs.declared.fault.LoopFault.TheVariants.{NetFault, Spent}
 use Rattle.ready_loop.specs.declared.link.Link.{Link}
 use Rattle.ready_loop.specs.declared.readiness.Loop.{Loop}
 use Rattle.ready_loop.specs.declared.stage.Stage.TheVariants.{Fresh, Begun, Closed}
 use Rattle.ready_loop.specs.History.{History, conn_of, chans}
-use Rattle.ready_loop.specs.Standing.{StandsFor, is_begun}
+use Rattle.ready_loop.specs.Link.{is_begun}
+use Rattle.ready_loop.specs.Standing.{StandsFor}
 
 -- the port of a channel, of those for shell, iopub, stdin, control and heartbeat
 abbrev pub port_of : List ℕ → Chan → ℕ
@@ -90,12 +91,30 @@ abbrev pub closing : Bool → Conn → List Entry → List Entry
 closing true conn past = made.Closed conn ∷ past
 closing false conn past = past
 
--- the journal after each of these channels that was begun by this journal is closed, in this order
-abbrev pub closings : ℕ → List Entry → List Chan → List Entry → List Entry
-closings job before [] past = past
-closings job before (chan ∷ rest) past =
-    closings job before rest (closing (status (place_of (conn_of job chan)) before).begun (conn_of job chan) past)
+-- the journal after each of these channels was closed that was begun, in this order
+abbrev pub closings : ℕ → (Chan → Bool) → List Chan → List Entry → List Entry
+closings job begun [] past = past
+closings job begun (chan ∷ rest) past = closings job begun rest (closing (begun chan) (conn_of job chan) past)
 
--- the entries of a close: one for each connection of the job for which connect was called, in the order of the channels
+-- a connect was called for the connection at a place, and no close has followed
+abbrev pub begun_in : Option Link → Bool
+begun_in None = false
+begun_in (Some link) = is_begun link.stage
+
+-- the entries of the close of one connection
+abbrev pub ClosesOne : Conn → Loop → List Entry → List Entry → Type 0
+ClosesOne conn old before after = after ≡ closing (begun_in (slice_get old.links (place_of conn))) conn before
+
+-- the entries of a close: one for each connection of the job for which connect was called since its last close
 pub record CloseCame (job : ℕ) (old : Loop) (before after : List Entry) : Type 0 where
-  pub so : (h : History) → StandsFor old h before → after ≡ closings job before (chans true) before
+  pub so : (h : History) → StandsFor old h before
+      → after ≡ closings job (λ chan. (status (place_of (conn_of job chan)) before).begun) (chans true) before
+
+-- a place is of this job
+abbrev pub is_of_job : ℕ → ℕ → Bool
+is_of_job job p = is_at p (conn_of job Heart) || (is_at p (conn_of job Iopub) || (is_at p (conn_of job Control) || is_at p (conn_of job Shell)))
+
+-- whether a connection has failed, after one was closed
+abbrev pub failed_closed : Bool → Bool → Bool
+failed_closed true was = false
+failed_closed false was = was

@@ -10,8 +10,21 @@ use Rattle.world.specs.declared.connected.Connected.{Connected}
 use Rattle.world.specs.declared.connected.Connected.TheVariants as connected
 use Rattle.ready_loop.specs.declared.end.End.{End}
 use Rattle.ready_loop.specs.declared.end.End.TheVariants.{No, Found, Named}
+use Rattle.ready_loop.specs.declared.stage.Stage.{Stage}
 use Rattle.ready_loop.specs.declared.stage.Stage.TheVariants.{Fresh, Begun, Closed}
 use Rattle.ready_loop.specs.declared.link.Link.{Link}
+
+-- a connect was called for it
+abbrev pub is_known : Stage → Bool
+is_known Fresh = false
+is_known Begun = true
+is_known Closed = true
+
+-- and no close has followed
+abbrev pub is_begun : Stage → Bool
+is_begun Fresh = false
+is_begun Begun = true
+is_begun Closed = false
 
 -- a connection for which no connect was called
 abbrev pub fresh_link : Link
@@ -93,10 +106,21 @@ wait_link did.Done ready link =
     record link { awake = ready || link.awake; writable = ready || link.writable; reads = 0 }
 wait_link did.Failed ready link = record link { reads = 0 }
 
+-- a stage after a close
+abbrev pub closed_stage : Stage → Stage
+closed_stage Fresh = Fresh
+closed_stage Begun = Closed
+closed_stage Closed = Closed
+
 -- after a close
 abbrev pub closed_link : Link → Link
-closed_link link =
-    record link { stage = Closed; awake = false; writable = false; failed = false; refused = None }
+closed_link link = record link {
+  stage = closed_stage link.stage;
+  awake = false;
+  writable = false;
+  failed = false;
+  refused = None;
+}
 
 -- an end that an answer has named where a write found it
 abbrev pub named_end : End → End

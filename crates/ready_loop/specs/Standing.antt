@@ -34,7 +34,7 @@ use Rattle.ready_loop.specs.declared.readiness.Loop.{Loop}
 use Rattle.ready_loop.specs.declared.stage.Stage.{Stage}
 use Rattle.ready_loop.specs.declared.stage.Stage.TheVariants.{Fresh, Begun, Closed}
 use Rattle.ready_loop.specs.History.{History}
-use Rattle.ready_loop.specs.Link.{is_found, is_named}
+use Rattle.ready_loop.specs.Link.{is_found, is_named, is_known, is_begun}
 use Rattle.ready_loop.specs.Queues.{Held, held_in}
 
 -- whether a write has found the connection at a place ended since its last connect, after an entry
@@ -57,18 +57,6 @@ put_by false bytes = []
 abbrev pub put_at : History → List Entry → ℕ → List ℕ
 put_at h journal p = put_by (h.begun p) (status p journal).put
 
--- a connect was called for it
-abbrev pub is_known : Stage → Bool
-is_known Fresh = false
-is_known Begun = true
-is_known Closed = true
-
--- and no close has followed
-abbrev pub is_begun : Stage → Bool
-is_begun Fresh = false
-is_begun Begun = true
-is_begun Closed = false
-
 -- all that was queued is what was put and what is still held, in this order, and those put are counted
 pub record Sends (held : Held) (queued put : List ℕ) : Type 0 where
   pub whole : queued ≡ put ++ held.rest
@@ -89,7 +77,8 @@ pub record StandsAt (link : Link) (held : Held) (begun : Bool) (queued : List �
   pub known : is_known link.stage ≡ begun
   pub stage : is_begun link.stage ≡ s.begun
   pub port : link.stage ≡ Begun → s.port ≡ Some link.port
-  -- only connections that are up were reported
+  -- only a connection that was begun has failed, and only one that is up was reported
+  pub failed_begun : s.failed ≡ true → s.begun ≡ true
   pub reported : s.awake ≡ true → s.up ≡ true
   pub open_up : s.writable ≡ true → s.up ≡ true
   -- one that is up was begun, is not refused and was not found ended

@@ -1,13 +1,15 @@
 //! Beginning and closing the connections of a job.
 ghost use Rattle.std.specs.Prelude.{◌≡◌, ◌<◌, ℕ, IsErr, IfErr, Some};
 ghost use Rattle.world.specs.Counts.{CountsBy, NetCause};
-ghost use Rattle.world.specs.Places.{place_of};
+ghost use Rattle.world.specs.Places.{place_of, is_at};
 ghost use Rattle.world.specs.Told.{Adds};
 ghost use Rattle.world.specs.declared.entry.Entry.{Entry};
 ghost use Rattle.ready_loop.specs.Begins.{BeginMoment, Begins, BeginsOne, IsFresh, IsFreshAt};
-ghost use Rattle.ready_loop.specs.History.{with_begun, after_begin, chans};
+ghost use Rattle.ready_loop.specs.Begins.{CloseMoment, CloseCame, ClosesOne, closing, is_of_job};
+ghost use Rattle.ready_loop.specs.Begins.{failed_closed};
+ghost use Rattle.ready_loop.specs.History.{same, with_begun, after_begin, chans};
 ghost use Rattle.ready_loop.specs.Standing.{Goes, Follows};
-ghost use Rattle.ready_loop.specs.States.{IsDrained, FailsOnly, OnlyAt, failed_at};
+ghost use Rattle.ready_loop.specs.States.{IsDrained, IsOffered, FailsOnly, OnlyAt, failed_at};
 ghost use Rattle.ready_loop.specs.States.{failed_connect};
 
 use crate::conn_place::place_at;
@@ -109,5 +111,58 @@ impl Loop {
         self.links
             .put(place, link.begun_on(port).after_connect(how, last));
         how
+    }
+
+    /// Closes the connections of a job for which connect was called, whatever that answered, each
+    /// once, and also where it has ended or was refused since.
+    pub fn close<W: World>(&mut self, w: &mut W, job: u8)
+        requires { job < 16 }
+        ensures came { Follows W.journal w.old w.new (CloseCame job self.old) }
+        ensures goes { Follows W.journal w.old w.new (Goes CloseMoment same self.old self.new) }
+        ensures drained { IsDrained self.old → IsDrained self.new }
+        ensures offered { IsOffered self.old → IsOffered self.new }
+        ensures failed { (p : ℕ) → failed_at self.new p
+            ≡ failed_closed (is_of_job job p) (failed_at self.old p) }
+        ensures same { self.new ≡ record self.old { links = self.new.links } }
+        ensures counts { W.counts w.new ≡ W.counts w.old }
+    {
+        let chan = Chan::Shell;
+        self.close_one(w, Conn { job, chan });
+        let chan = Chan::Control;
+        self.close_one(w, Conn { job, chan });
+        let chan = Chan::Iopub;
+        self.close_one(w, Conn { job, chan });
+        let chan = Chan::Heart;
+        self.close_one(w, Conn { job, chan });
+    }
+
+    /// Closes a connection, where connect was called for it.
+    fn close_one<W: World>(&mut self, w: &mut W, conn: Conn)
+        requires { conn.job < 16 }
+        ensures came { Follows W.journal w.old w.new (ClosesOne conn self.old) }
+        ensures goes { Follows W.journal w.old w.new (Goes CloseMoment same self.old self.new) }
+        ensures only { OnlyAt (place_of conn) self.old self.new }
+        ensures drained { IsDrained self.old → IsDrained self.new }
+        ensures offered { IsOffered self.old → IsOffered self.new }
+        ensures failed { (p : ℕ) → failed_at self.new p
+            ≡ failed_closed (is_at p conn) (failed_at self.old p) }
+        ensures same { self.new ≡ record self.old { links = self.new.links } }
+        ensures counts { W.counts w.new ≡ W.counts w.old }
+    {
+        let place = place_at(conn);
+        let link = self.links.at(place);
+        close_where(w, conn, link.is_begun());
+        self.links.put(place, link.after_close());
+    }
+}
+
+/// Closes a connection, where that is asked for.
+fn close_where<W: World>(w: &mut W, conn: Conn, begun: bool)
+    requires { conn.job < 16 }
+    ensures came { Follows W.journal w.old w.new (λ before after. after ≡ closing begun conn before) }
+    ensures counts { W.counts w.new ≡ W.counts w.old }
+{
+    if begun {
+        w.close(conn);
     }
 }

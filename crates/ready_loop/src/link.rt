@@ -2,7 +2,7 @@
 ghost use Rattle.std.specs.Prelude.{◌≡◌, ◌≢◌, ◌↔◌, ◌<◌, ◌+◌, Some, true, false, IsTrue};
 ghost use Rattle.ready_loop.specs.Link.{MayRead, MayWrite, fresh_link, read_link, wait_link};
 ghost use Rattle.ready_loop.specs.Link.{begun_link, connect_link, write_link, closed_link};
-ghost use Rattle.ready_loop.specs.Link.{IsToBegin, named_link, is_found};
+ghost use Rattle.ready_loop.specs.Link.{IsToBegin, named_link, is_begun, is_found};
 
 use crate::end::End;
 use crate::stage::Stage;
@@ -78,7 +78,7 @@ impl Link {
 
     /// Whether a connect was called for it that no close has followed.
     pub fn is_begun(&self) -> bool
-        ensures { IsTrue result ↔ (self.now.stage ≡ Stage.Begun) }
+        ensures { result ≡ is_begun self.now.stage }
     {
         matches!(self.stage, Stage::Begun)
     }
@@ -207,7 +207,7 @@ impl Link {
         ensures { result ≡ closed_link self }
     {
         Link {
-            stage: Stage::Closed,
+            stage: self.stage.closed(),
             awake: false,
             writable: false,
             failed: false,

@@ -1,4 +1,6 @@
 //! How far a connection has come.
+ghost use Rattle.std.specs.Prelude.{◌≡◌};
+ghost use Rattle.ready_loop.specs.Link.{closed_stage};
 
 /// How far a connection has come.
 #[derive(Clone, Copy, Debug, Drop, PartialEq, Eq)]
@@ -9,4 +11,17 @@ pub enum Stage {
     Begun,
     /// It was closed since.
     Closed,
+}
+
+impl Stage {
+    /// After a close.
+    pub fn closed(self) -> Stage
+        ensures { result ≡ closed_stage self }
+    {
+        match self {
+            Stage::Fresh => Stage::Fresh,
+            Stage::Begun => Stage::Closed,
+            Stage::Closed => Stage::Closed,
+        }
+    }
 }
