@@ -23,6 +23,8 @@ use Rattle.std.specs.Prelude.{
   Ok,
   Err,
   slice_get,
+  unwrap_or,
+  ◌/◌,
 }
 use Rattle.world.specs.declared.conn.Conn.{Conn}
 use Rattle.world.specs.declared.connected.Connected.{Connected}
@@ -41,6 +43,7 @@ use Rattle.ready_loop.specs.History.{History}
 use Rattle.ready_loop.specs.Standing.{write_ended, StandsFor}
 use Rattle.ready_loop.specs.declared.readiness.Loop.{Loop}
 use Rattle.ready_loop.specs.Queues.{Held, rest_at}
+use Rattle.ready_loop.specs.States.{refused_in}
 
 -- a refused connection is begun again on its port, 200 ms after the clock before its refusal or in a last look
 pub record IsBegunAgain (forced : Bool) (conn : Conn) (port : ℕ) (past : List Entry) : Type 0 where
@@ -71,10 +74,31 @@ abbrev pub OfferAt : Bool → ℕ → History → List Entry → Type 0
 OfferAt forced place h [] = ⊥
 OfferAt forced place h (entry ∷ past) = (conn : Conn) × (place_of conn ≡ place) × Offers forced h past conn entry
 
--- for one of these jobs, by their numbers, in a last look
+-- the job of this number is one of these
+abbrev pub is_looked : List Bool → ℕ → Bool
+is_looked jobs job = unwrap_or (slice_get jobs job) false
+
+-- for a connection of one of these jobs, in a last look
 abbrev pub LookMoment : List Bool → History → List Entry → Type 0
 LookMoment jobs h [] = ⊥
-LookMoment jobs h (entry ∷ past) = (conn : Conn) × (slice_get jobs conn.job ≡ Some true) × Offers true h past conn entry
+LookMoment jobs h (entry ∷ past) = (conn : Conn) × (is_looked jobs conn.job ≡ true) × Offers true h past conn entry
+
+-- a journal with more entries
+abbrev pub Extends : List Entry → List Entry → Type 0
+Extends before after = Since (λ now. Unit {0}) before after
+
+-- a connect of the connection at a place is among the new entries
+pub data Connects (p : ℕ) (before : List Entry) : List Entry → Type 0 where
+  connects : (conn : Conn) (port : ℕ) (how : Connected) (past : List Entry) → Extends before past → place_of conn ≡ p → Connects p before (made.Connected conn port how ∷ past)
+  later : (entry : Entry) (past : List Entry) → Connects p before past → Connects p before (entry ∷ past)
+
+-- where it was refused and that is forced, the connection at a place was begun again
+pub record BeginsAt (forced : Bool) (place : ℕ) (old : Loop) (before after : List Entry) : Type 0 where
+  pub so : (h : History) → StandsFor old h before → forced ≡ true → (at : ℕ) → refused_in (slice_get old.links place) ≡ Some at → Connects place before after
+
+-- each connection of these jobs that was refused was begun again, at the places below this one
+pub record BeginsBelow (n : ℕ) (jobs : List Bool) (old : Loop) (before after : List Entry) : Type 0 where
+  pub so : (h : History) → StandsFor old h before → (p at : ℕ) → p < n → is_looked jobs (p / 4) ≡ true → refused_in (slice_get old.links p) ≡ Some at → Connects p before after
 
 -- the newest entry is a failed call of this connection
 abbrev pub IsFailureOf : Conn → List Entry → Type 0
@@ -96,6 +120,12 @@ PutCame conn put.Stuck after = Unit {0}
 PutCame conn put.Ended after = Unit {0}
 PutCame conn put.Refused after = Unit {0}
 PutCame conn put.Failed after = IsFailureOf conn after
+
+-- a fault of a connection
+abbrev pub IsOfConn : LoopFault → Type 0
+IsOfConn (NetFault (Some conn)) = Unit {0}
+IsOfConn (NetFault None) = ⊥
+IsOfConn Spent = ⊥
 
 -- a fault names the connection of the failed call; no other fault comes
 abbrev pub FaultCame : {T : Type 0} → Result T LoopFault → List Entry → Type 0

@@ -21,21 +21,23 @@ use Rattle.std.specs.Prelude.{
   Err,
   slice_get,
   min,
+  ◌/◌,
 }
+use Rattle.world.specs.declared.conn.Conn.{Conn}
 use Rattle.world.specs.declared.did.Did.{Did}
 use Rattle.world.specs.declared.did.Did.TheVariants.{Done, Failed}
 use Rattle.world.specs.declared.entry.Entry.{Entry}
 use Rattle.world.specs.declared.entry.Entry.TheVariants as made
 use Rattle.world.specs.declared.reports.Reports.{Reports}
 use Rattle.world.specs.Moments.{Since}
-use Rattle.world.specs.Counts.{Counts, WaitCause}
+use Rattle.world.specs.Counts.{Counts, NetCause, WaitCause}
 use Rattle.world.specs.Places.{Status, status, time, is_reported}
 use Rattle.ready_loop.specs.declared.fault.LoopFault.{LoopFault}
 use Rattle.ready_loop.specs.declared.fault.LoopFault.TheVariants.{NetFault, Spent}
 use Rattle.ready_loop.specs.declared.link.Link.{Link}
 use Rattle.ready_loop.specs.declared.readiness.Loop.{Loop}
-use Rattle.ready_loop.specs.History.{History}
-use Rattle.ready_loop.specs.Offers.{LookMoment, IsFailureOf}
+use Rattle.ready_loop.specs.History.{History, after_names}
+use Rattle.ready_loop.specs.Offers.{LookMoment, IsFailureOf, Connects, is_looked}
 use Rattle.ready_loop.specs.Standing.{StandsFor}
 use Rattle.ready_loop.specs.Link.{wait_link}
 use Rattle.ready_loop.specs.States.{IsCalm, MapsBelow}
@@ -120,3 +122,43 @@ pub record Turned (due : Option ℕ) (result : Result ℕ LoopFault) (last : ℕ
   pub so : (h : History) → StandsFor old h before → StandsFor new h after × TurnCame due result h before after
   -- where nothing was due before it, nothing is at its wait
   pub calm : (h : History) → StandsFor old h before → IsCalm last old → NoneDue before
+
+-- the entries of a last look up to its wait: each connection of these jobs that was refused was begun again,
+-- nothing that could go on is left, and then a wait that does not last
+pub record LooksThenWaits (jobs : List Bool) (h : History) (did : Did) (before after : List Entry) : Type 0 where
+  pub past : List Entry
+  pub looks : Since (LookMoment jobs h) before past
+  pub begins : (p at : ℕ) → p < 64 → is_looked jobs (p / 4) ≡ true → (status p before).refused ≡ Some at → Connects p before past
+  pub served : AllServed h past
+  pub reports : Reports
+  pub is : after ≡ made.Waited 0 reports did ∷ past
+
+-- the entries of a last look up to a failed call of a connection
+pub record LooksUntil (jobs : List Bool) (h : History) (conn : Conn) (before after : List Entry) : Type 0 where
+  pub looks : Since (LookMoment jobs h) before after
+  pub failure : IsFailureOf conn after
+
+-- the entries of a last look, by its answer
+abbrev pub LookCame : List Bool → Result (List Bool) LoopFault → History → List Entry → List Entry → Type 0
+LookCame jobs (Ok names) h before after = LooksThenWaits jobs h Done before after
+LookCame jobs (Err (NetFault None)) h before after = LooksThenWaits jobs h Failed before after
+LookCame jobs (Err (NetFault (Some conn))) h before after = LooksUntil jobs h conn before after
+LookCame jobs (Err Spent) h before after = after ≡ before
+
+-- a last look took a loop from each journal for which it stood to one for which it stands then
+pub record Looked (jobs : List Bool) (result : Result (List Bool) LoopFault) (old new : Loop) (before after : List Entry) : Type 0 where
+  pub so : (h : History) → StandsFor old h before → StandsFor new (after_names result h) after × LookCame jobs result h before after
+
+-- the counts after a last look
+abbrev pub LookCounts : Result (List Bool) LoopFault → Counts → Counts → Type 0
+LookCounts (Ok names) old new = WaitCause old new ⊥
+LookCounts (Err (NetFault None)) old new = WaitCause old new (Unit {0})
+LookCounts (Err (NetFault (Some conn))) old new = NetCause old new (Unit {0})
+LookCounts (Err Spent) old new = new ≡ old
+
+-- how many waits are left after a last look
+abbrev pub left_after : Result (List Bool) LoopFault → ℕ → ℕ
+left_after (Ok names) left = left - 1
+left_after (Err (NetFault None)) left = left - 1
+left_after (Err (NetFault (Some conn))) left = left
+left_after (Err Spent) left = left

@@ -8,6 +8,7 @@ ghost use Rattle.ready_loop.specs.Begins.{BeginMoment, Begins, BeginsOne, IsFres
 ghost use Rattle.ready_loop.specs.Begins.{CloseMoment, CloseCame, ClosesOne, closing, is_of_job};
 ghost use Rattle.ready_loop.specs.Begins.{failed_closed};
 ghost use Rattle.ready_loop.specs.History.{same, with_begun, after_begin, chans};
+ghost use Rattle.ready_loop.specs.Offers.{IsOfConn};
 ghost use Rattle.ready_loop.specs.Standing.{Goes, Follows};
 ghost use Rattle.ready_loop.specs.States.{IsDrained, IsOffered, FailsOnly, OnlyAt, failed_at};
 ghost use Rattle.ready_loop.specs.States.{failed_connect};
@@ -32,6 +33,7 @@ impl Loop {
         ensures came { Follows W.journal w.old w.new (Begins job ports (chans heart) result) }
         ensures goes { Follows W.journal w.old w.new
             (Goes BeginMoment (after_begin job heart result) self.old self.new) }
+        ensures fault { IfErr result IsOfConn }
 
         ensures drained { IsDrained self.old → IsDrained self.new }
         ensures failed { FailsOnly result self.old self.new }

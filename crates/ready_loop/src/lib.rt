@@ -9,6 +9,7 @@ mod end;
 mod fault;
 mod link;
 mod links;
+mod looking;
 mod next;
 mod offering;
 mod queue;

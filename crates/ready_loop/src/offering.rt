@@ -1,5 +1,5 @@
 //! Beginning refused connections again, and offering what is queued.
-ghost use Rattle.std.specs.Prelude.{◌≡◌, ◌<◌, ◌≤◌, ◌≢◌, ◌↔◌, ℕ, [], false, length, slice_get, IsErr, IsTrue, IsSomeAnd, OnOk, Ok, Some, true};
+ghost use Rattle.std.specs.Prelude.{◌≡◌, ◌<◌, ◌≤◌, ◌≢◌, ◌↔◌, ℕ, [], false, length, slice_get, IfErr, IsErr, IsTrue, IsSomeAnd, OnOk, Ok, Some, true};
 ghost use Rattle.world.specs.Counts.{CountsBy, NetCause};
 ghost use Rattle.world.specs.Places.{place_of};
 ghost use Rattle.world.specs.declared.entry.Entry.{Entry};
@@ -7,7 +7,7 @@ ghost use Rattle.ready_loop.specs.declared.link.Link.{Link};
 ghost use Rattle.ready_loop.specs.Link.{MayWrite, IsToBegin};
 ghost use Rattle.ready_loop.specs.History.{same, after_names};
 ghost use Rattle.ready_loop.specs.Offers.{OfferMoment, OfferAt, FaultCame, ConnectCame, PutCame};
-ghost use Rattle.ready_loop.specs.Offers.{Names};
+ghost use Rattle.ready_loop.specs.Offers.{Names, BeginsAt, Connects, IsOfConn};
 ghost use Rattle.ready_loop.specs.Queues.{rest_at};
 ghost use Rattle.ready_loop.specs.Standing.{Goes, Follows};
 ghost use Rattle.ready_loop.specs.States.{IsDrained, IsOffered, IsCalm, IsCalmAt, FailsOnly};
@@ -27,6 +27,7 @@ impl Loop {
         ensures goes { Follows W.journal w.old w.new
             (Goes (OfferMoment false) (after_names result) self.old self.new) }
         ensures came { Follows W.journal w.old w.new (λ _ after. FaultCame result after) }
+        ensures fault { IfErr result IsOfConn }
         ensures names { Follows W.journal w.old w.new (Names result self.old) }
 
         // Then nothing is left to be done.
@@ -49,6 +50,7 @@ impl Loop {
         ensures goes { Follows W.journal w.old w.new
             (Goes (OfferMoment false) same self.old self.new) }
         ensures came { Follows W.journal w.old w.new (λ _ after. FaultCame result after) }
+        ensures fault { IfErr result IsOfConn }
         ensures offered { OnOk result (AllOfferedBelow 64 (W.counts w.new).last self.new) }
         ensures drained { IsDrained self.old → IsDrained self.new }
         ensures failed { FailsOnly result self.old self.new }
@@ -62,11 +64,13 @@ impl Loop {
     }
 
     /// Begins the connection at a place again where that is due, and offers what is queued on it.
-    fn offer_at<W: World>(&mut self, w: &mut W, place: usize, forced: bool) -> Result<(), LoopFault>
+    pub(crate) fn offer_at<W: World>(&mut self, w: &mut W, place: usize, forced: bool) -> Result<(), LoopFault>
         requires { place < 64 }
         ensures goes { Follows W.journal w.old w.new
             (Goes (OfferAt forced place) same self.old self.new) }
         ensures came { Follows W.journal w.old w.new (λ _ after. FaultCame result after) }
+        ensures fault { IfErr result IsOfConn }
+        ensures begins { Follows W.journal w.old w.new (BeginsAt forced place self.old) }
         ensures only { OnlyAt place self.old self.new }
         ensures offered { OnOk result (IsOfferedAt place (W.counts w.new).last self.new) }
         ensures drained { IsDrained self.old → IsDrained self.new }
@@ -92,6 +96,8 @@ impl Loop {
         ensures goes { Follows W.journal w.old w.new
             (Goes (OfferAt forced place) same self.old self.new) }
         ensures came { Follows W.journal w.old w.new (λ _ after. FaultCame result after) }
+        ensures fault { IfErr result IsOfConn }
+        ensures begins { Follows W.journal w.old w.new (BeginsAt forced place self.old) }
         ensures only { OnlyAt place self.old self.new }
         ensures calm { OnOk result (IsCalmAt place (W.counts w.new).last self.new) }
         ensures drained { IsDrained self.old → IsDrained self.new }
@@ -124,6 +130,7 @@ impl Loop {
         ensures goes { Follows W.journal w.old w.new
             (Goes (OfferAt forced place) same self.old self.new) }
         ensures came { Follows W.journal w.old w.new (λ _ after. ConnectCame conn result after) }
+        ensures connects { Follows W.journal w.old w.new (Connects place) }
         ensures only { OnlyAt place self.old self.new }
         ensures calm { IsCalmAt place (W.counts w.new).last self.new }
         ensures drained { IsDrained self.old → IsDrained self.new }
@@ -147,6 +154,7 @@ impl Loop {
         ensures goes { Follows W.journal w.old w.new
             (Goes (OfferAt false place) same self.old self.new) }
         ensures came { Follows W.journal w.old w.new (λ _ after. FaultCame result after) }
+        ensures fault { IfErr result IsOfConn }
         ensures only { OnlyAt place self.old self.new }
         ensures offered { OnOk result (IsOfferedAt place (W.counts w.new).last self.new) }
         ensures drained { IsDrained self.old → IsDrained self.new }

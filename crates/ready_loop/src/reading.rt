@@ -1,11 +1,12 @@
 //! Reading what a wait reported.
-ghost use Rattle.std.specs.Prelude.{◌≡◌, ◌<◌, ◌+◌, ℕ, length, slice_get, IsErr, IsSomeAnd, Ok};
+ghost use Rattle.std.specs.Prelude.{◌≡◌, ◌<◌, ◌+◌, ℕ, length, slice_get, IfErr, IsErr, IsSomeAnd, Ok};
 ghost use Rattle.world.specs.Counts.{CountsBy, NetCause};
 ghost use Rattle.world.specs.Places.{place_of};
 ghost use Rattle.world.specs.Told.{Adds, GotSome, read_entry};
 ghost use Rattle.ready_loop.specs.Link.{MayRead};
 ghost use Rattle.ready_loop.specs.History.{after_next};
 ghost use Rattle.ready_loop.specs.Reads.{ReadMoment, NextCame, after_got, failed_got};
+ghost use Rattle.ready_loop.specs.Offers.{IsOfConn};
 ghost use Rattle.ready_loop.specs.Standing.{Goes, Follows};
 ghost use Rattle.ready_loop.specs.States.{IsDrained, IsOffered, FailsOnly, EachBelow};
 ghost use Rattle.ready_loop.specs.States.{NotRead, failed_at};
@@ -23,6 +24,7 @@ impl Loop {
         ensures goes { Follows W.journal w.old w.new
             (Goes ReadMoment (after_next result) self.old self.new) }
         ensures came { Follows W.journal w.old w.new (NextCame result (length buf.old) buf.new) }
+        ensures fault { IfErr result IsOfConn }
 
         // `Quiet` exactly where no connection is to be read.
         ensures quiet { result ≡ Ok Next.Quiet → IsDrained self.new }

@@ -40,7 +40,7 @@ impl Loop {
     }
 
     /// Waits at most so many milliseconds.
-    fn wait<W: World>(&mut self, w: &mut W, ms: u32) -> Did
+    pub(crate) fn wait<W: World>(&mut self, w: &mut W, ms: u32) -> Did
         requires { 0 < self.old.left }
         ensures came { Follows W.journal w.old w.new (WaitCame ms result self.old self.new) }
         ensures failed { (p : ℕ) → failed_at self.new p ≡ failed_at self.old p }

@@ -2,6 +2,9 @@ use Rattle.std.proofs.Common.{◌≡◌, List, set, ap, ◌∙◌, refl}
 use Rattle.world.specs.declared.entry.Entry.{Entry}
 use Rattle.world.specs.Places.{time}
 use Rattle.ready_loop.specs.Link.{IsToBegin, connect_link}
+use Rattle.world.specs.Moments.{start}
+use Rattle.world.proofs.MomentsLemmas.{tells_as}
+use Rattle.ready_loop.specs.Offers.{connects}
 use Rattle.ready_loop.proofs.TableLemmas.{tells_now}
 use Rattle.ready_loop.proofs.StateLemmas.{may_here, only_set, calm_connected, drained_set, connect_reads, connect_fails}
 use Rattle.ready_loop.proofs.OfferLemmas.{again_goes}
@@ -32,3 +35,6 @@ returns-clause-drained g c = drained_set c.args.self.now (record c.args.self.now
 pub returns-clause-failed : goal.returns-clause-failed
 returns-clause-failed g c = connect_fails c.connect-how.result c.args.conn c.last-last.result c.args.place c.args.self.now.links c.put.new.self c.at-link.result
     c.requires.place c.at-link.ensures (c.put.ensures ∙ ap (set c.args.self.now.links c.args.place) c.after_connect.ensures)
+
+pub returns-clause-connects : goal.returns-clause-connects
+returns-clause-connects g c = tells_as c.connect-how.ensures.tells (λ past. connects c.args.conn c.at-link.result.port c.connect-how.result past start c.requires.place)
