@@ -6,4 +6,5 @@ pub mod Queues
 pub mod Reads
 pub mod Standing
 pub mod States
+pub mod Table
 pub mod Waits
