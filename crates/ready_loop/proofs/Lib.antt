@@ -6,7 +6,9 @@ pub mod MapLemmas
 pub mod NameLemmas
 pub mod NewLemmas
 pub mod OfferLemmas
+pub mod ReadAllLemmas
 pub mod ReadLemmas
+pub mod RunLemmas
 pub mod StandLemmas
 pub mod StateLemmas
 pub mod TableLemmas

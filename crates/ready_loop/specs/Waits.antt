@@ -162,3 +162,9 @@ left_after (Ok names) left = left - 1
 left_after (Err (NetFault None)) left = left - 1
 left_after (Err (NetFault (Some conn))) left = left
 left_after (Err Spent) left = left
+
+-- some connection is awake
+pub record SomeAwake (past : List Entry) : Type 0 where
+  pub place : ℕ
+  pub low : place < 64
+  pub awake : (status place past).awake ≡ true

@@ -7,6 +7,7 @@ mod beginning;
 mod conn_place;
 mod end;
 mod fault;
+pub mod laws;
 mod link;
 mod links;
 mod looking;
