@@ -50,18 +50,19 @@ use Rattle.ready_loop.specs.declared.fault.LoopFault.{LoopFault}
 use Rattle.ready_loop.specs.declared.fault.LoopFault.TheVariants.{NetFault, Spent}
 use Rattle.ready_loop.specs.declared.link.Link.{Link}
 use Rattle.ready_loop.specs.declared.readiness.Loop.{Loop}
+use Rattle.ready_loop.specs.declared.stage.Stage.{Stage}
 use Rattle.ready_loop.specs.declared.stage.Stage.TheVariants.{Fresh, Begun, Closed}
-use Rattle.ready_loop.specs.Link.{MayRead, MayWrite, connect_link, begun_link, closed_link, is_begun}
-use Rattle.ready_loop.specs.Begins.{BeginMoment, Begins, BeginsOne, IsFreshAt, port_of, CloseMoment, CloseCame, ClosesOne, closing, begun_in, failed_closed}
+use Rattle.ready_loop.specs.Link.{MayRead, MayWrite, connect_link, begun_link, closed_link, closed_stage, is_begun, is_known}
+use Rattle.ready_loop.specs.Begins.{BeginMoment, Begins, BeginsOne, port_of, CloseMoment, CloseCame, ClosesOne, closing, begun_in, failed_closed}
 use Rattle.ready_loop.specs.Queues.{Held, held_in, rest_at}
 use Rattle.ready_loop.specs.Begins as begins
 use Rattle.ready_loop.specs.History.{History, same, with_begun, with_all_begun, conn_of, chans, after_begin}
 use Rattle.ready_loop.specs.Standing.{write_ended, StandsAt, Stand, StandsFor, Goes}
-use Rattle.ready_loop.specs.States.{OnlyAt, IsOffered, Each, failed_in, failed_connect}
+use Rattle.ready_loop.specs.States.{OnlyAt, IsOffered, Each, SameKnown, failed_in, failed_at, failed_connect, known_in, known_at}
 use Rattle.ready_loop.proofs.CallLemmas.{stands_begun, stands_closed, stands_unbegun}
 use Rattle.ready_loop.proofs.OfferLemmas.{ended_connect}
 use Rattle.ready_loop.proofs.StandLemmas.{stand_at, stands_as, same_but, begun_but, not_at, or_own}
-use Rattle.ready_loop.proofs.StateLemmas.{each_set, failed_set, connect_failed, failed_connect_other}
+use Rattle.ready_loop.proofs.StateLemmas.{each_set, failed_set, kept_set, connect_failed, failed_connect_other, connect_stage}
 use Rattle.ready_loop.proofs.TableLemmas.{within, some_at, some_is, slice_get-set_same, slice_get-set_other}
 
 -- ---- a first connect
@@ -95,8 +96,35 @@ begin_fails how conn last port links now link found is p =
     (connect_failed how last (begun_link port link) conn) (λ i b ne. failed_connect_other how conn i b ne) p
 
 -- one that is fresh stays so while another is begun
-pub fresh_other : (p q : ℕ) (l new : Loop) → p ≢ q → OnlyAt q l new → IsFreshAt p l → IsFreshAt p new
-fresh_other p q l new ne only fresh = subst (λ o. IsSomeAnd o (λ link. link.stage ≡ Fresh)) (sym (only.links p ne)) fresh
+pub fresh_other : (p q : ℕ) (l new : Loop) → p ≢ q → OnlyAt q l new → known_at l p ≡ false → known_at new p ≡ false
+fresh_other p q l new ne only fresh = ap known_in (only.links p ne) ∙ fresh
+
+pub fresh_of : (stage : Stage) → is_known stage ≡ false → stage ≡ Fresh
+fresh_of Fresh e = refl
+fresh_of Begun e = cc
+fresh_of Closed e = cc
+
+-- one more is begun
+pub begin_known : (conn : Conn) (how : Connected) (last port : ℕ) (links now : List Link) (link : Link) → slice_get links (place_of conn) ≡ Some link
+    → now ≡ set links (place_of conn) (connect_link how last (begun_link port link)) → (p : ℕ) → known_in (slice_get now p) ≡ is_at p conn || known_in (slice_get links p)
+begin_known conn how last port links now link found is p = elim (cases_eq p (place_of conn)) [
+  | inl e ↦
+      let own = ap (λ ls. known_in (slice_get ls (place_of conn))) is ∙ ap known_in (slice_get-set_same links (place_of conn) (connect_link how last (begun_link port link)) (within links (place_of conn) found))
+      ∙ ap is_known (connect_stage how last (begun_link port link)) ∙ sym (ap (λ b. b || known_in (slice_get links (place_of conn))) (at_own conn)) in
+      subst (λ i. known_in (slice_get now i) ≡ is_at i conn || known_in (slice_get links i)) (sym e) own
+  | inr ne ↦
+      ap (λ ls. known_in (slice_get ls p)) is ∙ ap known_in (slice_get-set_other links (place_of conn) p (connect_link how last (begun_link port link)) ne)
+      ∙ sym (ap (λ b. b || known_in (slice_get links p)) (not_at p conn ne))
+]
+
+-- what a job's connects leave of other jobs
+pub or_left : (a b : Bool) → a || b ≡ false → (a ≡ false) × (b ≡ false)
+or_left true b e = absurd (false≢true (sym e))
+or_left false b e = (refl, e)
+
+pub or_true : (a b : Bool) → b ≡ true → a || b ≡ true
+or_true true b e = refl
+or_true false b e = e
 
 -- ---- the connects of a job
 
@@ -234,3 +262,17 @@ module _ (job : ℕ) (low : job < 16) (a b c d e : Loop) (shell : OnlyAt (place_
         ∙ ap (λ j. closing (status (place_of (conn_of job Iopub)) v).begun (conn_of job Iopub) j) (two ∙ ap (λ t. closing t (conn_of job Control) w) s2
         ∙ ap (λ j. closing (status (place_of (conn_of job Control)) v).begun (conn_of job Control) j) (one ∙ ap (λ t. closing t (conn_of job Shell) v) s1)));
   }
+
+-- a close forgets no connection
+known_closed : (stage : Stage) → is_known (closed_stage stage) ≡ is_known stage
+known_closed Fresh = refl
+known_closed Begun = refl
+known_closed Closed = refl
+
+pub closed_known : (l new : Loop) (q : ℕ) (link : Link) → slice_get l.links q ≡ Some link → new.links ≡ set l.links q (closed_link link) → SameKnown l new
+closed_known l new q link found is = record { each = kept_set known_in l.links new.links q (closed_link link) link found is (known_closed link.stage) }
+
+-- and none has failed after it that had not before
+pub closed_sound : (b w : Bool) → w ≡ false → failed_closed b w ≡ false
+closed_sound true w e = refl
+closed_sound false w e = e

@@ -55,6 +55,7 @@ use Rattle.ready_loop.specs.Standing.{StandsFor, Goes}
 use Rattle.ready_loop.specs.States.{MayWait, IsDrained, IsOffered, IsSound, IsOfferedAt, OnlyAt, NamesAll, failed_in, failed_at, found_at, refused_in}
 use Rattle.ready_loop.specs.Waits.{WaitCame, Looked, LooksThenWaits, LookCounts, left_after}
 use Rattle.ready_loop.proofs.NameLemmas.{named_stands, names_are}
+use Rattle.ready_loop.proofs.StateLemmas.{sound_as}
 use Rattle.ready_loop.proofs.TableLemmas.{some_at, some_is}
 use Rattle.ready_loop.proofs.WaitLemmas.{all_served}
 
@@ -132,18 +133,6 @@ offered_at {q} {last} {l} {new} only here o = record {
     | inr ne ↦ ap (λ h. h.rest) (only.held p ne) ∙ o.each p link low (sym (only.links p ne) ∙ found) may
   ];
 }
-
--- ---- soundness
-
-sound_at : (l : Loop) → IsSound l → (p : ℕ) → p < 64 → failed_at l p ≡ false
-sound_at l sound p low = one (slice_get l.links p) refl
-  where
-    one : (o : Option Link) → slice_get l.links p ≡ o → failed_in (slice_get l.links p) ≡ false
-    one None e = ap failed_in e
-    one (Some link) e = ap failed_in e ∙ sound.each p link low e
-
-pub sound_as : (l new : Loop) → ((p : ℕ) → failed_at new p ≡ failed_at l p) → IsSound l → IsSound new
-sound_as l new same sound = record { each = λ p link low found. sym (ap failed_in found) ∙ same p ∙ sound_at l sound p low }
 
 -- ---- the whole look
 

@@ -28,7 +28,8 @@ use Rattle.std.proofs.Common.{
 use Rattle.std.proofs.lemmas.Bool.{cases_eq, cases_lt}
 use Rattle.std.proofs.Math.ListN.{length-set}
 use Rattle.ready_loop.specs.declared.link.Link.{Link}
-use Rattle.ready_loop.specs.States.{MapsTo, MapsBelow, failed_in}
+use Rattle.ready_loop.specs.States.{MapsTo, MapsBelow, failed_in, known_in}
+use Rattle.ready_loop.specs.Link.{is_known}
 use Rattle.ready_loop.proofs.TableLemmas.{slice_get-set_same, slice_get-set_other, some_is, within, none_at, beyond}
 
 pub some_and : (P : Link → Type 0) (o : Option Link) (x : Link) → o ≡ Some x → P x → IsSomeAnd o P
@@ -82,14 +83,22 @@ maps_at f old new r p link low found =
     let (was, at, s) = some_was (MapsTo 64 f p link) (slice_get old p) (r.each p link found) in
     (was, at, s.below low)
 
--- a step that leaves what has failed
-pub maps_failed : (n : ℕ) (f : ℕ → Link → Link) (old new : List Link) → ((p : ℕ) (link : Link) → (f p link).failed ≡ link.failed) → MapsBelow n f old new
-    → (p : ℕ) → failed_in (slice_get new p) ≡ failed_in (slice_get old p)
-maps_failed n f old new same r p = at (slice_get new p) refl
+-- a step that leaves what is kept of each connection
+pub maps_kept : (g : Option Link → Bool) (n : ℕ) (f : ℕ → Link → Link) (old new : List Link) → ((p : ℕ) (link : Link) → g (Some (f p link)) ≡ g (Some link)) → MapsBelow n f old new
+    → (p : ℕ) → g (slice_get new p) ≡ g (slice_get old p)
+maps_kept g n f old new same r p = at (slice_get new p) refl
   where
-    at : (o : Option Link) → slice_get new p ≡ o → failed_in (slice_get new p) ≡ failed_in (slice_get old p)
-    at None e = ap failed_in e ∙ sym (ap failed_in (none_at old p (omega (arith, r.size, beyond new p e))))
+    at : (o : Option Link) → slice_get new p ≡ o → g (slice_get new p) ≡ g (slice_get old p)
+    at None e = ap g e ∙ sym (ap g (none_at old p (omega (arith, r.size, beyond new p e))))
     at (Some link) e =
         let (was, here, s) = some_was (MapsTo n f p link) (slice_get old p) (r.each p link e) in
-        ap failed_in e ∙ elim (cases_lt p n) [ inl lt ↦ ap (λ l. l.failed) (s.below lt) ∙ same p was | inr le ↦ ap (λ l. l.failed) (s.above le) ]
-        ∙ sym (ap failed_in here)
+        ap g e ∙ elim (cases_lt p n) [ inl lt ↦ ap (λ l. g (Some l)) (s.below lt) ∙ same p was | inr le ↦ ap (λ l. g (Some l)) (s.above le) ]
+        ∙ sym (ap g here)
+
+pub maps_failed : (n : ℕ) (f : ℕ → Link → Link) (old new : List Link) → ((p : ℕ) (link : Link) → (f p link).failed ≡ link.failed) → MapsBelow n f old new
+    → (p : ℕ) → failed_in (slice_get new p) ≡ failed_in (slice_get old p)
+maps_failed n f old new same r = maps_kept failed_in n f old new same r
+
+pub maps_known : (n : ℕ) (f : ℕ → Link → Link) (old new : List Link) → ((p : ℕ) (link : Link) → (f p link).stage ≡ link.stage) → MapsBelow n f old new
+    → (p : ℕ) → known_in (slice_get new p) ≡ known_in (slice_get old p)
+maps_known n f old new same r = maps_kept known_in n f old new (λ p link. ap is_known (same p link)) r

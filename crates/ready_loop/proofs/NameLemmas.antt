@@ -37,9 +37,9 @@ use Rattle.ready_loop.specs.History.{History, same, with_all_named, after_names}
 use Rattle.ready_loop.specs.Offers.{NamesEnds, Names, is_to_name}
 use Rattle.ready_loop.specs.Queues.{Held, held_in, rest_at}
 use Rattle.ready_loop.specs.Standing.{StandsAt, Stand, StandsFor, Goes, write_ended}
-use Rattle.ready_loop.specs.States.{NamesAll, MapsBelow, MapsTo, IsDrained, IsOffered, IsCalm, AllOfferedBelow, NotRead, Each, failed_in, failed_at, found_in, found_at}
+use Rattle.ready_loop.specs.States.{NamesAll, MapsBelow, MapsTo, IsDrained, IsOffered, IsCalm, AllOfferedBelow, NotRead, Each, SameKnown, failed_in, failed_at, found_in, found_at}
 use Rattle.ready_loop.proofs.CallLemmas.{stands_named}
-use Rattle.ready_loop.proofs.MapLemmas.{maps_at, maps_failed}
+use Rattle.ready_loop.proofs.MapLemmas.{maps_at, maps_failed, maps_known}
 use Rattle.ready_loop.proofs.StandLemmas.{stands_as}
 use Rattle.ready_loop.proofs.TableLemmas.{within, some_at, slice_get-set_same, slice_get-set_other}
 
@@ -106,3 +106,6 @@ module _ (l new : Loop) (all : NamesAll l.links new.links) (queues : new.queues 
 
   pub named_failed : (p : ℕ) → failed_at new p ≡ failed_at l p
   named_failed p = maps_failed 64 (λ q. named_link) l.links new.links (λ q link. refl) all p
+
+  pub named_known : SameKnown l new
+  named_known = record { each = maps_known 64 (λ q. named_link) l.links new.links (λ q link. refl) all }

@@ -47,12 +47,11 @@ use Rattle.world.specs.Waits.{wait_count}
 use Rattle.ready_loop.specs.declared.link.Link.{Link}
 use Rattle.ready_loop.specs.declared.readiness.Loop.{Loop}
 use Rattle.ready_loop.specs.declared.stage.Stage.TheVariants.{Fresh, Begun, Closed}
-use Rattle.ready_loop.specs.Begins.{IsFreshAt, IsKnownAt}
 use Rattle.ready_loop.specs.Link.{fresh_link}
 use Rattle.ready_loop.specs.History.{History, no_history, with_queued, after_queue}
 use Rattle.ready_loop.specs.Queues.{Held, held_in, rest_at, taken_at}
 use Rattle.ready_loop.specs.Standing.{StandsAt, Stand, StandsFor, IsShut, AllShut, put_at, write_ended}
-use Rattle.ready_loop.specs.States.{IsDrained, IsOffered, IsSound, MayWait}
+use Rattle.ready_loop.specs.States.{IsDrained, IsOffered, IsSound, MayWait, known_in, known_at}
 use Rattle.ready_loop.proofs.CallLemmas.{stands_queued}
 use Rattle.ready_loop.proofs.StandLemmas.{stands_as, SameBut, queued_but}
 use Rattle.ready_loop.proofs.TableLemmas.{some_at, some_is, slice_get-set_same, slice_get-set_other, not_some}
@@ -128,13 +127,13 @@ new_ready l links_are =
       sound = record { each = λ p link low found. ap (λ x. x.failed) (is p link found) };
     }
 
-pub new_fresh : (l : Loop) → l.links ≡ replicate 64 fresh_link → (p : ℕ) → p < 64 → IsFreshAt p l
-new_fresh l links_are p low = subst (λ (ls : List Link). IsSomeAnd (slice_get ls p) (λ x. x.stage ≡ Fresh)) (sym links_are) (at 64 p low)
+pub new_fresh : (l : Loop) → l.links ≡ replicate 64 fresh_link → (p : ℕ) → known_at l p ≡ false
+new_fresh l links_are p = ap (λ (ls : List Link). known_in (slice_get ls p)) links_are ∙ at 64 p
   where
-    at : (n p : ℕ) → p < n → IsSomeAnd (slice_get (replicate n fresh_link) p) (λ x. x.stage ≡ Fresh)
-    at zero p low = absurd (omega arith)
-    at (suc n) zero low = refl
-    at (suc n) (suc p) low = at n p (omega arith)
+    at : (n p : ℕ) → known_in (slice_get (replicate n fresh_link) p) ≡ false
+    at zero p = refl
+    at (suc n) zero = refl
+    at (suc n) (suc p) = at n p
 
 -- ---- queueing
 

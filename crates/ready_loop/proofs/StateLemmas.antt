@@ -25,6 +25,10 @@ use Rattle.std.proofs.Common.{
   Some,
   None,
   IsSomeAnd,
+  Result,
+  Ok,
+  Err,
+  OnOk,
   slice_get,
   get_or,
   arith,
@@ -46,10 +50,11 @@ use Rattle.world.specs.Places.{place_of, is_at}
 use Rattle.world.specs.Told.{PutSome}
 use Rattle.ready_loop.specs.declared.link.Link.{Link}
 use Rattle.ready_loop.specs.declared.readiness.Loop.{Loop}
-use Rattle.ready_loop.specs.Link.{MayRead, MayWrite, IsToBegin, read_link, connect_link, write_link}
+use Rattle.ready_loop.specs.Link.{MayRead, MayWrite, IsToBegin, read_link, connect_link, write_link, is_known}
 use Rattle.ready_loop.specs.Queues.{Held, held_in, rest_at, put_count}
 use Rattle.ready_loop.specs.Reads.{failed_got}
-use Rattle.ready_loop.specs.States.{EachBelow, Each, IsDrained, IsOffered, IsSound, NotRead, failed_in, failed_at, failed_connect, failed_put, IsCalmAt, IsOfferedAt, AllOfferedBelow, OnlyAt, flag, writable_in, load}
+use Rattle.ready_loop.specs.States.{EachBelow, Each, IsDrained, IsOffered, IsSound, NotRead, failed_in, failed_at, failed_connect, failed_put, IsCalmAt, IsOfferedAt, AllOfferedBelow, OnlyAt, FailsOnly, SameKnown, known_in, flag, writable_in, load}
+use Rattle.ready_loop.specs.declared.fault.LoopFault.{LoopFault}
 use Rattle.ready_loop.proofs.CallLemmas.{held_write}
 use Rattle.ready_loop.proofs.OfferLemmas.{held_set}
 use Rattle.ready_loop.proofs.TableLemmas.{slice_get-set_same, slice_get-set_other, some_is, within}
@@ -90,6 +95,33 @@ failed_set_own links q new lt = ap failed_in (slice_get-set_same links q new lt)
 
 pub failed_set_other : (links : List Link) (q p : ℕ) (new : Link) → p ≢ q → failed_in (slice_get (set links q new) p) ≡ failed_in (slice_get links p)
 failed_set_other links q p new ne = ap failed_in (slice_get-set_other links q p new ne)
+
+-- what is kept of each connection, where one link was replaced that keeps it
+pub kept_set : (g : Option Link → Bool) (links now : List Link) (q : ℕ) (new link : Link) → slice_get links q ≡ Some link → now ≡ set links q new
+    → g (Some new) ≡ g (Some link) → (p : ℕ) → g (slice_get now p) ≡ g (slice_get links p)
+kept_set g links now q new link found is same p = elim (cases_eq p q) [
+  | inl e ↦
+      let own = ap (λ ls. g (slice_get ls q)) is ∙ ap g (slice_get-set_same links q new (within links q found)) ∙ same ∙ ap g (sym found) in
+      subst (λ i. g (slice_get now i) ≡ g (slice_get links i)) (sym e) own
+  | inr ne ↦ ap (λ ls. g (slice_get ls p)) is ∙ ap g (slice_get-set_other links q p new ne)
+]
+
+-- a link replaced by one of the same stage
+pub known_set : (l new : Loop) (q : ℕ) (then link : Link) → slice_get l.links q ≡ Some link → new.links ≡ set l.links q then → then.stage ≡ link.stage → SameKnown l new
+known_set l new q then link found is same = record { each = kept_set known_in l.links new.links q then link found is (ap is_known same) }
+
+pub known_start : (l : Loop) → SameKnown l l
+known_start l = record { each = λ p. refl }
+
+pub known_then : {a b c : Loop} → SameKnown a b → SameKnown b c → SameKnown a c
+known_then m n = record { each = λ p. n.each p ∙ m.each p }
+
+pub read_stage : (answer : Got) (last : ℕ) (link : Link) → (read_link answer last link).stage ≡ link.stage
+read_stage (got.Piece n) last link = refl
+read_stage got.Dry last link = refl
+read_stage got.Ended last link = refl
+read_stage got.Refused last link = refl
+read_stage got.Failed last link = refl
 
 -- what has failed, where one link was replaced
 pub failed_set : (f : ℕ → Bool → Bool) (links now : List Link) (q : ℕ) (new link : Link) → slice_get links q ≡ Some link → now ≡ set links q new
@@ -260,6 +292,38 @@ only_written l new q link held is queues left = record {
   held = λ p ne. ap (λ qs. held_in (slice_get qs p)) queues ∙ ap held_in (slice_get-set_other l.queues q p held ne);
   left = left;
 }
+
+pub connect_stage : (how : Connected) (last : ℕ) (link : Link) → (connect_link how last link).stage ≡ link.stage
+connect_stage connected.Begun last link = refl
+connect_stage connected.Refused last link = refl
+connect_stage connected.Failed last link = refl
+
+pub write_stage : (answer : Put) (last : ℕ) (link : Link) → (write_link answer last link).stage ≡ link.stage
+write_stage (put.Took n) last link = refl
+write_stage put.Stuck last link = refl
+write_stage put.Ended last link = refl
+write_stage put.Refused last link = refl
+write_stage put.Failed last link = refl
+
+-- ---- soundness
+
+sound_at : (l : Loop) → IsSound l → (p : ℕ) → p < 64 → failed_at l p ≡ false
+sound_at l sound p low = one (slice_get l.links p) refl
+  where
+    one : (o : Option Link) → slice_get l.links p ≡ o → failed_in (slice_get l.links p) ≡ false
+    one None e = ap failed_in e
+    one (Some link) e = ap failed_in e ∙ sound.each p link low e
+
+-- where no more has failed than before
+pub sound_by : (l new : Loop) → ((p : ℕ) → failed_at l p ≡ false → failed_at new p ≡ false) → IsSound l → IsSound new
+sound_by l new same sound = record { each = λ p link low found. sym (ap failed_in found) ∙ same p (sound_at l sound p low) }
+
+pub sound_as : (l new : Loop) → ((p : ℕ) → failed_at new p ≡ failed_at l p) → IsSound l → IsSound new
+sound_as l new same sound = sound_by l new (λ p e. same p ∙ e) sound
+
+pub sound_ok : {T : Type 0} (r : Result T LoopFault) (l new : Loop) → FailsOnly r l new → OnOk r (IsSound l → IsSound new)
+sound_ok (Ok x) l new f = λ s. sound_as l new f.each s
+sound_ok (Err e) l new f = tt
 
 -- each write leaves less to be done
 less_here : (answer : Put) (last : ℕ) (link : Link) (rest : List ℕ) → link.writable ≡ true → PutSome answer (length rest)

@@ -73,6 +73,10 @@ pub wait_failed : (answer : Did) (ready : Bool) (link : Link) → (wait_link ans
 wait_failed did.Done ready link = refl
 wait_failed did.Failed ready link = refl
 
+pub wait_stage : (answer : Did) (ready : Bool) (link : Link) → (wait_link answer ready link).stage ≡ link.stage
+wait_stage did.Done ready link = refl
+wait_stage did.Failed ready link = refl
+
 -- ---- the table after a wait
 
 pub wait_stands : (ms : ℕ) (reports : Reports) (answer : Did) (l new : Loop) (past : List Entry)

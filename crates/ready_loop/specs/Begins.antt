@@ -16,7 +16,6 @@ use Rattle.std.specs.Prelude.{
   Result,
   Ok,
   Err,
-  IsSomeAnd,
   slice_get,
   slice_index,
 }
@@ -37,6 +36,7 @@ use Rattle.ready_loop.specs.declared.stage.Stage.TheVariants.{Fresh, Begun, Clos
 use Rattle.ready_loop.specs.History.{History, conn_of, chans}
 use Rattle.ready_loop.specs.Link.{is_begun}
 use Rattle.ready_loop.specs.Standing.{StandsFor}
+use Rattle.ready_loop.specs.States.{known_at}
 
 -- the port of a channel, of those for shell, iopub, stdin, control and heartbeat
 abbrev pub port_of : List ℕ → Chan → ℕ
@@ -68,17 +68,16 @@ BeginsOne conn port (Err (NetFault (Some c))) before after = (c ≡ conn) × (af
 BeginsOne conn port (Err (NetFault None)) before after = ⊥
 BeginsOne conn port (Err Spent) before after = ⊥
 
--- no connect was called for the connection at this place
-abbrev pub IsFreshAt : ℕ → Loop → Type 0
-IsFreshAt place l = IsSomeAnd (slice_get l.links place) (λ link. link.stage ≡ Fresh)
-
--- nor for any of a job
+-- no connect was called for any connection of a job
 pub record IsFresh (job : ℕ) (l : Loop) : Type 0 where
-  pub each : (chan : Chan) → IsFreshAt (place_of (conn_of job chan)) l
+  pub each : (chan : Chan) → known_at l (place_of (conn_of job chan)) ≡ false
 
--- a connect was called for the connection at this place, and it may have been closed since
-abbrev pub IsKnownAt : ℕ → Loop → Type 0
-IsKnownAt place l = IsSomeAnd (slice_get l.links place) (λ link. link.stage ≢ Fresh)
+-- a connect was called for each connection of a job, that of the heartbeat where it is wanted
+pub record IsBegun (job : ℕ) (heart : Bool) (l : Loop) : Type 0 where
+  pub shell : known_at l (place_of (conn_of job Shell)) ≡ true
+  pub control : known_at l (place_of (conn_of job Control)) ≡ true
+  pub iopub : known_at l (place_of (conn_of job Iopub)) ≡ true
+  pub heart_too : heart ≡ true → known_at l (place_of (conn_of job Heart)) ≡ true
 
 -- the newest entry closes a connection that was begun
 abbrev pub CloseMoment : History → List Entry → Type 0

@@ -30,7 +30,7 @@ use Rattle.ready_loop.specs.declared.fault.LoopFault.{LoopFault}
 use Rattle.ready_loop.specs.declared.fault.LoopFault.TheVariants.{NetFault, Spent}
 use Rattle.ready_loop.specs.declared.link.Link.{Link}
 use Rattle.ready_loop.specs.declared.readiness.Loop.{Loop}
-use Rattle.ready_loop.specs.Link.{MayRead, MayWrite, named_link, is_found}
+use Rattle.ready_loop.specs.Link.{MayRead, MayWrite, named_link, is_found, is_known}
 use Rattle.ready_loop.specs.Queues.{Held, held_in, rest_at}
 
 -- so it is of the connections at all places below this one
@@ -63,6 +63,18 @@ pub record MayWait (l : Loop) : Type 0 where
   pub drained : IsDrained l
   pub offered : IsOffered l
   pub sound : IsSound l
+
+-- whether a connect was called for the connection at a place
+abbrev pub known_in : Option Link → Bool
+known_in None = false
+known_in (Some link) = is_known link.stage
+
+abbrev pub known_at : Loop → ℕ → Bool
+known_at l p = known_in (slice_get l.links p)
+
+-- a call begins no connection for the first time
+pub record SameKnown (old new : Loop) : Type 0 where
+  pub each : (p : ℕ) → known_at new p ≡ known_at old p
 
 -- whether the connection at a place is awake
 abbrev pub awake_in : Option Link → Bool

@@ -1,17 +1,17 @@
 //! Beginning and closing the connections of a job.
-ghost use Rattle.std.specs.Prelude.{◌≡◌, ◌<◌, ℕ, IsErr, IfErr, Some};
+ghost use Rattle.std.specs.Prelude.{◌≡◌, ◌<◌, ◌||◌, ℕ, IsErr, IfErr, OnOk, Some, false};
 ghost use Rattle.world.specs.Counts.{CountsBy, NetCause};
 ghost use Rattle.world.specs.Places.{place_of, is_at};
 ghost use Rattle.world.specs.Told.{Adds};
 ghost use Rattle.world.specs.declared.entry.Entry.{Entry};
-ghost use Rattle.ready_loop.specs.Begins.{BeginMoment, Begins, BeginsOne, IsFresh, IsFreshAt};
+ghost use Rattle.ready_loop.specs.Begins.{BeginMoment, Begins, BeginsOne, IsFresh, IsBegun};
 ghost use Rattle.ready_loop.specs.Begins.{CloseMoment, CloseCame, ClosesOne, closing, is_of_job};
 ghost use Rattle.ready_loop.specs.Begins.{failed_closed};
 ghost use Rattle.ready_loop.specs.History.{same, with_begun, after_begin, chans};
 ghost use Rattle.ready_loop.specs.Offers.{IsOfConn};
 ghost use Rattle.ready_loop.specs.Standing.{Goes, Follows};
-ghost use Rattle.ready_loop.specs.States.{IsDrained, IsOffered, FailsOnly, OnlyAt, failed_at};
-ghost use Rattle.ready_loop.specs.States.{failed_connect};
+ghost use Rattle.ready_loop.specs.States.{IsDrained, IsOffered, IsSound, FailsOnly, OnlyAt};
+ghost use Rattle.ready_loop.specs.States.{SameKnown, failed_at, failed_connect, known_at};
 
 use crate::conn_place::place_at;
 use crate::{Loop, LoopFault};
@@ -35,8 +35,12 @@ impl Loop {
             (Goes BeginMoment (after_begin job heart result) self.old self.new) }
         ensures fault { IfErr result IsOfConn }
 
+        ensures begun { OnOk result (IsBegun job heart self.new) }
+        ensures others { (p : ℕ) → is_of_job job p ≡ false →
+            known_at self.new p ≡ known_at self.old p }
         ensures drained { IsDrained self.old → IsDrained self.new }
         ensures failed { FailsOnly result self.old self.new }
+        ensures sound { OnOk result (IsSound self.old → IsSound self.new) }
         ensures same { self.new ≡ record self.old { links = self.new.links } }
         ensures cause { CountsBy NetCause W.counts w.old w.new (IsErr result) }
     {
@@ -74,7 +78,7 @@ impl Loop {
     /// Begins a connection, which has to go well.
     fn begin_on<W: World>(&mut self, w: &mut W, conn: Conn, port: u16) -> Result<(), LoopFault>
         requires job { conn.job < 16 }
-        requires fresh { IsFreshAt (place_of conn) self.old }
+        requires fresh { known_at self.old (place_of conn) ≡ false }
         ensures came { Follows W.journal w.old w.new (BeginsOne conn port result) }
         ensures fault { IfErr result (λ fault. fault ≡ LoopFault.NetFault (Some conn)) }
         ensures goes { Follows W.journal w.old w.new
@@ -82,6 +86,7 @@ impl Loop {
         ensures only { OnlyAt (place_of conn) self.old self.new }
         ensures drained { IsDrained self.old → IsDrained self.new }
         ensures failed { FailsOnly result self.old self.new }
+        ensures known { (p : ℕ) → known_at self.new p ≡ is_at p conn || known_at self.old p }
         ensures same { self.new ≡ record self.old { links = self.new.links } }
         ensures cause { CountsBy NetCause W.counts w.old w.new (IsErr result) }
     {
@@ -95,7 +100,7 @@ impl Loop {
     /// Begins a connection.
     fn begin_at<W: World>(&mut self, w: &mut W, conn: Conn, port: u16) -> Connected
         requires job { conn.job < 16 }
-        requires fresh { IsFreshAt (place_of conn) self.old }
+        requires fresh { known_at self.old (place_of conn) ≡ false }
         ensures tells { Adds W.journal w.old w.new (Entry.Connected conn port result) }
         ensures goes { Follows W.journal w.old w.new
             (Goes BeginMoment (with_begun (place_of conn)) self.old self.new) }
@@ -103,6 +108,7 @@ impl Loop {
         ensures drained { IsDrained self.old → IsDrained self.new }
         ensures failed { (p : ℕ) → failed_at self.new p
             ≡ failed_connect result conn p (failed_at self.old p) }
+        ensures known { (p : ℕ) → known_at self.new p ≡ is_at p conn || known_at self.old p }
         ensures same { self.new ≡ record self.old { links = self.new.links } }
         ensures cause { CountsBy NetCause W.counts w.old w.new (result ≡ Connected.Failed) }
     {
@@ -125,6 +131,8 @@ impl Loop {
         ensures offered { IsOffered self.old → IsOffered self.new }
         ensures failed { (p : ℕ) → failed_at self.new p
             ≡ failed_closed (is_of_job job p) (failed_at self.old p) }
+        ensures sound { IsSound self.old → IsSound self.new }
+        ensures known { SameKnown self.old self.new }
         ensures same { self.new ≡ record self.old { links = self.new.links } }
         ensures counts { W.counts w.new ≡ W.counts w.old }
     {
@@ -148,6 +156,7 @@ impl Loop {
         ensures offered { IsOffered self.old → IsOffered self.new }
         ensures failed { (p : ℕ) → failed_at self.new p
             ≡ failed_closed (is_at p conn) (failed_at self.old p) }
+        ensures known { SameKnown self.old self.new }
         ensures same { self.new ≡ record self.old { links = self.new.links } }
         ensures counts { W.counts w.new ≡ W.counts w.old }
     {

@@ -4,7 +4,7 @@ ghost use Rattle.world.specs.Counts.{CountsBy, NetCause};
 ghost use Rattle.ready_loop.specs.History.{same};
 ghost use Rattle.ready_loop.specs.Offers.{LookMoment, FaultCame, BeginsBelow, IsOfConn, Names};
 ghost use Rattle.ready_loop.specs.Standing.{Goes, Follows};
-ghost use Rattle.ready_loop.specs.States.{IsDrained, IsOffered, MayWait, FailsOnly};
+ghost use Rattle.ready_loop.specs.States.{IsDrained, IsOffered, IsSound, MayWait, FailsOnly, SameKnown};
 ghost use Rattle.ready_loop.specs.Waits.{Looked, LookCounts, left_after};
 
 use crate::{Loop, LoopFault};
@@ -26,6 +26,8 @@ impl Loop {
         ensures left { self.new.left ≡ left_after result self.old.left }
 
         ensures failed { FailsOnly result self.old self.new }
+        ensures sound { OnOk result (IsSound self.new) }
+        ensures known { SameKnown self.old self.new }
         ensures cause { LookCounts result (W.counts w.old) (W.counts w.new) }
     {
         if self.left == 0 {
@@ -51,6 +53,7 @@ impl Loop {
         ensures offered { OnOk result (IsOffered self.old → IsOffered self.new) }
         ensures drained { IsDrained self.old → IsDrained self.new }
         ensures failed { FailsOnly result self.old self.new }
+        ensures known { SameKnown self.old self.new }
         ensures fault { IfErr result IsOfConn }
         ensures left { self.new.left ≡ self.old.left }
         ensures cause { CountsBy NetCause W.counts w.old w.new (IsErr result) }

@@ -12,7 +12,7 @@ ghost use Rattle.ready_loop.specs.Queues.{rest_at};
 ghost use Rattle.ready_loop.specs.Standing.{Goes, Follows};
 ghost use Rattle.ready_loop.specs.States.{IsDrained, IsOffered, IsCalm, IsCalmAt, FailsOnly};
 ghost use Rattle.ready_loop.specs.States.{IsOfferedAt, AllOfferedBelow, OnlyAt, load, failed_at};
-ghost use Rattle.ready_loop.specs.States.{failed_connect, failed_put, found_at, NamesAll};
+ghost use Rattle.ready_loop.specs.States.{failed_connect, failed_put, found_at, NamesAll, IsSound, SameKnown};
 
 use crate::conn_place::conn_at;
 use crate::{Loop, LoopFault};
@@ -36,6 +36,8 @@ impl Loop {
 
         ensures drained { IsDrained self.old → IsDrained self.new }
         ensures failed { FailsOnly result self.old self.new }
+        ensures sound { OnOk result (IsSound self.old → IsSound self.new) }
+        ensures known { SameKnown self.old self.new }
         ensures left { self.new.left ≡ self.old.left }
         ensures cause { CountsBy NetCause W.counts w.old w.new (IsErr result) }
     {
@@ -54,6 +56,7 @@ impl Loop {
         ensures offered { OnOk result (AllOfferedBelow 64 (W.counts w.new).last self.new) }
         ensures drained { IsDrained self.old → IsDrained self.new }
         ensures failed { FailsOnly result self.old self.new }
+        ensures known { SameKnown self.old self.new }
         ensures left { self.new.left ≡ self.old.left }
         ensures cause { CountsBy NetCause W.counts w.old w.new (IsErr result) }
     {
@@ -75,6 +78,7 @@ impl Loop {
         ensures offered { OnOk result (IsOfferedAt place (W.counts w.new).last self.new) }
         ensures drained { IsDrained self.old → IsDrained self.new }
         ensures failed { FailsOnly result self.old self.new }
+        ensures known { SameKnown self.old self.new }
         ensures cause { CountsBy NetCause W.counts w.old w.new (IsErr result) }
     {
         let conn = conn_at(place);
@@ -102,6 +106,7 @@ impl Loop {
         ensures calm { OnOk result (IsCalmAt place (W.counts w.new).last self.new) }
         ensures drained { IsDrained self.old → IsDrained self.new }
         ensures failed { FailsOnly result self.old self.new }
+        ensures known { SameKnown self.old self.new }
         ensures cause { CountsBy NetCause W.counts w.old w.new (IsErr result) }
     {
         if !self.links.at(place).is_to_begin(forced, w.last()) {
@@ -136,6 +141,7 @@ impl Loop {
         ensures drained { IsDrained self.old → IsDrained self.new }
         ensures failed { (p : ℕ) → failed_at self.new p
             ≡ failed_connect result conn p (failed_at self.old p) }
+        ensures known { SameKnown self.old self.new }
         ensures cause { CountsBy NetCause W.counts w.old w.new (result ≡ Connected.Failed) }
     {
         let link = self.links.at(place);
@@ -159,6 +165,7 @@ impl Loop {
         ensures offered { OnOk result (IsOfferedAt place (W.counts w.new).last self.new) }
         ensures drained { IsDrained self.old → IsDrained self.new }
         ensures failed { FailsOnly result self.old self.new }
+        ensures known { SameKnown self.old self.new }
         ensures cause { CountsBy NetCause W.counts w.old w.new (IsErr result) }
     {
         while self.has_to_write(place) {
@@ -196,6 +203,7 @@ impl Loop {
         ensures drained { IsDrained self.old → IsDrained self.new }
         ensures failed { (p : ℕ) → failed_at self.new p
             ≡ failed_put result conn p (failed_at self.old p) }
+        ensures known { SameKnown self.old self.new }
         ensures cause { CountsBy NetCause W.counts w.old w.new (result ≡ Put.Failed) }
     {
         let put = Wire::write(w, conn, self.queues.rest(place));

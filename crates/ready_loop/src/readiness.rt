@@ -1,12 +1,11 @@
 //! `Loop`: what it keeps, and the calls that reach no world.
-ghost use Rattle.std.specs.Prelude.{◌≡◌, ◌+◌, ◌<◌, ℕ, List, true, IfOk, OnErr, length};
+ghost use Rattle.std.specs.Prelude.{◌≡◌, ◌+◌, ◌<◌, ℕ, List, false, true, IfOk, OnErr, length};
 ghost use Rattle.world.specs.declared.entry.Entry.{Entry};
 ghost use Rattle.world.specs.Places.{place_of};
 ghost use Rattle.world.specs.Waits.{wait_count};
-ghost use Rattle.ready_loop.specs.Begins.{IsFreshAt, IsKnownAt};
 ghost use Rattle.ready_loop.specs.History.{History, no_history, after_queue};
 ghost use Rattle.ready_loop.specs.Standing.{StandsFor, AllShut, put_at};
-ghost use Rattle.ready_loop.specs.States.{IsDrained, MayWait};
+ghost use Rattle.ready_loop.specs.States.{IsDrained, IsSound, MayWait, SameKnown, known_at};
 
 use crate::conn_place::place_at;
 use crate::links::Links;
@@ -33,7 +32,7 @@ impl Loop {
             StandsFor l (no_history (wait_count journal + turns)) journal) }
         ensures ready { IfOk result MayWait }
         ensures left { IfOk result (λ l. l.left ≡ turns) }
-        ensures fresh { IfOk result (λ l. (p : ℕ) → p < 64 → IsFreshAt p l) }
+        ensures fresh { IfOk result (λ l. (p : ℕ) → known_at l p ≡ false) }
     {
         Ok(Loop {
             links: Links::new(alloc)?,
@@ -46,12 +45,14 @@ impl Loop {
     /// queued there.
     pub fn queue(&mut self, conn: Conn, bytes: Bytes) -> Result<(), NoMemory>
         requires job { conn.job < 16 }
-        requires begun { IsKnownAt (place_of conn) self.old }
+        requires begun { known_at self.old (place_of conn) ≡ true }
         // They are put out behind what was queued before.
         ensures stands { (h : History) (journal : List Entry) → StandsFor self.old h journal →
             StandsFor self.new (after_queue conn bytes result h) journal }
         ensures err { OnErr result (self.new ≡ self.old) }
         ensures drained { IsDrained self.old → IsDrained self.new }
+        ensures sound { IsSound self.old → IsSound self.new }
+        ensures known { SameKnown self.old self.new }
         ensures same { self.new ≡ record self.old { queues = self.new.queues } }
     {
         self.queues.push(place_at(conn), bytes)

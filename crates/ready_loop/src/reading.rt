@@ -1,5 +1,5 @@
 //! Reading what a wait reported.
-ghost use Rattle.std.specs.Prelude.{◌≡◌, ◌<◌, ◌+◌, ℕ, length, slice_get, IfErr, IsErr, IsSomeAnd, Ok};
+ghost use Rattle.std.specs.Prelude.{◌≡◌, ◌<◌, ◌+◌, ℕ, length, slice_get, IfErr, IsErr, IsSomeAnd, OnOk, Ok};
 ghost use Rattle.world.specs.Counts.{CountsBy, NetCause};
 ghost use Rattle.world.specs.Places.{place_of};
 ghost use Rattle.world.specs.Told.{Adds, GotSome, read_entry};
@@ -9,7 +9,7 @@ ghost use Rattle.ready_loop.specs.Reads.{ReadMoment, NextCame, after_got, failed
 ghost use Rattle.ready_loop.specs.Offers.{IsOfConn};
 ghost use Rattle.ready_loop.specs.Standing.{Goes, Follows};
 ghost use Rattle.ready_loop.specs.States.{IsDrained, IsOffered, FailsOnly, EachBelow};
-ghost use Rattle.ready_loop.specs.States.{NotRead, failed_at};
+ghost use Rattle.ready_loop.specs.States.{NotRead, IsSound, SameKnown, failed_at};
 
 use crate::conn_place::conn_at;
 use crate::{Loop, LoopFault, Next};
@@ -32,6 +32,8 @@ impl Loop {
 
         ensures offered { IsOffered self.old → IsOffered self.new }
         ensures failed { FailsOnly result self.old self.new }
+        ensures sound { OnOk result (IsSound self.old → IsSound self.new) }
+        ensures known { SameKnown self.old self.new }
         ensures same { self.new ≡ record self.old { links = self.new.links } }
         ensures cause { CountsBy NetCause W.counts w.old w.new (IsErr result) }
     {
@@ -68,6 +70,7 @@ impl Loop {
         ensures offered { IsOffered self.old → IsOffered self.new }
         ensures failed { (p : ℕ) → failed_at self.new p
             ≡ failed_got result conn p (failed_at self.old p) }
+        ensures known { SameKnown self.old self.new }
         ensures same { self.new ≡ record self.old { links = self.new.links } }
         ensures cause { CountsBy NetCause W.counts w.old w.new (result ≡ Got.Failed) }
     {

@@ -4,7 +4,7 @@ ghost use Rattle.world.specs.Counts.{CountsBy, WaitCause};
 ghost use Rattle.world.specs.Places.{is_reported};
 ghost use Rattle.ready_loop.specs.Link.{wait_link};
 ghost use Rattle.ready_loop.specs.Standing.{Follows};
-ghost use Rattle.ready_loop.specs.States.{MayWait, FailsOnly, MapsBelow, failed_at};
+ghost use Rattle.ready_loop.specs.States.{MayWait, FailsOnly, IsSound, MapsBelow, SameKnown, failed_at};
 ghost use Rattle.ready_loop.specs.Waits.{WaitCame, Turned, TurnCounts};
 
 use crate::timer::limit;
@@ -24,6 +24,8 @@ impl Loop {
         ensures still { result ≡ Err LoopFault.Spent → self.new ≡ self.old }
 
         ensures failed { FailsOnly result self.old self.new }
+        ensures sound { IsSound self.new }
+        ensures known { SameKnown self.old self.new }
         ensures same { self.new
             ≡ record self.old { links = self.new.links; left = self.old.left - 1 } }
         ensures cause { TurnCounts result (W.counts w.old) (W.counts w.new) }
@@ -44,6 +46,7 @@ impl Loop {
         requires { 0 < self.old.left }
         ensures came { Follows W.journal w.old w.new (WaitCame ms result self.old self.new) }
         ensures failed { (p : ℕ) → failed_at self.new p ≡ failed_at self.old p }
+        ensures known { SameKnown self.old self.new }
         ensures same { self.new
             ≡ record self.old { links = self.new.links; left = self.old.left - 1 } }
         ensures cause { CountsBy WaitCause W.counts w.old w.new (result ≡ Did.Failed) }

@@ -7,6 +7,8 @@ use Rattle.ready_loop.specs.declared.fault.LoopFault.{LoopFault}
 use Rattle.ready_loop.specs.Begins.{Begins, BeginMoment}
 use Rattle.ready_loop.specs.History.{conn_of, heart_chan, after_begin, chans}
 use Rattle.ready_loop.specs.Standing.{Goes}
+use Rattle.ready_loop.specs.States.{failed_after}
+use Rattle.ready_loop.proofs.StateLemmas.{sound_ok}
 use Rattle.ready_loop.proofs.StandLemmas.{goes_then, goes_step}
 use Rattle.ready_loop.proofs.BeginLemmas.{fresh_other, begins_then, begins_failed, begins_last, after_last}
 use Rattle.ready_loop.proofs.readiness.Loop.begin.Goals as goal
@@ -98,3 +100,9 @@ returns-clause-goes g c = told_then c.in-Ok.ensures.goes
     goes_step (λ h. after_last c.args.job c.begin_on-4.result c.begin_on-4.ensures.fault h
         ∙ sym (ap (λ (heart : Bool). after_begin {U = Unit {0}} c.args.job heart c.begin_on-4.result h) c.if-not-heart.false))
     (goes_then (λ h now r. r) (λ h now r. r) a b))
+
+pub returns-clause-sound : goal.returns-clause-sound
+returns-clause-sound g c = sound_ok c.begin_on-4.result c.args.self.now c.begin_on-4.new.self (record {
+  each = λ p. c.begin_on-4.ensures.failed.each p ∙ ap (λ (b : Bool). failed_after c.begin_on-4.result p b)
+      (c.in-Ok-begin_on-2.ensures.failed.each p ∙ c.in-Ok-begin_on.ensures.failed.each p ∙ c.in-Ok.ensures.failed.each p);
+})

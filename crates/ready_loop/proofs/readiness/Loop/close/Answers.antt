@@ -6,7 +6,8 @@ use Rattle.ready_loop.specs.Begins.{CloseMoment, ClosesOne, failed_closed}
 use Rattle.ready_loop.specs.History.{conn_of}
 use Rattle.ready_loop.specs.States.{failed_at}
 use Rattle.ready_loop.proofs.StandLemmas.{goes_then}
-use Rattle.ready_loop.proofs.BeginLemmas.{close_came, closed_four, Both, both}
+use Rattle.ready_loop.proofs.BeginLemmas.{close_came, closed_four, closed_sound, Both, both}
+use Rattle.ready_loop.proofs.StateLemmas.{sound_by, known_then}
 use Rattle.ready_loop.proofs.readiness.Loop.close.Goals as goal
 
 pub returns-clause-came : goal.returns-clause-came
@@ -35,3 +36,12 @@ returns-clause-failed g c = λ p.
     ∙ ap (λ b. failed_closed (is_at p (conn_of job Iopub)) b) (c.close_one-2.ensures.failed p
     ∙ ap (λ b. failed_closed (is_at p (conn_of job Control)) b) (c.close_one.ensures.failed p)))
     ∙ closed_four (is_at p (conn_of job Shell)) (is_at p (conn_of job Control)) (is_at p (conn_of job Iopub)) (is_at p (conn_of job Heart)) (failed_at c.args.self.now p)
+
+pub returns-clause-known : goal.returns-clause-known
+returns-clause-known g c = known_then (known_then (known_then c.close_one.ensures.known c.close_one-2.ensures.known) c.close_one-3.ensures.known) c.close_one-4.ensures.known
+
+pub returns-clause-sound : goal.returns-clause-sound
+returns-clause-sound g c = λ s. sound_by c.args.self.now c.close_one-4.new.self (λ p e.
+    c.close_one-4.ensures.failed p ∙ closed_sound _ (failed_at c.close_one-3.new.self p) (c.close_one-3.ensures.failed p
+    ∙ closed_sound _ (failed_at c.close_one-2.new.self p) (c.close_one-2.ensures.failed p
+    ∙ closed_sound _ (failed_at c.close_one.new.self p) (c.close_one.ensures.failed p ∙ closed_sound _ (failed_at c.args.self.now p) e)))) s

@@ -9,7 +9,7 @@ use Rattle.ready_loop.specs.History.{same}
 use Rattle.ready_loop.specs.Link.{closed_link}
 use Rattle.ready_loop.specs.Standing.{Goes}
 use Rattle.ready_loop.proofs.StateLemmas.{only_set, drained_set}
-use Rattle.ready_loop.proofs.BeginLemmas.{closed_goes, closed_fails, closed_offered, closed_reads}
+use Rattle.ready_loop.proofs.BeginLemmas.{closed_goes, closed_fails, closed_offered, closed_reads, closed_known}
 use Rattle.ready_loop.proofs.readiness.Loop.close_one.Goals as goal
 
 pub returns-clause-came : goal.returns-clause-came
@@ -42,3 +42,7 @@ returns-clause-failed g c =
     let found = subst (λ (i : ℕ). slice_get c.args.self.now.links i ≡ Some c.at-link.result) c.place_at-place.ensures.place c.at-link.ensures in
     closed_fails c.args.conn c.args.self.now.links c.put.new.self c.at-link.result found
     (c.put.ensures ∙ ap (λ (i : ℕ). set c.args.self.now.links i c.after_close.result) c.place_at-place.ensures.place ∙ ap (set c.args.self.now.links (place_of c.args.conn)) c.after_close.ensures)
+
+pub returns-clause-known : goal.returns-clause-known
+returns-clause-known g c = closed_known c.args.self.now (record c.args.self.now { links = c.put.new.self }) c.place_at-place.result c.at-link.result c.at-link.ensures
+    (c.put.ensures ∙ ap (set c.args.self.now.links c.place_at-place.result) c.after_close.ensures)

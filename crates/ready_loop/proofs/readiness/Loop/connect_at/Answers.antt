@@ -6,7 +6,7 @@ use Rattle.world.specs.Moments.{start}
 use Rattle.world.proofs.MomentsLemmas.{tells_as}
 use Rattle.ready_loop.specs.Offers.{connects}
 use Rattle.ready_loop.proofs.TableLemmas.{tells_now}
-use Rattle.ready_loop.proofs.StateLemmas.{may_here, only_set, calm_connected, drained_set, connect_reads, connect_fails}
+use Rattle.ready_loop.proofs.StateLemmas.{may_here, only_set, calm_connected, drained_set, connect_reads, connect_fails, known_set, connect_stage}
 use Rattle.ready_loop.proofs.OfferLemmas.{again_goes}
 use Rattle.ready_loop.proofs.readiness.Loop.connect_at.Goals as goal
 
@@ -38,3 +38,7 @@ returns-clause-failed g c = connect_fails c.connect-how.result c.args.conn c.las
 
 pub returns-clause-connects : goal.returns-clause-connects
 returns-clause-connects g c = tells_as c.connect-how.ensures.tells (λ past. connects c.args.conn c.at-link.result.port c.connect-how.result past start c.requires.place)
+
+pub returns-clause-known : goal.returns-clause-known
+returns-clause-known g c = known_set c.args.self.now (record c.args.self.now { links = c.put.new.self }) c.args.place (connect_link c.connect-how.result c.last-last.result c.at-link.result) c.at-link.result c.at-link.ensures
+    (c.put.ensures ∙ ap (set c.args.self.now.links c.args.place) c.after_connect.ensures) (connect_stage c.connect-how.result c.last-last.result c.at-link.result)

@@ -1,7 +1,8 @@
 use Rattle.std.proofs.Common.{◌≡◌, ◌∙◌, ap, refl, sym}
 use Rattle.world.proofs.MomentsLemmas.{told_as, told_then, told_both}
 use Rattle.ready_loop.specs.declared.readiness.Loop.{Loop}
-use Rattle.ready_loop.proofs.NameLemmas.{named_failed}
+use Rattle.ready_loop.proofs.NameLemmas.{named_failed, named_known}
+use Rattle.ready_loop.proofs.StateLemmas.{sound_as, known_then}
 use Rattle.ready_loop.proofs.LookLemmas.{looked_until, looked_failed, looked_done, looked_names, may_then, left_of, counts_of}
 use Rattle.ready_loop.proofs.readiness.Loop.look.Goals as goal
 
@@ -37,3 +38,15 @@ pub returns-in-Done-clause-failed : goal.returns-in-Done-clause-failed
 returns-in-Done-clause-failed g c = record {
   each = λ p. named_failed c.wait.new.self c.name_ends.new.self c.name_ends.ensures.all (ap (λ (l : Loop). l.queues) c.name_ends.ensures.same) p ∙ c.in-Done.ensures.failed p ∙ c.in-Ok.ensures.failed.each p;
 }
+
+pub returns-in-Done-clause-sound : goal.returns-in-Done-clause-sound
+returns-in-Done-clause-sound g c = sound_as c.args.self.now c.name_ends.new.self
+    (λ p. named_failed c.wait.new.self c.name_ends.new.self c.name_ends.ensures.all (ap (λ (l : Loop). l.queues) c.name_ends.ensures.same) p ∙ c.in-Done.ensures.failed p ∙ c.in-Ok.ensures.failed.each p)
+    c.requires.sound
+
+pub returns-in-Failed-clause-known : goal.returns-in-Failed-clause-known
+returns-in-Failed-clause-known g c = known_then c.in-Ok.ensures.known c.in-Failed.ensures.known
+
+pub returns-in-Done-clause-known : goal.returns-in-Done-clause-known
+returns-in-Done-clause-known g c = known_then (known_then c.in-Ok.ensures.known c.in-Done.ensures.known)
+    (named_known c.wait.new.self c.name_ends.new.self c.name_ends.ensures.all (ap (λ (l : Loop). l.queues) c.name_ends.ensures.same))

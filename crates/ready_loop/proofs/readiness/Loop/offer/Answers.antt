@@ -1,6 +1,7 @@
 use Rattle.std.proofs.Common.{ap, ◌∙◌}
 use Rattle.world.proofs.MomentsLemmas.{told_as}
-use Rattle.ready_loop.proofs.NameLemmas.{named_goes, named_names, named_drained, named_offered, named_calm, named_failed}
+use Rattle.ready_loop.proofs.NameLemmas.{named_goes, named_names, named_drained, named_offered, named_calm, named_failed, named_known}
+use Rattle.ready_loop.proofs.StateLemmas.{sound_as, known_then}
 use Rattle.ready_loop.proofs.readiness.Loop.offer.Goals as goal
 
 pub returns-in-Err-clause-goes : goal.returns-in-Err-clause-goes
@@ -27,3 +28,10 @@ pub returns-in-Ok-clause-failed : goal.returns-in-Ok-clause-failed
 returns-in-Ok-clause-failed g c = record {
   each = λ p. named_failed c.offer_all.new.self c.name_ends.new.self c.name_ends.ensures.all (ap (λ l. l.queues) c.name_ends.ensures.same) p ∙ c.in-Ok.ensures.failed.each p;
 }
+
+pub returns-in-Ok-clause-sound : goal.returns-in-Ok-clause-sound
+returns-in-Ok-clause-sound g c = λ s. sound_as c.args.self.now c.name_ends.new.self
+    (λ p. named_failed c.offer_all.new.self c.name_ends.new.self c.name_ends.ensures.all (ap (λ l. l.queues) c.name_ends.ensures.same) p ∙ c.in-Ok.ensures.failed.each p) s
+
+pub returns-in-Ok-clause-known : goal.returns-in-Ok-clause-known
+returns-in-Ok-clause-known g c = known_then c.in-Ok.ensures.known (named_known c.offer_all.new.self c.name_ends.new.self c.name_ends.ensures.all (ap (λ l. l.queues) c.name_ends.ensures.same))

@@ -3,6 +3,7 @@ use Rattle.std.proofs.lemmas.Option.{unwrap_or-slice_get}
 use Rattle.world.proofs.MomentsLemmas.{told_start, told_then, told_both, told_as}
 use Rattle.ready_loop.specs.Offers.{is_looked}
 use Rattle.ready_loop.proofs.StandLemmas.{goes_start, goes_then, cause_then}
+use Rattle.ready_loop.proofs.StateLemmas.{known_start, known_then}
 use Rattle.ready_loop.proofs.LookLemmas.{below_none, below_skip, below_more, look_moment, offered_at}
 use Rattle.ready_loop.proofs.readiness.Loop.offer_jobs.Goals as goal
 
@@ -13,6 +14,7 @@ loop-place-init g c = record {
   untouched = λ p le. refl;
   offered = λ o. o;
   drained = λ d. d;
+  known = known_start c.args.self.now;
   failed = λ p. refl;
   left = search rules;
   cause = search rules;
@@ -28,6 +30,7 @@ loop-place-preserved-then-not-jobs-place g c =
       untouched = λ p le. inv.untouched p (omega arith);
       offered = inv.offered;
       drained = inv.drained;
+      known = inv.known;
       failed = inv.failed;
       left = inv.left;
       cause = inv.cause;
@@ -51,6 +54,7 @@ loop-place-preserved g c =
       untouched = λ p le. let ne : p ≢ c.loop-place.place = λ e. omega (arith, e) in at.only.links p ne ∙ inv.untouched p (omega arith);
       offered = λ o. offered_at at.only at.offered (inv.offered o);
       drained = λ d. at.drained (inv.drained d);
+      known = known_then inv.known at.known;
       failed = λ p. at.failed.each p ∙ inv.failed p;
       left = at.only.left ∙ inv.left;
       cause = cause_then inv.cause at.cause (λ b. b) (λ e. cc);

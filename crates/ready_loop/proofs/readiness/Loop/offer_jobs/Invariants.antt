@@ -3,7 +3,7 @@ use Rattle.world.specs.Counts.{NetCause}
 use Rattle.ready_loop.specs.History.{same}
 use Rattle.ready_loop.specs.Offers.{LookMoment, BeginsBelow}
 use Rattle.ready_loop.specs.Standing.{Goes, Follows}
-use Rattle.ready_loop.specs.States.{IsDrained, IsOffered, failed_at}
+use Rattle.ready_loop.specs.States.{IsDrained, IsOffered, SameKnown, failed_at}
 use Rattle.ready_loop.proofs.readiness.Loop.offer_jobs.Given as goal
 
 abbrev pub invariant-loop-place : goal.invariant-loop-place
@@ -13,6 +13,7 @@ invariant-loop-place g l = record {
   untouched : (p : ℕ) → l.place ≤ p → slice_get l.self.links p ≡ slice_get l.fn.self.links p;
   offered : IsOffered l.fn.self → IsOffered l.self;
   drained : IsDrained l.fn.self → IsDrained l.self;
+  known : SameKnown l.fn.self l.self;
   failed : (p : ℕ) → failed_at l.self p ≡ failed_at l.fn.self p;
   left : l.self.left ≡ l.fn.self.left;
   cause : NetCause (g.W.Journal.counts l.fn.w) (g.W.Journal.counts l.w) ⊥;

@@ -3,7 +3,7 @@ use Rattle.world.specs.declared.entry.Entry.{Entry}
 use Rattle.world.specs.Places.{time}
 use Rattle.ready_loop.specs.Link.{MayRead, read_link}
 use Rattle.ready_loop.proofs.TableLemmas.{tells_with}
-use Rattle.ready_loop.proofs.StateLemmas.{may_here, read_offered, read_fails, read_below}
+use Rattle.ready_loop.proofs.StateLemmas.{may_here, read_offered, read_fails, read_below, known_set, read_stage}
 use Rattle.ready_loop.proofs.ReadLemmas.{read_goes, untimed}
 use Rattle.ready_loop.proofs.readiness.Loop.read_at.Goals as goal
 
@@ -29,3 +29,7 @@ returns-clause-failed g c =
 pub returns-clause-below : goal.returns-clause-below
 returns-clause-below g c = read_below c.read-got.result c.last-last.result c.args.place c.args.self.now.links c.put.new.self c.at-link.result c.at-link.ensures
     (c.put.ensures ∙ ap (set c.args.self.now.links c.args.place) c.after_read.ensures)
+
+pub returns-clause-known : goal.returns-clause-known
+returns-clause-known g c = known_set c.args.self.now (record c.args.self.now { links = c.put.new.self }) c.args.place (read_link c.read-got.result c.last-last.result c.at-link.result) c.at-link.result c.at-link.ensures
+    (c.put.ensures ∙ ap (set c.args.self.now.links c.args.place) c.after_read.ensures) (read_stage c.read-got.result c.last-last.result c.at-link.result)

@@ -3,8 +3,8 @@ use Rattle.world.specs.Places.{is_reported}
 use Rattle.ready_loop.specs.declared.readiness.Loop.{Loop}
 use Rattle.ready_loop.specs.Link.{wait_link}
 use Rattle.ready_loop.proofs.TableLemmas.{tells_both}
-use Rattle.ready_loop.proofs.MapLemmas.{maps_failed}
-use Rattle.ready_loop.proofs.WaitLemmas.{wait_stands, wait_failed}
+use Rattle.ready_loop.proofs.MapLemmas.{maps_failed, maps_known}
+use Rattle.ready_loop.proofs.WaitLemmas.{wait_stands, wait_failed, wait_stage}
 use Rattle.ready_loop.proofs.readiness.Loop.wait.Goals as goal
 
 pub returns-clause-came : goal.returns-clause-came
@@ -20,3 +20,9 @@ returns-clause-came g c = tells_both c.wait-did.ensures.tells c.wait-did.ensures
 pub returns-clause-failed : goal.returns-clause-failed
 returns-clause-failed g c = maps_failed 64 (λ p. wait_link c.wait-did.result (is_reported p c.wait-did.new.out.ready)) c.args.self.now.links c.report.new.self.links
     (λ p link. wait_failed c.wait-did.result (is_reported p c.wait-did.new.out.ready) link) c.report.ensures.reported
+
+pub returns-clause-known : goal.returns-clause-known
+returns-clause-known g c = record {
+  each = maps_known 64 (λ p. wait_link c.wait-did.result (is_reported p c.wait-did.new.out.ready)) c.args.self.now.links c.report.new.self.links
+      (λ p link. wait_stage c.wait-did.result (is_reported p c.wait-did.new.out.ready) link) c.report.ensures.reported;
+}
