@@ -1,0 +1,15 @@
+pub mod BeginLemmas
+pub mod CallLemmas
+pub mod KeyLemmas
+pub mod LookLemmas
+pub mod MapLemmas
+pub mod NameLemmas
+pub mod NewLemmas
+pub mod OfferLemmas
+pub mod ReadAllLemmas
+pub mod ReadLemmas
+pub mod RunLemmas
+pub mod StandLemmas
+pub mod StateLemmas
+pub mod TableLemmas
+pub mod WaitLemmas

@@ -1,0 +1,21 @@
+use Rattle.std.proofs.Common.{rules, ◌∙◌, sym, ap, inl}
+use Rattle.world.proofs.MomentsLemmas.{told_start, told_as}
+use Rattle.ready_loop.specs.States.{refused_in}
+use Rattle.ready_loop.proofs.StandLemmas.{goes_start}
+use Rattle.ready_loop.proofs.LookLemmas.{begins_none, begins_one}
+use Rattle.ready_loop.proofs.readiness.Loop.begin_again.Goals as goal
+
+pub returns-then-not-is_to_begin-clause-goes : goal.returns-then-not-is_to_begin-clause-goes
+returns-then-not-is_to_begin-clause-goes g c = told_start (λ x. goes_start x)
+
+pub returns-then-not-is_to_begin-clause-begins : goal.returns-then-not-is_to_begin-clause-begins
+returns-then-not-is_to_begin-clause-begins g c = told_start (λ x. begins_none c.args.forced c.args.place c.last.result c.args.self.now c.at.result c.at.ensures c.if-not-is_to_begin.ensures.1 x)
+
+pub returns-in-Begun-clause-begins : goal.returns-in-Begun-clause-begins
+returns-in-Begun-clause-begins g c = told_as c.in-Begun.ensures.connects (λ x y k. begins_one k)
+
+pub returns-in-Refused-clause-begins : goal.returns-in-Refused-clause-begins
+returns-in-Refused-clause-begins g c = told_as c.in-Refused.ensures.connects (λ x y k. begins_one k)
+
+pub returns-in-Failed-clause-begins : goal.returns-in-Failed-clause-begins
+returns-in-Failed-clause-begins g c = told_as c.in-Failed.ensures.connects (λ x y k. begins_one k)

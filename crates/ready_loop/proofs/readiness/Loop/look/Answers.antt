@@ -1,0 +1,52 @@
+use Rattle.std.proofs.Common.{◌≡◌, ◌∙◌, ap, refl, sym}
+use Rattle.world.proofs.MomentsLemmas.{told_as, told_then, told_both}
+use Rattle.ready_loop.specs.declared.readiness.Loop.{Loop}
+use Rattle.ready_loop.proofs.NameLemmas.{named_failed, named_known}
+use Rattle.ready_loop.proofs.StateLemmas.{sound_as, known_then}
+use Rattle.ready_loop.proofs.LookLemmas.{looked_until, looked_failed, looked_done, looked_names, may_then, left_of, counts_of}
+use Rattle.ready_loop.proofs.readiness.Loop.look.Goals as goal
+
+pub returns-in-Err-clause-looked : goal.returns-in-Err-clause-looked
+returns-in-Err-clause-looked g c = told_as (told_both c.in-Err.ensures.came c.in-Err.ensures.goes) (λ x y m.
+    looked_until c.args.jobs c.args.self.now c.offer_jobs.new.self c.in-Err.fault x y m.0 m.1)
+
+pub returns-in-Err-clause-left : goal.returns-in-Err-clause-left
+returns-in-Err-clause-left g c = c.in-Err.ensures.left ∙ sym (left_of c.in-Err.fault c.args.self.now.left c.in-Err.ensures.fault)
+
+pub returns-in-Err-clause-cause : goal.returns-in-Err-clause-cause
+returns-in-Err-clause-cause g c = counts_of c.in-Err.fault (g.W.Journal.counts c.args.w.now) (g.W.Journal.counts c.offer_jobs.new.w) c.in-Err.ensures.fault refl c.in-Err.ensures.cause
+
+pub returns-in-Failed-clause-looked : goal.returns-in-Failed-clause-looked
+returns-in-Failed-clause-looked g c =
+    let may = may_then c.args.self.now c.offer_jobs.new.self c.requires c.in-Ok.ensures.drained c.in-Ok.ensures.offered c.in-Ok.ensures.failed.each in
+    told_then (told_both c.in-Ok.ensures.goes c.in-Ok.ensures.begins) c.in-Failed.ensures.came (λ x y z a came.
+    looked_failed c.args.jobs c.args.self.now c.offer_jobs.new.self may x y a.0 a.1 c.wait.new.self z came)
+
+pub returns-in-Done-clause-looked : goal.returns-in-Done-clause-looked
+returns-in-Done-clause-looked g c =
+    let may = may_then c.args.self.now c.offer_jobs.new.self c.requires c.in-Ok.ensures.drained c.in-Ok.ensures.offered c.in-Ok.ensures.failed.each in
+    told_then (told_both c.in-Ok.ensures.goes c.in-Ok.ensures.begins) c.in-Done.ensures.came (λ x y z a came.
+    looked_done c.args.jobs c.args.self.now c.offer_jobs.new.self may x y a.0 a.1 c.wait.new.self c.name_ends.new.self c.name_ends.result z came
+    c.name_ends.ensures.all (ap (λ (l : Loop). l.queues) c.name_ends.ensures.same) (ap (λ (l : Loop). l.left) c.name_ends.ensures.same) c.name_ends.ensures.named)
+
+pub returns-in-Done-clause-names : goal.returns-in-Done-clause-names
+returns-in-Done-clause-names g c = told_then c.in-Ok.ensures.goes c.in-Done.ensures.came (λ x y z a came.
+    looked_names c.args.self.now c.offer_jobs.new.self c.wait.new.self c.name_ends.new.self c.name_ends.result x y z a came
+    c.name_ends.ensures.all (ap (λ (l : Loop). l.queues) c.name_ends.ensures.same) (ap (λ (l : Loop). l.left) c.name_ends.ensures.same) c.name_ends.ensures.named)
+
+pub returns-in-Done-clause-failed : goal.returns-in-Done-clause-failed
+returns-in-Done-clause-failed g c = record {
+  each = λ p. named_failed c.wait.new.self c.name_ends.new.self c.name_ends.ensures.all (ap (λ (l : Loop). l.queues) c.name_ends.ensures.same) p ∙ c.in-Done.ensures.failed p ∙ c.in-Ok.ensures.failed.each p;
+}
+
+pub returns-in-Done-clause-sound : goal.returns-in-Done-clause-sound
+returns-in-Done-clause-sound g c = sound_as c.args.self.now c.name_ends.new.self
+    (λ p. named_failed c.wait.new.self c.name_ends.new.self c.name_ends.ensures.all (ap (λ (l : Loop). l.queues) c.name_ends.ensures.same) p ∙ c.in-Done.ensures.failed p ∙ c.in-Ok.ensures.failed.each p)
+    c.requires.sound
+
+pub returns-in-Failed-clause-known : goal.returns-in-Failed-clause-known
+returns-in-Failed-clause-known g c = known_then c.in-Ok.ensures.known c.in-Failed.ensures.known
+
+pub returns-in-Done-clause-known : goal.returns-in-Done-clause-known
+returns-in-Done-clause-known g c = known_then (known_then c.in-Ok.ensures.known c.in-Done.ensures.known)
+    (named_known c.wait.new.self c.name_ends.new.self c.name_ends.ensures.all (ap (λ (l : Loop). l.queues) c.name_ends.ensures.same))

@@ -1,0 +1,64 @@
+use Rattle.std.proofs.Common.{rules, arith, ◌≡◌, ◌∙◌, ap, sym, subst, refl, Some, slice_get}
+use Rattle.world.specs.Moments.{start, more}
+use Rattle.world.proofs.MomentsLemmas.{told_start, told_one, told_then}
+use Rattle.ready_loop.specs.declared.readiness.Loop.{Loop}
+use Rattle.ready_loop.proofs.StandLemmas.{goes_start, goes_then}
+use Rattle.ready_loop.proofs.StateLemmas.{sound_as, known_start, known_then}
+use Rattle.ready_loop.proofs.readiness.Loop.next.Goals as goal
+
+pub loop-place-init : goal.loop-place-init
+loop-place-init g c = record {
+  room = search rules;
+  some = search rules;
+  goes = told_start (λ x. goes_start x);
+  dry = told_start (λ x. start);
+  below = λ p link low. absurd (omega arith);
+  none = search rules;
+  offered = λ o. o;
+  known = known_start c.args.self.now;
+  failed = λ p. search rules;
+  same = search rules;
+  cause = search rules;
+}
+
+pub returns-in-Piece-clause-goes : goal.returns-in-Piece-clause-goes
+returns-in-Piece-clause-goes g c = told_then c.loop-place.invariant.goes c.in-Piece.ensures.goes (λ x y z a b. goes_then (λ h now r. r) (λ h now r. r) a b)
+
+pub returns-in-Ended-clause-goes : goal.returns-in-Ended-clause-goes
+returns-in-Ended-clause-goes g c = told_then c.loop-place.invariant.goes c.in-Ended.ensures.goes (λ x y z a b. goes_then (λ h now r. r) (λ h now r. r) a b)
+
+pub returns-in-Refused-clause-goes : goal.returns-in-Refused-clause-goes
+returns-in-Refused-clause-goes g c = told_then c.loop-place.invariant.goes c.in-Refused.ensures.goes (λ x y z a b. goes_then (λ h now r. r) (λ h now r. r) a b)
+
+pub returns-in-Failed-clause-goes : goal.returns-in-Failed-clause-goes
+returns-in-Failed-clause-goes g c = told_then c.loop-place.invariant.goes c.in-Failed.ensures.goes (λ x y z a b. goes_then (λ h now r. r) (λ h now r. r) a b)
+
+pub loop-place-preserved : goal.loop-place-preserved
+loop-place-preserved g c =
+    let inv = c.loop-place.invariant in
+    let read = c.in-Dry.ensures in
+    record {
+      room = omega arith;
+      some = omega arith;
+      goes = told_then inv.goes read.goes (λ x y z a b. goes_then (λ h now r. r) (λ h now r. r) a b);
+      dry = told_one inv.dry read.tells (λ x y s. more s tt);
+      below = read.below refl inv.below;
+      none = λ d. let e = inv.none d in absurd (d.each c.loop-place.place c.at.result c.loop-place-test.true (subst (λ (l : Loop). slice_get l.links c.loop-place.place ≡ Some c.at.result) e c.at.ensures) (c.if-not-may_read.ensures.0 (search rules)));
+      offered = λ o. read.offered (inv.offered o);
+      known = known_then inv.known read.known;
+      failed = λ p. read.failed p ∙ inv.failed p;
+      same = search rules;
+      cause = search rules;
+    }
+
+pub returns-in-Piece-clause-sound : goal.returns-in-Piece-clause-sound
+returns-in-Piece-clause-sound g c = λ s. sound_as c.args.self.now c.read_at.new.self (λ p. c.in-Piece.ensures.failed p ∙ c.loop-place.invariant.failed p) s
+
+pub returns-in-Ended-clause-sound : goal.returns-in-Ended-clause-sound
+returns-in-Ended-clause-sound g c = λ s. sound_as c.args.self.now c.read_at.new.self (λ p. c.in-Ended.ensures.failed p ∙ c.loop-place.invariant.failed p) s
+
+pub returns-in-Refused-clause-sound : goal.returns-in-Refused-clause-sound
+returns-in-Refused-clause-sound g c = λ s. sound_as c.args.self.now c.read_at.new.self (λ p. c.in-Refused.ensures.failed p ∙ c.loop-place.invariant.failed p) s
+
+pub returns-clause-sound : goal.returns-clause-sound
+returns-clause-sound g c = λ s. sound_as c.args.self.now c.loop-place.self c.loop-place.invariant.failed s

@@ -1,0 +1,23 @@
+use Rattle.std.proofs.Common.{◌≡◌, ◌<◌, ℕ, length}
+use Rattle.world.specs.Moments.{Since}
+use Rattle.world.specs.Counts.{NetCause}
+use Rattle.ready_loop.specs.History.{same}
+use Rattle.ready_loop.specs.Reads.{ReadMoment, IsDry}
+use Rattle.ready_loop.specs.Standing.{Goes, Follows}
+use Rattle.ready_loop.specs.States.{IsDrained, IsOffered, EachBelow, NotRead, SameKnown, failed_at}
+use Rattle.ready_loop.proofs.readiness.Loop.next.Given as goal
+
+abbrev pub invariant-loop-place : goal.invariant-loop-place
+invariant-loop-place g l = record {
+  room : length l.buf ≡ length l.fn.buf;
+  some : 0 < length l.buf;
+  goes : Follows g.W.Journal.journal l.fn.w l.w (Goes ReadMoment same l.fn.self l.self);
+  dry : Follows g.W.Journal.journal l.fn.w l.w (Since IsDry);
+  below : EachBelow l.place l.self.links NotRead;
+  none : IsDrained l.fn.self → l.self ≡ l.fn.self;
+  offered : IsOffered l.fn.self → IsOffered l.self;
+  known : SameKnown l.fn.self l.self;
+  failed : (p : ℕ) → failed_at l.self p ≡ failed_at l.fn.self p;
+  same : l.self ≡ record l.fn.self { links = l.self.links };
+  cause : NetCause (g.W.Journal.counts l.fn.w) (g.W.Journal.counts l.w) ⊥;
+}

@@ -1,0 +1,37 @@
+use Rattle.std.proofs.Common.{ap, ◌∙◌}
+use Rattle.world.proofs.MomentsLemmas.{told_as}
+use Rattle.ready_loop.proofs.NameLemmas.{named_goes, named_names, named_drained, named_offered, named_calm, named_failed, named_known}
+use Rattle.ready_loop.proofs.StateLemmas.{sound_as, known_then}
+use Rattle.ready_loop.proofs.readiness.Loop.offer.Goals as goal
+
+pub returns-in-Err-clause-goes : goal.returns-in-Err-clause-goes
+returns-in-Err-clause-goes g c = c.in-Err.ensures.goes
+
+pub returns-in-Ok-clause-goes : goal.returns-in-Ok-clause-goes
+returns-in-Ok-clause-goes g c = told_as c.in-Ok.ensures.goes (λ x y a. named_goes c.offer_all.new.self c.name_ends.new.self c.name_ends.result
+    c.name_ends.ensures.all (ap (λ l. l.queues) c.name_ends.ensures.same) (ap (λ l. l.left) c.name_ends.ensures.same) c.name_ends.ensures.named a)
+
+pub returns-in-Ok-clause-names : goal.returns-in-Ok-clause-names
+returns-in-Ok-clause-names g c = told_as c.in-Ok.ensures.goes (λ x y a. named_names c.offer_all.new.self c.name_ends.new.self c.name_ends.result
+    c.name_ends.ensures.all (ap (λ l. l.queues) c.name_ends.ensures.same) (ap (λ l. l.left) c.name_ends.ensures.same) c.name_ends.ensures.named a)
+
+pub returns-in-Ok-clause-offered : goal.returns-in-Ok-clause-offered
+returns-in-Ok-clause-offered g c = named_offered c.offer_all.new.self c.name_ends.new.self c.name_ends.ensures.all (ap (λ l. l.queues) c.name_ends.ensures.same) c.in-Ok.ensures.offered
+
+pub returns-in-Ok-clause-calm : goal.returns-in-Ok-clause-calm
+returns-in-Ok-clause-calm g c = named_calm c.offer_all.new.self c.name_ends.new.self c.name_ends.ensures.all (ap (λ l. l.queues) c.name_ends.ensures.same) c.in-Ok.ensures.offered
+
+pub returns-in-Ok-clause-drained : goal.returns-in-Ok-clause-drained
+returns-in-Ok-clause-drained g c = λ d. named_drained c.offer_all.new.self c.name_ends.new.self c.name_ends.ensures.all (ap (λ l. l.queues) c.name_ends.ensures.same) (c.in-Ok.ensures.drained d)
+
+pub returns-in-Ok-clause-failed : goal.returns-in-Ok-clause-failed
+returns-in-Ok-clause-failed g c = record {
+  each = λ p. named_failed c.offer_all.new.self c.name_ends.new.self c.name_ends.ensures.all (ap (λ l. l.queues) c.name_ends.ensures.same) p ∙ c.in-Ok.ensures.failed.each p;
+}
+
+pub returns-in-Ok-clause-sound : goal.returns-in-Ok-clause-sound
+returns-in-Ok-clause-sound g c = λ s. sound_as c.args.self.now c.name_ends.new.self
+    (λ p. named_failed c.offer_all.new.self c.name_ends.new.self c.name_ends.ensures.all (ap (λ l. l.queues) c.name_ends.ensures.same) p ∙ c.in-Ok.ensures.failed.each p) s
+
+pub returns-in-Ok-clause-known : goal.returns-in-Ok-clause-known
+returns-in-Ok-clause-known g c = known_then c.in-Ok.ensures.known (named_known c.offer_all.new.self c.name_ends.new.self c.name_ends.ensures.all (ap (λ l. l.queues) c.name_ends.ensures.same))

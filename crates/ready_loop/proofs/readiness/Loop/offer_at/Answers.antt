@@ -1,0 +1,12 @@
+use Rattle.world.proofs.MomentsLemmas.{told_then, told_both}
+use Rattle.ready_loop.proofs.StandLemmas.{goes_then}
+use Rattle.ready_loop.proofs.LookLemmas.{begins_then}
+use Rattle.ready_loop.proofs.OfferLemmas.{forced_at}
+use Rattle.ready_loop.proofs.readiness.Loop.offer_at.Goals as goal
+
+pub returns-clause-goes : goal.returns-clause-goes
+returns-clause-goes g c = told_then c.in_ok-begin_again.ensures.goes c.write_all.ensures.goes (λ x y z a b.
+    goes_then (λ h now r. r) (λ h now r. forced_at c.args.forced c.args.place h now r) a b)
+
+pub returns-clause-begins : goal.returns-clause-begins
+returns-clause-begins g c = told_then (told_both c.in_ok-begin_again.ensures.begins c.in_ok-begin_again.ensures.goes) c.write_all.ensures.goes (λ x y z a b. begins_then a.0 a.1 b)

@@ -1,0 +1,61 @@
+use Rattle.std.proofs.Common.{rules, arith, ◌≡◌, ◌≢◌, ◌/◌, ◌∙◌, ap, refl, sym, true, false, ℕ}
+use Rattle.std.proofs.lemmas.Option.{unwrap_or-slice_get}
+use Rattle.world.proofs.MomentsLemmas.{told_start, told_then, told_both, told_as}
+use Rattle.ready_loop.specs.Offers.{is_looked}
+use Rattle.ready_loop.proofs.StandLemmas.{goes_start, goes_then, cause_then}
+use Rattle.ready_loop.proofs.StateLemmas.{known_start, known_then}
+use Rattle.ready_loop.proofs.LookLemmas.{below_none, below_skip, below_more, look_moment, offered_at}
+use Rattle.ready_loop.proofs.readiness.Loop.offer_jobs.Goals as goal
+
+pub loop-place-init : goal.loop-place-init
+loop-place-init g c = record {
+  goes = told_start (λ x. goes_start x);
+  begins = told_start (λ x. below_none c.args.jobs.now c.args.self.now x);
+  untouched = λ p le. refl;
+  offered = λ o. o;
+  drained = λ d. d;
+  known = known_start c.args.self.now;
+  failed = λ p. refl;
+  left = search rules;
+  cause = search rules;
+}
+
+pub loop-place-preserved-then-not-jobs-place : goal.loop-place-preserved-then-not-jobs-place
+loop-place-preserved-then-not-jobs-place g c =
+    let inv = c.loop-place.invariant in
+    let skip : is_looked c.args.jobs.now (c.loop-place.place / 4) ≡ false = unwrap_or-slice_get c.args.jobs.now (c.loop-place.place / 4) false ∙ c.if-not-jobs-place.true in
+    record {
+      goes = inv.goes;
+      begins = told_as inv.begins (λ x y b. below_skip skip b);
+      untouched = λ p le. inv.untouched p (omega arith);
+      offered = inv.offered;
+      drained = inv.drained;
+      known = inv.known;
+      failed = inv.failed;
+      left = inv.left;
+      cause = inv.cause;
+    }
+
+pub returns-in-Err-clause-goes : goal.returns-in-Err-clause-goes
+returns-in-Err-clause-goes g c =
+    let n = c.loop-place.place in
+    let looked : is_looked c.args.jobs.now (c.loop-place.place / 4) ≡ true = unwrap_or-slice_get c.args.jobs.now (c.loop-place.place / 4) false ∙ c.if-not-jobs-place.false in
+    told_then c.loop-place.invariant.goes c.in-Err.ensures.goes (λ x y z a b. goes_then (λ h now r. r) (λ h now r. look_moment n c.args.jobs.now looked h now r) a b)
+
+pub loop-place-preserved : goal.loop-place-preserved
+loop-place-preserved g c =
+    let inv = c.loop-place.invariant in
+    let at = c.in-Ok.ensures in
+    let n = c.loop-place.place in
+    let looked : is_looked c.args.jobs.now (c.loop-place.place / 4) ≡ true = unwrap_or-slice_get c.args.jobs.now (c.loop-place.place / 4) false ∙ c.if-not-jobs-place.false in
+    record {
+      goes = told_then inv.goes at.goes (λ x y z a b. goes_then (λ h now r. r) (λ h now r. look_moment n c.args.jobs.now looked h now r) a b);
+      begins = told_then (told_both inv.begins inv.goes) (told_both at.begins at.goes) (λ x y z a b. below_more (inv.untouched n (omega arith)) a.0 a.1 b.0 b.1);
+      untouched = λ p le. let ne : p ≢ c.loop-place.place = λ e. omega (arith, e) in at.only.links p ne ∙ inv.untouched p (omega arith);
+      offered = λ o. offered_at at.only at.offered (inv.offered o);
+      drained = λ d. at.drained (inv.drained d);
+      known = known_then inv.known at.known;
+      failed = λ p. at.failed.each p ∙ inv.failed p;
+      left = at.only.left ∙ inv.left;
+      cause = cause_then inv.cause at.cause (λ b. b) (λ e. cc);
+    }

@@ -1,0 +1,28 @@
+use Rattle.std.proofs.Common.{ap, refl, ◌-◌}
+use Rattle.world.specs.Places.{is_reported}
+use Rattle.ready_loop.specs.declared.readiness.Loop.{Loop}
+use Rattle.ready_loop.specs.Link.{wait_link}
+use Rattle.ready_loop.proofs.TableLemmas.{tells_both}
+use Rattle.ready_loop.proofs.MapLemmas.{maps_failed, maps_known}
+use Rattle.ready_loop.proofs.WaitLemmas.{wait_stands, wait_failed, wait_stage}
+use Rattle.ready_loop.proofs.readiness.Loop.wait.Goals as goal
+
+pub returns-clause-came : goal.returns-clause-came
+returns-clause-came g c = tells_both c.wait-did.ensures.tells c.wait-did.ensures.up (λ past up. record {
+  reports = c.wait-did.new.out;
+  is = refl;
+  stands = λ h stand. wait_stands c.args.ms c.wait-did.new.out c.wait-did.result c.args.self.now
+      (record c.report.new.self { left = c.report.new.self.left - 1 }) past c.report.ensures.reported (ap (λ (l : Loop). l.queues) c.report.ensures.same) c.requires
+      (ap (λ (l : Loop). l.left - 1) c.report.ensures.same) up h stand;
+  links = c.report.ensures.reported;
+})
+
+pub returns-clause-failed : goal.returns-clause-failed
+returns-clause-failed g c = maps_failed 64 (λ p. wait_link c.wait-did.result (is_reported p c.wait-did.new.out.ready)) c.args.self.now.links c.report.new.self.links
+    (λ p link. wait_failed c.wait-did.result (is_reported p c.wait-did.new.out.ready) link) c.report.ensures.reported
+
+pub returns-clause-known : goal.returns-clause-known
+returns-clause-known g c = record {
+  each = maps_known 64 (λ p. wait_link c.wait-did.result (is_reported p c.wait-did.new.out.ready)) c.args.self.now.links c.report.new.self.links
+      (λ p link. wait_stage c.wait-did.result (is_reported p c.wait-did.new.out.ready) link) c.report.ensures.reported;
+}

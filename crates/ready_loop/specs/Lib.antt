@@ -1,0 +1,12 @@
+pub mod Begins
+pub mod Between
+pub mod History
+pub mod Link
+pub mod Offers
+pub mod Queues
+pub mod Reads
+pub mod Runs
+pub mod Standing
+pub mod States
+pub mod Table
+pub mod Waits

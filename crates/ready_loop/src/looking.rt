@@ -1,0 +1,72 @@
+//! A last look: one more try to begin, to write and to wait, for some jobs alone.
+ghost use Rattle.std.specs.Prelude.{◌≡◌, ◌↔◌, IfErr, IsErr, OnOk, Err};
+ghost use Rattle.world.specs.Counts.{CountsBy, NetCause};
+ghost use Rattle.ready_loop.specs.History.{same};
+ghost use Rattle.ready_loop.specs.Offers.{LookMoment, FaultCame, BeginsBelow, IsOfConn, Names};
+ghost use Rattle.ready_loop.specs.Standing.{Goes, Follows};
+ghost use Rattle.ready_loop.specs.States.{IsDrained, IsOffered, IsSound, MayWait, FailsOnly, SameKnown};
+ghost use Rattle.ready_loop.specs.Waits.{Looked, LookCounts, left_after};
+
+use crate::{Loop, LoopFault};
+use world::{Did, World};
+
+impl Loop {
+    /// A last look for these jobs, by their numbers: begins each of their refused connections once
+    /// more, offers what is queued on their connections, and waits with the limit 0, without the
+    /// clock. It answers as `offer` does.
+    pub fn look<W: World>(&mut self, w: &mut W, jobs: [bool; 16]) -> Result<[bool; 64], LoopFault>
+        requires { MayWait self.old }
+        // Only connections of these jobs are begun or written to; then one wait that does not last.
+        ensures looked { Follows W.journal w.old w.new (Looked jobs result self.old self.new) }
+        ensures names { Follows W.journal w.old w.new (Names result self.old) }
+
+        // `Spent` exactly where no wait is left, and then nothing changes.
+        ensures spent { (result ≡ Err LoopFault.Spent) ↔ (self.old.left ≡ 0) }
+        ensures still { result ≡ Err LoopFault.Spent → self.new ≡ self.old }
+        ensures left { self.new.left ≡ left_after result self.old.left }
+
+        ensures failed { FailsOnly result self.old self.new }
+        ensures sound { OnOk result (IsSound self.new) }
+        ensures known { SameKnown self.old self.new }
+        ensures cause { LookCounts result (W.counts w.old) (W.counts w.new) }
+    {
+        if self.left == 0 {
+            return Err(LoopFault::Spent);
+        }
+        match self.offer_jobs(w, &jobs) {
+            Ok(()) => {}
+            Err(fault) => return Err(fault),
+        }
+        match self.wait(w, 0) {
+            Did::Failed => Err(LoopFault::NetFault { conn: None }),
+            Did::Done => Ok(self.name_ends()),
+        }
+    }
+
+    /// Begins the refused connections of these jobs again, and offers what is queued on theirs.
+    fn offer_jobs<W: World>(&mut self, w: &mut W, jobs: &[bool; 16]) -> Result<(), LoopFault>
+        ensures goes { Follows W.journal w.old w.new
+            (Goes (LookMoment jobs.now) same self.old self.new) }
+        ensures came { Follows W.journal w.old w.new (λ _ after. FaultCame result after) }
+        ensures begins { OnOk result
+            (Follows W.journal w.old w.new (BeginsBelow 64 jobs.now self.old)) }
+        ensures offered { OnOk result (IsOffered self.old → IsOffered self.new) }
+        ensures drained { IsDrained self.old → IsDrained self.new }
+        ensures failed { FailsOnly result self.old self.new }
+        ensures known { SameKnown self.old self.new }
+        ensures fault { IfErr result IsOfConn }
+        ensures left { self.new.left ≡ self.old.left }
+        ensures cause { CountsBy NetCause W.counts w.old w.new (IsErr result) }
+    {
+        for place in 0..64usize {
+            if !jobs[place / 4] {
+                continue;
+            }
+            match self.offer_at(w, place, true) {
+                Ok(()) => {}
+                Err(fault) => return Err(fault),
+            }
+        }
+        Ok(())
+    }
+}
