@@ -1,4 +1,9 @@
+pub mod Disk
+pub mod Far
 pub mod Folder
 pub mod Journals
-pub mod Memory
+pub mod Links
+pub mod Near
 pub mod Null
+pub mod Store
+pub mod Wire

@@ -2,19 +2,29 @@
 //! which does nothing. They do no real IO, and tell their journals by `telling`.
 #![tactic(auto)]
 
+mod count;
 mod edit;
+mod far;
 mod files;
 mod folder;
+mod linked_journal;
 mod mem_disk;
+mod mem_world;
+mod near;
 mod null_kernel;
 mod null_world;
+mod script;
+mod store;
 pub mod telling;
 #[cfg(test)]
 mod tests;
 mod timed_journal;
 
+pub use far::Kernels;
 pub use files::{Files, Sizes};
 pub use mem_disk::MemDisk;
+pub use mem_world::MemWorld;
 pub use null_kernel::NullKernel;
 pub use null_world::NullWorld;
+pub use script::Script;
 pub use timed_journal::TimedJournal;

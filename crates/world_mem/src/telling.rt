@@ -2,12 +2,13 @@
 ghost use Rattle.std.specs.Prelude.{◌≡◌, ◌∷◌, IfOk, IsOkAnd, None};
 ghost use Rattle.world.specs.declared.entry.Entry.{Entry};
 ghost use Rattle.world.specs.Moments.{Told};
+ghost use Rattle.world.specs.Told.{TookSome, did_of, taken_of};
 ghost use Rattle.world.specs.Waits.{moment_of};
 ghost use Rattle.world_mem.specs.Journals.{told_of};
 
 use jtext::{Bytes, Fields, NoMemory, Text, Texts};
 use std::alloc::Global;
-use world::{Did, Entries, Entry, ReadFile};
+use world::{Did, Entries, Entry, ReadFile, Wrote};
 
 /// Adds an entry, or ends the telling where there is none or memory for it is refused.
 pub fn tell(journal: &mut Option<Entries>, entry: Result<Entry, NoMemory>)
@@ -62,6 +63,24 @@ pub fn wrote_entry(alloc: Global, path: &Text, bytes: &[u8], did: Did) -> Result
     Ok(Entry::Wrote { path, bytes, did })
 }
 
+/// The entry of a write to a file that answered so.
+pub fn wrote_by(
+    alloc: Global,
+    path: &Text,
+    piece: &[u8],
+    wrote: Wrote,
+) -> Result<Entry, NoMemory>
+    requires { TookSome wrote piece.now }
+    ensures is { IfOk result (λ e.
+        e ≡ Entry.Wrote path.now (taken_of wrote piece.now) (did_of wrote)) }
+    ensures untimed { IfOk result (λ e. moment_of e ≡ None) }
+{
+    match wrote {
+        Wrote::Took(n) => wrote_entry(alloc, path, &piece[..n as usize], Did::Done),
+        Wrote::Failed => wrote_entry(alloc, path, piece, Did::Failed),
+    }
+}
+
 /// The entry of a sync of a file.
 pub fn synced_entry(alloc: Global, path: &Text, did: Did) -> Result<Entry, NoMemory>
     ensures is { IfOk result (λ e. e ≡ Entry.Synced path.now did) }
@@ -106,6 +125,18 @@ pub fn said_entry(alloc: Global, bytes: &[u8], did: Did) -> Result<Entry, NoMemo
 {
     let bytes = Bytes::of(alloc, bytes)?;
     Ok(Entry::Said { bytes, did })
+}
+
+/// The entry of what was said, where the call answered so.
+pub fn said_by(alloc: Global, piece: &[u8], wrote: Wrote) -> Result<Entry, NoMemory>
+    requires { TookSome wrote piece.now }
+    ensures is { IfOk result (λ e. e ≡ Entry.Said (taken_of wrote piece.now) (did_of wrote)) }
+    ensures untimed { IfOk result (λ e. moment_of e ≡ None) }
+{
+    match wrote {
+        Wrote::Took(n) => said_entry(alloc, &piece[..n as usize], Did::Done),
+        Wrote::Failed => said_entry(alloc, piece, Did::Failed),
+    }
 }
 
 /// The entry of a start of a child.

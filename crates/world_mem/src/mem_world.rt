@@ -1,0 +1,69 @@
+//! A world in memory.
+ghost use Rattle.std.specs.Prelude.{◌≡◌, ◌<◌, ◌≤◌, ◌^◌, All, [], Some, IfOk, option_map};
+ghost use Rattle.world_mem.specs.Folder.{file_at};
+ghost use Rattle.world_mem.specs.Near.{journal_of, counts_of};
+ghost use Rattle.world_mem.specs.Store.{files_of};
+
+use crate::far::Far;
+use crate::near::Near;
+use crate::{Files, Kernels, Script};
+use jtext::{Bytes, NoMemory, Text};
+use std::alloc::Global;
+use world::{Entries, Journal, KernelSide};
+
+/// A world in memory.
+#[derive(Drop)]
+pub struct MemWorld<K: KernelSide> {
+    pub(crate) near: Near,
+    pub(crate) far: Far<K>,
+    ghost timely: { near.journal.timed.last ≤ far.clock },
+}
+
+impl<K: KernelSide> MemWorld<K> {
+    /// The entries so far, the oldest first, and `None` where they are no longer told.
+    pub fn journal(&self) -> Option<&Entries>
+        ensures { option_map (λ entries. entries.now) result
+            ≡ self.now.near.journal.timed.entries }
+    {
+        self.near.journal.entries()
+    }
+
+    /// The bytes of the file at a path, and `None` where there is none.
+    pub fn file(&self, path: &Text) -> Option<&Bytes>
+        ensures { option_map (λ bytes. bytes.now) result
+            ≡ file_at path.now (files_of self.now.near.store) }
+    {
+        self.near.store.file(path)
+    }
+
+    /// All that was said.
+    pub fn said(&self) -> &Bytes
+        ensures { result.now ≡ self.now.near.store.said }
+    {
+        self.near.store.said()
+    }
+
+    /// How many calls failed because memory was refused for a file, for a kernel or for what was
+    /// said, up to the last value of a `u64`.
+    pub fn starved(&self) -> u64
+        ensures { result ≡ self.now.near.store.starved }
+    {
+        self.near.store.starved()
+    }
+
+    /// Lets `n` further calls of the disk through: every one after them fails.
+    pub fn fuse(&mut self, n: u64)
+        ensures near { self.new.near ≡ record self.old.near {
+          store = record self.old.near.store { fuse = Some n };
+        } }
+        ensures far { self.new.far ≡ self.old.far }
+    {
+        self.near.store.set_fuse(n);
+    }
+}
+
+impl<K: KernelSide> Journal for MemWorld<K> {
+    ghost journal = { λ w. journal_of w.near };
+
+    ghost counts = { λ w. counts_of w.near };
+}
