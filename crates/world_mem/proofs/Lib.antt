@@ -1,2 +1,4 @@
+mod FarLemmas
 mod FolderLemmas
+mod ListLemmas
 mod ReportLemmas

@@ -2,9 +2,9 @@
 ghost use Rattle.std.specs.Prelude.{◌≡◌, ◌<◌, ◌≤◌, ◌&&◌, ◌+◌, ◌-◌, ◌^◌, ℕ, All, false, true, length, min};
 ghost use Rattle.std.specs.Prelude.{IfOk, OnOk, OnErr, None, slice_get, slice_set, is_some, replicate};
 ghost use Rattle.std.specs.Prelude.{if◌then◌else◌};
-ghost use Rattle.world.specs.Calls.{Accepted, Took, Gave, given_of, StandsAfter};
+ghost use Rattle.world.specs.Calls.{Accepted, Gave, Ticked, Took, given_of, StandsAfter};
 ghost use Rattle.world.specs.Kernel.{Gives, Over};
-ghost use Rattle.world_mem.specs.Far.{at_job, is_ready, is_started, Serves, Ticks, TickedIf};
+ghost use Rattle.world_mem.specs.Far.{at_job, is_ready, Serves, Ticks};
 
 use jtext::{List, NoMemory};
 use std::alloc::Global;
@@ -172,21 +172,23 @@ impl<K: KernelSide> Far<K> {
         ensures clock { self.new.clock ≡ self.old.clock }
     {
         for job in 0..16 {
-            self.tick_job(alloc, job)?;
+            if self.started[job] {
+                self.tick_job(alloc, job)?;
+            }
         }
         Ok(())
     }
 
-    // Brings the kernel of a job to the moment now, where its child is started.
+    // Brings the kernel of a job to the moment now.
     fn tick_job(&mut self, alloc: Global, job: usize) -> Result<(), NoMemory>
-        requires { job < 16 }
-        ensures ok { IfOk result (λ _. Serves self.old.kernels.items self.new.kernels.items job
-            (TickedIf K.stands (is_started self.old.started job) self.old.clock)) }
+        ensures ok { IfOk result (λ _. Serves self.old.kernels.items self.new.kernels.items
+            job (λ before after. StandsAfter (K.stands before) (K.stands after)
+            (Ticked self.old.clock))) }
         ensures started { self.new.started ≡ self.old.started }
         ensures clock { self.new.clock ≡ self.old.clock }
     {
         let clock = self.clock;
-        if !self.started[job] || job >= self.kernels.len() {
+        if job >= self.kernels.len() {
             return Ok(());
         }
         self.kernels[job].tick(alloc, clock)
