@@ -1,9 +1,9 @@
 -- What the kernels of a world in memory answer, each of its job.
-use Rattle.std.specs.Prelude.{◌≡◌, ◌<◌, ◌&&◌, ℕ, ℤ, ◌+◌, ◌-◌, ◌^◌, min, List, Bool, true, false, Option, Some, None, slice_get, slice_set, unwrap_or, length}
+use Rattle.std.specs.Prelude.{◌≡◌, ℕ, List, Bool, true, false, Option, Some, None, slice_get, slice_set, unwrap_or, length}
 use Rattle.world.specs.declared.chan.Chan.{Chan}
 use Rattle.world.specs.declared.conn.Conn.{Conn}
-use Rattle.world.specs.declared.got.Got.{Got}
-use Rattle.world.specs.declared.got.Got.TheVariants as got
+use Rattle.world.specs.declared.did.Did.{Did}
+use Rattle.world.specs.declared.did.Did.TheVariants as did
 use Rattle.world.specs.Calls.{Call, Ticked, StandsAfter}
 use Rattle.world.specs.Kernel.{Given, Hands, Waits, Over, is_something}
 
@@ -28,6 +28,11 @@ Serves old new job R = Changes (slice_get old job) old new job R
 -- the child of a job was started and not ended since
 abbrev pub is_started : List Bool → ℕ → Bool
 is_started started job = unwrap_or (slice_get started job) false
+
+-- which children are started after a start
+abbrev pub started_by : Did → ℕ → List Bool → List Bool
+started_by did.Done job started = slice_set started job true
+started_by did.Failed job started = started
 
 -- there is something to read on a connection, bytes or the end
 abbrev pub is_ready : {K : Type 0} → (K → Chan → ℕ → ℕ → Given) → List K → ℕ → Conn → Bool

@@ -1,14 +1,14 @@
 -- What a world in memory keeps besides its kernels and its clock, and how its calls change it.
-use Rattle.std.specs.Prelude.{◌≡◌, ℕ, ◌+◌, ◌*◌, ◌-◌, ◌<◌, ◌^◌, ltb, min, max, List, [], ◌∷◌, length, Bool, true, false, Option, Some, None, slice_get, unwrap_or, if◌then◌else◌}
+use Rattle.std.specs.Prelude.{◌≡◌, ℕ, List, [], Bool, true, false, Option, Some, None, replicate}
 use Rattle.world.specs.declared.did.Did.{Did}
-use Rattle.world.specs.declared.connected.Connected.{Connected}
-use Rattle.world.specs.declared.connected.Connected.TheVariants as connected
 use Rattle.world.specs.declared.entry.Entry.{Entry}
 use Rattle.world.specs.Counts.{Counts}
 use Rattle.world_mem.specs.declared.near.Near.{Near}
+use Rattle.world_mem.specs.declared.script.Script.{Script}
 use Rattle.world_mem.specs.declared.store.Store.{Store}
+use Rattle.world_mem.specs.Folder.{Content}
 use Rattle.world_mem.specs.Journals.{told_of}
-use Rattle.world_mem.specs.Store.{one_more, faults_after, AfterDisk, AfterLook, AfterSay}
+use Rattle.world_mem.specs.Store.{did_unless, faults_after, files_of, is_to_fail, one_more}
 
 -- the journal of the world
 abbrev pub journal_of : Near → Option (List Entry)
@@ -30,10 +30,55 @@ counts_of near = record {
 abbrev pub called : Store → Store
 called store = record store { calls = one_more store.calls }
 
--- only the journal and the store have changed
-abbrev pub AfterStored : Near → Near → Type 0
-AfterStored old new = new ≡ record old { journal = new.journal; store = new.store }
+-- only the journal and the store have changed, and the same connections are up
+pub record AfterStored (old new : Near) : Type 0 where
+  pub rest : new ≡ record old { journal = new.journal; store = new.store }
+  pub ups : new.journal.ups ≡ old.journal.ups
 
--- a call that can't fail was counted, and only the journal has changed besides
-abbrev pub AfterSure : Near → Near → Type 0
-AfterSure old new = new ≡ record old { journal = new.journal; store = called old.store }
+-- a call that can't fail was counted, and only the journal has changed besides; the same connections are up
+pub record AfterSure (old new : Near) : Type 0 where
+  pub rest : new ≡ record old { journal = new.journal; store = called old.store }
+  pub ups : new.journal.ups ≡ old.journal.ups
+
+-- a start of a child was counted, and only the journal has changed besides; the same connections are up
+pub record AfterStart (old new : Near) (result : Did) : Type 0 where
+  pub rest : new ≡ record old {
+    journal = new.journal;
+    store = called old.store;
+    child_faults = faults_after result old.child_faults;
+  }
+  pub ups : new.journal.ups ≡ old.journal.ups
+
+-- the next random word, where the call doesn't fail
+abbrev pub word_unless : Bool → ℕ → Option ℕ
+word_unless true word = None
+word_unless false word = Some word
+
+-- the next random word after a call that failed or not
+abbrev pub words_after : Bool → ℕ → ℕ
+words_after true words = words
+words_after false words = one_more words
+
+-- a random word was drawn, and only the journal has changed besides; the same connections are up
+pub record AfterWord (old new : Near) : Type 0 where
+  pub rest : new ≡ record old {
+    journal = new.journal;
+    store = called old.store;
+    rand_faults = faults_after (did_unless (is_to_fail old.store)) old.rand_faults;
+    words = words_after (is_to_fail old.store) old.words;
+  }
+  pub ups : new.journal.ups ≡ old.journal.ups
+
+-- it has these files, as they were at the start too, an empty journal, this script and all counts at 0
+pub record IsNew (near : Near) (content : Content) (script : Script) : Type 0 where
+  pub journal : journal_of near ≡ Some []
+  pub ups : near.journal.ups ≡ replicate 64 false
+  pub files : files_of near.store ≡ content
+  pub start : near.start ≡ content
+  pub said : near.store.said ≡ []
+  pub fails : near.store.fails ≡ script.fails
+  pub pieces : near.pieces ≡ script.pieces
+  pub refusals : near.refusals ≡ script.refusals
+  pub fuse : near.store.fuse ≡ None
+  pub firsts : (near.store.calls ≡ 0) × (near.turn ≡ 0) × (near.words ≡ 0) × (near.store.starved ≡ 0)
+  pub counts : counts_of near ≡ record { disk = 0; net = 0; waits = 0; child = 0; rand = 0; say = 0; last = 0 }

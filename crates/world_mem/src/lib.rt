@@ -2,6 +2,7 @@
 //! which does nothing. They do no real IO, and tell their journals by `telling`.
 #![tactic(auto)]
 
+mod copies;
 mod count;
 mod edit;
 mod far;
@@ -19,6 +20,8 @@ pub mod telling;
 #[cfg(test)]
 mod tests;
 mod timed_journal;
+mod world_disk;
+mod world_kids;
 
 pub use far::Kernels;
 pub use files::{Files, Sizes};

@@ -1,7 +1,8 @@
 //! A world in memory.
-ghost use Rattle.std.specs.Prelude.{◌≡◌, ◌<◌, ◌≤◌, ◌^◌, All, [], Some, IfOk, option_map};
+ghost use Rattle.std.specs.Prelude.{◌≡◌, ◌<◌, ◌≤◌, ◌^◌, All, IfOk, Some, option_map};
+ghost use Rattle.std.specs.Prelude.{false, replicate};
 ghost use Rattle.world_mem.specs.Folder.{file_at};
-ghost use Rattle.world_mem.specs.Near.{journal_of, counts_of};
+ghost use Rattle.world_mem.specs.Near.{journal_of, counts_of, IsNew};
 ghost use Rattle.world_mem.specs.Store.{files_of};
 
 use crate::far::Far;
@@ -20,6 +21,26 @@ pub struct MemWorld<K: KernelSide> {
 }
 
 impl<K: KernelSide> MemWorld<K> {
+    /// A world with these files, these kernels, the first for the first job, and this script. The
+    /// files are durable, the journal is empty and every count is 0.
+    pub fn new(
+        alloc: Global,
+        files: Files,
+        kernels: Kernels<K>,
+        script: Script,
+    ) -> Result<MemWorld<K>, NoMemory>
+        requires below { script.start_ms < 2 ^ 47 }
+        requires behind { All (λ k. K.latest k ≤ script.start_ms) kernels }
+        ensures near { IfOk result (λ w. IsNew w.near files script) }
+        ensures kernels { IfOk result (λ w. w.far.kernels.items ≡ kernels) }
+        ensures started { IfOk result (λ w. w.far.started ≡ replicate 16 false) }
+        ensures clock { IfOk result (λ w. w.far.clock ≡ script.start_ms) }
+    {
+        let far = Far::new(kernels, script.start_ms);
+        let near = Near::new(alloc, files, script)?;
+        Ok(MemWorld { near, far })
+    }
+
     /// The entries so far, the oldest first, and `None` where they are no longer told.
     pub fn journal(&self) -> Option<&Entries>
         ensures { option_map (λ entries. entries.now) result

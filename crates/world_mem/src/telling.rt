@@ -6,6 +6,7 @@ ghost use Rattle.world.specs.Told.{TookSome, did_of, taken_of};
 ghost use Rattle.world.specs.Waits.{moment_of};
 ghost use Rattle.world_mem.specs.Journals.{told_of};
 
+use crate::copies::{copy_fields, copy_text, copy_texts};
 use jtext::{Bytes, Fields, NoMemory, Text, Texts};
 use std::alloc::Global;
 use world::{Did, Entries, Entry, ReadFile, Wrote};
@@ -161,30 +162,4 @@ pub fn started_entry(
         dir,
         did,
     })
-}
-
-fn copy_text(alloc: Global, text: &Text) -> Result<Text, NoMemory>
-    ensures { IfOk result (λ t. t ≡ text.now) }
-{
-    Text::of(alloc, text.as_str())
-}
-
-fn copy_texts(alloc: Global, texts: &Texts) -> Result<Texts, NoMemory>
-    ensures { IfOk result (λ r. r ≡ texts.now) }
-{
-    let mut copy = Texts::new(alloc);
-    for text in texts.as_slice() {
-        copy.push(copy_text(alloc, text)?)?;
-    }
-    Ok(copy)
-}
-
-fn copy_fields(alloc: Global, fields: &Fields) -> Result<Fields, NoMemory>
-    ensures { IfOk result (λ r. r ≡ fields.now) }
-{
-    let mut copy = Fields::new(alloc);
-    for (key, value) in fields.as_slice() {
-        copy.push((copy_text(alloc, key)?, jtext::copy(alloc, value)?))?;
-    }
-    Ok(copy)
 }

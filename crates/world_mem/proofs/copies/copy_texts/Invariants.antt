@@ -1,5 +1,5 @@
 use Rattle.std.proofs.Common.{◌≡◌, take}
-use Rattle.world_mem.proofs.telling.copy_texts.Given as goal
+use Rattle.world_mem.proofs.copies.copy_texts.Given as goal
 
 -- the items so far were copied
 abbrev pub invariant-loop-text : goal.invariant-loop-text
