@@ -60,21 +60,21 @@ ticks_one {K} stands started now n old mid new was is so here set ticked =
     let within : n < length mid = slice_get_within mid n was here in
     let own : slice_get new n ≡ Some is = ap (λ ks. slice_get ks n) set ∙ get_set_same mid n is within in
     let others = λ (job : ℕ) (ne : n ≢ job).
-      ap (λ ks. slice_get ks job) set ∙ get_set_other mid n job is ne in
+    ap (λ ks. slice_get ks job) set ∙ get_set_other mid n job is ne in
     record {
       size = ap length set ∙ length-set mid n is ∙ so.size;
       each = λ job before after below e f.
-        elim (cases_eq n job) [
-          | inl same ↦
-              let at_n : slice_get old n ≡ Some before = subst (λ j. slice_get old j ≡ Some before) (sym same) e in
-              let b : was ≡ before = some_is (sym here ∙ so.rest n (omega arith) ∙ at_n) in
-              let g : slice_get new n ≡ Some after = subst (λ j. slice_get new j ≡ Some after) (sym same) f in
-              let a : is ≡ after = some_is (sym own ∙ g) in
-              let one : TickedIf stands (is_started started n) now before is = subst (λ k. TickedIf stands (is_started started n) now k is) b ticked in
-              let two : TickedIf stands (is_started started n) now before after = subst (λ k. TickedIf stands (is_started started n) now before k) a one in
-              subst (λ j. TickedIf stands (is_started started j) now before after) same two
-          | inr apart ↦ so.each job before after (omega arith) e (sym (others job apart) ∙ f)
-        ];
+          elim (cases_eq n job) [
+            | inl same ↦
+                let at_n : slice_get old n ≡ Some before = subst (λ j. slice_get old j ≡ Some before) (sym same) e in
+                let b : was ≡ before = some_is (sym here ∙ so.rest n (omega arith) ∙ at_n) in
+                let g : slice_get new n ≡ Some after = subst (λ j. slice_get new j ≡ Some after) (sym same) f in
+                let a : is ≡ after = some_is (sym own ∙ g) in
+                let one : TickedIf stands (is_started started n) now before is = subst (λ k. TickedIf stands (is_started started n) now k is) b ticked in
+                let two : TickedIf stands (is_started started n) now before after = subst (λ k. TickedIf stands (is_started started n) now before k) a one in
+                subst (λ j. TickedIf stands (is_started started j) now before after) same two
+            | inr apart ↦ so.each job before after (omega arith) e (sym (others job apart) ∙ f)
+          ];
       rest = λ job above. others job (omega arith) ∙ so.rest job (omega arith);
     }
 
@@ -86,13 +86,13 @@ ticks_none stands started now n old mid new so none same =
     record {
       size = ap length same ∙ so.size;
       each = λ job before after below e f.
-        let g : slice_get mid job ≡ Some after = ap (λ ks. slice_get ks job) (sym same) ∙ f in
-        elim (cases_eq n job) [
-          | inl here ↦
-              let h : slice_get mid n ≡ Some after = subst (λ j. slice_get mid j ≡ Some after) (sym here) g in
-              cc
-          | inr apart ↦ so.each job before after (omega arith) e g
-        ];
+          let g : slice_get mid job ≡ Some after = ap (λ ks. slice_get ks job) (sym same) ∙ f in
+          elim (cases_eq n job) [
+            | inl here ↦
+                let h : slice_get mid n ≡ Some after = subst (λ j. slice_get mid j ≡ Some after) (sym here) g in
+                cc
+            | inr apart ↦ so.each job before after (omega arith) e g
+          ];
       rest = λ job above. ap (λ ks. slice_get ks job) same ∙ so.rest job (omega arith);
     }
 
@@ -132,10 +132,10 @@ pub ticks_all : {K : Type 0} {stands : K → List Call → Type 0} {started : Li
 ticks_all {K} {stands} {started} {now} {n} {old} {new} so size = record {
   size = so.size;
   each = λ job before after e f.
-    elim (cases_lt job n) [
-      | inl below ↦ so.each job before after below e f
-      | inr above ↦
-          let none : is_started started job ≡ false = ap (λ o. unwrap_or o false) (slice_get_past started job (omega arith)) in
-          subst (λ b. TickedIf stands b now before after) (sym none) (some_is (sym f ∙ so.rest job above ∙ e))
-    ];
+      elim (cases_lt job n) [
+        | inl below ↦ so.each job before after below e f
+        | inr above ↦
+            let none : is_started started job ≡ false = ap (λ o. unwrap_or o false) (slice_get_past started job (omega arith)) in
+            subst (λ b. TickedIf stands b now before after) (sym none) (some_is (sym f ∙ so.rest job above ∙ e))
+      ];
 }

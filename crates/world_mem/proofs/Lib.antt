@@ -1,4 +1,6 @@
 mod FarLemmas
 mod FolderLemmas
+mod LinkLemmas
 mod ListLemmas
 mod ReportLemmas
+mod StatusLemmas

@@ -5,7 +5,7 @@ use Rattle.std.proofs.lemmas.Bool.{false≢true}
 use Rattle.world.specs.declared.entry.Entry.{Entry}
 use Rattle.world.specs.Places.{is_reported, OnlyUp}
 
-none_reported : (n p : ℕ) → is_reported p (replicate n false) ≡ false
+pub none_reported : (n p : ℕ) → is_reported p (replicate n false) ≡ false
 none_reported zero p = refl
 none_reported (suc n) zero = refl
 none_reported (suc n) (suc p) = none_reported n p

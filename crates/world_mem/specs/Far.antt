@@ -53,3 +53,8 @@ pub record Ticks {K : Type 0} (stands : K → List Call → Type 0) (started : L
   pub size : length new ≡ length old
   pub each : (job : ℕ) (before after : K) → slice_get old job ≡ Some before → slice_get new job ≡ Some after
       → TickedIf stands (is_started started job) now before after
+
+-- what holds of a kernel that took bytes; where memory for them was refused nothing is known of it
+abbrev pub TookIf : Did → Type 0 → Type 0
+TookIf did.Done took = took
+TookIf did.Failed took = Unit {0}

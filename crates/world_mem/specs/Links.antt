@@ -1,5 +1,7 @@
 -- Which of the 64 connections are up, kept beside a journal, its newest entry first.
-use Rattle.std.specs.Prelude.{List, [], ◌∷◌, Bool, true, false, Option, Some, None, replicate, slice_set}
+use Rattle.std.specs.Prelude.{ℕ, zero, suc, ◌/◌, ◌%◌, List, [], ◌∷◌, Bool, true, false, Option, Some, None, replicate, slice_set}
+use Rattle.world.specs.declared.chan.Chan.{Chan}
+use Rattle.world.specs.declared.chan.Chan.TheVariants.{Shell, Control, Iopub, Heart}
 use Rattle.world.specs.declared.conn.Conn.{Conn}
 use Rattle.world.specs.declared.connected.Connected.{Connected}
 use Rattle.world.specs.declared.connected.Connected.TheVariants as connected
@@ -35,3 +37,14 @@ ups_told (Some past) ups = ups_of past
 -- a connection is up
 abbrev pub is_up : List Bool → Conn → Bool
 is_up ups conn = is_reported (place_of conn) ups
+
+-- the channel with a number, in the order of `Chan`
+abbrev pub chan_at : ℕ → Chan
+chan_at zero = Shell
+chan_at (suc zero) = Control
+chan_at (suc (suc zero)) = Iopub
+chan_at (suc (suc (suc n))) = Heart
+
+-- the connection at a place
+abbrev pub conn_of : ℕ → Conn
+conn_of place = record { job = place / 4; chan = chan_at (place % 4) }

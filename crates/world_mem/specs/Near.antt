@@ -1,5 +1,5 @@
 -- What a world in memory keeps besides its kernels and its clock, and how its calls change it.
-use Rattle.std.specs.Prelude.{◌≡◌, ℕ, List, [], Bool, true, false, Option, Some, None, replicate}
+use Rattle.std.specs.Prelude.{◌≡◌, ◌-◌, ℕ, List, [], Bool, true, false, Option, Some, None, replicate}
 use Rattle.world.specs.declared.did.Did.{Did}
 use Rattle.world.specs.declared.entry.Entry.{Entry}
 use Rattle.world.specs.Counts.{Counts}
@@ -8,6 +8,7 @@ use Rattle.world_mem.specs.declared.script.Script.{Script}
 use Rattle.world_mem.specs.declared.store.Store.{Store}
 use Rattle.world_mem.specs.Folder.{Content}
 use Rattle.world_mem.specs.Journals.{told_of}
+use Rattle.world_mem.specs.Wire.{turn_after}
 use Rattle.world_mem.specs.Store.{did_unless, faults_after, files_of, is_to_fail, one_more}
 
 -- the journal of the world
@@ -68,6 +69,49 @@ pub record AfterWord (old new : Near) : Type 0 where
     words = words_after (is_to_fail old.store) old.words;
   }
   pub ups : new.journal.ups ≡ old.journal.ups
+
+-- a call of a connection that goes by its number alone was counted, and only the journal has changed besides
+abbrev pub AfterNet : Near → Near → Type 0
+AfterNet old new = new ≡ record old {
+  journal = new.journal;
+  store = called old.store;
+  net_faults = faults_after (did_unless (is_to_fail old.store)) old.net_faults;
+}
+
+-- a connect was counted, also among those that the script refuses
+abbrev pub AfterConnect : Near → Near → Type 0
+AfterConnect old new = new ≡ record old {
+  journal = new.journal;
+  store = called old.store;
+  refusals = old.refusals - 1;
+  net_faults = faults_after (did_unless (is_to_fail old.store)) old.net_faults;
+}
+
+-- a read was counted, and the next one has the next cap
+abbrev pub AfterRead : Near → Near → Type 0
+AfterRead old new = new ≡ record old {
+  journal = new.journal;
+  store = called old.store;
+  turn = turn_after old.pieces old.turn;
+  net_faults = faults_after (did_unless (is_to_fail old.store)) old.net_faults;
+}
+
+-- a write was counted, and memory for it was refused or not
+abbrev pub AfterPut : Near → Near → Did → Type 0
+AfterPut old new result = new ≡ record old {
+  journal = new.journal;
+  store = record (called old.store) { starved = new.store.starved };
+  net_faults = faults_after result old.net_faults;
+}
+
+-- a wait was counted, and memory for a kernel was refused or not
+abbrev pub AfterWait : Near → Near → Did → Type 0
+AfterWait old new result = new ≡ record old {
+  journal = new.journal;
+  store = record (called old.store) { starved = new.store.starved };
+  net_faults = faults_after result old.net_faults;
+  waits = one_more old.waits;
+}
 
 -- it has these files, as they were at the start too, an empty journal, this script and all counts at 0
 pub record IsNew (near : Near) (content : Content) (script : Script) : Type 0 where

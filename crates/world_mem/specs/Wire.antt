@@ -100,3 +100,8 @@ is_any ready = list_any (λ b. b) ready
 -- the clock after a done wait: it moves on by the limit where no place is reported, at most to its last value
 abbrev pub clock_after : List Bool → ℕ → ℕ → ℕ
 clock_after ready clock ms = if is_any ready then clock else min (clock + ms) (2 ^ 47 - 1)
+
+-- the clock after a wait, by whether it failed
+abbrev pub clock_by : Did → List Bool → ℕ → ℕ → ℕ
+clock_by did.Done ready clock ms = clock_after ready clock ms
+clock_by did.Failed ready clock ms = clock

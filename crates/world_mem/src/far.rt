@@ -104,12 +104,7 @@ impl<K: KernelSide> Far<K> {
 
     /// Hands the kernel of a job bytes that came on a connection. Where there is no kernel they
     /// are dropped.
-    pub(crate) fn take(
-        &mut self,
-        alloc: Global,
-        conn: Conn,
-        piece: &[u8],
-    ) -> Result<(), NoMemory>
+    pub(crate) fn take(&mut self, alloc: Global, conn: Conn, piece: &[u8]) -> Result<(), NoMemory>
         ensures ok { IfOk result (λ _. Serves self.old.kernels.items self.new.kernels.items
             conn.job (λ before after. StandsAfter (K.stands before) (K.stands after)
             (Took conn.chan self.old.clock piece.now))) }

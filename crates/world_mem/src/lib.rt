@@ -22,6 +22,7 @@ mod tests;
 mod timed_journal;
 mod world_disk;
 mod world_kids;
+mod world_wire;
 
 pub use far::Kernels;
 pub use files::{Files, Sizes};

@@ -4,14 +4,16 @@ ghost use Rattle.std.specs.Prelude.{false, length, option_map, replicate, slice_
 ghost use Rattle.world.specs.declared.entry.Entry.{Entry};
 ghost use Rattle.world.specs.Moments.{Told, Tells};
 ghost use Rattle.world.specs.Places.{place_of};
+ghost use Rattle.world.specs.Told.{read_entry, write_entry, GotSome};
 ghost use Rattle.world.specs.Waits.{moment_of};
 ghost use Rattle.world_mem.specs.Journals.{told_of};
-ghost use Rattle.world_mem.specs.Links.{is_up, ups_after, ups_told};
+ghost use Rattle.world_mem.specs.Links.{conn_of, is_up, ups_after, ups_told};
+ghost use Rattle.world_mem.specs.Wire.{put_by};
 
-use crate::TimedJournal;
+use crate::{TimedJournal, telling};
 use jtext::NoMemory;
 use std::alloc::Global;
-use world::{Chan, Conn, Connected, Entries, Entry};
+use world::{Chan, Conn, Connected, Did, Entries, Entry, Got, Side};
 
 /// A journal that is told until memory for an entry is refused, the clock's last moment, and which
 /// of the 64 connections are up: begun, and since neither ended, refused nor closed.
@@ -76,6 +78,43 @@ impl LinkedJournal {
         self.timed.tell(entry);
     }
 
+    /// Adds the entry of a read that answered so, or ends the telling.
+    pub(crate) fn tell_read(&mut self, alloc: Global, conn: Conn, buf: &[u8], got: Got)
+        requires { GotSome got (length buf.now) }
+        ensures tells { Tells (told_of self.old.timed.entries) (told_of self.new.timed.entries)
+            (read_entry conn (length buf.now) got buf.now) }
+        ensures ups { self.new.ups
+            ≡ ups_after (read_entry conn (length buf.now) got buf.now) self.old.ups }
+        ensures same { self.new.timed.last ≡ self.old.timed.last }
+    {
+        match got {
+            Got::Piece(n) => self.tell(telling::got_entry(alloc, conn, buf.len(), &buf[..n])),
+            Got::Dry => self.tell(Ok(Entry::Dry { conn })),
+            Got::Ended => self.tell(Ok(Entry::Ended {
+                conn,
+                by: Side::Read,
+            })),
+            Got::Refused => self.tell(Ok(Entry::Refused {
+                conn,
+                by: Side::Read,
+            })),
+            Got::Failed => self.tell(Ok(Entry::ReadFailed { conn })),
+        }
+    }
+
+    /// Adds the entry of a write that took the whole piece or failed, or ends the telling.
+    pub(crate) fn tell_put(&mut self, alloc: Global, conn: Conn, piece: &[u8], did: Did)
+        ensures tells { Tells (told_of self.old.timed.entries) (told_of self.new.timed.entries)
+            (write_entry conn (put_by did (length piece.now)) piece.now) }
+        ensures ups { self.new.ups ≡ self.old.ups }
+        ensures same { self.new.timed.last ≡ self.old.timed.last }
+    {
+        match did {
+            Did::Done => self.tell(telling::put_entry(alloc, conn, piece)),
+            Did::Failed => self.tell(Ok(Entry::PutFailed { conn })),
+        }
+    }
+
     /// Adds an entry of the clock, or ends the telling.
     pub(crate) fn tell_moment(&mut self, ms: u64)
         requires { ms < 2 ^ 47 }
@@ -93,6 +132,24 @@ pub(crate) fn place_of(conn: Conn) -> usize
     ensures { result ≡ place_of conn }
 {
     4 * conn.job as usize + conn.chan as usize
+}
+
+/// The connection at a place.
+pub(crate) fn conn_at(place: usize) -> Conn
+    requires { place < 64 }
+    ensures is { result ≡ conn_of place }
+    ensures place { place_of result ≡ place }
+{
+    let chan = match place % 4 {
+        0 => Chan::Shell,
+        1 => Chan::Control,
+        2 => Chan::Iopub,
+        _ => Chan::Heart,
+    };
+    Conn {
+        job: (place / 4) as u8,
+        chan,
+    }
 }
 
 // Marks the connection that an entry begins or ends.

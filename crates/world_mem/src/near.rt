@@ -2,16 +2,17 @@
 ghost use Rattle.std.specs.Prelude.{◌≡◌, ◌<◌, ◌≤◌, ◌-◌, true, IfOk, None};
 ghost use Rattle.world.specs.Counts.{HasCause};
 ghost use Rattle.world_mem.specs.Near.{called, word_unless, words_after, IsNew};
-ghost use Rattle.world_mem.specs.Store.{did_unless, faults_after, is_to_fail};
+ghost use Rattle.world_mem.specs.Store.{did_unless, faults_after, is_to_fail, one_more};
 ghost use Rattle.world_mem.specs.Wire.{is_refusing, room_of, turn_after};
 
 use crate::copies::copy_files;
-use crate::count::rise;
+use crate::count::{rise, rise_by};
 use crate::linked_journal::LinkedJournal;
 use crate::store::Store;
 use crate::{Files, Script, Sizes};
 use jtext::NoMemory;
 use std::alloc::Global;
+use world::Did;
 
 /// What a world in memory keeps besides its kernels and its clock: the journal, the files, those
 /// that were there at the start, and what is left of the script.
@@ -129,5 +130,18 @@ impl Near {
         let word = self.words;
         rise(&mut self.words);
         Some(word)
+    }
+
+    /// Counts a wait, and its fault where it failed.
+    pub(crate) fn count_wait(&mut self, did: Did)
+        ensures later { self.old.waits ≤ self.new.waits }
+        ensures cause { HasCause self.old.net_faults self.new.net_faults (did ≡ Did.Failed) }
+        ensures after { self.new ≡ record self.old {
+          waits = one_more self.old.waits;
+          net_faults = faults_after did self.old.net_faults;
+        } }
+    {
+        rise(&mut self.waits);
+        rise_by(&mut self.net_faults, did);
     }
 }

@@ -9,7 +9,7 @@ ghost use Rattle.world_mem.specs.Journals.{told_of};
 use crate::copies::{copy_fields, copy_text, copy_texts};
 use jtext::{Bytes, Fields, NoMemory, Text, Texts};
 use std::alloc::Global;
-use world::{Did, Entries, Entry, ReadFile, Wrote};
+use world::{Conn, Did, Entries, Entry, ReadFile, Wrote};
 
 /// Adds an entry, or ends the telling where there is none or memory for it is refused.
 pub fn tell(journal: &mut Option<Entries>, entry: Result<Entry, NoMemory>)
@@ -65,12 +65,7 @@ pub fn wrote_entry(alloc: Global, path: &Text, bytes: &[u8], did: Did) -> Result
 }
 
 /// The entry of a write to a file that answered so.
-pub fn wrote_by(
-    alloc: Global,
-    path: &Text,
-    piece: &[u8],
-    wrote: Wrote,
-) -> Result<Entry, NoMemory>
+pub fn wrote_by(alloc: Global, path: &Text, piece: &[u8], wrote: Wrote) -> Result<Entry, NoMemory>
     requires { TookSome wrote piece.now }
     ensures is { IfOk result (λ e.
         e ≡ Entry.Wrote path.now (taken_of wrote piece.now) (did_of wrote)) }
@@ -117,6 +112,28 @@ pub fn removed_entry(alloc: Global, path: &Text, did: Did) -> Result<Entry, NoMe
 {
     let path = copy_text(alloc, path)?;
     Ok(Entry::Removed { path, did })
+}
+
+/// The entry of a read of a connection with bytes, into a buffer with that room.
+pub fn got_entry(alloc: Global, conn: Conn, room: usize, bytes: &[u8]) -> Result<Entry, NoMemory>
+    ensures is { IfOk result (λ e. e ≡ Entry.Got conn room bytes.now) }
+    ensures untimed { IfOk result (λ e. moment_of e ≡ None) }
+{
+    let bytes = Bytes::of(alloc, bytes)?;
+    Ok(Entry::Got {
+        conn,
+        room: room as u64,
+        bytes,
+    })
+}
+
+/// The entry of a write to a connection that took these bytes.
+pub fn put_entry(alloc: Global, conn: Conn, bytes: &[u8]) -> Result<Entry, NoMemory>
+    ensures is { IfOk result (λ e. e ≡ Entry.Put conn bytes.now) }
+    ensures untimed { IfOk result (λ e. moment_of e ≡ None) }
+{
+    let bytes = Bytes::of(alloc, bytes)?;
+    Ok(Entry::Put { conn, bytes })
 }
 
 /// The entry of what was said.

@@ -11,8 +11,7 @@ ghost use Rattle.world_mem.specs.Store.{did_unless, did_find, FoundAs, TookAll};
 ghost use Rattle.world_mem.specs.Store.{Creates, Appends, Renames, Removes, Says};
 ghost use Rattle.world_mem.specs.Store.{FailsOrStarves, AfterDisk, AfterLook, AfterSay};
 
-use crate::MemWorld;
-use crate::telling;
+use crate::{MemWorld, telling};
 use jtext::Text;
 use std::alloc::Global;
 use world::{Did, Disk, Entry, KernelSide, ReadFile, Say, Wrote};
@@ -34,7 +33,9 @@ impl<K: KernelSide> Disk for MemWorld<K> {
         ensures far { self.new.far ≡ self.old.far }
     {
         let found = self.near.store.read_file(alloc, path, most);
-        self.near.journal.tell(telling::read_entry(self.near.alloc, path, most, &found));
+        self.near
+            .journal
+            .tell(telling::read_entry(self.near.alloc, path, most, &found));
         found
     }
 
@@ -49,7 +50,9 @@ impl<K: KernelSide> Disk for MemWorld<K> {
         ensures far { self.new.far ≡ self.old.far }
     {
         let did = self.near.store.create(path);
-        self.near.journal.tell(telling::created_entry(self.near.alloc, path, did));
+        self.near
+            .journal
+            .tell(telling::created_entry(self.near.alloc, path, did));
         did
     }
 
@@ -83,7 +86,9 @@ impl<K: KernelSide> Disk for MemWorld<K> {
         ensures far { self.new.far ≡ self.old.far }
     {
         let did = self.near.store.sync(path);
-        self.near.journal.tell(telling::synced_entry(self.near.alloc, path, did));
+        self.near
+            .journal
+            .tell(telling::synced_entry(self.near.alloc, path, did));
         did
     }
 
@@ -101,7 +106,9 @@ impl<K: KernelSide> Disk for MemWorld<K> {
         ensures far { self.new.far ≡ self.old.far }
     {
         let did = self.near.store.rename(from, to);
-        self.near.journal.tell(telling::renamed_entry(self.near.alloc, from, to, did));
+        self.near
+            .journal
+            .tell(telling::renamed_entry(self.near.alloc, from, to, did));
         did
     }
 
@@ -114,7 +121,9 @@ impl<K: KernelSide> Disk for MemWorld<K> {
         ensures far { self.new.far ≡ self.old.far }
     {
         let did = self.near.store.sync_dir();
-        self.near.journal.tell(telling::dir_synced_entry(self.near.alloc, dir, did));
+        self.near
+            .journal
+            .tell(telling::dir_synced_entry(self.near.alloc, dir, did));
         did
     }
 
@@ -129,7 +138,9 @@ impl<K: KernelSide> Disk for MemWorld<K> {
         ensures far { self.new.far ≡ self.old.far }
     {
         let did = self.near.store.remove(path);
-        self.near.journal.tell(telling::removed_entry(self.near.alloc, path, did));
+        self.near
+            .journal
+            .tell(telling::removed_entry(self.near.alloc, path, did));
         did
     }
 }

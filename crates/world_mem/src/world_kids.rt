@@ -10,9 +10,8 @@ ghost use Rattle.world_mem.specs.Near.{journal_of, counts_of, AfterSure, AfterSt
 ghost use Rattle.world_mem.specs.Near.{word_unless};
 ghost use Rattle.world_mem.specs.Store.{did_unless, is_to_fail};
 
-use crate::MemWorld;
 use crate::count::rise_by;
-use crate::telling;
+use crate::{MemWorld, telling};
 use jtext::{Fields, Text, Texts};
 use world::{Clock, Did, Entry, KernelSide, Kids, Rand};
 
@@ -44,14 +43,7 @@ impl<K: KernelSide> Kids for MemWorld<K> {
             Did::Failed
         };
         rise_by(&mut self.near.child_faults, did);
-        self.near.journal.tell(telling::started_entry(
-            self.near.alloc,
-            job,
-            argv,
-            env,
-            dir,
-            did,
-        ));
+        self.near.journal.tell(telling::started_entry(self.near.alloc, job, argv, env, dir, did));
         did
     }
 
