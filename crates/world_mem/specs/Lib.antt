@@ -2,6 +2,7 @@ pub mod Disk
 pub mod Far
 pub mod Folder
 pub mod Journals
+pub mod Known
 pub mod Links
 pub mod Near
 pub mod Null

@@ -14,6 +14,7 @@ mod mem_world;
 mod near;
 mod null_kernel;
 mod null_world;
+mod path_state;
 mod script;
 mod store;
 pub mod telling;
