@@ -30,7 +30,7 @@ use Rattle.std.specs.Prelude.{slice_get, slice_set, unwrap_or}
 use Rattle.std.proofs.lemmas.Bool.{cases_eq, cases_lt}
 use Rattle.std.proofs.lemmas.List.{length-set}
 use Rattle.std.proofs.lemmas.Option.{slice_get_past, slice_get_within}
-use Rattle.world.specs.Calls.{Call, Ticked, StandsAfter}
+use Rattle.world.specs.Calls.{Call}
 use Rattle.world_mem.specs.Far.{Changes, Serves, TickedIf, Ticks, is_started}
 use Rattle.world_mem.proofs.ListLemmas.{get_set_same, get_set_other}
 

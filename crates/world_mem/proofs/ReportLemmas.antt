@@ -1,5 +1,5 @@
 -- Reports of no connection.
-use Rattle.std.specs.Prelude.{◌≡◌, ℕ, List, true, false, replicate, refl}
+use Rattle.std.specs.Prelude.{◌≡◌, ℕ, List, false, replicate, refl}
 use Rattle.std.proofs.Common.{suc, zero, sym, ◌∙◌}
 use Rattle.std.proofs.lemmas.Bool.{false≢true}
 use Rattle.world.specs.declared.entry.Entry.{Entry}

@@ -1,31 +1,6 @@
 -- The connections that are kept as up are those that are up by the journal, its newest entry first.
-use Rattle.std.specs.Prelude.{if◌then◌else◌, slice_set, replicate}
-use Rattle.std.proofs.Common.{
-  ◌≡◌,
-  ◌∙◌,
-  ◌==◌,
-  ℕ,
-  ◌<◌,
-  List,
-  [],
-  ◌∷◌,
-  length,
-  Bool,
-  true,
-  false,
-  Option,
-  Some,
-  None,
-  IfSome,
-  IsSomeAnd,
-  refl,
-  sym,
-  ap,
-  subst,
-  arith,
-  inl,
-  inr,
-}
+use Rattle.std.specs.Prelude.{if◌then◌else◌, slice_set}
+use Rattle.std.proofs.Common.{◌≡◌, ◌∙◌, ℕ, ◌<◌, List, [], ◌∷◌, length, Bool, true, false, Option, Some, None, IfSome, IsSomeAnd, refl, sym, ap, subst, arith, inl, inr}
 use Rattle.std.proofs.lemmas.Bool.{cases_Bool, cases_lt, cond-true, cond-false, eqb-true, eqb-false, false≢true}
 use Rattle.std.proofs.lemmas.List.{length-set}
 use Rattle.world.specs.declared.conn.Conn.{Conn}
@@ -34,10 +9,10 @@ use Rattle.world.specs.declared.did.Did.TheVariants as did
 use Rattle.world.specs.declared.entry.Entry.{Entry}
 use Rattle.world.specs.declared.entry.Entry.TheVariants as made
 use Rattle.world.specs.Moments.{Told}
-use Rattle.world.specs.Places.{Status, status, time, place_of, is_at, is_reported, OnlyUp}
+use Rattle.world.specs.Places.{Status, status, place_of, is_at, is_reported, OnlyUp}
 use Rattle.world_mem.specs.declared.linked_journal.LinkedJournal.{LinkedJournal}
 use Rattle.world_mem.specs.Journals.{told_of}
-use Rattle.world_mem.specs.Links.{ups_after, ups_of, ups_told}
+use Rattle.world_mem.specs.Links.{ups_of, ups_told}
 use Rattle.world.proofs.MomentsLemmas.{told_as}
 use Rattle.world_mem.proofs.LinkLemmas.{reported_own, reported_other, unmarked_past}
 use Rattle.world_mem.proofs.ReportLemmas.{none_reported}

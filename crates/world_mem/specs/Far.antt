@@ -5,7 +5,7 @@ use Rattle.world.specs.declared.conn.Conn.{Conn}
 use Rattle.world.specs.declared.did.Did.{Did}
 use Rattle.world.specs.declared.did.Did.TheVariants as did
 use Rattle.world.specs.Calls.{Call, Ticked, StandsAfter}
-use Rattle.world.specs.Kernel.{Given, Hands, Waits, Over, is_something}
+use Rattle.world.specs.Kernel.{Given, is_something}
 
 -- what a kernel answers, and this where there is none
 abbrev pub answer_of : {K A : Type 0} → Option K → A → (K → A) → A

@@ -1,5 +1,5 @@
 -- Paths with what is known of each, in the order of their bytes; a path that isn't there is as before the run.
-use Rattle.std.specs.Prelude.{◌&&◌, ℕ, List, [], ◌∷◌, Bool, true, false, if◌then◌else◌}
+use Rattle.std.specs.Prelude.{◌≡◌, ◌&&◌, ℕ, List, [], ◌∷◌, Bool, true, if◌then◌else◌}
 use Rattle.std.specs.Cmp.Lexicographic.{slice_cmp}
 use Rattle.std.specs.List.{list_any}
 use Rattle.std.specs.Ordering.{nat_cmp, is_lt}
@@ -7,7 +7,9 @@ use Rattle.std.specs.Str.{bytes_eq}
 use Rattle.std.specs.declared.cmp.Ordering.{Ordering}
 use Rattle.std.specs.declared.cmp.Ordering.TheVariants.{Less, Equal, Greater}
 use Rattle.world.specs.declared.did.Did.{Did}
-use Rattle.world.specs.Disk.{Place, untouched_place, place_in_synced_dir, folder_of}
+use Rattle.world.specs.declared.entry.Entry.{Entry}
+use Rattle.world.specs.Disk.{Place, untouched_place, place_in_synced_dir, folder_of, place, place_after}
+use Rattle.world_mem.specs.Folder.{Content, has_file}
 
 -- paths with what is known of them
 abbrev pub Known : Type 0
@@ -53,3 +55,15 @@ put_in path place (item ∷ items) =
 abbrev pub settled_in : List ℕ → Did → List ℕ × Place → List ℕ × Place
 settled_in dir did item =
     (item.0, if bytes_eq dir (folder_of item.0) then place_in_synced_dir item.1 did else item.1)
+
+-- what is known after one more entry
+pub record Learns (entry : Entry) (old new : Known) : Type 0 where
+  pub places : (path : List ℕ) → place_in new path ≡ place_after entry (place_in old) path
+  pub order : are_ascending (paths_of old) ≡ true → are_ascending (paths_of new) ≡ true
+  pub kept : (path : List ℕ) → is_among path (paths_of old) ≡ true → is_among path (paths_of new) ≡ true
+
+-- what is known after these entries, the newest first, of all that they name and of these files
+pub record StandsFor (start : Content) (past : List Entry) (known : Known) : Type 0 where
+  pub places : (path : List ℕ) → place_in known path ≡ place past path
+  pub order : are_ascending (paths_of known) ≡ true
+  pub all : (path : List ℕ) → has_file path start ≡ true → is_among path (paths_of known) ≡ true

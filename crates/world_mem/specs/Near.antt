@@ -1,12 +1,15 @@
 -- What a world in memory keeps besides its kernels and its clock, and how its calls change it.
-use Rattle.std.specs.Prelude.{◌≡◌, ◌-◌, ℕ, List, [], Bool, true, false, Option, Some, None, replicate}
+use Rattle.std.specs.Prelude.{◌≡◌, ◌-◌, ◌<◌, ℕ, List, [], length, IsSomeAnd, Bool, true, false, Option, Some, None, replicate}
 use Rattle.world.specs.declared.did.Did.{Did}
 use Rattle.world.specs.declared.entry.Entry.{Entry}
 use Rattle.world.specs.Counts.{Counts}
 use Rattle.world_mem.specs.declared.near.Near.{Near}
 use Rattle.world_mem.specs.declared.script.Script.{Script}
 use Rattle.world_mem.specs.declared.store.Store.{Store}
-use Rattle.world_mem.specs.Folder.{Content}
+use Rattle.world.specs.Disk.{leaves}
+use Rattle.world.specs.Moments.{upto}
+use Rattle.world_mem.specs.Folder.{Content, file_at}
+use Rattle.world_mem.specs.Image.{IsPicked, IsAllowed}
 use Rattle.world_mem.specs.Journals.{told_of}
 use Rattle.world_mem.specs.Wire.{turn_after}
 use Rattle.world_mem.specs.Store.{did_unless, faults_after, files_of, is_to_fail, one_more}
@@ -118,7 +121,7 @@ pub record IsNew (near : Near) (content : Content) (script : Script) : Type 0 wh
   pub journal : journal_of near ≡ Some []
   pub ups : near.journal.ups ≡ replicate 64 false
   pub files : files_of near.store ≡ content
-  pub start : near.start ≡ content
+  pub start : near.start.files.items ≡ content
   pub said : near.store.said ≡ []
   pub fails : near.store.fails ≡ script.fails
   pub pieces : near.pieces ≡ script.pieces
@@ -126,3 +129,18 @@ pub record IsNew (near : Near) (content : Content) (script : Script) : Type 0 wh
   pub fuse : near.store.fuse ≡ None
   pub firsts : (near.store.calls ≡ 0) × (near.turn ≡ 0) × (near.words ≡ 0) × (near.store.starved ≡ 0)
   pub counts : counts_of near ≡ record { disk = 0; net = 0; waits = 0; child = 0; rand = 0; say = 0; last = 0 }
+
+-- a journal is told and has fewer entries
+abbrev pub IsPast : ℕ → Option (List Entry) → Type 0
+IsPast t journal = IsSomeAnd journal (λ entries. length entries < t)
+
+-- these files are picked among those that a crash after the first t entries may leave
+abbrev pub IsImageAt : ℕ → ℕ → Near → Content → Type 0
+IsImageAt t choice near files =
+    IsSomeAnd (journal_of near) (λ entries. IsPicked near.start.files.items (upto t entries) choice files)
+
+-- at every path stands what one of the options allows that a crash after the first t entries may leave
+abbrev pub MayBeLeft : ℕ → Near → Content → Type 0
+MayBeLeft t near files =
+    IsSomeAnd (journal_of near) (λ entries. (path : List ℕ) →
+    IsAllowed (file_at path near.start.files.items) (file_at path files) (leaves (upto t entries) path))

@@ -28,7 +28,6 @@ use Rattle.std.specs.Prelude.{
   if◌then◌else◌,
 }
 use Rattle.std.specs.List.{list_any}
-use Rattle.world.specs.declared.conn.Conn.{Conn}
 use Rattle.world.specs.declared.connected.Connected.{Connected}
 use Rattle.world.specs.declared.connected.Connected.TheVariants as connected
 use Rattle.world.specs.declared.did.Did.{Did}
@@ -38,8 +37,6 @@ use Rattle.world.specs.declared.got.Got.TheVariants as got
 use Rattle.world.specs.declared.put.Put.{Put}
 use Rattle.world.specs.declared.put.Put.TheVariants as put
 use Rattle.world.specs.Kernel.{Given, Hands, Waits, Over}
-use Rattle.world.specs.Places.{place_of, is_reported}
-use Rattle.world_mem.specs.Links.{is_up}
 
 -- the ports of a job: five from 1001 on, and five further for each job before it
 abbrev pub ports_of : ℕ → List ℕ

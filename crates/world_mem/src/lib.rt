@@ -8,6 +8,9 @@ mod edit;
 mod far;
 mod files;
 mod folder;
+mod image;
+mod image_fault;
+mod known_paths;
 mod linked_journal;
 mod mem_disk;
 mod mem_world;
@@ -27,6 +30,7 @@ mod world_wire;
 
 pub use far::Kernels;
 pub use files::{Files, Sizes};
+pub use image_fault::ImageFault;
 pub use mem_disk::MemDisk;
 pub use mem_world::MemWorld;
 pub use null_kernel::NullKernel;

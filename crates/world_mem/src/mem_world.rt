@@ -1,13 +1,14 @@
 //! A world in memory.
-ghost use Rattle.std.specs.Prelude.{◌≡◌, ◌<◌, ◌≤◌, ◌^◌, All, IfOk, Some, option_map};
-ghost use Rattle.std.specs.Prelude.{false, replicate};
+ghost use Rattle.std.specs.Prelude.{◌≡◌, ◌<◌, ◌≤◌, ◌^◌, ◌↔◌, All, Err, IfOk, None};
+ghost use Rattle.std.specs.Prelude.{Some, false, option_map, replicate};
 ghost use Rattle.world_mem.specs.Folder.{file_at};
-ghost use Rattle.world_mem.specs.Near.{journal_of, counts_of, IsNew};
+ghost use Rattle.world_mem.specs.Near.{journal_of, counts_of, IsImageAt, IsNew, IsPast};
+ghost use Rattle.world_mem.specs.Near.{MayBeLeft};
 ghost use Rattle.world_mem.specs.Store.{files_of};
 
 use crate::far::Far;
 use crate::near::Near;
-use crate::{Files, Kernels, Script};
+use crate::{Files, ImageFault, Kernels, Script};
 use jtext::{Bytes, NoMemory, Text};
 use std::alloc::Global;
 use world::{Entries, Journal, KernelSide};
@@ -70,6 +71,20 @@ impl<K: KernelSide> MemWorld<K> {
         ensures { result ≡ self.now.near.store.starved }
     {
         self.near.store.starved()
+    }
+
+    /// The files that a crash after the first `t` entries may leave, picked by `choice`. The paths
+    /// are taken in the order of their bytes; a path with m options takes the option `choice % m`,
+    /// and `choice / m` goes to the next. What may be anything counts as three options: absent, no
+    /// byte, and the one byte `X`.
+    pub fn image(&self, t: u64, choice: u64) -> Result<Files, ImageFault>
+        ensures not_told { result ≡ Err ImageFault.NotTold ↔ journal_of self.now.near ≡ None }
+        ensures past { result ≡ Err ImageFault.Past ↔ IsPast t (journal_of self.now.near) }
+        ensures image { IfOk result (λ files. IsImageAt t choice self.now.near files) }
+        // Each path has what one of the options that a crash may leave allows.
+        ensures leaves { IfOk result (λ files. MayBeLeft t self.now.near files) }
+    {
+        self.near.image(t, choice)
     }
 
     /// Lets `n` further calls of the disk through: every one after them fails.

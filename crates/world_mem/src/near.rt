@@ -1,15 +1,17 @@
 //! The near end of a world in memory.
-ghost use Rattle.std.specs.Prelude.{◌≡◌, ◌<◌, ◌≤◌, ◌-◌, true, IfOk, None};
+ghost use Rattle.std.specs.Prelude.{◌≡◌, ◌<◌, ◌≤◌, ◌-◌, ◌↔◌, true, Err, IfOk, None};
 ghost use Rattle.world.specs.Counts.{HasCause};
-ghost use Rattle.world_mem.specs.Near.{called, word_unless, words_after, IsNew};
+ghost use Rattle.world_mem.specs.Near.{called, journal_of, word_unless, words_after, IsImageAt, IsNew, IsPast};
 ghost use Rattle.world_mem.specs.Store.{did_unless, faults_after, is_to_fail, one_more};
 ghost use Rattle.world_mem.specs.Wire.{is_refusing, room_of, turn_after};
 
 use crate::copies::copy_files;
 use crate::count::{rise, rise_by};
+use crate::folder::Folder;
+use crate::image::image;
 use crate::linked_journal::LinkedJournal;
 use crate::store::Store;
-use crate::{Files, Script, Sizes};
+use crate::{Files, ImageFault, Script, Sizes};
 use jtext::NoMemory;
 use std::alloc::Global;
 use world::Did;
@@ -21,7 +23,7 @@ pub(crate) struct Near {
     pub(crate) alloc: Global,
     pub(crate) journal: LinkedJournal,
     pub(crate) store: Store,
-    pub(crate) start: Files,
+    pub(crate) start: Folder,
     pub(crate) pieces: Sizes,
     pub(crate) turn: usize,
     pub(crate) refusals: u32,
@@ -48,7 +50,7 @@ impl Near {
             alloc,
             journal: LinkedJournal::new(alloc),
             store: Store::new(alloc, files, fails),
-            start,
+            start: Folder::of(start),
             pieces,
             turn: 0,
             refusals,
@@ -143,5 +145,25 @@ impl Near {
     {
         rise(&mut self.waits);
         rise_by(&mut self.net_faults, did);
+    }
+
+    /// The files that a crash after the first `t` entries may leave, picked by `choice`.
+    pub(crate) fn image(&self, t: u64, choice: u64) -> Result<Files, ImageFault>
+        ensures not_told { result ≡ Err ImageFault.NotTold ↔ journal_of self.now ≡ None }
+        ensures past { result ≡ Err ImageFault.Past ↔ IsPast t (journal_of self.now) }
+        ensures image { IfOk result (λ files. IsImageAt t choice self.now files) }
+    {
+        let Some(entries) = self.journal.entries() else {
+            return Err(ImageFault::NotTold);
+        };
+        if t > entries.len() as u64 {
+            return Err(ImageFault::Past);
+        }
+        Ok(image(
+            self.alloc,
+            &self.start,
+            &entries.as_slice()[..t as usize],
+            choice,
+        )?)
     }
 }
