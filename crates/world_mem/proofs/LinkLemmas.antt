@@ -53,7 +53,7 @@ conn_at_place conn =
     let made : ℕ → Chan → Conn = λ j ch. record { job = j; chan = ch } in
     ap (λ j. made j (chan_at (place_of conn % 4))) parts.0 ∙ ap (made conn.job) chan
 
-place_below : (conn : Conn) → conn.job < 16 → place_of conn < 64
+pub place_below : (conn : Conn) → conn.job < 16 → place_of conn < 64
 place_below conn below = omega (arith, number_below conn.chan)
 
 -- what is marked at each place is marked at that of each connection

@@ -1,10 +1,11 @@
 -- The connections that are kept as up are those that are up by the journal, its newest entry first.
 use Rattle.std.specs.Prelude.{if◌then◌else◌, slice_set}
-use Rattle.std.proofs.Common.{◌≡◌, ◌∙◌, ℕ, ◌<◌, List, [], ◌∷◌, length, Bool, true, false, Option, Some, None, IfSome, IsSomeAnd, refl, sym, ap, subst, arith, inl, inr}
+use Rattle.std.proofs.Common.{◌≡◌, ◌∙◌, ◌&&◌, ℕ, ◌<◌, List, [], ◌∷◌, length, Bool, true, false, Option, Some, None, IfSome, IsSomeAnd, refl, sym, ap, subst, arith, inl, inr}
 use Rattle.std.proofs.lemmas.Bool.{cases_Bool, cases_lt, cond-true, cond-false, eqb-true, eqb-false, false≢true}
 use Rattle.std.proofs.lemmas.List.{length-set}
 use Rattle.world.specs.declared.conn.Conn.{Conn}
 use Rattle.world.specs.declared.connected.Connected.TheVariants as connected
+use Rattle.world.specs.declared.did.Did.{Did}
 use Rattle.world.specs.declared.did.Did.TheVariants as did
 use Rattle.world.specs.declared.entry.Entry.{Entry}
 use Rattle.world.specs.declared.entry.Entry.TheVariants as made
@@ -12,9 +13,9 @@ use Rattle.world.specs.Moments.{Told}
 use Rattle.world.specs.Places.{Status, status, place_of, is_at, is_reported, OnlyUp}
 use Rattle.world_mem.specs.declared.linked_journal.LinkedJournal.{LinkedJournal}
 use Rattle.world_mem.specs.Journals.{told_of}
-use Rattle.world_mem.specs.Links.{ups_of, ups_told}
+use Rattle.world_mem.specs.Links.{is_up, ups_of, ups_told}
 use Rattle.world.proofs.MomentsLemmas.{told_as}
-use Rattle.world_mem.proofs.LinkLemmas.{reported_own, reported_other, unmarked_past}
+use Rattle.world_mem.proofs.LinkLemmas.{reported_own, reported_other, unmarked_past, place_below}
 use Rattle.world_mem.proofs.ReportLemmas.{none_reported}
 
 pub ups_size : (past : List Entry) → length (ups_of past) ≡ 64
@@ -103,3 +104,21 @@ pub told_up : {old mid : LinkedJournal} {new : Option (List Entry)} {R : List En
 told_up {old} {mid} {new} {R} ready same told marks =
     let told_before : Told (told_of old.timed.entries) new R = subst (λ (j : LinkedJournal). Told (told_of j.timed.entries) new R) same told in
     told_as (told_linked told_before old.linked) (λ before after linked. only_up before old.ups ready linked marks)
+
+up_is_status : (past : List Entry) (ups : List Bool) (conn : Conn) → ups_of past ≡ ups → conn.job < 16
+    → is_reported (place_of conn) ups ≡ (status (place_of conn) past).up
+up_is_status past ups conn same below =
+    ap (is_reported (place_of conn)) (sym same) ∙ ups_status past (place_of conn) (place_below conn below)
+
+-- what is marked goes by the journal, where it goes by what is kept
+pub told_exact : {old mid : LinkedJournal} {new : Option (List Entry)} {R : List Entry → List Entry → Type 0}
+    → (ready : List Bool) (hears : Conn → Bool) (result : Did) → mid ≡ old → Told (told_of mid.timed.entries) new R
+    → (result ≡ did.Done → (conn : Conn) → conn.job < 16
+        → is_reported (place_of conn) ready ≡ (is_up old.ups conn && hears conn))
+    → Told (told_of old.timed.entries) new (λ before after. result ≡ did.Done → (conn : Conn) → conn.job < 16
+        → is_reported (place_of conn) ready ≡ ((status (place_of conn) before).up && hears conn))
+told_exact {old} {mid} {new} {R} ready hears result same told marks =
+    let told_before : Told (told_of old.timed.entries) new R =
+      subst (λ (j : LinkedJournal). Told (told_of j.timed.entries) new R) same told in
+    told_as (told_linked told_before old.linked) (λ before after linked done conn below.
+      marks done conn below ∙ ap (λ (up : Bool). up && hears conn) (up_is_status before old.ups conn linked below))

@@ -1,7 +1,7 @@
 //! The far end of a world in memory: its kernels and its clock.
-ghost use Rattle.std.specs.Prelude.{◌≡◌, ◌<◌, ◌≤◌, ◌&&◌, ◌+◌, ◌-◌, ◌^◌, ℕ, All, false, true, length, min};
-ghost use Rattle.std.specs.Prelude.{IfOk, OnOk, OnErr, None, slice_get, slice_set, is_some, replicate};
-ghost use Rattle.std.specs.Prelude.{if◌then◌else◌};
+ghost use Rattle.std.specs.Prelude.{◌≡◌, ◌<◌, ◌≤◌, ◌+◌, ◌-◌, ◌^◌, All, IfOk, None, OnErr, OnOk};
+ghost use Rattle.std.specs.Prelude.{false, is_some, length, min, replicate, slice_get, slice_set};
+ghost use Rattle.std.specs.Prelude.{true, if◌then◌else◌};
 ghost use Rattle.world.specs.Calls.{Accepted, Gave, Ticked, Took, given_of, StandsAfter};
 ghost use Rattle.world.specs.Kernel.{Gives, Over};
 ghost use Rattle.world_mem.specs.Far.{at_job, is_ready, Serves, Ticks};

@@ -81,7 +81,8 @@ fn expand(
     old: Option<&Bytes>,
     options: &[Left],
 ) -> Result<Vec<Option<Bytes>>, NoMemory>
-    ensures { IfOk result (λ v. v.items ≡ expanded (option_map (λ b. b.now) old.entry) options.now) }
+    ensures { IfOk result (λ v.
+        v.items ≡ expanded (option_map (λ b. b.now) old.entry) options.now) }
 {
     let mut choices = Vec::new(alloc);
     for option in options {

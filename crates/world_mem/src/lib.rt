@@ -1,5 +1,6 @@
-//! Worlds in memory, for tests: `MemDisk`, a disk and what is said beside it, and `NullWorld`,
-//! which does nothing. They do no real IO, and tell their journals by `telling`.
+//! Worlds in memory, for tests: `MemWorld`, a whole world with kernels, failing calls and images of
+//! what a crash leaves; `MemDisk`, a disk and what is said beside it; and `NullWorld`, which does
+//! nothing. They do no real IO, and tell their journals by `telling`.
 #![tactic(auto)]
 
 mod copies;

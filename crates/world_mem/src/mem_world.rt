@@ -13,7 +13,10 @@ use jtext::{Bytes, NoMemory, Text};
 use std::alloc::Global;
 use world::{Entries, Journal, KernelSide};
 
-/// A world in memory.
+/// A world in memory, with a kernel for each job. It tells its journal until memory for an entry
+/// is refused. A call fails, and its count rises, exactly where its number is among those that are
+/// to fail, it is one of the disk and the fuse is spent, the file that it reads, writes, syncs,
+/// renames or removes is absent, the job that it starts has no kernel, or `starved` rises in it.
 #[derive(Drop)]
 pub struct MemWorld<K: KernelSide> {
     pub(crate) near: Near,

@@ -1,7 +1,8 @@
 //! The near end of a world in memory.
 ghost use Rattle.std.specs.Prelude.{◌≡◌, ◌<◌, ◌≤◌, ◌-◌, ◌↔◌, true, Err, IfOk, None};
 ghost use Rattle.world.specs.Counts.{HasCause};
-ghost use Rattle.world_mem.specs.Near.{called, journal_of, word_unless, words_after, IsImageAt, IsNew, IsPast};
+ghost use Rattle.world_mem.specs.Near.{called, journal_of, word_unless, words_after};
+ghost use Rattle.world_mem.specs.Near.{IsImageAt, IsNew, IsPast};
 ghost use Rattle.world_mem.specs.Store.{did_unless, faults_after, is_to_fail, one_more};
 ghost use Rattle.world_mem.specs.Wire.{is_refusing, room_of, turn_after};
 

@@ -24,8 +24,10 @@ impl<K: KernelSide> Disk for MemWorld<K> {
 
     fn read_file(&mut self, alloc: Global, path: &Text, most: u64) -> ReadFile
         ensures within { FoundWithin result most }
-        ensures tells { Adds journal_of self.old.near self.new.near (Entry.Read path.now most result) }
-        ensures cause { CountsBy DiskCause counts_of self.old.near self.new.near (result ≡ ReadFile.Failed) }
+        ensures tells { Adds journal_of self.old.near self.new.near
+            (Entry.Read path.now most result) }
+        ensures cause { CountsBy DiskCause counts_of self.old.near self.new.near
+            (result ≡ ReadFile.Failed) }
         ensures found { FoundAs (fails_on_disk self.old.near.store)
             (file_at path.now (files_of self.old.near.store)) most result }
         ensures after { AfterLook self.old.near.store self.new.near.store (did_find result) }
@@ -40,8 +42,10 @@ impl<K: KernelSide> Disk for MemWorld<K> {
     }
 
     fn create(&mut self, path: &Text) -> Did
-        ensures tells { Adds journal_of self.old.near self.new.near (Entry.Created path.now result) }
-        ensures cause { CountsBy DiskCause counts_of self.old.near self.new.near (result ≡ Did.Failed) }
+        ensures tells { Adds journal_of self.old.near self.new.near
+            (Entry.Created path.now result) }
+        ensures cause { CountsBy DiskCause counts_of self.old.near self.new.near
+            (result ≡ Did.Failed) }
         ensures does { Creates self.old.near.store self.new.near.store path.now result }
         ensures fails { FailsOrStarves (fails_on_disk self.old.near.store)
             self.old.near.store self.new.near.store result }
@@ -61,7 +65,8 @@ impl<K: KernelSide> Disk for MemWorld<K> {
         ensures some { TookSome result piece.now }
         ensures tells { Adds journal_of self.old.near self.new.near
             (Entry.Wrote path.now (taken_of result piece.now) (did_of result)) }
-        ensures cause { CountsBy DiskCause counts_of self.old.near self.new.near (result ≡ Wrote.Failed) }
+        ensures cause { CountsBy DiskCause counts_of self.old.near self.new.near
+            (result ≡ Wrote.Failed) }
         ensures all { TookAll result piece.now }
         ensures does { Appends self.old.near.store self.new.near.store path.now
             (taken_of result piece.now) (did_of result) }
@@ -78,8 +83,10 @@ impl<K: KernelSide> Disk for MemWorld<K> {
     }
 
     fn sync(&mut self, path: &Text) -> Did
-        ensures tells { Adds journal_of self.old.near self.new.near (Entry.Synced path.now result) }
-        ensures cause { CountsBy DiskCause counts_of self.old.near self.new.near (result ≡ Did.Failed) }
+        ensures tells { Adds journal_of self.old.near self.new.near
+            (Entry.Synced path.now result) }
+        ensures cause { CountsBy DiskCause counts_of self.old.near self.new.near
+            (result ≡ Did.Failed) }
         ensures is { result ≡ did_unless (fails_without self.old.near.store path.now) }
         ensures after { AfterLook self.old.near.store self.new.near.store result }
         ensures near { AfterStored self.old.near self.new.near }
@@ -93,8 +100,10 @@ impl<K: KernelSide> Disk for MemWorld<K> {
     }
 
     fn rename(&mut self, from: &Text, to: &Text) -> Did
-        ensures tells { Adds journal_of self.old.near self.new.near (Entry.Renamed from.now to.now result) }
-        ensures cause { CountsBy DiskCause counts_of self.old.near self.new.near (result ≡ Did.Failed) }
+        ensures tells { Adds journal_of self.old.near self.new.near
+            (Entry.Renamed from.now to.now result) }
+        ensures cause { CountsBy DiskCause counts_of self.old.near self.new.near
+            (result ≡ Did.Failed) }
         ensures does { Renames self.old.near.store self.new.near.store from.now to.now result }
         ensures fails { FailsOrStarves (fails_without self.old.near.store from.now)
             self.old.near.store self.new.near.store result }
@@ -113,8 +122,10 @@ impl<K: KernelSide> Disk for MemWorld<K> {
     }
 
     fn sync_dir(&mut self, dir: &Text) -> Did
-        ensures tells { Adds journal_of self.old.near self.new.near (Entry.DirSynced dir.now result) }
-        ensures cause { CountsBy DiskCause counts_of self.old.near self.new.near (result ≡ Did.Failed) }
+        ensures tells { Adds journal_of self.old.near self.new.near
+            (Entry.DirSynced dir.now result) }
+        ensures cause { CountsBy DiskCause counts_of self.old.near self.new.near
+            (result ≡ Did.Failed) }
         ensures is { result ≡ did_unless (fails_on_disk self.old.near.store) }
         ensures after { AfterLook self.old.near.store self.new.near.store result }
         ensures near { AfterStored self.old.near self.new.near }
@@ -128,8 +139,10 @@ impl<K: KernelSide> Disk for MemWorld<K> {
     }
 
     fn remove(&mut self, path: &Text) -> Did
-        ensures tells { Adds journal_of self.old.near self.new.near (Entry.Removed path.now result) }
-        ensures cause { CountsBy DiskCause counts_of self.old.near self.new.near (result ≡ Did.Failed) }
+        ensures tells { Adds journal_of self.old.near self.new.near
+            (Entry.Removed path.now result) }
+        ensures cause { CountsBy DiskCause counts_of self.old.near self.new.near
+            (result ≡ Did.Failed) }
         ensures is { result ≡ did_unless (fails_without self.old.near.store path.now) }
         ensures does { Removes self.old.near.store self.new.near.store path.now result }
         ensures starved { self.new.near.store.starved ≡ self.old.near.store.starved }
@@ -155,7 +168,8 @@ impl<K: KernelSide> Say for MemWorld<K> {
         ensures some { TookSome result piece.now }
         ensures tells { Adds journal_of self.old.near self.new.near
             (Entry.Said (taken_of result piece.now) (did_of result)) }
-        ensures cause { CountsBy SayCause counts_of self.old.near self.new.near (result ≡ Wrote.Failed) }
+        ensures cause { CountsBy SayCause counts_of self.old.near self.new.near
+            (result ≡ Wrote.Failed) }
         ensures all { TookAll result piece.now }
         ensures does { Says self.old.near.store self.new.near.store
             (taken_of result piece.now) (did_of result) }

@@ -7,7 +7,7 @@ ghost use Rattle.world.specs.Calls.{Accepted, Gave, Took, StandsAfter};
 ghost use Rattle.world.specs.Counts.{CountsBy, HasCause, NetCause, WaitCause};
 ghost use Rattle.world.specs.Kernel.{Over};
 ghost use Rattle.world.specs.Moments.{Told};
-ghost use Rattle.world.specs.Places.{is_reported, place_of, IsUnused, OnlyUp};
+ghost use Rattle.world.specs.Places.{is_reported, place_of, status, IsUnused, OnlyUp};
 ghost use Rattle.world.specs.Told.{Adds, AreDifferent, read_entry, GotSome, write_entry, PutSome};
 ghost use Rattle.world_mem.specs.Far.{at_job, is_ready, ServesUnless, Ticks, TookIf};
 ghost use Rattle.world_mem.specs.Links.{is_up, ups_after};
@@ -405,6 +405,11 @@ impl<K: KernelSide> Wire for MemWorld<K> {
         ensures reports { result ≡ Did.Done → (conn : Conn) → conn.job < 16 →
             is_reported (place_of conn) out.new.ready ≡ (is_up self.old.near.journal.ups conn
             && is_ready K.gives self.new.far.kernels.items self.old.far.clock conn) }
+        // By the journal: exactly the connections that are up and have something to read.
+        ensures exact { Told (journal_of self.old.near) (journal_of self.new.near) (λ before _.
+            result ≡ Did.Done → (conn : Conn) → conn.job < 16 →
+            is_reported (place_of conn) out.new.ready ≡ ((status (place_of conn) before).up
+            && is_ready K.gives self.new.far.kernels.items self.old.far.clock conn)) }
         ensures started { self.new.far.started ≡ self.old.far.started }
         ensures clock { self.new.far.clock
             ≡ clock_by result out.new.ready self.old.far.clock ms }
