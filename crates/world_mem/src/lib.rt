@@ -22,8 +22,6 @@ mod path_state;
 mod script;
 mod store;
 pub mod telling;
-#[cfg(test)]
-mod tests;
 mod timed_journal;
 mod world_disk;
 mod world_kids;
