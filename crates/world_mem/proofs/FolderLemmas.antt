@@ -51,10 +51,10 @@ not_true false never = refl
 not_both : (b : Bool) → b ≡ true → b ≡ false → ⊥
 not_both b e f = false≢true (sym f ∙ e)
 
-same_path : (a b : List ℕ) → bytes_eq a b ≡ true → a ≡ b
+pub same_path : (a b : List ℕ) → bytes_eq a b ≡ true → a ≡ b
 same_path a b e = (bytes_eq-Decides a b).0 e
 
-is_same_path : (a b : List ℕ) → a ≡ b → bytes_eq a b ≡ true
+pub is_same_path : (a b : List ℕ) → a ≡ b → bytes_eq a b ≡ true
 is_same_path a b e = (bytes_eq-Decides a b).1 e
 
 other_way : (a b : List ℕ) → bytes_eq a b ≡ false → bytes_eq b a ≡ false

@@ -1,2 +1,10 @@
+mod AllowedLemmas
+mod FarLemmas
 mod FolderLemmas
+mod ImageLemmas
+mod KnownLemmas
+mod LinkLemmas
+mod ListLemmas
+mod ParentLemmas
 mod ReportLemmas
+mod StatusLemmas

@@ -1,4 +1,12 @@
+pub mod Disk
+pub mod Far
 pub mod Folder
+pub mod Image
 pub mod Journals
-pub mod Memory
+pub mod Known
+pub mod Links
+pub mod Messages
+pub mod Near
 pub mod Null
+pub mod Store
+pub mod Wire

@@ -1,5 +1,5 @@
 -- What a world and a kernel keep that do nothing.
-use Rattle.std.specs.Prelude.{◌≡◌, ℕ, List, [], ◌∷◌}
+use Rattle.std.specs.Prelude.{ℕ, List, [], ◌∷◌}
 use Rattle.world.specs.Calls.{Call, Ticked, Accepted, Took, Gave}
 use Rattle.world.specs.Counts.{Counts}
 use Rattle.world_mem.specs.declared.null_world.NullWorld.{NullWorld}

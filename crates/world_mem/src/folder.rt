@@ -24,6 +24,13 @@ impl Folder {
         Folder { files }
     }
 
+    /// The files, each with its path.
+    pub(crate) fn files(&self) -> &[(Text, Bytes)]
+        ensures { result.now ≡ self.now.files.items }
+    {
+        &self.files
+    }
+
     /// The bytes of the file at a path.
     pub(crate) fn get(&self, path: &Text) -> Option<&Bytes>
         ensures { option_map (λ bytes. bytes.now) result ≡ file_at path.now self.now.files.items }

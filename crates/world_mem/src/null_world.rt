@@ -1,9 +1,9 @@
 //! A world that does nothing.
-ghost use Rattle.std.specs.Prelude.{◌≡◌, ◌≤◌, Some, [], option_map};
+ghost use Rattle.std.specs.Prelude.{◌≡◌, Some, [], option_map};
 ghost use Rattle.world_mem.specs.Journals.{told_of};
 ghost use Rattle.world_mem.specs.Null.{counts_of};
-ghost use Rattle.world_mem.specs.Memory.{one_more};
 
+use crate::count::rise;
 use crate::telling;
 use crate::timed_journal::TimedJournal;
 use jtext::{Fields, Text, Texts};
@@ -228,11 +228,3 @@ impl Say for NullWorld {
 }
 
 impl World for NullWorld {}
-
-// One more, up to the last value.
-fn rise(count: &mut u64)
-    ensures is { count.new ≡ one_more count.old }
-    ensures later { count.old ≤ count.new }
-{
-    *count = count.saturating_add(1);
-}

@@ -2,12 +2,14 @@
 ghost use Rattle.std.specs.Prelude.{◌≡◌, ◌∷◌, IfOk, IsOkAnd, None};
 ghost use Rattle.world.specs.declared.entry.Entry.{Entry};
 ghost use Rattle.world.specs.Moments.{Told};
+ghost use Rattle.world.specs.Told.{TookSome, did_of, taken_of};
 ghost use Rattle.world.specs.Waits.{moment_of};
 ghost use Rattle.world_mem.specs.Journals.{told_of};
 
+use crate::copies::{copy_fields, copy_text, copy_texts};
 use jtext::{Bytes, Fields, NoMemory, Text, Texts};
 use std::alloc::Global;
-use world::{Did, Entries, Entry, ReadFile};
+use world::{Conn, Did, Entries, Entry, ReadFile, Wrote};
 
 /// Adds an entry, or ends the telling where there is none or memory for it is refused.
 pub fn tell(journal: &mut Option<Entries>, entry: Result<Entry, NoMemory>)
@@ -62,6 +64,19 @@ pub fn wrote_entry(alloc: Global, path: &Text, bytes: &[u8], did: Did) -> Result
     Ok(Entry::Wrote { path, bytes, did })
 }
 
+/// The entry of a write to a file that answered so.
+pub fn wrote_by(alloc: Global, path: &Text, piece: &[u8], wrote: Wrote) -> Result<Entry, NoMemory>
+    requires { TookSome wrote piece.now }
+    ensures is { IfOk result (λ e.
+        e ≡ Entry.Wrote path.now (taken_of wrote piece.now) (did_of wrote)) }
+    ensures untimed { IfOk result (λ e. moment_of e ≡ None) }
+{
+    match wrote {
+        Wrote::Took(n) => wrote_entry(alloc, path, &piece[..n as usize], Did::Done),
+        Wrote::Failed => wrote_entry(alloc, path, piece, Did::Failed),
+    }
+}
+
 /// The entry of a sync of a file.
 pub fn synced_entry(alloc: Global, path: &Text, did: Did) -> Result<Entry, NoMemory>
     ensures is { IfOk result (λ e. e ≡ Entry.Synced path.now did) }
@@ -99,6 +114,28 @@ pub fn removed_entry(alloc: Global, path: &Text, did: Did) -> Result<Entry, NoMe
     Ok(Entry::Removed { path, did })
 }
 
+/// The entry of a read of a connection with bytes, into a buffer with that room.
+pub fn got_entry(alloc: Global, conn: Conn, room: usize, bytes: &[u8]) -> Result<Entry, NoMemory>
+    ensures is { IfOk result (λ e. e ≡ Entry.Got conn room bytes.now) }
+    ensures untimed { IfOk result (λ e. moment_of e ≡ None) }
+{
+    let bytes = Bytes::of(alloc, bytes)?;
+    Ok(Entry::Got {
+        conn,
+        room: room as u64,
+        bytes,
+    })
+}
+
+/// The entry of a write to a connection that took these bytes.
+pub fn put_entry(alloc: Global, conn: Conn, bytes: &[u8]) -> Result<Entry, NoMemory>
+    ensures is { IfOk result (λ e. e ≡ Entry.Put conn bytes.now) }
+    ensures untimed { IfOk result (λ e. moment_of e ≡ None) }
+{
+    let bytes = Bytes::of(alloc, bytes)?;
+    Ok(Entry::Put { conn, bytes })
+}
+
 /// The entry of what was said.
 pub fn said_entry(alloc: Global, bytes: &[u8], did: Did) -> Result<Entry, NoMemory>
     ensures is { IfOk result (λ e. e ≡ Entry.Said bytes.now did) }
@@ -106,6 +143,18 @@ pub fn said_entry(alloc: Global, bytes: &[u8], did: Did) -> Result<Entry, NoMemo
 {
     let bytes = Bytes::of(alloc, bytes)?;
     Ok(Entry::Said { bytes, did })
+}
+
+/// The entry of what was said, where the call answered so.
+pub fn said_by(alloc: Global, piece: &[u8], wrote: Wrote) -> Result<Entry, NoMemory>
+    requires { TookSome wrote piece.now }
+    ensures is { IfOk result (λ e. e ≡ Entry.Said (taken_of wrote piece.now) (did_of wrote)) }
+    ensures untimed { IfOk result (λ e. moment_of e ≡ None) }
+{
+    match wrote {
+        Wrote::Took(n) => said_entry(alloc, &piece[..n as usize], Did::Done),
+        Wrote::Failed => said_entry(alloc, piece, Did::Failed),
+    }
 }
 
 /// The entry of a start of a child.
@@ -130,30 +179,4 @@ pub fn started_entry(
         dir,
         did,
     })
-}
-
-fn copy_text(alloc: Global, text: &Text) -> Result<Text, NoMemory>
-    ensures { IfOk result (λ t. t ≡ text.now) }
-{
-    Text::of(alloc, text.as_str())
-}
-
-fn copy_texts(alloc: Global, texts: &Texts) -> Result<Texts, NoMemory>
-    ensures { IfOk result (λ r. r ≡ texts.now) }
-{
-    let mut copy = Texts::new(alloc);
-    for text in texts.as_slice() {
-        copy.push(copy_text(alloc, text)?)?;
-    }
-    Ok(copy)
-}
-
-fn copy_fields(alloc: Global, fields: &Fields) -> Result<Fields, NoMemory>
-    ensures { IfOk result (λ r. r ≡ fields.now) }
-{
-    let mut copy = Fields::new(alloc);
-    for (key, value) in fields.as_slice() {
-        copy.push((copy_text(alloc, key)?, jtext::copy(alloc, value)?))?;
-    }
-    Ok(copy)
 }

@@ -1,0 +1,18 @@
+//! Tests of the worlds in memory, by public calls alone: what each call answers and tells, which
+//! calls fail, when the clock moves, and what images of a crash hold.
+#![tactic(auto)]
+
+#[cfg(test)]
+mod connections;
+#[cfg(test)]
+mod disk;
+#[cfg(test)]
+mod failures;
+#[cfg(test)]
+mod fount;
+#[cfg(test)]
+mod images;
+#[cfg(test)]
+mod nothing;
+#[cfg(test)]
+mod worlds;
