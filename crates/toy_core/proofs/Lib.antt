@@ -1,0 +1,4 @@
+pub mod Decimals
+pub mod Reaching
+pub mod Dictionaries
+pub mod Connections
