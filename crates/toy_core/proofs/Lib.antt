@@ -1,4 +1,9 @@
 pub mod Decimals
 pub mod Reaching
 pub mod Dictionaries
-pub mod Connections
+pub mod Happening
+pub mod Numbering
+pub mod Wanting
+pub mod News
+pub mod Pourings
+pub mod Giving

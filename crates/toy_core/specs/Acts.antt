@@ -1,5 +1,5 @@
 -- When what is to happen happens: in order, each pause putting off what follows it.
-use Rattle.std.specs.Prelude.{ℕ, ℤ, ◌+◌, Bool, true, false, cond, nat_le, List, [], ◌∷◌, ◌++◌, length, drop, Option, Some, None}
+use Rattle.std.specs.Prelude.{ℕ, ℤ, ◌+◌, Bool, true, false, cond, nat_le, List, [], ◌∷◌, length, drop, Option, Some, None, flat_map}
 use Rattle.jtext.specs.declared.json.Json.{Json}
 use Rattle.world.specs.declared.chan.Chan.{Chan}
 use Rattle.world.specs.declared.chan.Chan.TheVariants as chan
@@ -53,13 +53,16 @@ is_chan chan.Heart chan.Control = false
 is_chan chan.Heart chan.Iopub = false
 is_chan chan.Heart chan.Heart = true
 
+-- the octets that an act sends on a channel
+abbrev pub octets_of : Chan → Act → List ℕ
+octets_of c (Send d octets) = cond (is_chan d c) octets []
+octets_of c (Pause ms) = []
+octets_of c (End status) = []
+octets_of c (Close parent count) = []
+
 -- the octets that acts send on a channel
 abbrev pub octets_on : Chan → List Act → List ℕ
-octets_on c [] = []
-octets_on c (Send d octets ∷ acts) = cond (is_chan d c) (octets ++ octets_on c acts) (octets_on c acts)
-octets_on c (Pause ms ∷ acts) = octets_on c acts
-octets_on c (End status ∷ acts) = octets_on c acts
-octets_on c (Close parent count ∷ acts) = octets_on c acts
+octets_on c acts = flat_map (octets_of c) acts
 
 -- the request header and the count of the first cell that is over among acts
 abbrev pub first_close : List Act → Option (Json × ℕ)

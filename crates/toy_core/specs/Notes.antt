@@ -1,5 +1,5 @@
 -- What a request brings about, in order: what the toy kernel publishes and replies, its pauses and its end.
-use Rattle.std.specs.Prelude.{ℕ, ℤ, pos, List, [], ◌∷◌, ◌++◌, map, codes}
+use Rattle.std.specs.Prelude.{ℕ, pos, List, [], ◌∷◌, ◌++◌, map, codes}
 use Rattle.world.specs.declared.chan.Chan.TheVariants as chan
 use Rattle.toy_lang.specs.declared.effect.Effect.{Effect}
 use Rattle.toy_lang.specs.declared.effect.Effect.TheVariants as effect

@@ -1,6 +1,5 @@
 -- Requests as the toy kernel reads them (Jupyter messaging 5.3, "Messages on the shell", "Messages on the control").
-use Rattle.std.specs.Prelude.{ℕ, ◌+◌, Bool, true, false, cond, List, Option, Some, None, codes, drop, slice_get, position, option_and_then}
-use Rattle.std.specs.Option.{option_map}
+use Rattle.std.specs.Prelude.{ℕ, ◌+◌, Bool, false, cond, List, Option, Some, None, codes, drop, slice_get, position, option_and_then}
 use Rattle.std.specs.Str.{bytes_eq}
 use Rattle.jtext.specs.declared.json.Json.{Json, out-Json}
 use Rattle.jtext.specs.declared.json.Json.TheOpen.{Json-F}

@@ -1,6 +1,6 @@
 -- What the toy kernel stands at after calls: what it heard on each connection, what is due there, and what is still
 -- to happen. What is due by a moment has happened before what comes at that moment.
-use Rattle.std.specs.Prelude.{◌≡◌, ◌≤◌, ℕ, ℤ, pos, ◌+◌, Bool, true, false, cond, ◌&&◌, nat_eq, nat_le, nat_lt, List, [], ◌∷◌, ◌++◌, length, drop, sum_by}
+use Rattle.std.specs.Prelude.{◌≡◌, ◌≤◌, ℕ, ℤ, pos, Bool, true, false, cond, ◌&&◌, nat_eq, nat_le, nat_lt, List, [], ◌∷◌, ◌++◌, length, drop, sum_by}
 use Rattle.std.specs.Prelude.{Option, Some, None, is_some, is_ok, fold}
 use Rattle.std.specs.List.{list_any, starts_with}
 use Rattle.jtext.specs.declared.json.Json.{Json}
@@ -25,7 +25,7 @@ use Rattle.toy_core.specs.declared.reach.Reach.{Reach}
 use Rattle.toy_core.specs.declared.request.Asked.{Asked}
 use Rattle.toy_core.specs.declared.request.Asked.TheVariants.{Execute, Info, Interrupt, Shutdown}
 use Rattle.toy_core.specs.declared.request.Request.{Request}
-use Rattle.toy_core.specs.Acts.{reached, unreached, begun_at, ending, octets_on, first_close, after_close}
+use Rattle.toy_core.specs.Acts.{reached, unreached, begun_at, ending, first_close, after_close}
 use Rattle.toy_core.specs.Contents.{interrupt_reply, shutdown_reply}
 use Rattle.toy_core.specs.Notes.{cell_notes, info_notes, interrupted_notes, control_notes}
 use Rattle.toy_core.specs.Outboxes.{new_box, posted, handed, opened}
@@ -157,15 +157,11 @@ pub record Standing : Type 0 where
 
 -- with this agenda
 abbrev pub with_agenda : Agenda → Kernel → Kernel
-with_agenda a k = record { number = k.number; variables = k.variables; count = k.count; agenda = a; latest = k.latest; starved = k.starved }
+with_agenda a k = record { number = k.number; variables = k.variables; count = k.count; agenda = a }
 
 -- with this number for the next message
 abbrev pub with_number : ℕ → Kernel → Kernel
-with_number n k = record { number = n; variables = k.variables; count = k.count; agenda = k.agenda; latest = k.latest; starved = k.starved }
-
--- with this latest moment
-abbrev pub at_moment : ℕ → Kernel → Kernel
-at_moment now k = record { number = k.number; variables = k.variables; count = k.count; agenda = k.agenda; latest = now; starved = k.starved }
+with_number n k = record { number = n; variables = k.variables; count = k.count; agenda = k.agenda }
 
 -- the kernel has ended
 abbrev pub has_ended : Kernel → Bool
@@ -205,8 +201,6 @@ with_run code k = record {
   variables = variables_after k.variables code;
   count = next k.count;
   agenda = k.agenda;
-  latest = k.latest;
-  starved = k.starved;
 }
 
 -- a cell is to be run
@@ -307,7 +301,7 @@ no_line c = record {
 
 -- the kernel before any call
 abbrev pub new_kernel : Kernel
-new_kernel = record { number = 1; variables = []; count = 1; agenda = no_agenda; latest = 0; starved = false }
+new_kernel = record { number = 1; variables = []; count = 1; agenda = no_agenda }
 
 -- the connections before any call
 abbrev pub no_lines : Lines
@@ -330,16 +324,6 @@ opened_line l = record { heard = []; outbox = opened l.outbox }
 abbrev pub handed_line : ℕ → Line → Line
 handed_line n l = record { heard = l.heard; outbox = handed n l.outbox }
 
--- how many octets were handed out
-abbrev pub handed_len : Given → ℕ
-handed_len (Hands bytes) = length bytes
-handed_len Waits = 0
-handed_len Over = 0
-
--- with this moment as the latest
-abbrev pub moved_to : ℕ → Standing → Standing
-moved_to now s = record { kernel = at_moment now s.kernel; lines = s.lines }
-
 -- a connection to a channel is taken up, unless the kernel has ended by then
 abbrev pub accepted : Chan → ℕ → Standing → Standing
 accepted c now s =
@@ -350,12 +334,18 @@ accepted c now s =
 abbrev pub handed_on : Chan → ℕ → Standing → Standing
 handed_on c n s = record { kernel = s.kernel; lines = with_line c (handed_line n (line c s.lines)) s.lines }
 
+-- what was given is handed out on a channel
+abbrev pub handed_to : Chan → Given → Standing → Standing
+handed_to c (Hands bytes) s = handed_on c (length bytes) s
+handed_to c Waits s = s
+handed_to c Over s = s
+
 -- a call is made
 abbrev pub after : List ℕ → Call → Standing → Standing
-after key (Ticked now) s = moved_to now s
-after key (Accepted c now answer) s = accepted c now (moved_to now s)
-after key (Took c now piece) s = took now key c piece (moved_to now s)
-after key (Gave c now room given) s = handed_on c (handed_len given) (moved_to now s)
+after key (Ticked now) s = s
+after key (Accepted c now answer) s = accepted c now s
+after key (Took c now piece) s = took now key c piece s
+after key (Gave c now room given) s = handed_to c given s
 
 -- what the kernel stands at after these calls, the newest first, where messages are signed under the key
 abbrev pub standing : List ℕ → List Call → Standing

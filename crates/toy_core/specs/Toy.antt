@@ -1,5 +1,5 @@
 -- What a `Toy` answers by what it holds, and for which calls it stands.
-use Rattle.std.specs.Prelude.{◌≡◌, ℕ, ℤ, Bool, true, false, cond, ◌||◌, not, List, [], Option, is_some}
+use Rattle.std.specs.Prelude.{◌≡◌, ℕ, ℤ, Bool, false, cond, ◌||◌, not, List, [], Option, is_some}
 use Rattle.world.specs.declared.chan.Chan.{Chan}
 use Rattle.world.specs.declared.chan.Chan.TheVariants as chan
 use Rattle.world.specs.declared.give.Give.{Give}
@@ -15,7 +15,7 @@ use Rattle.toy_core.specs.declared.toy.Toy.{Toy}
 use Rattle.toy_core.specs.Acts.{reached, octets_on}
 use Rattle.toy_core.specs.Outboxes.{left, handing}
 use Rattle.toy_core.specs.Sending.{role_on}
-use Rattle.toy_core.specs.Standing.{Line, Lines, line, is_broken, hears, end_by, Standing, standing}
+use Rattle.toy_core.specs.Standing.{Line, Lines, is_broken, hears, end_by, Standing, handed_on, standing}
 
 -- the connection to a channel
 abbrev pub lane : Chan → Lanes → Lane
@@ -48,11 +48,11 @@ is_over_at c now m = is_over now m.kernel.agenda (lane c m.lanes)
 abbrev pub given_at : Chan → ℕ → ℕ → Machine → Given
 given_at c now room m = handing room (due_at c now m) (is_over_at c now m)
 
--- how many octets an answer hands out
-abbrev pub count_of : Give → ℕ
-count_of (give.Bytes n) = n
-count_of give.Nothing = 0
-count_of give.Ended = 0
+-- what is handed out by an answer
+abbrev pub gave : Chan → Give → Standing → Standing
+gave c (give.Bytes n) s = handed_on c n s
+gave c give.Nothing s = s
+gave c give.Ended s = s
 
 -- whether a connection is taken up at a moment
 abbrev pub accepts_by : ℕ → Agenda → Bool
@@ -90,9 +90,10 @@ pub record Is (m : Machine) (s : Standing) : Type 0 where
   pub kernel : m.kernel ≡ s.kernel
   pub lines : AreLines m.lanes s.lines
 
--- for which lists of calls, the newest first, it stands
-abbrev pub StandsFor : Toy → List Call → Type 0
-StandsFor toy calls = Is toy.machine (standing toy.key calls)
+-- for which lists of calls, the newest first, it stands: no memory was wanted in any of them
+pub record StandsFor (toy : Toy) (calls : List Call) : Type 0 where
+  pub unstarved : toy.starved ≡ false
+  pub machine : Is toy.machine (standing toy.key calls)
 
 -- the key under which it signs
 abbrev pub key_of : Toy → List ℕ
@@ -100,4 +101,4 @@ key_of toy = toy.key
 
 -- the latest moment that it was handed
 abbrev pub latest_of : Toy → ℕ
-latest_of toy = toy.machine.kernel.latest
+latest_of toy = toy.latest

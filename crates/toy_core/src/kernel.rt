@@ -21,10 +21,6 @@ pub(crate) struct Kernel {
     /// The count of the next cell, from 1.
     pub(crate) count: u64,
     pub(crate) agenda: Agenda,
-    /// The latest moment that was handed in.
-    pub(crate) latest: u64,
-    /// Whether memory was wanted.
-    pub(crate) starved: bool,
 }
 
 impl Kernel {
@@ -37,8 +33,6 @@ impl Kernel {
             variables: State::new(alloc),
             count: 1,
             agenda: Agenda::new(alloc),
-            latest: 0,
-            starved: false,
         }
     }
 

@@ -1,7 +1,8 @@
 //! `Lane`, the kernel's side of one connection.
-ghost use Rattle.std.specs.Prelude.{◌≡◌, ℕ, List, [], IfOk, OnOk};
+ghost use Rattle.std.specs.Prelude.{◌≡◌, ℕ, List, [], false, IfOk, OnOk};
 ghost use Rattle.world.specs.declared.chan.Chan as channel;
 ghost use Rattle.zmtp_peer.specs.Peer as side;
+ghost use Rattle.zmtp_wire.specs.Decoder.{IsUnstarved};
 ghost use Rattle.toy_core.specs.Sending.{role_on};
 ghost use Rattle.toy_core.specs.Standing as spec;
 ghost use Rattle.toy_core.specs.Toy.{IsLine};
@@ -71,7 +72,8 @@ impl Lane {
             IsLine chan self.old l → bodies ≡ spec.news chan l.heard piece.now) }
     {
         let mut bodies = Messages::new(alloc);
-        if let Err(WireFault::NoMemory) = self.peer.feed(piece, &mut bodies) {
+        let fed = self.peer.feed(piece, &mut bodies);
+        if is_starved(fed) {
             return Err(NoMemory);
         }
         self.is_broken = is_broken(&self.peer);
@@ -97,6 +99,16 @@ impl Lane {
             IsLine c self.old l → IsLine c self.new (spec.handed_line count l) }
     {
         self.outbox.hand(count);
+    }
+}
+
+/// Whether memory was wanted.
+fn is_starved(fed: Result<(), WireFault>) -> bool
+    ensures { result ≡ false → IsUnstarved fed }
+{
+    match fed {
+        Err(fault) => fault == WireFault::NoMemory,
+        Ok(()) => false,
     }
 }
 

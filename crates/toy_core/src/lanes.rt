@@ -83,11 +83,21 @@ impl Lanes {
             AreLines self.old ls → AreLines self.new (spec.performed acts.now ls)) }
     {
         for act in acts {
-            if let Act::Send { chan, octets } = act {
-                self.send(alloc, *chan, octets.bytes())?;
-            }
+            self.perform_one(alloc, act)?;
         }
         Ok(())
+    }
+
+    fn perform_one(&mut self, alloc: Global, act: &Act) -> Result<(), NoMemory>
+        ensures { OnOk result ((ls : spec.Lines) →
+            AreLines self.old ls → AreLines self.new (spec.performed_one act.now ls)) }
+    {
+        match act {
+            Act::Send { chan, octets } => self.send(alloc, *chan, octets.bytes()),
+            Act::Pause { .. } => Ok(()),
+            Act::End { .. } => Ok(()),
+            Act::Close { .. } => Ok(()),
+        }
     }
 
     /// Octets are sent on a channel.

@@ -66,7 +66,8 @@ impl Machine {
             toy.Is self.old s → toy.Is self.new (spec.took now key.now chan piece.now s)) }
     {
         self.settle(alloc, now)?;
-        self.take_settled(alloc, now, key, chan, piece)
+        self.take_settled(alloc, now, key, chan, piece)?;
+        Ok(())
     }
 
     fn take_settled(
@@ -85,7 +86,8 @@ impl Machine {
             return Ok(());
         }
         let bodies = self.lanes.hear(alloc, chan, piece)?;
-        self.serve_all(alloc, now, key, chan, bodies)
+        self.serve_all(alloc, now, key, chan, bodies)?;
+        Ok(())
     }
 
     fn serve_all(
@@ -123,7 +125,8 @@ impl Machine {
             return Ok(());
         }
         self.serve_on(alloc, now, key, chan, body)?;
-        self.settle(alloc, now)
+        self.settle(alloc, now)?;
+        Ok(())
     }
 
     fn serve_on(
@@ -154,7 +157,8 @@ impl Machine {
             return Ok(());
         }
         let octets = body_octets(alloc, Chan::Heart, body)?;
-        self.lanes.send(alloc, Chan::Heart, octets.bytes())
+        self.lanes.send(alloc, Chan::Heart, octets.bytes())?;
+        Ok(())
     }
 
     fn serve_request(
@@ -169,7 +173,10 @@ impl Machine {
             (spec.served_if now key.now (requests.request_in key.now chan body.now) s)) }
     {
         match request_in(alloc, key, chan, body)? {
-            Some(Request { parent, asked }) => self.serve_as(alloc, now, key, &parent, asked),
+            Some(Request { parent, asked }) => {
+                self.serve_as(alloc, now, key, &parent, asked)?;
+                Ok(())
+            }
             None => Ok(()),
         }
     }
@@ -206,7 +213,8 @@ impl Machine {
     {
         self.interrupt_cell(alloc, now, key)?;
         let notes = course::control(alloc, interrupt_reply(alloc)?)?;
-        self.do_at_once(alloc, key, parent, notes)
+        self.do_at_once(alloc, key, parent, notes)?;
+        Ok(())
     }
 
     fn interrupt_cell(&mut self, alloc: Global, now: u64, key: &Text) -> Result<(), NoMemory>
@@ -219,7 +227,8 @@ impl Machine {
         let parent = copy(alloc, parent)?;
         let notes = course::interrupted(alloc, count)?;
         self.kernel.agenda.cut(alloc, now);
-        self.do_at_once(alloc, key, &parent, notes)
+        self.do_at_once(alloc, key, &parent, notes)?;
+        Ok(())
     }
 
     /// The request is answered, and the kernel ends.
@@ -251,7 +260,8 @@ impl Machine {
             toy.Is self.new (spec.done_at_once key.now parent.now notes s)) }
     {
         let acts = self.kernel.acts(alloc, key, parent, notes)?;
-        self.lanes.perform(alloc, acts.as_slice())
+        self.lanes.perform(alloc, acts.as_slice())?;
+        Ok(())
     }
 
     /// All that is due by a moment happens.
@@ -271,8 +281,8 @@ impl Machine {
         requires bound { now < 2 ^ 47 }
         requires room { 0 < length buf.old }
         ensures answer { Gives (toy.given_at chan now (length buf.old) self.old) result buf.new }
-        ensures stands { (s : spec.Standing) → toy.Is self.old s → toy.Is self.new
-            (spec.handed_on chan (toy.count_of result) s) }
+        ensures stands { (s : spec.Standing) →
+            toy.Is self.old s → toy.Is self.new (toy.gave chan result s) }
         ensures kernel { self.new.kernel ≡ self.old.kernel }
     {
         let count = self.pour(chan, now, buf);

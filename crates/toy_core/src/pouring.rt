@@ -1,6 +1,6 @@
 //! Octets from several places into one buffer.
 ghost use Rattle.std.specs.Prelude.{◌≡◌, ◌≤◌, ◌++◌, ℕ, List, length, take, drop};
-ghost use Rattle.toy_core.specs.Acts.{octets_on};
+ghost use Rattle.toy_core.specs.Acts.{octets_on, octets_of, is_chan};
 ghost use Rattle.toy_core.specs.Outboxes as boxes;
 ghost use Rattle.toy_core.specs.Pouring.{Poured};
 
@@ -46,11 +46,7 @@ impl Pouring {
         ensures within { self.new.filled ≤ length buf.new }
     {
         for act in acts {
-            if let Act::Send { chan, octets } = act {
-                if *chan == on {
-                    self.pour(octets.bytes(), buf);
-                }
-            }
+            self.pour(octets_of(act, on), buf);
         }
     }
 }
@@ -71,4 +67,35 @@ pub(crate) fn pour_left(outbox: &Outbox, acts: &[Act], chan: Chan, buf: &mut [u8
     pouring.pour(outbox.octets.bytes(), buf);
     pouring.pour_acts(acts, chan, buf);
     pouring.filled
+}
+
+/// The octets that an act sends on a channel.
+fn octets_of(act: &Act, on: Chan) -> &[u8]
+    ensures { result.now ≡ octets_of on act.now }
+{
+    match act {
+        Act::Send { chan, octets } => {
+            if is_chan(*chan, on) {
+                octets.bytes()
+            } else {
+                &[]
+            }
+        }
+        Act::Pause { .. } => &[],
+        Act::End { .. } => &[],
+        Act::Close { .. } => &[],
+    }
+}
+
+/// Whether they are one channel.
+fn is_chan(a: Chan, b: Chan) -> bool
+    ensures { result ≡ is_chan a b }
+{
+    match (a, b) {
+        (Chan::Shell, Chan::Shell) => true,
+        (Chan::Control, Chan::Control) => true,
+        (Chan::Iopub, Chan::Iopub) => true,
+        (Chan::Heart, Chan::Heart) => true,
+        _ => false,
+    }
 }

@@ -1,5 +1,5 @@
 //! How far acts have come by a moment.
-ghost use Rattle.std.specs.Prelude.{◌≡◌, ◌<◌, ◌≤◌, ◌^◌, length};
+ghost use Rattle.std.specs.Prelude.{◌≡◌, ◌<◌, ◌≤◌, ◌^◌, length, None, Some};
 ghost use Rattle.toy_core.specs.Acts.{reached, begun_at, ending};
 
 use crate::act::Act;
@@ -40,7 +40,9 @@ pub(crate) fn reach_of(acts: &[Act], since: u64, now: u64) -> Reach
     stay(acts.len(), moment)
 }
 
-fn stay(len: usize, moment: u64) -> Reach {
+fn stay(len: usize, moment: u64) -> Reach
+    ensures { result ≡ record { len = len; moment = moment; end = None } }
+{
     Reach {
         len,
         moment,
@@ -48,7 +50,9 @@ fn stay(len: usize, moment: u64) -> Reach {
     }
 }
 
-fn stop(len: usize, moment: u64, status: i32) -> Reach {
+fn stop(len: usize, moment: u64, status: i32) -> Reach
+    ensures { result ≡ record { len = len; moment = moment; end = Some status } }
+{
     Reach {
         len,
         moment,

@@ -14,6 +14,10 @@ pub struct Toy {
     alloc: Global,
     key: Text,
     machine: Machine,
+    /// The latest moment that was handed in.
+    latest: u64,
+    /// Whether memory was wanted.
+    starved: bool,
 }
 
 impl Toy {
@@ -27,6 +31,8 @@ impl Toy {
             alloc,
             key: key.copy(alloc)?,
             machine: Machine::new(alloc)?,
+            latest: 0,
+            starved: false,
         })
     }
 }
@@ -47,30 +53,32 @@ impl KernelSide for Toy {
     ghost stands = { toy.StandsFor };
 
     fn tick(&mut self, _alloc: Global, now: u64) -> Result<(), NoMemory> {
-        self.machine.kernel.latest = now;
+        self.latest = now;
         Ok(())
     }
 
     fn accept(&mut self, chan: Chan, now: u64) -> bool {
-        self.machine.kernel.latest = now;
+        self.latest = now;
         self.machine.accept(self.alloc, chan, now)
     }
 
     /// After want of memory each later call wants it too.
     fn take(&mut self, alloc: Global, chan: Chan, now: u64, piece: &[u8]) -> Result<(), NoMemory> {
-        self.machine.kernel.latest = now;
-        if self.machine.kernel.starved {
+        self.latest = now;
+        if self.starved {
             return Err(NoMemory);
         }
-        let taken = self.machine.take(alloc, now, &self.key, chan, piece);
-        if taken.is_err() {
-            self.machine.kernel.starved = true;
+        match self.machine.take(alloc, now, &self.key, chan, piece) {
+            Ok(()) => Ok(()),
+            Err(refused) => {
+                self.starved = true;
+                Err(refused)
+            }
         }
-        taken
     }
 
     fn give(&mut self, chan: Chan, now: u64, buf: &mut [u8]) -> Give {
-        self.machine.kernel.latest = now;
+        self.latest = now;
         self.machine.give(chan, now, buf)
     }
 
