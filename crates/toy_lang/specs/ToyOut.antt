@@ -40,13 +40,14 @@ metadata = (codes "metadata", json.Obj [])
 abbrev pub transient : List ℕ → List ℕ × Json
 transient id = (codes "transient", json.Obj ((codes "display_id", json.Str id) ∷ []))
 
--- an error: its name, its value, and a traceback of the one string that has both
+-- `traceback`: the one string that has an error's name and value
+abbrev pub traceback : List ℕ → List ℕ → List ℕ × Json
+traceback ename evalue = (codes "traceback", json.Arr (json.Str (ename ++ codes ": " ++ evalue) ∷ []))
+
+-- an error: its name, its value and its traceback
 abbrev pub error_fields : List ℕ → List ℕ → List (List ℕ × Json)
 error_fields ename evalue =
-    (codes "ename", json.Str ename)
-    ∷ (codes "evalue", json.Str evalue)
-    ∷ (codes "traceback", json.Arr (json.Str (ename ++ codes ": " ++ evalue) ∷ []))
-    ∷ []
+    (codes "ename", json.Str ename) ∷ (codes "evalue", json.Str evalue) ∷ traceback ename evalue ∷ []
 
 -- the stream of that kind
 abbrev pub stream_name : Bool → List ℕ
@@ -58,16 +59,34 @@ abbrev pub display_kind : Bool → List ℕ
 display_kind true = codes "update_display_data"
 display_kind false = codes "display_data"
 
+-- a stream
+abbrev pub stream : Bool → List ℕ → Message
+stream err text =
+    (codes "stream", json.Obj ((codes "name", json.Str (stream_name err)) ∷ (codes "text", json.Str text) ∷ []))
+
+-- a display under an id, or an update of it
+abbrev pub display : List ℕ → List ℕ → Bool → Message
+display id text update = (display_kind update, json.Obj (data_of text ∷ metadata ∷ transient id ∷ []))
+
+-- `clear_output`
+abbrev pub clear : Bool → Message
+clear later = (codes "clear_output", json.Obj ((codes "wait", json.Bool later) ∷ []))
+
+-- `execute_result`
+abbrev pub outcome : ℕ → List ℕ → Message
+outcome count text = (codes "execute_result", json.Obj (counted count ∷ data_of text ∷ metadata ∷ []))
+
+-- `error`
+abbrev pub error : List ℕ → List ℕ → Message
+error ename evalue = (codes "error", json.Obj (error_fields ename evalue))
+
 -- what an effect publishes in the cell with this count
 abbrev pub messages_of : ℕ → Effect → List Message
-messages_of count (effect.Print err text) =
-    (codes "stream", json.Obj ((codes "name", json.Str (stream_name err)) ∷ (codes "text", json.Str text) ∷ [])) ∷ []
-messages_of count (effect.Show id text update) =
-    (display_kind update, json.Obj (data_of text ∷ metadata ∷ transient id ∷ [])) ∷ []
-messages_of count (effect.Clear later) = (codes "clear_output", json.Obj ((codes "wait", json.Bool later) ∷ [])) ∷ []
-messages_of count (effect.Outcome text) =
-    (codes "execute_result", json.Obj (counted count ∷ data_of text ∷ metadata ∷ [])) ∷ []
-messages_of count (effect.Raise ename evalue) = (codes "error", json.Obj (error_fields ename evalue)) ∷ []
+messages_of count (effect.Print err text) = stream err text ∷ []
+messages_of count (effect.Show id text update) = display id text update ∷ []
+messages_of count (effect.Clear later) = clear later ∷ []
+messages_of count (effect.Outcome text) = outcome count text ∷ []
+messages_of count (effect.Raise ename evalue) = error ename evalue ∷ []
 messages_of count (effect.Sleep ms) = []
 messages_of count effect.Die = []
 

@@ -1,0 +1,9 @@
+pub mod Decimals
+pub mod Reaching
+pub mod Dictionaries
+pub mod Happening
+pub mod Numbering
+pub mod Wanting
+pub mod News
+pub mod Pourings
+pub mod Giving

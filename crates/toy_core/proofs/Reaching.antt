@@ -1,0 +1,125 @@
+-- How far acts have come, from place to place.
+use Rattle.std.proofs.Common.{◌≡◌, ℕ, ◌+◌, ◌<◌, ◌≤◌, Bool, true, false, List, [], ◌∷◌, length, take, drop, get_or, cond, nat_le, Option, None, Some, refl, sym, ap, ◌∙◌, arith}
+use Rattle.std.specs.Prelude.{ℤ}
+use Rattle.std.proofs.lemmas.Bool.Decides.{nat_tests}
+use Rattle.std.proofs.lemmas.List.{drop_more, drop_all}
+use Rattle.jtext.specs.declared.json.Json.{Json}
+use Rattle.world.specs.declared.chan.Chan.{Chan}
+use Rattle.toy_core.specs.declared.act.Act.{Act}
+use Rattle.toy_core.specs.declared.act.Act.TheVariants.{Send, Pause, End, Close}
+use Rattle.toy_core.specs.Acts.{reached, begun_at, ending}
+
+-- at a place stands this act
+pub act_here : (acts : List Act) (i : ℕ) (a b : Act) → i < length acts → a ≡ get_or acts i a → a ≡ b → drop i acts ≡ b ∷ drop (i + 1) acts
+act_here acts i a b h e k = drop_more acts i a h ∙ ap (λ x. x ∷ drop (i + 1) acts) (sym e ∙ k)
+
+-- acts up to a place have happened, and the next begins at that moment
+pub record Reaches (now since moment i : ℕ) (acts : List Act) : Type 0 where
+  pub len : length (reached now since acts) ≡ i + length (reached now moment (drop i acts))
+  pub moment_is : begun_at now since acts ≡ begun_at now moment (drop i acts)
+  pub end : ending (reached now since acts) ≡ ending (reached now moment (drop i acts))
+
+-- that many acts have happened, and the next begins at that moment
+pub record Stops (now since moment i : ℕ) (acts : List Act) (end : Option ℤ) : Type 0 where
+  pub len : length (reached now since acts) ≡ i
+  pub moment_is : begun_at now since acts ≡ moment
+  pub end_is : ending (reached now since acts) ≡ end
+
+chosen : {A : Type 0} (b : Bool) (x y : A) → b ≡ true → cond b x y ≡ x
+chosen true x y e = refl
+chosen false x y e = cc
+
+other : {A : Type 0} (b : Bool) (x y : A) → b ≡ false → cond b x y ≡ y
+other true x y e = cc
+other false x y e = refl
+
+at_most : (a b : ℕ) → a ≤ b → nat_le a b ≡ true
+at_most a b h = grind (arith, nat_tests)
+
+above : (a b : ℕ) → b < a → nat_le a b ≡ false
+above a b h = grind (arith, nat_tests)
+
+-- a pause that is over
+pub reaches_pause : (now since moment over ms i : ℕ) (acts : List Act) → Reaches now since moment i acts → drop i acts ≡ Pause ms ∷ drop (i + 1) acts
+    → over ≡ moment + ms → over ≤ now → Reaches now since over (i + 1) acts
+reaches_pause now since moment over ms i acts r e o h =
+    let rest = drop (i + 1) acts in
+    let le : nat_le (moment + ms) now ≡ true = at_most (moment + ms) now (omega arith) in
+    let step : reached now moment (drop i acts) ≡ Pause ms ∷ reached now over rest =
+    ap (reached now moment) e ∙ chosen _ (Pause ms ∷ reached now (moment + ms) rest) [] le ∙ ap (λ m. Pause ms ∷ reached now m rest) (sym o) in
+    record {
+      len = let k : length (reached now moment (drop i acts)) ≡ length (Pause ms ∷ reached now over rest) = ap length step in omega (arith, k, r.len);
+      moment_is = r.moment_is ∙ ap (begun_at now moment) e ∙ chosen _ (begun_at now (moment + ms) rest) moment le ∙ ap (λ m. begun_at now m rest) (sym o);
+      end = r.end ∙ ap ending step;
+    }
+
+-- an act without a pause
+pub reaches_send : (now since moment i : ℕ) (acts : List Act) (c : Chan) (octets : List ℕ) → Reaches now since moment i acts
+    → drop i acts ≡ Send c octets ∷ drop (i + 1) acts → Reaches now since moment (i + 1) acts
+reaches_send now since moment i acts c octets r e =
+    let rest = drop (i + 1) acts in
+    let step : reached now moment (drop i acts) ≡ Send c octets ∷ reached now moment rest = ap (reached now moment) e in
+    record {
+      len = let k : length (reached now moment (drop i acts)) ≡ length (Send c octets ∷ reached now moment rest) = ap length step in omega (arith, k, r.len);
+      moment_is = r.moment_is ∙ ap (begun_at now moment) e;
+      end = r.end ∙ ap ending step;
+    }
+
+pub reaches_close : (now since moment i : ℕ) (acts : List Act) (parent : Json) (count : ℕ) → Reaches now since moment i acts
+    → drop i acts ≡ Close parent count ∷ drop (i + 1) acts → Reaches now since moment (i + 1) acts
+reaches_close now since moment i acts parent count r e =
+    let rest = drop (i + 1) acts in
+    let step : reached now moment (drop i acts) ≡ Close parent count ∷ reached now moment rest = ap (reached now moment) e in
+    record {
+      len = let k : length (reached now moment (drop i acts)) ≡ length (Close parent count ∷ reached now moment rest) = ap length step in omega (arith, k, r.len);
+      moment_is = r.moment_is ∙ ap (begun_at now moment) e;
+      end = r.end ∙ ap ending step;
+    }
+
+-- a pause that isn't over
+pub stops_pause : (now since moment ms i : ℕ) (acts : List Act) → Reaches now since moment i acts → drop i acts ≡ Pause ms ∷ drop (i + 1) acts
+    → now < moment + ms → Stops now since moment i acts None
+stops_pause now since moment ms i acts r e h =
+    let rest = drop (i + 1) acts in
+    let gt : nat_le (moment + ms) now ≡ false = above (moment + ms) now h in
+    let step : reached now moment (drop i acts) ≡ [] = ap (reached now moment) e ∙ other _ (Pause ms ∷ reached now (moment + ms) rest) [] gt in
+    record {
+      len = let k : length (reached now moment (drop i acts)) ≡ 0 = ap length step in omega (arith, k, r.len);
+      moment_is = r.moment_is ∙ ap (begun_at now moment) e ∙ other _ (begun_at now (moment + ms) rest) moment gt;
+      end_is = r.end ∙ ap ending step;
+    }
+
+-- the end
+pub stops_end : (now since moment i : ℕ) (acts : List Act) (status : ℤ) → Reaches now since moment i acts → drop i acts ≡ End status ∷ drop (i + 1) acts
+    → Stops now since moment (i + 1) acts (Some status)
+stops_end now since moment i acts status r e =
+    let step : reached now moment (drop i acts) ≡ End status ∷ [] = ap (reached now moment) e in
+    record {
+      len = let k : length (reached now moment (drop i acts)) ≡ 1 = ap length step in omega (arith, k, r.len);
+      moment_is = r.moment_is ∙ ap (begun_at now moment) e;
+      end_is = r.end ∙ ap ending step;
+    }
+
+-- all acts
+pub stops_all : (now since moment i : ℕ) (acts : List Act) → Reaches now since moment i acts → length acts ≤ i → i ≤ length acts
+    → Stops now since moment (length acts) acts None
+stops_all now since moment i acts r h k =
+    let e : drop i acts ≡ [] = drop_all i acts h in
+    record {
+      len = let j : length (reached now moment (drop i acts)) ≡ 0 = ap (λ x. length (reached now moment x)) e in omega (arith, j, r.len);
+      moment_is = r.moment_is ∙ ap (begun_at now moment) e;
+      end_is = r.end ∙ ap (λ x. ending (reached now moment x)) e;
+    }
+
+front_pause : (b : Bool) (ms : ℕ) (acts r : List Act) → take (length r) acts ≡ r
+    → take (length (cond b (Pause ms ∷ r) [])) (Pause ms ∷ acts) ≡ cond b (Pause ms ∷ r) []
+front_pause true ms acts r e = ap (λ x. Pause ms ∷ x) e
+front_pause false ms acts r e = refl
+
+-- what has happened stands at the front
+pub reached_front : (now since : ℕ) (acts : List Act) → take (length (reached now since acts)) acts ≡ reached now since acts
+reached_front now since [] = refl
+reached_front now since (Send c octets ∷ acts) = ap (λ x. Send c octets ∷ x) (reached_front now since acts)
+reached_front now since (Pause ms ∷ acts) = front_pause (nat_le (since + ms) now) ms acts _ (reached_front now (since + ms) acts)
+reached_front now since (End status ∷ acts) = refl
+reached_front now since (Close parent count ∷ acts) = ap (λ x. Close parent count ∷ x) (reached_front now since acts)

@@ -1,0 +1,7 @@
+use Rattle.toy_core.proofs.Reaching.{reached_front}
+use Rattle.toy_core.proofs.agenda.Agenda.reached.Goals as goal
+
+pub returns : goal.returns
+returns c =
+    let a = c.args.self.now in
+    rw (c.reach-reach.ensures.len, c.as_slice.ensures) (reached_front c.args.now a.since a.acts)

@@ -1,0 +1,9 @@
+pub mod Contents
+pub mod Notes
+pub mod Sending
+pub mod Acts
+pub mod Requests
+pub mod Outboxes
+pub mod Pouring
+pub mod Standing
+pub mod Toy

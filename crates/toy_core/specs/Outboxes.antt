@@ -1,0 +1,50 @@
+-- What is due on one connection and hasn't been handed out.
+use Rattle.std.specs.Prelude.{ℕ, ◌+◌, ◌-◌, ◌^◌, min, Bool, true, false, cond, nat_le, nat_eq, List, [], ◌++◌, length, drop, take}
+use Rattle.world.specs.Kernel.{Given, Hands, Waits, Over}
+use Rattle.toy_core.specs.declared.outbox.Outbox.{Outbox}
+
+-- nothing is due before the connection was taken up
+abbrev pub new_box : List ℕ → Outbox
+new_box start = record { start = start; is_open = false; octets = []; given = 0 }
+
+-- what goes out first: the greeting and READY, once the connection was taken up (RFC 23, "Connections")
+abbrev pub front : Outbox → List ℕ
+front box = cond box.is_open box.start []
+
+-- what has become due, first to last
+abbrev pub ready : Outbox → List ℕ
+ready box = front box ++ box.octets
+
+-- what is due and wasn't handed out, where these octets have become due besides
+abbrev pub left : Outbox → List ℕ → List ℕ
+left box coming = drop box.given (ready box ++ coming)
+
+-- all of it was handed out
+abbrev pub is_handed_out : Outbox → Bool
+is_handed_out box = nat_le (length (front box) + length box.octets) box.given
+
+-- the same, with what was handed out let go once it is all
+abbrev pub trimmed : Outbox → Outbox
+trimmed box =
+    cond (is_handed_out box)
+    (record { start = box.start; is_open = box.is_open; octets = []; given = box.given - length box.octets }) box
+
+-- these octets have become due
+abbrev pub with_octets : List ℕ → Outbox → Outbox
+with_octets octets box = record { start = box.start; is_open = box.is_open; octets = box.octets ++ octets; given = box.given }
+
+-- these octets have become due, and what was all handed out is let go
+abbrev pub posted : List ℕ → Outbox → Outbox
+posted octets box = with_octets octets (trimmed box)
+
+-- so many octets were handed out; the count stands still at the last number of its type
+abbrev pub handed : ℕ → Outbox → Outbox
+handed n box = record { start = box.start; is_open = box.is_open; octets = box.octets; given = min (box.given + n) (2 ^ 64 - 1) }
+
+-- a connection is taken up: only the greeting and READY are due
+abbrev pub opened : Outbox → Outbox
+opened box = record { start = box.start; is_open = true; octets = []; given = 0 }
+
+-- what is handed out of this into a buffer of that length
+abbrev pub handing : ℕ → List ℕ → Bool → Given
+handing room due over = cond (nat_eq (length due) 0) (cond over Over Waits) (Hands (take room due))
