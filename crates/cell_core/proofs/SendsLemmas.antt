@@ -38,18 +38,18 @@ if_on task was true x y p q = p refl
 if_on task was false x y p q = q refl
 
 ends_on : (task : Task) → Known task → (k : ℕ) (fatal : Bool) → k < length task.plan → On task (cell_of task k + 1) (ends task k fatal)
-ends_on task w k true lt = (within task w k lt, omega arith)
-ends_on task w k false lt = (within task w k lt, omega arith)
+ends_on task w k true lt = (omega arith, omega arith, within task w k lt)
+ends_on task w k false lt = (omega arith, omega arith, within task w k lt)
 
 look_on : (task : Task) (state : State) (late : Bool) → On task (next_in task state) (look_or state late)
 look_on task state true = omega arith
 look_on task state false = omega arith
 
 late_on : (task : Task) → Known task → (clock : Clock) (k : ℕ) (fatal : Option Bool) (idle interrupted : Bool) → k < length task.plan → On task (cell_of task k + 1) (late task clock k fatal idle interrupted)
-late_on task w clock k (Some f) idle interrupted lt = (within task w k lt, omega arith)
+late_on task w clock k (Some f) idle interrupted lt = (omega arith, omega arith, within task w k lt)
 late_on task w clock k None idle interrupted lt =
     if_on task (cell_of task k + 1) (task.times.interrupt && not interrupted) (move (running_state k None idle (Some (now_of clock + 10000)) true) false Interrupt) (fails task k TimedOut)
-    (λ e. omega arith) (λ e. (within task w k lt, omega arith))
+    (λ e. omega arith) (λ e. (omega arith, omega arith, within task w k lt))
 
 running_on : (task : Task) → Known task → (clock : Clock) (lost : Bool) (k : ℕ) (fatal : Option Bool) (idle : Bool) (due : Option ℕ) (interrupted : Bool) (event : Event) → k < length task.plan
     → On task (cell_of task k + 1) (in_running task clock lost k fatal idle due interrupted event)
@@ -62,11 +62,11 @@ running_on task w clock lost k None true due interrupted (Reply f) lt = ends_on 
 running_on task w clock lost k None false due interrupted (Reply f) lt = omega arith
 running_on task w clock lost k fatal idle due interrupted Looked lt =
     if_on task (cell_of task k + 1) lost (fails task k KernelLost) (if is_past clock due then late task clock k fatal idle interrupted else stays (running_state k fatal idle due interrupted))
-    (λ e. (within task w k lt, omega arith))
+    (λ e. (omega arith, omega arith, within task w k lt))
     (λ e. if_on task (cell_of task k + 1) (is_past clock due) (late task clock k fatal idle interrupted) (stays (running_state k fatal idle due interrupted))
     (λ p. late_on task w clock k fatal idle interrupted lt) (λ p. omega arith))
 running_on task w clock lost k fatal idle due interrupted (Moment t) lt = look_on task (running_state k fatal idle due interrupted) (is_past (read_again clock t) due)
-running_on task w clock lost k fatal idle due interrupted Broken lt = (within task w k lt, omega arith)
+running_on task w clock lost k fatal idle due interrupted Broken lt = (omega arith, omega arith, within task w k lt)
 running_on task w clock lost k fatal idle due interrupted Saved lt = omega arith
 running_on task w clock lost k fatal idle due interrupted Ready lt = omega arith
 running_on task w clock lost k fatal idle due interrupted Lost lt = omega arith
@@ -89,13 +89,13 @@ passed_on task w clock k lt =
       | inl more ↦ rw (lt-ltb (k + 1) (length task.plan) more) (above task w k more, omega (arith, within task w (k + 1) more), refl)
       | inr last ↦ rw (le-ltb (k + 1) (length task.plan) last)
           (if_on task (cell_of task k + 1) (nat_lt (cell_of task k + 1) task.cells) (move Closing false (Save task.cells)) (stops Done)
-          (λ e. (omega arith, within task w k lt)) (λ e. within task w k lt))
+          (λ e. (within task w k lt, omega arith, omega arith)) (λ e. within task w k lt))
     ]
 
 first_on : (task : Task) → On task 0 (in_preparing task Saved)
 first_on task =
     if_on task 0 (nat_lt 0 (length task.plan)) (move (Starting None) false Start) (if nat_lt 0 task.cells then move Closing false (Save task.cells) else stops Done) (λ e. omega arith)
-    (λ e. if_on task 0 (nat_lt 0 task.cells) (move Closing false (Save task.cells)) (stops Done) (λ p. (omega arith, omega arith)) (λ p. omega arith))
+    (λ e. if_on task 0 (nat_lt 0 task.cells) (move Closing false (Save task.cells)) (stops Done) (λ p. (omega arith, omega arith, omega arith)) (λ p. omega arith))
 
 pub move_on : (task : Task) (clock : Clock) (lost : Bool) (state : State) (event : Event) → All (λ i. i < task.cells) task.plan → IsInOrder task → is_saved event ≡ awaits state → reach state ≤ length task.plan
     → SendsOn task (next_in task state) (next_in task (moved task clock lost state event).state) (moved task clock lost state event).step.act

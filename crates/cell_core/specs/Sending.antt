@@ -41,8 +41,9 @@ saves_ahead core = saves_in core.state
 abbrev pub IsInOrder : Task → Type 0
 IsInOrder task = AllPairs (λ i j. i < j) task.plan
 
--- A request is of a cell of the notebook that stands after those before; a save settles no more cells than there are.
+-- A request is of a cell of the notebook that stands after those before; a save settles all cells up to the last request's,
+-- and no more than there are.
 abbrev pub SendsOn : Task → ℕ → ℕ → Act → Type 0
 SendsOn task was now (Send cell) = (was ≤ cell) × (cell < task.cells) × (now ≡ cell + 1)
-SendsOn task was now (Save settled) = (settled ≤ task.cells) × (was ≤ now)
+SendsOn task was now (Save settled) = (was ≤ settled) × (settled ≤ now) × (now ≤ task.cells)
 SendsOn task was now act = was ≤ now
