@@ -16,7 +16,7 @@ use Rattle.save_disk.specs.Temporary.{temporary_of}
 use Rattle.save_disk.proofs.Laws.{end_of, moments_of, part_of_save, others_of_save}
 use Rattle.progress_save.specs.declared.progress_fault.ProgressFault.{ProgressFault}
 use Rattle.progress_save.specs.declared.progress_fault.ProgressFault.TheVariants as fault
-use Rattle.progress_save.specs.Saved.{answer, SavedAndSaid, SavesAs, EndsAs, IsOfSave}
+use Rattle.progress_save.specs.Saved.{done, failure, SavesThenSays, SavesAs, EndsAs, IsOfSave}
 
 -- ---- what is said changes no file
 
@@ -37,13 +37,13 @@ at_each holds (later {past} {entry} since is) = later (at_each holds since) (hol
 module _ (output text line : List ℕ) (failed : Type 0) (before : List Entry) where
   pub ended : (result : Result (Unit {0}) ProgressFault) (after : List Entry) → SavesAs output text line failed result before after → EndsAs output text result before after
   ended (Ok u) after s =
-      let end = end_of output text before (answer (Ok tt)) s.past s.saves in
+      let end = end_of output text before done s.past s.saves in
       record {
         place_is = said_place output s.past (says_since s.says) ∙ end.place_is;
         count_is = said_count output s.past (says_since s.says) ∙ end.count_is;
       }
   ended (Err (fault.Save f)) after s =
-      let end = end_of output text before (answer (Err f)) after s in
+      let end = end_of output text before (failure f) after s in
       record { place_is = end.place_is; count_is = end.count_is }
   ended (Err fault.Closed) after e = record { place_is = ap (λ j. place j output) e; count_is = ap (acknowledged output) e }
   ended (Err fault.NoMemory) after e = record { place_is = ap (λ j. place j output) e; count_is = ap (acknowledged output) e }
@@ -51,15 +51,15 @@ module _ (output text line : List ℕ) (failed : Type 0) (before : List Entry) w
 -- ---- each moment
 
 module _ (output text line : List ℕ) (failed : Type 0) (before : List Entry) where
-  said_moments : {after : List Entry} → SavedAndSaid output text line failed before after → Since (SaveMoment output text before) before after
+  said_moments : {after : List Entry} → SavesThenSays output text line failed before after → Since (SaveMoment output text before) before after
   said_moments s =
-      let end = end_of output text before (answer (Ok tt)) s.past s.saves in
-      since_then (moments_of output text before (answer (Ok tt)) s.past s.saves)
+      let end = end_of output text before done s.past s.saves in
+      since_then (moments_of output text before done s.past s.saves)
       (at_each (λ now since. durable (said_count output s.past since ∙ end.count_is) (said_place output s.past since ∙ end.place_is)) (says_since s.says))
 
   pub moments : (result : Result (Unit {0}) ProgressFault) (after : List Entry) → SavesAs output text line failed result before after → Since (SaveMoment output text before) before after
   moments (Ok u) after s = said_moments s
-  moments (Err (fault.Save f)) after s = moments_of output text before (answer (Err f)) after s
+  moments (Err (fault.Save f)) after s = moments_of output text before (failure f) after s
   moments (Err fault.Closed) after e = subst (Since (SaveMoment output text before) before) (sym e) start
   moments (Err fault.NoMemory) after e = subst (Since (SaveMoment output text before) before) (sym e) start
 
@@ -68,8 +68,8 @@ module _ (output text line : List ℕ) (failed : Type 0) (before : List Entry) w
 module _ (output text line : List ℕ) (failed : Type 0) (before : List Entry) where
   pub parts : (result : Result (Unit {0}) ProgressFault) (after : List Entry) → SavesAs output text line failed result before after → Since IsOfSave before after
   parts (Ok u) after s =
-      since_then (since_as (λ now is. inl is) (part_of_save output text before (answer (Ok tt)) s.past s.saves)) (since_as (λ now is. inr is) (says_since s.says))
-  parts (Err (fault.Save f)) after s = since_as (λ now is. inl is) (part_of_save output text before (answer (Err f)) after s)
+      since_then (since_as (λ now is. inl is) (part_of_save output text before done s.past s.saves)) (since_as (λ now is. inr is) (says_since s.says))
+  parts (Err (fault.Save f)) after s = since_as (λ now is. inl is) (part_of_save output text before (failure f) after s)
   parts (Err fault.Closed) after e = subst (Since IsOfSave before) (sym e) start
   parts (Err fault.NoMemory) after e = subst (Since IsOfSave before) (sym e) start
 
@@ -85,7 +85,7 @@ module _ (q : List ℕ) where
 
 module _ (output text line : List ℕ) (failed : Type 0) (q : List ℕ) (not_out : bytes_eq output q ≡ false) (not_tmp : bytes_eq (temporary_of output) q ≡ false) (before : List Entry) where
   pub others : (result : Result (Unit {0}) ProgressFault) (after : List Entry) → SavesAs output text line failed result before after → Since (Spares q) before after
-  others (Ok u) after s = says_spare q (others_of_save output text q not_out not_tmp before (answer (Ok tt)) s.past s.saves) s.says
-  others (Err (fault.Save f)) after s = others_of_save output text q not_out not_tmp before (answer (Err f)) after s
+  others (Ok u) after s = says_spare q (others_of_save output text q not_out not_tmp before done s.past s.saves) s.says
+  others (Err (fault.Save f)) after s = others_of_save output text q not_out not_tmp before (failure f) after s
   others (Err fault.Closed) after e = subst (Since (Spares q) before) (sym e) start
   others (Err fault.NoMemory) after e = subst (Since (Spares q) before) (sym e) start

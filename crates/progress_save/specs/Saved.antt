@@ -37,40 +37,44 @@ line_of output settled n = saved_line output settled (length n.cells)
 abbrev pub SaveAnswer : Type 0
 SaveAnswer = Result (Unit {0}) SaveFault
 
--- this answer of one save of the disk
-abbrev pub answer : SaveAnswer → SaveAnswer
-answer r = r
+-- the save was done
+abbrev pub done : SaveAnswer
+done = Ok tt
+
+-- the save failed at this step
+abbrev pub failure : SaveFault → SaveAnswer
+failure f = Err f
 
 -- the text was saved and acknowledged, and then the line was said
-pub record SavedAndSaid (output text line : List ℕ) (failed : Type 0) (before after : List Entry) : Type 0 where
+pub record SavesThenSays (output text line : List ℕ) (failed : Type 0) (before after : List Entry) : Type 0 where
   pub past : List Entry
-  pub saves : SaveOf output text (answer (Ok tt)) before past
+  pub saves : SaveOf output text done before past
   pub says : Says line failed past after
 
 -- the text was saved and the line said, or the save failed and nothing was
 abbrev pub SavesAndSays : List ℕ → List ℕ → List ℕ → Type 0 → SaveAnswer → List Entry → List Entry → Type 0
-SavesAndSays output text line failed (Ok u) before after = SavedAndSaid output text line failed before after
-SavesAndSays output text line failed (Err f) before after = SaveOf output text (answer (Err f)) before after
+SavesAndSays output text line failed (Ok u) before after = SavesThenSays output text line failed before after
+SavesAndSays output text line failed (Err f) before after = SaveOf output text (failure f) before after
 
 -- the entries of a save of this text with this line, by its answer
 abbrev pub SavesAs : {U : Type 0} → List ℕ → List ℕ → List ℕ → Type 0 → Result U ProgressFault → List Entry → List Entry → Type 0
-SavesAs output text line failed (Ok u) before after = SavedAndSaid output text line failed before after
-SavesAs output text line failed (Err (fault.Save f)) before after = SaveOf output text (answer (Err f)) before after
+SavesAs output text line failed (Ok u) before after = SavesThenSays output text line failed before after
+SavesAs output text line failed (Err (fault.Save f)) before after = SaveOf output text (failure f) before after
 -- no call is made
 SavesAs output text line failed (Err fault.Closed) before after = after ≡ before
 SavesAs output text line failed (Err fault.NoMemory) before after = after ≡ before
 
 -- the entries where a say has failed before: nothing is said
 abbrev pub SavesSilently : {U : Type 0} → List ℕ → List ℕ → Result U ProgressFault → List Entry → List Entry → Type 0
-SavesSilently output text (Ok u) before after = SaveOf output text (answer (Ok tt)) before after
-SavesSilently output text (Err (fault.Save f)) before after = SaveOf output text (answer (Err f)) before after
+SavesSilently output text (Ok u) before after = SaveOf output text done before after
+SavesSilently output text (Err (fault.Save f)) before after = SaveOf output text (failure f) before after
 SavesSilently output text (Err fault.Closed) before after = after ≡ before
 SavesSilently output text (Err fault.NoMemory) before after = after ≡ before
 
 -- the place of the output after a save of this text with this answer
 abbrev pub place_by : {U : Type 0} → List ℕ → Result U ProgressFault → Place → Place
 place_by text (Ok u) was = durable_place text
-place_by text (Err (fault.Save f)) was = place_after text (answer (Err f)) was
+place_by text (Err (fault.Save f)) was = place_after text (failure f) was
 place_by text (Err fault.Closed) was = was
 place_by text (Err fault.NoMemory) was = was
 
@@ -88,12 +92,12 @@ pub record EndsAs {U : Type 0} (output text : List ℕ) (result : Result U Progr
 abbrev pub IsOfSave : List Entry → Type 0
 IsOfSave now = IsOf OnDisk now ⊎ IsOf OnSay now
 
--- no call was made
-abbrev pub IsIdle : {U : Type 0} → Result U ProgressFault → Type 0 → Type 0
-IsIdle (Ok u) same = Unit {0}
-IsIdle (Err (fault.Save f)) same = Unit {0}
-IsIdle (Err fault.Closed) same = same
-IsIdle (Err fault.NoMemory) same = same
+-- this holds where the save was refused before any call
+abbrev pub OnRefusal : {U : Type 0} → Result U ProgressFault → Type 0 → Type 0
+OnRefusal (Ok u) same = Unit {0}
+OnRefusal (Err (fault.Save f)) same = Unit {0}
+OnRefusal (Err fault.Closed) same = same
+OnRefusal (Err fault.NoMemory) same = same
 
 -- a call of the disk failed
 abbrev pub IsSaveFault : {U : Type 0} → Result U ProgressFault → Type 0

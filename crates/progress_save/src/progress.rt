@@ -35,7 +35,7 @@ impl Progress {
     ghost use Rattle.world.specs.Touched.{Spares};
     ghost use Rattle.progress_save.specs.declared.progress_fault.ProgressFault.TheVariants as fault;
     ghost use Rattle.progress_save.specs.Safe.{IsSafe, IsNext, StaysSafe};
-    ghost use Rattle.progress_save.specs.Saved.{text_of, line_of, SavesAs, SavesSilently, EndsAs, IsOfSave, IsIdle, IsSaveFault, SaveCause};
+    ghost use Rattle.progress_save.specs.Saved.{text_of, line_of, SavesAs, SavesSilently, EndsAs, IsOfSave, OnRefusal, IsSaveFault, SaveCause};
     ghost use Rattle.progress_save.specs.State.{output_of, has_failed, kept_text, Fits, KeepsSame, KeepsAfter, failed_after};
 
     /// The saves of this output, of which none was made. No text is kept.
@@ -81,7 +81,7 @@ impl Progress {
             (SayFailed W.counts w.new) result) }
         ensures silent { SayFailed W.counts w.old → Told (W.journal w.old) (W.journal w.new)
             (SavesSilently (output_of self.old) (text_of n.now) result) }
-        ensures idle { IsIdle result ((W.journal w.new ≡ W.journal w.old)
+        ensures idle { OnRefusal result ((W.journal w.new ≡ W.journal w.old)
             × (W.counts w.new ≡ W.counts w.old)) }
 
         // What is known of the output, afterwards and at every moment.
@@ -125,7 +125,7 @@ impl Progress {
             (SayFailed W.counts w.new) result) }
         ensures silent { SayFailed W.counts w.old → Told (W.journal w.old) (W.journal w.new)
             (SavesSilently (output_of self.old) (text_of n.now) result) }
-        ensures idle { IsIdle result ((W.journal w.new ≡ W.journal w.old)
+        ensures idle { OnRefusal result ((W.journal w.new ≡ W.journal w.old)
             × (W.counts w.new ≡ W.counts w.old)) }
         ensures cause { SaveCause (W.counts w.old) (W.counts w.new) (IsSaveFault result) }
         ensures closed { (result ≡ Err fault.Closed) ↔ (has_failed self.old ≡ true) }
