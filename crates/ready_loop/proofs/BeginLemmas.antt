@@ -1,49 +1,14 @@
 -- What a first connect and a close do to a loop.
-use Rattle.std.proofs.Common.{
-  ◌≡◌,
-  ◌≢◌,
-  ◌⊎◌,
-  inl,
-  inr,
-  ◌<◌,
-  ◌||◌,
-  ◌+◌,
-  ◌*◌,
-  ℕ,
-  Bool,
-  true,
-  false,
-  List,
-  [],
-  ◌∷◌,
-  length,
-  set,
-  Option,
-  Some,
-  None,
-  Result,
-  Ok,
-  Err,
-  IsSomeAnd,
-  IfErr,
-  slice_get,
-  arith,
-  refl,
-  sym,
-  ◌∙◌,
-  ap,
-  subst,
-}
+use Rattle.std.proofs.Common.{◌≡◌, ◌≢◌, inl, inr, ◌<◌, ◌||◌, ℕ, Bool, true, false, List, [], ◌∷◌, length, set, Some, None, Result, Ok, Err, IfErr, slice_get, arith, refl, sym, ◌∙◌, ap, subst}
 use Rattle.world.specs.declared.chan.Chan.{Chan}
 use Rattle.std.proofs.lemmas.Bool.{cases_eq, false≢true}
 use Rattle.std.proofs.Math.ListN.{length-set}
 use Rattle.world.specs.declared.chan.Chan.TheVariants.{Shell, Control, Iopub, Heart}
 use Rattle.world.specs.declared.conn.Conn.{Conn}
 use Rattle.world.specs.declared.connected.Connected.{Connected}
-use Rattle.world.specs.declared.connected.Connected.TheVariants as connected
 use Rattle.world.specs.declared.entry.Entry.{Entry}
 use Rattle.world.specs.declared.entry.Entry.TheVariants as made
-use Rattle.world.specs.Moments.{Since, start, more}
+use Rattle.world.specs.Moments.{start, more}
 use Rattle.world.specs.Places.{status, time, place_of, is_at, chan_number}
 use Rattle.world.proofs.StatusLemmas.{at_own, connected_own, closed_own}
 use Rattle.ready_loop.specs.declared.fault.LoopFault.{LoopFault}
@@ -54,11 +19,11 @@ use Rattle.ready_loop.specs.declared.stage.Stage.{Stage}
 use Rattle.ready_loop.specs.declared.stage.Stage.TheVariants.{Fresh, Begun, Closed}
 use Rattle.ready_loop.specs.Link.{MayRead, MayWrite, connect_link, begun_link, closed_link, closed_stage, is_begun, is_known}
 use Rattle.ready_loop.specs.Begins.{BeginMoment, Begins, BeginsOne, port_of, CloseMoment, CloseCame, ClosesOne, closing, begun_in, failed_closed}
-use Rattle.ready_loop.specs.Queues.{Held, held_in, rest_at}
+use Rattle.ready_loop.specs.Queues.{held_in, rest_at}
 use Rattle.ready_loop.specs.Begins as begins
 use Rattle.ready_loop.specs.History.{History, same, with_begun, with_all_begun, conn_of, chans, after_begin}
 use Rattle.ready_loop.specs.Standing.{write_ended, StandsAt, Stand, StandsFor, Goes}
-use Rattle.ready_loop.specs.States.{OnlyAt, IsOffered, Each, SameKnown, failed_in, failed_at, failed_connect, known_in, known_at}
+use Rattle.ready_loop.specs.States.{OnlyAt, IsOffered, Each, SameKnown, failed_in, failed_connect, known_in, known_at}
 use Rattle.ready_loop.proofs.CallLemmas.{stands_begun, stands_closed, stands_unbegun}
 use Rattle.ready_loop.proofs.OfferLemmas.{ended_connect}
 use Rattle.ready_loop.proofs.StandLemmas.{stand_at, stands_as, same_but, begun_but, not_at, or_own}

@@ -1,37 +1,5 @@
 -- What a last look adds to the journal.
-use Rattle.std.proofs.Common.{
-  ◌≡◌,
-  ◌≢◌,
-  ◌⊎◌,
-  inl,
-  inr,
-  ◌+◌,
-  ◌*◌,
-  ◌/◌,
-  ◌-◌,
-  ◌<◌,
-  ◌≤◌,
-  ℕ,
-  Bool,
-  true,
-  false,
-  List,
-  [],
-  ◌∷◌,
-  Option,
-  Some,
-  None,
-  Result,
-  Ok,
-  Err,
-  slice_get,
-  arith,
-  refl,
-  sym,
-  ◌∙◌,
-  ap,
-  subst,
-}
+use Rattle.std.proofs.Common.{◌≡◌, inl, inr, ◌+◌, ◌/◌, ◌<◌, ℕ, Bool, true, false, List, [], ◌∷◌, Some, None, Ok, Err, slice_get, arith, refl, sym, ◌∙◌, ap, subst}
 use Rattle.std.proofs.lemmas.Bool.{cases_eq, false≢true}
 use Rattle.world.specs.declared.chan.Chan.{Chan}
 use Rattle.world.specs.declared.chan.Chan.TheVariants.{Shell, Control, Iopub, Heart}
@@ -42,21 +10,21 @@ use Rattle.world.specs.declared.entry.Entry.{Entry}
 use Rattle.world.specs.Counts.{Counts, NetCause}
 use Rattle.world.specs.Moments.{Since, start, more}
 use Rattle.world.proofs.MomentsLemmas.{since_then, since_as}
-use Rattle.world.specs.Places.{status, place_of, chan_number}
+use Rattle.world.specs.Places.{place_of, chan_number}
 use Rattle.ready_loop.specs.declared.fault.LoopFault.{LoopFault}
 use Rattle.ready_loop.specs.declared.fault.LoopFault.TheVariants.{NetFault, Spent}
 use Rattle.ready_loop.specs.declared.link.Link.{Link}
 use Rattle.ready_loop.specs.declared.readiness.Loop.{Loop}
-use Rattle.ready_loop.specs.Link.{IsToBegin, MayWrite}
-use Rattle.ready_loop.specs.History.{History, same, after_names}
-use Rattle.ready_loop.specs.Offers.{Offers, OfferAt, LookMoment, IsFailureOf, FaultCame, IsOfConn, Names, Extends, Connects, connects, later, BeginsAt, BeginsBelow, is_looked}
+use Rattle.ready_loop.specs.Link.{IsToBegin}
+use Rattle.ready_loop.specs.History.{History, same}
+use Rattle.ready_loop.specs.Offers.{OfferAt, LookMoment, FaultCame, IsOfConn, Names, Extends, Connects, connects, later, BeginsAt, BeginsBelow, is_looked}
 use Rattle.ready_loop.specs.Queues.{rest_at}
 use Rattle.ready_loop.specs.Standing.{StandsFor, Goes}
-use Rattle.ready_loop.specs.States.{MayWait, IsDrained, IsOffered, IsSound, IsOfferedAt, OnlyAt, NamesAll, failed_in, failed_at, found_at, refused_in}
+use Rattle.ready_loop.specs.States.{MayWait, IsDrained, IsOffered, IsOfferedAt, OnlyAt, NamesAll, failed_at, found_at, refused_in}
 use Rattle.ready_loop.specs.Waits.{WaitCame, Looked, LooksThenWaits, LookCounts, left_after}
 use Rattle.ready_loop.proofs.NameLemmas.{named_stands, names_are}
 use Rattle.ready_loop.proofs.StateLemmas.{sound_as}
-use Rattle.ready_loop.proofs.TableLemmas.{some_at, some_is}
+use Rattle.ready_loop.proofs.TableLemmas.{some_at}
 use Rattle.ready_loop.proofs.WaitLemmas.{all_served}
 
 -- ---- connects

@@ -1,42 +1,13 @@
 -- What holds after any list of calls.
-use Rattle.std.proofs.Common.{
-  ◌≡◌,
-  ◌⊎◌,
-  inl,
-  inr,
-  ◌+◌,
-  ◌<◌,
-  ◌≤◌,
-  ℕ,
-  Bool,
-  true,
-  false,
-  List,
-  [],
-  ◌∷◌,
-  Option,
-  Some,
-  None,
-  Result,
-  Ok,
-  Err,
-  arith,
-  refl,
-  sym,
-  ◌∙◌,
-  ap,
-  subst,
-}
-use Rattle.std.proofs.lemmas.Bool.{cases_eq, cases_lt, false≢true}
+use Rattle.std.proofs.Common.{◌≡◌, inl, inr, ◌+◌, ◌<◌, ◌≤◌, ℕ, Bool, true, false, List, [], ◌∷◌, Option, Some, None, Result, Ok, Err, arith, refl, sym, ◌∙◌, ap, subst}
 use Rattle.world.specs.declared.conn.Conn.{Conn}
 use Rattle.world.specs.declared.did.Did.{Did}
 use Rattle.world.specs.declared.did.Did.TheVariants.{Done, Failed}
 use Rattle.world.specs.declared.entry.Entry.{Entry}
 use Rattle.world.specs.declared.entry.Entry.TheVariants as made
-use Rattle.world.specs.declared.reports.Reports.{Reports}
 use Rattle.world.specs.Moments.{Since, start, more}
 use Rattle.world.proofs.MomentsLemmas.{since_then, since_as}
-use Rattle.world.specs.Places.{status, time, place_of, concerns}
+use Rattle.world.specs.Places.{status, concerns}
 use Rattle.world.specs.Waits.{is_after_wait}
 use Rattle.world.proofs.StatusLemmas.{status_elsewhere}
 use Rattle.world.proofs.WaitsLemmas.{not_counted}
@@ -49,8 +20,8 @@ use Rattle.ready_loop.specs.Offers.{Offers, again, writes, OfferMoment, LookMome
 use Rattle.ready_loop.specs.Reads.{ReadMoment}
 use Rattle.ready_loop.specs.Runs as runs
 use Rattle.ready_loop.specs.Runs.{Calls, Runs, IsFair, IsFairWait, FairMoment}
-use Rattle.ready_loop.specs.Standing.{StandsFor, Stand, Goes, IsElsewhere, MadeElsewhere, write_ended}
-use Rattle.ready_loop.specs.Waits.{Timer, most, IsLimit, IsTurnWait, AllServed, LooksThenWaits, LookCame, Waits, TurnCame, Turned, Looked}
+use Rattle.ready_loop.specs.Standing.{StandsFor, IsElsewhere, MadeElsewhere}
+use Rattle.ready_loop.specs.Waits.{most, IsTurnWait, AllServed, LooksThenWaits, LookCame, Waits, TurnCame}
 use Rattle.ready_loop.proofs.ReadAllLemmas.{reads_all, some_awake}
 use Rattle.ready_loop.proofs.StandLemmas.{stands_as, ended_elsewhere}
 

@@ -1,43 +1,5 @@
 -- What one call does to what is to be done before the next wait.
-use Rattle.std.proofs.Common.{
-  ◌≡◌,
-  ◌≢◌,
-  ◌⊎◌,
-  inl,
-  inr,
-  ◌+◌,
-  ◌<◌,
-  ◌≤◌,
-  ◌||◌,
-  ◌==◌,
-  ◌∷◌,
-  drop,
-  length-drop,
-  ℕ,
-  Bool,
-  true,
-  false,
-  List,
-  [],
-  length,
-  set,
-  Option,
-  Some,
-  None,
-  IsSomeAnd,
-  Result,
-  Ok,
-  Err,
-  OnOk,
-  slice_get,
-  get_or,
-  arith,
-  refl,
-  sym,
-  ◌∙◌,
-  ap,
-  subst,
-}
+use Rattle.std.proofs.Common.{◌≡◌, ◌≢◌, inl, inr, ◌+◌, ◌<◌, ◌||◌, ◌∷◌, drop, length-drop, ℕ, Bool, true, false, List, [], length, set, Option, Some, None, IsSomeAnd, Result, Ok, Err, OnOk, slice_get, arith, refl, sym, ◌∙◌, ap, subst}
 use Rattle.std.proofs.lemmas.Bool.{cases_eq, cases_lt, eq-eqb, ne_eqb, false≢true}
 use Rattle.world.specs.declared.conn.Conn.{Conn}
 use Rattle.world.specs.declared.got.Got.{Got}
@@ -46,7 +8,7 @@ use Rattle.world.specs.declared.connected.Connected.{Connected}
 use Rattle.world.specs.declared.connected.Connected.TheVariants as connected
 use Rattle.world.specs.declared.put.Put.{Put}
 use Rattle.world.specs.declared.put.Put.TheVariants as put
-use Rattle.world.specs.Places.{place_of, is_at}
+use Rattle.world.specs.Places.{place_of}
 use Rattle.world.specs.Told.{PutSome}
 use Rattle.ready_loop.specs.declared.link.Link.{Link}
 use Rattle.ready_loop.specs.declared.readiness.Loop.{Loop}

@@ -31,7 +31,7 @@ use Rattle.ready_loop.specs.declared.fault.LoopFault.TheVariants.{NetFault, Spen
 use Rattle.ready_loop.specs.declared.link.Link.{Link}
 use Rattle.ready_loop.specs.declared.readiness.Loop.{Loop}
 use Rattle.ready_loop.specs.Link.{MayRead, MayWrite, named_link, is_found, is_known}
-use Rattle.ready_loop.specs.Queues.{Held, held_in, rest_at}
+use Rattle.ready_loop.specs.Queues.{held_in, rest_at}
 
 -- so it is of the connections at all places below this one
 abbrev pub EachBelow : ℕ → List Link → (ℕ → Link → Type 0) → Type 0

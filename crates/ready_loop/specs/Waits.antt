@@ -1,28 +1,5 @@
 -- How long a wait may last, and what waiting adds to a journal, its newest entry first.
-use Rattle.std.specs.Prelude.{
-  ◌≡◌,
-  ◌<◌,
-  ◌≤◌,
-  ◌+◌,
-  ◌-◌,
-  ◌⊎◌,
-  ℕ,
-  List,
-  [],
-  ◌∷◌,
-  Bool,
-  true,
-  false,
-  Option,
-  Some,
-  None,
-  Result,
-  Ok,
-  Err,
-  slice_get,
-  min,
-  ◌/◌,
-}
+use Rattle.std.specs.Prelude.{◌≡◌, ◌<◌, ◌≤◌, ◌+◌, ◌-◌, ℕ, List, ◌∷◌, Bool, true, false, Option, Some, None, Result, Ok, Err, min, ◌/◌}
 use Rattle.world.specs.declared.conn.Conn.{Conn}
 use Rattle.world.specs.declared.did.Did.{Did}
 use Rattle.world.specs.declared.did.Did.TheVariants.{Done, Failed}
@@ -34,7 +11,6 @@ use Rattle.world.specs.Counts.{Counts, NetCause, WaitCause}
 use Rattle.world.specs.Places.{Status, status, time, is_reported}
 use Rattle.ready_loop.specs.declared.fault.LoopFault.{LoopFault}
 use Rattle.ready_loop.specs.declared.fault.LoopFault.TheVariants.{NetFault, Spent}
-use Rattle.ready_loop.specs.declared.link.Link.{Link}
 use Rattle.ready_loop.specs.declared.readiness.Loop.{Loop}
 use Rattle.ready_loop.specs.History.{History, after_names}
 use Rattle.ready_loop.specs.Offers.{LookMoment, IsFailureOf, Connects, is_looked}

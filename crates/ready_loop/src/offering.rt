@@ -67,7 +67,12 @@ impl Loop {
     }
 
     /// Begins the connection at a place again where that is due, and offers what is queued on it.
-    pub(crate) fn offer_at<W: World>(&mut self, w: &mut W, place: usize, forced: bool) -> Result<(), LoopFault>
+    pub(crate) fn offer_at<W: World>(
+        &mut self,
+        w: &mut W,
+        place: usize,
+        forced: bool,
+    ) -> Result<(), LoopFault>
         requires { place < 64 }
         ensures goes { Follows W.journal w.old w.new
             (Goes (OfferAt forced place) same self.old self.new) }

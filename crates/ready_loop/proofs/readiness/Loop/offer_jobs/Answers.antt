@@ -1,4 +1,4 @@
-use Rattle.std.proofs.Common.{rules, arith, ◌≡◌, ◌≢◌, ◌/◌, ◌∙◌, ap, refl, sym, true, false, ℕ}
+use Rattle.std.proofs.Common.{rules, arith, ◌≡◌, ◌≢◌, ◌/◌, ◌∙◌, refl, true, false}
 use Rattle.std.proofs.lemmas.Option.{unwrap_or-slice_get}
 use Rattle.world.proofs.MomentsLemmas.{told_start, told_then, told_both, told_as}
 use Rattle.ready_loop.specs.Offers.{is_looked}
