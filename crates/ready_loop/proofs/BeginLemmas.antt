@@ -28,7 +28,7 @@ use Rattle.ready_loop.proofs.CallLemmas.{stands_begun, stands_closed, stands_unb
 use Rattle.ready_loop.proofs.OfferLemmas.{ended_connect}
 use Rattle.ready_loop.proofs.StandLemmas.{stand_at, stands_as, same_but, begun_but, not_at, or_own}
 use Rattle.ready_loop.proofs.StateLemmas.{each_set, failed_set, kept_set, connect_failed, failed_connect_other, connect_stage}
-use Rattle.ready_loop.proofs.TableLemmas.{within, some_at, some_is, slice_get-set_same, slice_get-set_other}
+use Rattle.ready_loop.proofs.TableLemmas.{chan_low, within, some_at, some_is, slice_get-set_same, slice_get-set_other}
 
 -- ---- a first connect
 
@@ -185,12 +185,6 @@ closed_four s c i h w = ap (λ v. failed_closed h (failed_closed i v)) (either c
 pub begun_other : (conn q : Conn) (l new : Loop) → place_of conn ≢ place_of q → OnlyAt (place_of q) l new
     → begun_in (slice_get new.links (place_of conn)) ≡ begun_in (slice_get l.links (place_of conn))
 begun_other conn q l new ne only = ap begun_in (only.links (place_of conn) ne)
-
-chan_low : (chan : Chan) → chan_number chan < 4
-chan_low Shell = omega arith
-chan_low Control = omega arith
-chan_low Iopub = omega arith
-chan_low Heart = omega arith
 
 -- by the journal
 pub begun_stands : (conn : Conn) (l : Loop) (h : History) (past : List Entry) → conn.job < 16 → StandsFor l h past

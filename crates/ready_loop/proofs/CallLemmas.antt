@@ -67,6 +67,64 @@ ends_again {end} {b} {n} whole m = record { found = ap is_found whole ∙ never_
 pub known_up : {link : Link} {held : Held} {b : Bool} {q : List ℕ} {n : Bool} {s : Status} {e : Bool} → StandsAt link held b q n s e → s.up ≡ true → b ≡ true
 known_up {link} m up = sym m.known ∙ known_of_begun link.stage (m.stage ∙ m.up_begun up)
 
+-- ---- a connection that is lost
+
+-- the other side has ended it
+stands_ended : {link : Link} {held then : Held} {b : Bool} {q : List ℕ} {n m : Bool} {s : Status} {e f : Bool} (end : End)
+    → s.up ≡ true → Sends then q (put_by b s.put) → EndIs end b m f → StandsAt link held b q n s e
+    → StandsAt (record link { awake = false; writable = false; end = end }) then b q m (ended_after s) f
+stands_ended end up sends ends m =
+    record {
+      awake = refl;
+      writable = refl;
+      failed = m.failed;
+      refused = m.refused;
+      reads = λ a. absurd (false≢true a);
+      known = m.known;
+      stage = m.stage;
+      port = m.port;
+      failed_begun = m.failed_begun;
+      reported = λ a. absurd (false≢true a);
+      open_up = λ a. absurd (false≢true a);
+      up_begun = λ a. absurd (false≢true a);
+      up_calm = λ a. absurd (false≢true a);
+      up_whole = λ a. absurd (false≢true a);
+      refused_begun = m.refused_begun;
+      refused_unused = m.refused_unused;
+      refused_whole = λ at is. not_some (m.up_calm up) is;
+      fresh_whole = not_fresh (m.stage ∙ m.up_begun up);
+      sends = sends;
+      ends = ends;
+    }
+
+-- it was turned away
+stands_refused : {link : Link} {held then : Held} {b : Bool} {q : List ℕ} {n : Bool} {s : Status} {e : Bool} (last clock : ℕ)
+    → last ≡ clock → s.up ≡ true → s.put ≡ [] → Sends then q (put_by b s.put) → StandsAt link held b q n s e
+    → StandsAt (record link { awake = false; writable = false; refused = Some last }) then b q n (refused_after clock s) e
+stands_refused last clock t up unused sends m =
+    record {
+      awake = refl;
+      writable = refl;
+      failed = m.failed;
+      refused = ap Some t;
+      reads = λ a. absurd (false≢true a);
+      known = m.known;
+      stage = m.stage;
+      port = m.port;
+      failed_begun = m.failed_begun;
+      reported = λ a. absurd (false≢true a);
+      open_up = λ a. absurd (false≢true a);
+      up_begun = λ a. absurd (false≢true a);
+      up_calm = λ a. absurd (false≢true a);
+      up_whole = λ a. absurd (false≢true a);
+      refused_begun = λ at is. m.up_begun up;
+      refused_unused = λ at is. unused;
+      refused_whole = λ at is. m.up_whole up;
+      fresh_whole = m.fresh_whole;
+      sends = sends;
+      ends = m.ends;
+    }
+
 -- ---- a read
 
 abbrev pub status_read : Got → List ℕ → ℕ → Status → Status
@@ -134,53 +192,9 @@ stands_read link held b q n s e got.Dry buffer last clock t awake unused m =
       ends = m.ends;
     }
 stands_read link held b q n s e got.Ended buffer last clock t awake unused m =
-    let up : s.up ≡ true = m.reported (sym m.awake ∙ awake) in
-    record {
-      awake = refl;
-      writable = refl;
-      failed = m.failed;
-      refused = m.refused;
-      reads = λ a. absurd (false≢true a);
-      known = m.known;
-      stage = m.stage;
-      port = m.port;
-      failed_begun = m.failed_begun;
-      reported = λ a. absurd (false≢true a);
-      open_up = λ a. absurd (false≢true a);
-      up_begun = λ a. absurd (false≢true a);
-      up_calm = λ a. absurd (false≢true a);
-      up_whole = λ a. absurd (false≢true a);
-      refused_begun = m.refused_begun;
-      refused_unused = m.refused_unused;
-      refused_whole = λ at is. not_some (m.up_calm up) is;
-      fresh_whole = not_fresh (m.stage ∙ m.up_begun up);
-      sends = m.sends;
-      ends = ends_named m.ends;
-    }
+    stands_ended Named (m.reported (sym m.awake ∙ awake)) m.sends (ends_named m.ends) m
 stands_read link held b q n s e got.Refused buffer last clock t awake unused m =
-    let up : s.up ≡ true = m.reported (sym m.awake ∙ awake) in
-    record {
-      awake = refl;
-      writable = refl;
-      failed = m.failed;
-      refused = ap Some t;
-      reads = λ a. absurd (false≢true a);
-      known = m.known;
-      stage = m.stage;
-      port = m.port;
-      failed_begun = m.failed_begun;
-      reported = λ a. absurd (false≢true a);
-      open_up = λ a. absurd (false≢true a);
-      up_begun = λ a. absurd (false≢true a);
-      up_calm = λ a. absurd (false≢true a);
-      up_whole = λ a. absurd (false≢true a);
-      refused_begun = λ at is. m.up_begun up;
-      refused_unused = λ at is. unused refl;
-      refused_whole = λ at is. m.up_whole up;
-      fresh_whole = m.fresh_whole;
-      sends = m.sends;
-      ends = m.ends;
-    }
+    stands_refused last clock t (m.reported (sym m.awake ∙ awake)) (unused refl) m.sends m
 stands_read link held b q n s e got.Failed buffer last clock t awake unused m =
     record {
       awake = refl;
@@ -299,53 +313,9 @@ stands_write link held b q n s e put.Stuck last clock t writable some unused m =
     }
 stands_write link held b q n s e put.Ended last clock t writable some unused m =
     let up : s.up ≡ true = m.open_up (sym m.writable ∙ writable) in
-    let known : b ≡ true = sym m.known ∙ known_of_begun link.stage (m.stage ∙ m.up_begun up) in
-    record {
-      awake = refl;
-      writable = refl;
-      failed = m.failed;
-      refused = m.refused;
-      reads = λ a. absurd (false≢true a);
-      known = m.known;
-      stage = m.stage;
-      port = m.port;
-      failed_begun = m.failed_begun;
-      reported = λ a. absurd (false≢true a);
-      open_up = λ a. absurd (false≢true a);
-      up_begun = λ a. absurd (false≢true a);
-      up_calm = λ a. absurd (false≢true a);
-      up_whole = λ a. absurd (false≢true a);
-      refused_begun = m.refused_begun;
-      refused_unused = m.refused_unused;
-      refused_whole = λ at is. not_some (m.up_calm up) is;
-      fresh_whole = not_fresh (m.stage ∙ m.up_begun up);
-      sends = sends_none m.sends;
-      ends = ends_found (m.up_whole up) known m.ends;
-    }
+    stands_ended (found_end link.end) up (sends_none m.sends) (ends_found (m.up_whole up) (known_up m up) m.ends) m
 stands_write link held b q n s e put.Refused last clock t writable some unused m =
-    let up : s.up ≡ true = m.open_up (sym m.writable ∙ writable) in
-    record {
-      awake = refl;
-      writable = refl;
-      failed = m.failed;
-      refused = ap Some t;
-      reads = λ a. absurd (false≢true a);
-      known = m.known;
-      stage = m.stage;
-      port = m.port;
-      failed_begun = m.failed_begun;
-      reported = λ a. absurd (false≢true a);
-      open_up = λ a. absurd (false≢true a);
-      up_begun = λ a. absurd (false≢true a);
-      up_calm = λ a. absurd (false≢true a);
-      up_whole = λ a. absurd (false≢true a);
-      refused_begun = λ at is. m.up_begun up;
-      refused_unused = λ at is. unused refl;
-      refused_whole = λ at is. m.up_whole up;
-      fresh_whole = m.fresh_whole;
-      sends = sends_none m.sends;
-      ends = m.ends;
-    }
+    stands_refused last clock t (m.open_up (sym m.writable ∙ writable)) (unused refl) (sends_none m.sends) m
 stands_write link held b q n s e put.Failed last clock t writable some unused m =
     record {
       awake = m.awake;

@@ -25,7 +25,7 @@ use Rattle.ready_loop.specs.Waits.{WaitCame, Looked, LooksThenWaits, LookCounts,
 use Rattle.ready_loop.proofs.OfferLemmas.{untimed_write}
 use Rattle.ready_loop.proofs.NameLemmas.{named_stands, names_are}
 use Rattle.ready_loop.proofs.StateLemmas.{sound_as}
-use Rattle.ready_loop.proofs.TableLemmas.{some_at}
+use Rattle.ready_loop.proofs.TableLemmas.{chan_low, some_at}
 use Rattle.ready_loop.proofs.WaitLemmas.{all_served, none_due}
 
 -- ---- connects
@@ -79,12 +79,6 @@ below_more {n = n} {jobs} {l} {mid} {x = x} {z = z} untouched b m k q = record {
         | inr ne ↦ connects_later (b.so h s p at (omega arith) looked is) (extends_of (q.so h r.0).1)
       ];
 }
-
-chan_low : (chan : Chan) → chan_number chan < 4
-chan_low Shell = omega arith
-chan_low Control = omega arith
-chan_low Iopub = omega arith
-chan_low Heart = omega arith
 
 job_at : (conn : Conn) (place : ℕ) → place_of conn ≡ place → place / 4 ≡ conn.job
 job_at conn place e = let low = chan_low conn.chan in omega arith

@@ -170,7 +170,8 @@ impl Loop {
 /// Closes a connection, where that is asked for.
 fn close_where<W: World>(w: &mut W, conn: Conn, begun: bool)
     requires { conn.job < 16 }
-    ensures came { Follows W.journal w.old w.new (λ before after. after ≡ closing begun conn before) }
+    ensures came { Follows W.journal w.old w.new
+        (λ before after. after ≡ closing begun conn before) }
     ensures counts { W.counts w.new ≡ W.counts w.old }
 {
     if begun {
