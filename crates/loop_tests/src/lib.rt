@@ -3,4 +3,8 @@
 #![tactic(auto)]
 
 #[cfg(test)]
+mod talk;
+#[cfg(test)]
+mod talks;
+#[cfg(test)]
 mod turns;

@@ -1,7 +1,10 @@
 //! One loop over the world that does nothing: each connect is refused, no wait reports anything, and
 //! the clock stands still.
-ghost use Rattle.std.specs.Prelude.{IsTrue};
-ghost use Rattle.ready_loop.specs.States.{IsSound, MayWait};
+ghost use Rattle.std.specs.Prelude.{◌≡◌, ◌<◌, true, IsTrue};
+ghost use Rattle.world.specs.Places.{place_of};
+ghost use Rattle.ready_loop.specs.Begins.{IsFresh};
+ghost use Rattle.ready_loop.specs.History.{conn_of};
+ghost use Rattle.ready_loop.specs.States.{IsSound, MayWait, known_at};
 
 use jtext::Bytes;
 use ready_loop::{Loop, LoopFault, Next};
@@ -11,8 +14,17 @@ use world_mem::NullWorld;
 
 const PORTS: [u16; 5] = [1001, 1002, 1003, 1004, 1005];
 
-fn conn(job: u8, chan: Chan) -> Conn {
-    Conn { job, chan }
+// Begins a job's connections.
+fn start<W: World>(l: &mut Loop, w: &mut W, job: u8) -> bool
+    requires job { job < 16 }
+    requires fresh { IsFresh job l.old }
+    ensures known { IsTrue result → known_at l.new (place_of (conn_of job Chan.Shell)) ≡ true }
+    ensures sound { IsTrue result → IsSound l.old → IsSound l.new }
+{
+    match l.begin(w, job, PORTS, false) {
+        Ok(()) => true,
+        Err(_) => false,
+    }
 }
 
 // Reads until nothing is left and offers what is queued.
@@ -97,8 +109,11 @@ fn a_refused_job_is_begun_again_by_a_look_and_closed_once(rt: HostRuntime) -> Re
     let alloc = rt.alloc();
     let mut w = NullWorld::new(alloc);
     let mut l = Loop::new(alloc, 9)?;
-    let shell = conn(1, Chan::Shell);
-    assert!(rt; l.begin(&mut w, 1, PORTS, false).is_ok());
+    let shell = Conn {
+        job: 1,
+        chan: Chan::Shell,
+    };
+    assert!(rt; start(&mut l, &mut w, 1));
     l.queue(shell, Bytes::of(alloc, b"abc")?)?;
     assert!(rt; l.taken(shell) == 0);
     assert!(rt; serve(&mut l, &mut w));

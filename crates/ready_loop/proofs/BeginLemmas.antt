@@ -1,49 +1,14 @@
 -- What a first connect and a close do to a loop.
-use Rattle.std.proofs.Common.{
-  ◌≡◌,
-  ◌≢◌,
-  ◌⊎◌,
-  inl,
-  inr,
-  ◌<◌,
-  ◌||◌,
-  ◌+◌,
-  ◌*◌,
-  ℕ,
-  Bool,
-  true,
-  false,
-  List,
-  [],
-  ◌∷◌,
-  length,
-  set,
-  Option,
-  Some,
-  None,
-  Result,
-  Ok,
-  Err,
-  IsSomeAnd,
-  IfErr,
-  slice_get,
-  arith,
-  refl,
-  sym,
-  ◌∙◌,
-  ap,
-  subst,
-}
+use Rattle.std.proofs.Common.{◌≡◌, ◌≢◌, inl, inr, ◌<◌, ◌||◌, ℕ, Bool, true, false, List, [], ◌∷◌, length, set, Some, None, Result, Ok, Err, IfErr, slice_get, arith, refl, sym, ◌∙◌, ap, subst}
 use Rattle.world.specs.declared.chan.Chan.{Chan}
 use Rattle.std.proofs.lemmas.Bool.{cases_eq, false≢true}
 use Rattle.std.proofs.Math.ListN.{length-set}
 use Rattle.world.specs.declared.chan.Chan.TheVariants.{Shell, Control, Iopub, Heart}
 use Rattle.world.specs.declared.conn.Conn.{Conn}
 use Rattle.world.specs.declared.connected.Connected.{Connected}
-use Rattle.world.specs.declared.connected.Connected.TheVariants as connected
 use Rattle.world.specs.declared.entry.Entry.{Entry}
 use Rattle.world.specs.declared.entry.Entry.TheVariants as made
-use Rattle.world.specs.Moments.{Since, start, more}
+use Rattle.world.specs.Moments.{start, more}
 use Rattle.world.specs.Places.{status, time, place_of, is_at, chan_number}
 use Rattle.world.proofs.StatusLemmas.{at_own, connected_own, closed_own}
 use Rattle.ready_loop.specs.declared.fault.LoopFault.{LoopFault}
@@ -54,16 +19,16 @@ use Rattle.ready_loop.specs.declared.stage.Stage.{Stage}
 use Rattle.ready_loop.specs.declared.stage.Stage.TheVariants.{Fresh, Begun, Closed}
 use Rattle.ready_loop.specs.Link.{MayRead, MayWrite, connect_link, begun_link, closed_link, closed_stage, is_begun, is_known}
 use Rattle.ready_loop.specs.Begins.{BeginMoment, Begins, BeginsOne, port_of, CloseMoment, CloseCame, ClosesOne, closing, begun_in, failed_closed}
-use Rattle.ready_loop.specs.Queues.{Held, held_in, rest_at}
+use Rattle.ready_loop.specs.Queues.{held_in, rest_at}
 use Rattle.ready_loop.specs.Begins as begins
 use Rattle.ready_loop.specs.History.{History, same, with_begun, with_all_begun, conn_of, chans, after_begin}
 use Rattle.ready_loop.specs.Standing.{write_ended, StandsAt, Stand, StandsFor, Goes}
-use Rattle.ready_loop.specs.States.{OnlyAt, IsOffered, Each, SameKnown, failed_in, failed_at, failed_connect, known_in, known_at}
+use Rattle.ready_loop.specs.States.{OnlyAt, IsOffered, Each, SameKnown, failed_in, failed_connect, known_in, known_at}
 use Rattle.ready_loop.proofs.CallLemmas.{stands_begun, stands_closed, stands_unbegun}
 use Rattle.ready_loop.proofs.OfferLemmas.{ended_connect}
 use Rattle.ready_loop.proofs.StandLemmas.{stand_at, stands_as, same_but, begun_but, not_at, or_own}
 use Rattle.ready_loop.proofs.StateLemmas.{each_set, failed_set, kept_set, connect_failed, failed_connect_other, connect_stage}
-use Rattle.ready_loop.proofs.TableLemmas.{within, some_at, some_is, slice_get-set_same, slice_get-set_other}
+use Rattle.ready_loop.proofs.TableLemmas.{chan_low, within, some_at, some_is, slice_get-set_same, slice_get-set_other}
 
 -- ---- a first connect
 
@@ -220,12 +185,6 @@ closed_four s c i h w = ap (λ v. failed_closed h (failed_closed i v)) (either c
 pub begun_other : (conn q : Conn) (l new : Loop) → place_of conn ≢ place_of q → OnlyAt (place_of q) l new
     → begun_in (slice_get new.links (place_of conn)) ≡ begun_in (slice_get l.links (place_of conn))
 begun_other conn q l new ne only = ap begun_in (only.links (place_of conn) ne)
-
-chan_low : (chan : Chan) → chan_number chan < 4
-chan_low Shell = omega arith
-chan_low Control = omega arith
-chan_low Iopub = omega arith
-chan_low Heart = omega arith
 
 -- by the journal
 pub begun_stands : (conn : Conn) (l : Loop) (h : History) (past : List Entry) → conn.job < 16 → StandsFor l h past

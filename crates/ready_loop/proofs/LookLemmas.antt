@@ -1,37 +1,5 @@
 -- What a last look adds to the journal.
-use Rattle.std.proofs.Common.{
-  ◌≡◌,
-  ◌≢◌,
-  ◌⊎◌,
-  inl,
-  inr,
-  ◌+◌,
-  ◌*◌,
-  ◌/◌,
-  ◌-◌,
-  ◌<◌,
-  ◌≤◌,
-  ℕ,
-  Bool,
-  true,
-  false,
-  List,
-  [],
-  ◌∷◌,
-  Option,
-  Some,
-  None,
-  Result,
-  Ok,
-  Err,
-  slice_get,
-  arith,
-  refl,
-  sym,
-  ◌∙◌,
-  ap,
-  subst,
-}
+use Rattle.std.proofs.Common.{◌≡◌, inl, inr, ◌+◌, ◌/◌, ◌<◌, ℕ, Bool, true, false, List, [], ◌∷◌, Some, None, Ok, Err, slice_get, arith, refl, sym, ◌∙◌, ap, subst}
 use Rattle.std.proofs.lemmas.Bool.{cases_eq, false≢true}
 use Rattle.world.specs.declared.chan.Chan.{Chan}
 use Rattle.world.specs.declared.chan.Chan.TheVariants.{Shell, Control, Iopub, Heart}
@@ -42,22 +10,23 @@ use Rattle.world.specs.declared.entry.Entry.{Entry}
 use Rattle.world.specs.Counts.{Counts, NetCause}
 use Rattle.world.specs.Moments.{Since, start, more}
 use Rattle.world.proofs.MomentsLemmas.{since_then, since_as}
-use Rattle.world.specs.Places.{status, place_of, chan_number}
+use Rattle.world.specs.Places.{place_of, chan_number, time}
 use Rattle.ready_loop.specs.declared.fault.LoopFault.{LoopFault}
 use Rattle.ready_loop.specs.declared.fault.LoopFault.TheVariants.{NetFault, Spent}
 use Rattle.ready_loop.specs.declared.link.Link.{Link}
 use Rattle.ready_loop.specs.declared.readiness.Loop.{Loop}
-use Rattle.ready_loop.specs.Link.{IsToBegin, MayWrite}
-use Rattle.ready_loop.specs.History.{History, same, after_names}
-use Rattle.ready_loop.specs.Offers.{Offers, OfferAt, LookMoment, IsFailureOf, FaultCame, IsOfConn, Names, Extends, Connects, connects, later, BeginsAt, BeginsBelow, is_looked}
+use Rattle.ready_loop.specs.Link.{IsToBegin}
+use Rattle.ready_loop.specs.History.{History, same}
+use Rattle.ready_loop.specs.Offers.{OfferAt, LookMoment, FaultCame, IsOfConn, Names, Extends, Connects, connects, later, BeginsAt, BeginsBelow, is_looked, Offers, again, writes}
 use Rattle.ready_loop.specs.Queues.{rest_at}
 use Rattle.ready_loop.specs.Standing.{StandsFor, Goes}
-use Rattle.ready_loop.specs.States.{MayWait, IsDrained, IsOffered, IsSound, IsOfferedAt, OnlyAt, NamesAll, failed_in, failed_at, found_at, refused_in}
+use Rattle.ready_loop.specs.States.{MayWait, IsDrained, IsOffered, IsOfferedAt, OnlyAt, NamesAll, failed_at, found_at, refused_in, IsCalm}
 use Rattle.ready_loop.specs.Waits.{WaitCame, Looked, LooksThenWaits, LookCounts, left_after}
+use Rattle.ready_loop.proofs.OfferLemmas.{untimed_write}
 use Rattle.ready_loop.proofs.NameLemmas.{named_stands, names_are}
 use Rattle.ready_loop.proofs.StateLemmas.{sound_as}
-use Rattle.ready_loop.proofs.TableLemmas.{some_at, some_is}
-use Rattle.ready_loop.proofs.WaitLemmas.{all_served}
+use Rattle.ready_loop.proofs.TableLemmas.{chan_low, some_at}
+use Rattle.ready_loop.proofs.WaitLemmas.{all_served, none_due}
 
 -- ---- connects
 
@@ -111,12 +80,6 @@ below_more {n = n} {jobs} {l} {mid} {x = x} {z = z} untouched b m k q = record {
       ];
 }
 
-chan_low : (chan : Chan) → chan_number chan < 4
-chan_low Shell = omega arith
-chan_low Control = omega arith
-chan_low Iopub = omega arith
-chan_low Heart = omega arith
-
 job_at : (conn : Conn) (place : ℕ) → place_of conn ≡ place → place / 4 ≡ conn.job
 job_at conn place e = let low = chan_low conn.chan in omega arith
 
@@ -136,8 +99,18 @@ offered_at {q} {last} {l} {new} only here o = record {
 
 -- ---- the whole look
 
-module _ (jobs : List Bool) (l mid : Loop) (may : MayWait mid) (x y : List Entry) (goes : Goes (LookMoment jobs) same l mid x y) (begins : BeginsBelow 64 jobs l x y) where
-  looks_wait : (answer : Did) (new : Loop) (z : List Entry) → WaitCame 0 answer mid new y z → (h : History) → StandsFor l h x → LooksThenWaits jobs h answer x z
+-- connects and writes tell no moment
+offer_time : (forced : Bool) (h : History) (past : List Entry) (conn : Conn) (entry : Entry) → Offers forced h past conn entry → time (entry ∷ past) ≡ time past
+offer_time forced h past conn entry (again port how r) = refl
+offer_time forced h past conn entry (writes answer piece r) = untimed_write conn answer piece past
+
+look_time : (jobs : List Bool) (h : History) {x y : List Entry} → Since (LookMoment jobs h) x y → time y ≡ time x
+look_time jobs h start = refl
+look_time jobs h (more {past} {entry} s m) = offer_time true h past m.0 entry m.2 ∙ look_time jobs h s
+
+module _ (jobs : List Bool) (was later : ℕ) (l mid : Loop) (may : MayWait mid) (calm : IsCalm was l → IsCalm later mid) (same_clock : later ≡ was)
+    (x y : List Entry) (clock : was ≡ time x) (goes : Goes (LookMoment jobs) same l mid x y) (begins : BeginsBelow 64 jobs l x y) where
+  looks_wait : (answer : Did) (new : Loop) (z : List Entry) → WaitCame 0 answer mid new y z → (h : History) → StandsFor l h x → LooksThenWaits jobs (IsCalm was l) h answer x z
   looks_wait answer new z came h stand =
       let r = goes.so h stand in
       record {
@@ -147,15 +120,16 @@ module _ (jobs : List Bool) (l mid : Loop) (may : MayWait mid) (x y : List Entry
             let (link, found) = some_at l.links p (omega (arith, stand.size)) in
             begins.so h stand p at low looked (ap refused_in found ∙ (stand.each p link found).refused ∙ is);
         served = all_served mid h y may r.0;
+        none_due = λ c. none_due mid h y later (same_clock ∙ clock ∙ sym (look_time jobs h r.1)) r.0 (calm c);
         reports = came.reports;
         is = came.is;
       }
 
-  pub looked_failed : (new : Loop) (z : List Entry) → WaitCame 0 did.Failed mid new y z → Looked jobs (Err (NetFault None)) l new x z
+  pub looked_failed : (new : Loop) (z : List Entry) → WaitCame 0 did.Failed mid new y z → Looked jobs (Err (NetFault None)) was l new x z
   looked_failed new z came = record { so = λ h stand. (came.stands h (goes.so h stand).0, looks_wait did.Failed new z came h stand) }
 
   pub looked_done : (then new : Loop) (names : List Bool) (z : List Entry) → WaitCame 0 did.Done mid then y z → NamesAll then.links new.links → new.queues ≡ then.queues → new.left ≡ then.left
-      → ((p : ℕ) → p < 64 → slice_get names p ≡ Some (found_at then p)) → Looked jobs (Ok names) l new x z
+      → ((p : ℕ) → p < 64 → slice_get names p ≡ Some (found_at then p)) → Looked jobs (Ok names) was l new x z
   looked_done then new names z came all queues left named = record {
     so = λ h stand. (
       named_stands then new names all queues left named h z (came.stands h (goes.so h stand).0),
@@ -163,13 +137,13 @@ module _ (jobs : List Bool) (l mid : Loop) (may : MayWait mid) (x y : List Entry
     );
   }
 
-pub looked_until : (jobs : List Bool) (l new : Loop) (fault : LoopFault) (x y : List Entry) → FaultCame {T = Unit {0}} (Err fault) y → Goes (LookMoment jobs) same l new x y → Looked jobs (Err fault) l new x y
-looked_until jobs l new (NetFault (Some conn)) x y came goes = record { so = λ h stand. let r = goes.so h stand in (r.0, record { looks = r.1; failure = came }) }
-looked_until jobs l new (NetFault None) x y came goes = absurd came
-looked_until jobs l new Spent x y came goes = absurd came
+pub looked_until : (jobs : List Bool) (was : ℕ) (l new : Loop) (fault : LoopFault) (x y : List Entry) → FaultCame {T = Unit {0}} (Err fault) y → Goes (LookMoment jobs) same l new x y → Looked jobs (Err fault) was l new x y
+looked_until jobs was l new (NetFault (Some conn)) x y came goes = record { so = λ h stand. let r = goes.so h stand in (r.0, record { looks = r.1; failure = came }) }
+looked_until jobs was l new (NetFault None) x y came goes = absurd came
+looked_until jobs was l new Spent x y came goes = absurd came
 
-pub looked_spent : (jobs : List Bool) (l : Loop) (x : List Entry) → Looked jobs (Err Spent) l l x x
-looked_spent jobs l x = record { so = λ h stand. (stand, refl) }
+pub looked_spent : (jobs : List Bool) (was : ℕ) (l : Loop) (x : List Entry) → Looked jobs (Err Spent) was l l x x
+looked_spent jobs was l x = record { so = λ h stand. (stand, refl) }
 
 -- ---- what is not in the journal
 

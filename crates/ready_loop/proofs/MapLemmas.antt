@@ -1,30 +1,5 @@
 -- A step through the whole table of connections.
-use Rattle.std.proofs.Common.{
-  ◌≡◌,
-  ◌≢◌,
-  ◌⊎◌,
-  inl,
-  inr,
-  ◌+◌,
-  ◌<◌,
-  ◌≤◌,
-  ℕ,
-  Bool,
-  List,
-  length,
-  set,
-  Option,
-  Some,
-  None,
-  IsSomeAnd,
-  slice_get,
-  arith,
-  refl,
-  sym,
-  ◌∙◌,
-  ap,
-  subst,
-}
+use Rattle.std.proofs.Common.{◌≡◌, inl, inr, ◌+◌, ◌<◌, ℕ, Bool, List, set, Option, Some, None, IsSomeAnd, slice_get, arith, refl, sym, ◌∙◌, ap, subst}
 use Rattle.std.proofs.lemmas.Bool.{cases_eq, cases_lt}
 use Rattle.std.proofs.Math.ListN.{length-set}
 use Rattle.ready_loop.specs.declared.link.Link.{Link}

@@ -1,43 +1,18 @@
 -- What an answer that names ends does to a loop.
-use Rattle.std.proofs.Common.{
-  ◌≡◌,
-  ◌+◌,
-  ◌<◌,
-  ◌||◌,
-  ℕ,
-  Bool,
-  false,
-  List,
-  [],
-  length,
-  set,
-  Option,
-  Some,
-  None,
-  slice_get,
-  unwrap_or,
-  arith,
-  refl,
-  sym,
-  ◌∙◌,
-  ap,
-  subst,
-  Ok,
-}
+use Rattle.std.proofs.Common.{◌≡◌, ◌+◌, ◌<◌, ◌||◌, ℕ, Bool, false, List, length, set, Some, slice_get, unwrap_or, arith, refl, sym, ◌∙◌, ap, subst, Ok}
 use Rattle.std.proofs.lemmas.Bool.{cases_eq}
-use Rattle.std.proofs.Common.{◌⊎◌, inl, inr, ◌≢◌}
+use Rattle.std.proofs.Common.{inl, inr}
 use Rattle.world.specs.declared.entry.Entry.{Entry}
 use Rattle.world.specs.Places.{is_reported, status}
 use Rattle.world.specs.Waits.{wait_count}
-use Rattle.ready_loop.specs.declared.link.Link.{Link}
 use Rattle.ready_loop.specs.declared.fault.LoopFault.{LoopFault}
 use Rattle.ready_loop.specs.declared.readiness.Loop.{Loop}
-use Rattle.ready_loop.specs.Link.{MayRead, MayWrite, named_link, is_found}
+use Rattle.ready_loop.specs.Link.{named_link, is_found}
 use Rattle.ready_loop.specs.History.{History, same, with_all_named, after_names}
-use Rattle.ready_loop.specs.Offers.{NamesEnds, Names, is_to_name}
-use Rattle.ready_loop.specs.Queues.{Held, held_in, rest_at}
-use Rattle.ready_loop.specs.Standing.{StandsAt, Stand, StandsFor, Goes, write_ended}
-use Rattle.ready_loop.specs.States.{NamesAll, MapsBelow, MapsTo, IsDrained, IsOffered, IsCalm, AllOfferedBelow, NotRead, Each, SameKnown, failed_in, failed_at, found_in, found_at}
+use Rattle.ready_loop.specs.Offers.{Names, is_to_name}
+use Rattle.ready_loop.specs.Queues.{held_in, rest_at}
+use Rattle.ready_loop.specs.Standing.{StandsAt, StandsFor, Goes, write_ended}
+use Rattle.ready_loop.specs.States.{NamesAll, IsDrained, IsOffered, IsCalm, AllOfferedBelow, SameKnown, failed_at, found_in, found_at}
 use Rattle.ready_loop.proofs.CallLemmas.{stands_named}
 use Rattle.ready_loop.proofs.MapLemmas.{maps_at, maps_failed, maps_known}
 use Rattle.ready_loop.proofs.StandLemmas.{stands_as}

@@ -1,44 +1,5 @@
 -- What a new loop stands for, and what queueing does.
-use Rattle.std.proofs.Common.{
-  ◌≡◌,
-  ◌≢◌,
-  ◌⊎◌,
-  inl,
-  inr,
-  ◌+◌,
-  ◌<◌,
-  ◌++◌,
-  ◌==◌,
-  ℕ,
-  zero,
-  suc,
-  Bool,
-  true,
-  false,
-  if◌then◌else◌,
-  List,
-  [],
-  ◌∷◌,
-  length,
-  set,
-  replicate,
-  Option,
-  Some,
-  None,
-  Result,
-  Ok,
-  Err,
-  OnOk,
-  OnErr,
-  IsSomeAnd,
-  slice_get,
-  arith,
-  refl,
-  sym,
-  ◌∙◌,
-  ap,
-  subst,
-}
+use Rattle.std.proofs.Common.{◌≡◌, inl, inr, ◌+◌, ◌<◌, ◌++◌, ◌==◌, ℕ, zero, suc, false, List, [], length, set, replicate, Some, Result, Ok, Err, OnOk, OnErr, slice_get, arith, refl, sym, ◌∙◌, ap, subst}
 use Rattle.std.proofs.lemmas.Bool.{cases_eq, eq-eqb, cond-true, false≢true}
 use Rattle.world.specs.declared.conn.Conn.{Conn}
 use Rattle.world.specs.declared.entry.Entry.{Entry}
@@ -46,15 +7,14 @@ use Rattle.world.specs.Places.{place_of, status}
 use Rattle.world.specs.Waits.{wait_count}
 use Rattle.ready_loop.specs.declared.link.Link.{Link}
 use Rattle.ready_loop.specs.declared.readiness.Loop.{Loop}
-use Rattle.ready_loop.specs.declared.stage.Stage.TheVariants.{Fresh, Begun, Closed}
 use Rattle.ready_loop.specs.Link.{fresh_link}
 use Rattle.ready_loop.specs.History.{History, no_history, with_queued, after_queue}
 use Rattle.ready_loop.specs.Queues.{Held, held_in, rest_at, taken_at}
 use Rattle.ready_loop.specs.Standing.{StandsAt, Stand, StandsFor, IsShut, AllShut, put_at, write_ended}
-use Rattle.ready_loop.specs.States.{IsDrained, IsOffered, IsSound, MayWait, known_in, known_at}
+use Rattle.ready_loop.specs.States.{MayWait, known_in, known_at}
 use Rattle.ready_loop.proofs.CallLemmas.{stands_queued}
-use Rattle.ready_loop.proofs.StandLemmas.{stands_as, SameBut, queued_but}
-use Rattle.ready_loop.proofs.TableLemmas.{some_at, some_is, slice_get-set_same, slice_get-set_other, not_some}
+use Rattle.ready_loop.proofs.StandLemmas.{stands_as, queued_but}
+use Rattle.ready_loop.proofs.TableLemmas.{some_at, slice_get-set_same, slice_get-set_other, not_some}
 
 -- ---- a new loop
 
@@ -149,13 +109,13 @@ queued_one q more l queues within is h journal stand = record {
   each = λ p link found. elim (cases_eq p q) [
     | inl e ↦
         let held : held_in (slice_get queues q) ≡ record { rest = rest_at l.queues q ++ more; taken = taken_at l.queues q }
-            = ap (λ qs. held_in (slice_get qs q)) is ∙ ap held_in (slice_get-set_same l.queues q (record { rest = rest_at l.queues q ++ more; taken = taken_at l.queues q }) within) in
+        = ap (λ qs. held_in (slice_get qs q)) is ∙ ap held_in (slice_get-set_same l.queues q (record { rest = rest_at l.queues q ++ more; taken = taken_at l.queues q }) within) in
         let found_q : slice_get l.links q ≡ Some link = subst (λ i. slice_get l.links i ≡ Some link) e found in
         subst (λ i. StandsAt link (held_in (slice_get queues i)) (h.begun i) ((with_queued q more h).queued i) (h.named i) (status i journal) (write_ended i journal)) (sym e)
         (stands_as held refl (own_queued q more h) refl refl refl (stands_queued link _ _ _ _ _ _ more (stand.each q link found_q)))
     | inr ne ↦
         let held : held_in (slice_get queues p) ≡ held_in (slice_get l.queues p)
-            = ap (λ qs. held_in (slice_get qs p)) is ∙ ap held_in (slice_get-set_other l.queues q p (record { rest = rest_at l.queues q ++ more; taken = taken_at l.queues q }) ne) in
+        = ap (λ qs. held_in (slice_get qs p)) is ∙ ap held_in (slice_get-set_other l.queues q p (record { rest = rest_at l.queues q ++ more; taken = taken_at l.queues q }) ne) in
         stands_as held refl ((queued_but q more h).queued p ne) refl refl refl (stand.each p link found)
   ];
 }

@@ -1,59 +1,28 @@
 -- What a connect of a refused connection and a write do to a loop.
-use Rattle.std.proofs.Common.{
-  ◌≡◌,
-  ◌≢◌,
-  ◌⊎◌,
-  inl,
-  inr,
-  ◌+◌,
-  ◌<◌,
-  ◌≤◌,
-  ◌++◌,
-  ℕ,
-  Bool,
-  true,
-  false,
-  List,
-  [],
-  ◌∷◌,
-  length,
-  set,
-  drop,
-  Option,
-  Some,
-  None,
-  slice_get,
-  arith,
-  refl,
-  sym,
-  ◌∙◌,
-  ap,
-  subst,
-}
+use Rattle.std.proofs.Common.{◌≡◌, ◌≢◌, inl, inr, ◌+◌, ◌<◌, ◌≤◌, ◌++◌, ℕ, Bool, true, false, List, [], ◌∷◌, length, set, Option, Some, None, slice_get, arith, refl, sym, ◌∙◌, ap, subst}
 use Rattle.std.proofs.lemmas.Bool.{cond-true}
 use Rattle.world.specs.declared.conn.Conn.{Conn}
 use Rattle.world.specs.declared.connected.Connected.{Connected}
-use Rattle.world.specs.declared.connected.Connected.TheVariants as connected
 use Rattle.world.specs.declared.entry.Entry.{Entry}
 use Rattle.world.specs.declared.entry.Entry.TheVariants as made
 use Rattle.world.specs.declared.put.Put.{Put}
 use Rattle.world.specs.declared.put.Put.TheVariants as put
 use Rattle.world.specs.declared.side.Side.TheVariants as side
-use Rattle.world.specs.Moments.{Since, start, more}
+use Rattle.world.specs.Moments.{start, more}
 use Rattle.world.specs.Told.{write_entry, PutSome}
-use Rattle.world.specs.Places.{Status, status, time, place_of, is_at, IsUnused, concerns, connected_after}
+use Rattle.world.specs.Places.{status, time, place_of, is_at, IsUnused, concerns}
 use Rattle.world.specs.Waits.{is_wait}
 use Rattle.world.proofs.StatusLemmas.{at_own, connected_own, put_own, stuck_own, ended_own, refused_own, put_failed_own}
 use Rattle.ready_loop.specs.declared.link.Link.{Link}
 use Rattle.ready_loop.specs.declared.readiness.Loop.{Loop}
 use Rattle.ready_loop.specs.Link.{MayWrite, IsToBegin, connect_link, write_link}
 use Rattle.ready_loop.specs.History.{History, same}
-use Rattle.ready_loop.specs.Offers.{IsBegunAgain, IsOfferedTo, Offers, again, writes, OfferMoment, OfferAt, LookMoment}
-use Rattle.ready_loop.specs.Queues.{Held, held_in, rest_at, taken_at, put_count}
-use Rattle.ready_loop.specs.Standing.{write_ended, StandsAt, Stand, StandsFor, Goes}
+use Rattle.ready_loop.specs.Offers.{IsOfferedTo, Offers, again, writes, OfferMoment, OfferAt}
+use Rattle.ready_loop.specs.Queues.{Held, held_in, rest_at}
+use Rattle.ready_loop.specs.Standing.{write_ended, Stand, StandsFor, Goes}
 use Rattle.ready_loop.proofs.CallLemmas.{stands_again, stands_write, status_write, held_write, ended_write, put_known, known_up, stage_of_begun}
-use Rattle.ready_loop.proofs.StandLemmas.{stand_at, stands_as, SameBut, same_but, not_at}
-use Rattle.ready_loop.proofs.TableLemmas.{within, some_is, slice_get-set_same, slice_get-set_other}
+use Rattle.ready_loop.proofs.StandLemmas.{stand_at, stands_as, same_but, not_at}
+use Rattle.ready_loop.proofs.TableLemmas.{within, slice_get-set_same, slice_get-set_other}
 
 -- ---- a connect
 
@@ -76,12 +45,16 @@ again_goes forced conn p how l links link was last past place found to then is c
           (λ q ne. not_at q conn ne) (λ q ne. refl) (same_but (place_of conn) h) own stand in (
             subst (λ ls. Stand ls l.queues l.left h (entry ∷ past)) (sym is)
                 (subst (λ i. Stand (set l.links i (connect_link how last link)) l.queues l.left h (entry ∷ past)) place r),
-            more start (conn, place, again link.port how (record {
-              at = to.at;
-              refused = refused;
-              due = elim to.due [ inl f ↦ inl f | inr d ↦ inr (subst (λ n. to.at + 200 ≤ n) (sym then ∙ clock) d) ];
-              same_port = m.port (stage_of_begun link.stage (m.stage ∙ m.refused_begun to.at refused));
-            })),
+            more start (
+              conn,
+              place,
+              again link.port how (record {
+                at = to.at;
+                refused = refused;
+                due = elim to.due [ inl f ↦ inl f | inr d ↦ inr (subst (λ n. to.at + 200 ≤ n) (sym then ∙ clock) d) ];
+                same_port = m.port (stage_of_begun link.stage (m.stage ∙ m.refused_begun to.at refused));
+              }),
+            ),
           );
     }
 

@@ -1,32 +1,6 @@
 -- A wait comes only after all that was awake was read.
-use Rattle.std.proofs.Common.{
-  ◌≡◌,
-  ◌⊎◌,
-  inl,
-  inr,
-  ◌<◌,
-  ◌≤◌,
-  ◌||◌,
-  ◌+◌,
-  ℕ,
-  zero,
-  suc,
-  Bool,
-  true,
-  false,
-  if◌then◌else◌,
-  List,
-  [],
-  ◌∷◌,
-  Option,
-  arith,
-  refl,
-  sym,
-  ◌∙◌,
-  ap,
-  subst,
-}
-use Rattle.std.proofs.lemmas.Bool.{cases_eq, cases_lt, false≢true}
+use Rattle.std.proofs.Common.{◌≡◌, ◌⊎◌, inl, inr, ◌<◌, ◌≤◌, ◌||◌, ℕ, zero, suc, Bool, true, false, if◌then◌else◌, List, [], ◌∷◌, arith, refl, sym, ◌∙◌, ap}
+use Rattle.std.proofs.lemmas.Bool.{cases_eq, false≢true}
 use Rattle.world.specs.declared.connected.Connected.TheVariants as connected
 use Rattle.world.specs.declared.entry.Entry.{Entry}
 use Rattle.world.specs.declared.entry.Entry.TheVariants as made

@@ -1,51 +1,25 @@
 -- What a read does to a loop.
-use Rattle.std.proofs.Common.{
-  ◌≡◌,
-  ◌≢◌,
-  ◌+◌,
-  ◌<◌,
-  ◌||◌,
-  ◌==◌,
-  ℕ,
-  Bool,
-  true,
-  false,
-  List,
-  [],
-  ◌∷◌,
-  length,
-  set,
-  Option,
-  Some,
-  IsSomeAnd,
-  slice_get,
-  refl,
-  sym,
-  ◌∙◌,
-  ap,
-  subst,
-}
+use Rattle.std.proofs.Common.{◌≡◌, ◌≢◌, ◌<◌, ℕ, Bool, true, false, List, ◌∷◌, set, Some, slice_get, refl, sym, ◌∙◌, subst}
 use Rattle.world.specs.declared.conn.Conn.{Conn}
 use Rattle.world.specs.declared.entry.Entry.{Entry}
-use Rattle.world.specs.declared.entry.Entry.TheVariants as made
 use Rattle.world.specs.declared.got.Got.{Got}
 use Rattle.world.specs.declared.got.Got.TheVariants as got
 use Rattle.world.specs.declared.side.Side.TheVariants as side
-use Rattle.world.specs.Moments.{Since, start, more}
+use Rattle.world.specs.Moments.{start, more}
 use Rattle.world.specs.Told.{read_entry}
-use Rattle.world.specs.Places.{Status, status, time, place_of, is_read, IsUnused, concerns, got_after, ended_after, refused_after}
+use Rattle.world.specs.Places.{Status, status, time, place_of, is_read, IsUnused, concerns}
 use Rattle.world.specs.Waits.{is_wait}
 use Rattle.world.proofs.StatusLemmas.{at_own, got_own, dry_own, ended_own, refused_own, read_failed_own}
 use Rattle.ready_loop.specs.declared.link.Link.{Link}
 use Rattle.ready_loop.specs.declared.readiness.Loop.{Loop}
 use Rattle.ready_loop.specs.Link.{MayRead, read_link}
-use Rattle.ready_loop.specs.History.{History, with_named}
-use Rattle.ready_loop.specs.Queues.{Held, held_in}
-use Rattle.ready_loop.specs.Reads.{IsReadOf, ReadMoment, after_got}
-use Rattle.ready_loop.specs.Standing.{write_ended, StandsAt, Stand, StandsFor, Goes}
+use Rattle.ready_loop.specs.History.{History}
+use Rattle.ready_loop.specs.Queues.{Held}
+use Rattle.ready_loop.specs.Reads.{ReadMoment, after_got}
+use Rattle.ready_loop.specs.Standing.{write_ended, StandsAt, Stand, Goes}
 use Rattle.ready_loop.proofs.CallLemmas.{status_read, named_read, stands_read}
 use Rattle.ready_loop.proofs.StandLemmas.{stand_at, stands_as, SameBut, same_but, named_but, not_at, or_own}
-use Rattle.ready_loop.proofs.TableLemmas.{within, some_is}
+use Rattle.ready_loop.proofs.TableLemmas.{within}
 
 -- the entry of a read, of its own place and of the others
 status_own : (conn : Conn) (room : ℕ) (answer : Got) (buffer : List ℕ) (past : List Entry)
@@ -127,11 +101,14 @@ read_goes conn p room answer buffer l links link last past place found may is cl
           (λ q ne. concerns_not conn room answer buffer q ne) (λ q ne. refl) (same_but_got answer conn h) own stand in (
             subst (λ ls. Stand ls l.queues l.left (after_got answer conn h) (entry ∷ past)) (sym is)
                 (subst (λ i. Stand (set l.links i (read_link answer last link)) l.queues l.left (after_got answer conn h) (entry ∷ past)) place r),
-            more start (conn, record {
-              read = is_one conn room answer buffer;
-              awake = sym m.awake ∙ may.awake;
-              sound = sym m.failed ∙ may.sound;
-              few = subst (λ n. n < 64) (m.reads may.awake) may.reads;
-            }),
+            more start (
+              conn,
+              record {
+                read = is_one conn room answer buffer;
+                awake = sym m.awake ∙ may.awake;
+                sound = sym m.failed ∙ may.sound;
+                few = subst (λ n. n < 64) (m.reads may.awake) may.reads;
+              },
+            ),
           );
     }

@@ -1,42 +1,13 @@
 -- What holds after any list of calls.
-use Rattle.std.proofs.Common.{
-  ◌≡◌,
-  ◌⊎◌,
-  inl,
-  inr,
-  ◌+◌,
-  ◌<◌,
-  ◌≤◌,
-  ℕ,
-  Bool,
-  true,
-  false,
-  List,
-  [],
-  ◌∷◌,
-  Option,
-  Some,
-  None,
-  Result,
-  Ok,
-  Err,
-  arith,
-  refl,
-  sym,
-  ◌∙◌,
-  ap,
-  subst,
-}
-use Rattle.std.proofs.lemmas.Bool.{cases_eq, cases_lt, false≢true}
+use Rattle.std.proofs.Common.{◌≡◌, inl, inr, ◌+◌, ◌<◌, ◌≤◌, ℕ, Bool, true, false, List, [], ◌∷◌, Option, Some, None, Result, Ok, Err, arith, refl, sym, ◌∙◌, ap, subst}
 use Rattle.world.specs.declared.conn.Conn.{Conn}
 use Rattle.world.specs.declared.did.Did.{Did}
 use Rattle.world.specs.declared.did.Did.TheVariants.{Done, Failed}
 use Rattle.world.specs.declared.entry.Entry.{Entry}
 use Rattle.world.specs.declared.entry.Entry.TheVariants as made
-use Rattle.world.specs.declared.reports.Reports.{Reports}
 use Rattle.world.specs.Moments.{Since, start, more}
 use Rattle.world.proofs.MomentsLemmas.{since_then, since_as}
-use Rattle.world.specs.Places.{status, time, place_of, concerns}
+use Rattle.world.specs.Places.{status, concerns}
 use Rattle.world.specs.Waits.{is_after_wait}
 use Rattle.world.proofs.StatusLemmas.{status_elsewhere}
 use Rattle.world.proofs.WaitsLemmas.{not_counted}
@@ -49,8 +20,18 @@ use Rattle.ready_loop.specs.Offers.{Offers, again, writes, OfferMoment, LookMome
 use Rattle.ready_loop.specs.Reads.{ReadMoment}
 use Rattle.ready_loop.specs.Runs as runs
 use Rattle.ready_loop.specs.Runs.{Calls, Runs, IsFair, IsFairWait, FairMoment}
-use Rattle.ready_loop.specs.Standing.{StandsFor, Stand, Goes, IsElsewhere, MadeElsewhere, write_ended}
-use Rattle.ready_loop.specs.Waits.{Timer, most, IsLimit, IsTurnWait, AllServed, LooksThenWaits, LookCame, Waits, TurnCame, Turned, Looked}
+use Rattle.ready_loop.specs.Standing.{StandsFor, IsElsewhere, MadeElsewhere}
+use Rattle.ready_loop.specs.States.{IsCalm}
+use Rattle.ready_loop.specs.Waits.{
+  NoneDue,
+  most,
+  IsTurnWait,
+  AllServed,
+  LooksThenWaits,
+  LookCame,
+  Waits,
+  TurnCame,
+}
 use Rattle.ready_loop.proofs.ReadAllLemmas.{reads_all, some_awake}
 use Rattle.ready_loop.proofs.StandLemmas.{stands_as, ended_elsewhere}
 
@@ -129,44 +110,46 @@ sleeps_asleep due h ms past rule lt = elim (some_awake past) [
   | inr none ↦ none
 ]
 
-fair_turn : (due : Option ℕ) (h : History) (ms : ℕ) (past : List Entry) → IsTurnWait due h ms past → IsFairWait ms past
-fair_turn due h ms past rule = record {
+fair_turn : (due : Option ℕ) (h : History) (ms : ℕ) (past : List Entry) → IsTurnWait due h ms past → NoneDue past → IsFairWait ms past
+fair_turn due h ms past rule calm = record {
   most = limit_most due h ms past rule;
   sleeps = sleeps_asleep due h ms past rule;
   sound = λ p low. (rule.served p low).sound;
   reads = reads_all h past rule.served;
+  calm = calm;
 }
 
-fair_zero : (h : History) (past : List Entry) → AllServed h past → IsFairWait 0 past
-fair_zero h past served = record {
+fair_zero : (h : History) (past : List Entry) → AllServed h past → NoneDue past → IsFairWait 0 past
+fair_zero h past served calm = record {
   most = omega arith;
   sleeps = λ lt. absurd (omega arith);
   sound = λ p low. (served p low).sound;
   reads = reads_all h past served;
+  calm = calm;
 }
 
-one_wait : (due : Option ℕ) (h : History) (did : Did) (before after : List Entry) → Waits due h did before after → Since FairMoment before after
-one_wait due h did before after w = subst (Since FairMoment before) (sym w.is) (more start (runs.waited w.ms w.reports did (fair_turn due h w.ms before w.rule)))
+one_wait : (due : Option ℕ) (h : History) (did : Did) (before after : List Entry) → NoneDue before → Waits due h did before after → Since FairMoment before after
+one_wait due h did before after calm w = subst (Since FairMoment before) (sym w.is) (more start (runs.waited w.ms w.reports did (fair_turn due h w.ms before w.rule calm)))
 
 behind_wait : (due : Option ℕ) (h : History) (did : Did) (before after : List Entry) → Waits due h did before after → is_after_wait after ≡ true
 behind_wait due h did before after w = subst (λ j. is_after_wait j ≡ true) (sym w.is) refl
 
-turn_fair : (due : Option ℕ) (result : Result ℕ LoopFault) (h : History) (before after : List Entry) → TurnCame due result h before after → Since FairMoment before after
-turn_fair due (Ok now) h before after came =
-    subst (Since FairMoment before) (sym came.is) (more (one_wait due h Done before came.past came.waits) (runs.clock now (behind_wait due h Done before came.past came.waits)))
-turn_fair due (Err (NetFault None)) h before after came = one_wait due h Failed before after came
-turn_fair due (Err (NetFault (Some conn))) h before after came = absurd came
-turn_fair due (Err Spent) h before after came = subst (Since FairMoment before) (sym came) start
+turn_fair : (due : Option ℕ) (result : Result ℕ LoopFault) (h : History) (before after : List Entry) → NoneDue before → TurnCame due result h before after → Since FairMoment before after
+turn_fair due (Ok now) h before after calm came =
+    subst (Since FairMoment before) (sym came.is) (more (one_wait due h Done before came.past calm came.waits) (runs.clock now (behind_wait due h Done before came.past came.waits)))
+turn_fair due (Err (NetFault None)) h before after calm came = one_wait due h Failed before after calm came
+turn_fair due (Err (NetFault (Some conn))) h before after calm came = absurd came
+turn_fair due (Err Spent) h before after calm came = subst (Since FairMoment before) (sym came) start
 
-look_wait : (jobs : List Bool) (h : History) (did : Did) (before after : List Entry) → LooksThenWaits jobs h did before after → Since FairMoment before after
-look_wait jobs h did before after l =
-    subst (Since FairMoment before) (sym l.is) (more (since_as (λ now m. fair_look jobs now h m) l.looks) (runs.waited 0 l.reports did (fair_zero h l.past l.served)))
+look_wait : (jobs : List Bool) (C : Type 0) (h : History) (did : Did) (before after : List Entry) → C → LooksThenWaits jobs C h did before after → Since FairMoment before after
+look_wait jobs C h did before after calm l =
+    subst (Since FairMoment before) (sym l.is) (more (since_as (λ now m. fair_look jobs now h m) l.looks) (runs.waited 0 l.reports did (fair_zero h l.past l.served (l.none_due calm))))
 
-look_fair : (jobs : List Bool) (result : Result (List Bool) LoopFault) (h : History) (before after : List Entry) → LookCame jobs result h before after → Since FairMoment before after
-look_fair jobs (Ok names) h before after came = look_wait jobs h Done before after came
-look_fair jobs (Err (NetFault None)) h before after came = look_wait jobs h Failed before after came
-look_fair jobs (Err (NetFault (Some conn))) h before after came = since_as (λ now m. fair_look jobs now h m) came.looks
-look_fair jobs (Err Spent) h before after came = subst (Since FairMoment before) (sym came) start
+look_fair : (jobs : List Bool) (C : Type 0) (result : Result (List Bool) LoopFault) (h : History) (before after : List Entry) → C → LookCame jobs C result h before after → Since FairMoment before after
+look_fair jobs C (Ok names) h before after calm came = look_wait jobs C h Done before after calm came
+look_fair jobs C (Err (NetFault None)) h before after calm came = look_wait jobs C h Failed before after calm came
+look_fair jobs C (Err (NetFault (Some conn))) h before after calm came = since_as (λ now m. fair_look jobs now h m) came.looks
+look_fair jobs C (Err Spent) h before after calm came = subst (Since FairMoment before) (sym came) start
 
 -- ---- any calls
 
@@ -174,8 +157,8 @@ call_holds : (old new : Loop) (h k : History) (before after : List Entry) → Ca
 call_holds old _ h _ before _ (runs.begins job heart result new after goes) stand = let r = goes.so h stand in (r.0, since_as (λ now m. fair_begin now h m) r.1)
 call_holds old _ h _ before _ (runs.queues conn bytes result new goes) stand = (goes stand, start)
 call_holds old _ h _ before _ (runs.offers result new after goes) stand = let r = goes.so h stand in (r.0, since_as (λ now m. fair_offer now h m) r.1)
-call_holds old _ h _ before _ (runs.turns due result last new after goes) stand = let r = goes.so h stand in (r.0, turn_fair due result h before after r.1)
-call_holds old _ h _ before _ (runs.looks jobs result new after goes) stand = let r = goes.so h stand in (r.0, look_fair jobs result h before after r.1)
+call_holds old _ h _ before _ (runs.turns due result last new after calm goes) stand = let r = goes.so h stand in (r.0, turn_fair due result h before after (goes.calm h stand calm) r.1)
+call_holds old _ h _ before _ (runs.looks jobs result last new after calm goes) stand = let r = goes.so h stand in (r.0, look_fair jobs (IsCalm last old) result h before after calm r.1)
 call_holds old _ h _ before _ (runs.reads result new after goes) stand = let r = goes.so h stand in (r.0, since_as (λ now m. fair_read now h m) r.1)
 call_holds old _ h _ before _ (runs.closes new after goes) stand = let r = goes.so h stand in (r.0, since_as (λ now m. fair_close now h m) r.1)
 call_holds old _ h _ before _ (runs.elsewhere after since) stand = (others_stand old h before after since stand, since_as fair_other since)

@@ -1,52 +1,16 @@
 -- How a loop goes on standing for the journal when an entry is of one connection.
-use Rattle.std.proofs.Common.{
-  ◌≡◌,
-  ◌≢◌,
-  ◌⊎◌,
-  inl,
-  inr,
-  ◌+◌,
-  ◌<◌,
-  ◌≤◌,
-  ◌==◌,
-  ◌||◌,
-  ℕ,
-  Bool,
-  true,
-  false,
-  List,
-  [],
-  ◌∷◌,
-  length,
-  set,
-  Option,
-  Some,
-  None,
-  slice_get,
-  arith,
-  refl,
-  sym,
-  ◌∙◌,
-  ap,
-  subst,
-}
-use Rattle.std.proofs.lemmas.Bool.{cases_eq, eq-eqb, ne_eqb, cond-true, cond-false}
+use Rattle.std.proofs.Common.{◌≡◌, ◌≢◌, inl, inr, ◌+◌, ◌<◌, ◌==◌, ◌||◌, ℕ, Bool, true, false, List, ◌∷◌, length, set, Some, slice_get, arith, refl, sym, ◌∙◌, ap, subst}
+use Rattle.std.proofs.lemmas.Bool.{cases_eq, eq-eqb, ne_eqb, cond-false}
 use Rattle.std.proofs.Math.ListN.{length-set}
 use Rattle.world.specs.declared.conn.Conn.{Conn}
-use Rattle.world.specs.declared.connected.Connected.{Connected}
-use Rattle.world.specs.declared.connected.Connected.TheVariants as connected
 use Rattle.world.specs.declared.entry.Entry.{Entry}
 use Rattle.world.specs.declared.entry.Entry.TheVariants as made
-use Rattle.world.specs.declared.got.Got.{Got}
-use Rattle.world.specs.declared.got.Got.TheVariants as got
-use Rattle.world.specs.declared.put.Put.{Put}
-use Rattle.world.specs.declared.put.Put.TheVariants as put
 use Rattle.world.specs.declared.side.Side.TheVariants as side
 use Rattle.world.specs.Counts.{Counts, NetCause}
-use Rattle.world.specs.Moments.{Since, start, more}
+use Rattle.world.specs.Moments.{start}
 use Rattle.world.proofs.MomentsLemmas.{since_then, since_as}
 use Rattle.world.specs.Places.{Status, status, is_at, place_of, concerns}
-use Rattle.world.specs.Waits.{is_wait, wait_count}
+use Rattle.world.specs.Waits.{is_wait}
 use Rattle.world.proofs.StatusLemmas.{status_elsewhere}
 use Rattle.world.proofs.WaitsLemmas.{not_counted}
 use Rattle.ready_loop.specs.declared.link.Link.{Link}

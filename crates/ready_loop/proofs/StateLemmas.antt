@@ -1,43 +1,5 @@
 -- What one call does to what is to be done before the next wait.
-use Rattle.std.proofs.Common.{
-  ◌≡◌,
-  ◌≢◌,
-  ◌⊎◌,
-  inl,
-  inr,
-  ◌+◌,
-  ◌<◌,
-  ◌≤◌,
-  ◌||◌,
-  ◌==◌,
-  ◌∷◌,
-  drop,
-  length-drop,
-  ℕ,
-  Bool,
-  true,
-  false,
-  List,
-  [],
-  length,
-  set,
-  Option,
-  Some,
-  None,
-  IsSomeAnd,
-  Result,
-  Ok,
-  Err,
-  OnOk,
-  slice_get,
-  get_or,
-  arith,
-  refl,
-  sym,
-  ◌∙◌,
-  ap,
-  subst,
-}
+use Rattle.std.proofs.Common.{◌≡◌, ◌≢◌, inl, inr, ◌+◌, ◌<◌, ◌||◌, ◌∷◌, drop, length-drop, ℕ, Bool, true, false, List, [], length, set, Option, Some, None, IsSomeAnd, Result, Ok, Err, OnOk, slice_get, arith, refl, sym, ◌∙◌, ap, subst}
 use Rattle.std.proofs.lemmas.Bool.{cases_eq, cases_lt, eq-eqb, ne_eqb, false≢true}
 use Rattle.world.specs.declared.conn.Conn.{Conn}
 use Rattle.world.specs.declared.got.Got.{Got}
@@ -46,14 +8,14 @@ use Rattle.world.specs.declared.connected.Connected.{Connected}
 use Rattle.world.specs.declared.connected.Connected.TheVariants as connected
 use Rattle.world.specs.declared.put.Put.{Put}
 use Rattle.world.specs.declared.put.Put.TheVariants as put
-use Rattle.world.specs.Places.{place_of, is_at}
+use Rattle.world.specs.Places.{place_of}
 use Rattle.world.specs.Told.{PutSome}
 use Rattle.ready_loop.specs.declared.link.Link.{Link}
 use Rattle.ready_loop.specs.declared.readiness.Loop.{Loop}
 use Rattle.ready_loop.specs.Link.{MayRead, MayWrite, IsToBegin, read_link, connect_link, write_link, is_known}
 use Rattle.ready_loop.specs.Queues.{Held, held_in, rest_at, put_count}
 use Rattle.ready_loop.specs.Reads.{failed_got}
-use Rattle.ready_loop.specs.States.{EachBelow, Each, IsDrained, IsOffered, IsSound, NotRead, failed_in, failed_at, failed_connect, failed_put, IsCalmAt, IsOfferedAt, AllOfferedBelow, OnlyAt, FailsOnly, SameKnown, known_in, flag, writable_in, load}
+use Rattle.ready_loop.specs.States.{EachBelow, Each, IsDrained, IsOffered, IsSound, NotRead, failed_in, failed_at, failed_connect, failed_put, IsCalmAt, IsOfferedAt, AllOfferedBelow, OnlyAt, FailsOnly, SameKnown, known_in, flag, writable_in, load, IsCalm}
 use Rattle.ready_loop.specs.declared.fault.LoopFault.{LoopFault}
 use Rattle.ready_loop.proofs.CallLemmas.{held_write}
 use Rattle.ready_loop.proofs.OfferLemmas.{held_set}
@@ -402,3 +364,12 @@ not_failed put.Stuck conn p was ne = refl
 not_failed put.Ended conn p was ne = refl
 not_failed put.Refused conn p was ne = refl
 not_failed put.Failed conn p was ne = absurd (ne refl)
+
+-- a place that is calm joins the others
+pub calm_joins : (q last later : ℕ) (l new : Loop) → later ≡ last → OnlyAt q l new → IsCalmAt q later new → IsCalm last l → IsCalm later new
+calm_joins q last later l new clock only here calm = record {
+  each = λ p link low found at refused. elim (cases_eq p q) [
+    | inl e ↦ here.at link (subst (λ i. slice_get new.links i ≡ Some link) e found) at refused
+    | inr ne ↦ subst (λ n. n < at + 200) (sym clock) (calm.each p link low (sym (only.links p ne) ∙ found) at refused)
+  ];
+}

@@ -1,73 +1,25 @@
 -- What a wait does to a loop, and its limit.
-use Rattle.std.proofs.Common.{
-  ◌≡◌,
-  ◌⊎◌,
-  inl,
-  inr,
-  ◌+◌,
-  ◌-◌,
-  ◌<◌,
-  ◌≤◌,
-  ◌++◌,
-  ℕ,
-  Bool,
-  true,
-  false,
-  min,
-  List,
-  [],
-  ◌∷◌,
-  length,
-  Option,
-  Some,
-  None,
-  Result,
-  Ok,
-  Err,
-  slice_get,
-  arith,
-  refl,
-  sym,
-  ◌∙◌,
-  ap,
-  subst,
-  append-nil,
-}
+use Rattle.std.proofs.Common.{◌≡◌, inl, inr, ◌+◌, ◌-◌, ◌<◌, ◌≤◌, ◌++◌, ℕ, Bool, true, false, min, List, ◌∷◌, Option, Some, None, Ok, Err, slice_get, arith, refl, sym, ◌∙◌, ap, subst, append-nil}
 use Rattle.std.proofs.lemmas.Bool.{cases_eq, cases_lt, false≢true}
 use Rattle.world.specs.declared.did.Did.{Did}
 use Rattle.world.specs.declared.did.Did.TheVariants as did
 use Rattle.world.specs.declared.entry.Entry.{Entry}
 use Rattle.world.specs.declared.entry.Entry.TheVariants as made
 use Rattle.world.specs.declared.reports.Reports.{Reports}
-use Rattle.world.specs.Places.{Status, status, time, is_reported, OnlyUp}
-use Rattle.world.specs.Waits.{wait_count}
+use Rattle.world.specs.Places.{status, time, is_reported, OnlyUp}
 use Rattle.ready_loop.specs.declared.fault.LoopFault.TheVariants.{NetFault, Spent}
 use Rattle.ready_loop.specs.declared.link.Link.{Link}
 use Rattle.ready_loop.specs.declared.readiness.Loop.{Loop}
-use Rattle.ready_loop.specs.Link.{MayRead, MayWrite, wait_link}
+use Rattle.ready_loop.specs.Link.{wait_link}
 use Rattle.ready_loop.specs.History.{History}
-use Rattle.ready_loop.specs.Queues.{Held, held_in, rest_at}
-use Rattle.ready_loop.specs.Standing.{StandsAt, Stand, StandsFor, put_by, write_ended}
+use Rattle.ready_loop.specs.Queues.{held_in}
+use Rattle.ready_loop.specs.Standing.{StandsAt, StandsFor, put_by, write_ended}
 use Rattle.ready_loop.specs.States.{MapsBelow, MayWait, IsCalm, awake_in, refused_in}
-use Rattle.ready_loop.specs.Waits.{
-  Timer,
-  most,
-  handed,
-  connect,
-  IsLeast,
-  IsLimit,
-  connect_wait,
-  IsServed,
-  AllServed,
-  NoneDue,
-  IsTurnWait,
-  WaitCame,
-  Turned,
-}
+use Rattle.ready_loop.specs.Waits.{Timer, most, handed, connect, IsLeast, IsLimit, connect_wait, AllServed, NoneDue, IsTurnWait, WaitCame, Turned}
 use Rattle.ready_loop.proofs.CallLemmas.{stands_waited, put_known, known_up}
 use Rattle.ready_loop.proofs.MapLemmas.{maps_at}
 use Rattle.ready_loop.proofs.StandLemmas.{stands_as}
-use Rattle.ready_loop.proofs.TableLemmas.{within, some_at, not_some}
+use Rattle.ready_loop.proofs.TableLemmas.{within, some_at}
 
 pub wait_failed : (answer : Did) (ready : Bool) (link : Link) → (wait_link answer ready link).failed ≡ link.failed
 wait_failed did.Done ready link = refl

@@ -1,23 +1,5 @@
 -- What the callers of a loop have handed in, and what its answers have told them.
-use Rattle.std.specs.Prelude.{
-  ℕ,
-  ◌==◌,
-  ◌||◌,
-  ◌++◌,
-  ◌∷◌,
-  List,
-  [],
-  Bool,
-  true,
-  false,
-  if◌then◌else◌,
-  Option,
-  Some,
-  None,
-  Result,
-  Ok,
-  Err,
-}
+use Rattle.std.specs.Prelude.{ℕ, ◌==◌, ◌||◌, ◌++◌, ◌∷◌, List, [], Bool, true, false, if◌then◌else◌, Some, None, Result, Ok, Err}
 use Rattle.world.specs.declared.chan.Chan.{Chan}
 use Rattle.world.specs.declared.chan.Chan.TheVariants.{Shell, Control, Iopub, Heart}
 use Rattle.world.specs.declared.conn.Conn.{Conn}

@@ -1,5 +1,5 @@
 -- What a call of the world makes of what the loop keeps of its connection.
-use Rattle.std.specs.Prelude.{◌≡◌, ◌⊎◌, ◌<◌, ◌≤◌, ◌+◌, ◌||◌, ℕ, Bool, true, false, Option, Some, None}
+use Rattle.std.specs.Prelude.{◌≡◌, ◌⊎◌, ◌<◌, ◌≤◌, ◌+◌, ◌||◌, ℕ, Bool, true, false, Some, None}
 use Rattle.world.specs.declared.got.Got.{Got}
 use Rattle.world.specs.declared.got.Got.TheVariants as got
 use Rattle.world.specs.declared.put.Put.{Put}

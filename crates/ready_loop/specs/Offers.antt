@@ -1,31 +1,5 @@
 -- What offering adds to a journal, its newest entry first.
-use Rattle.std.specs.Prelude.{
-  ◌≡◌,
-  ◌⊎◌,
-  ◌<◌,
-  ◌≤◌,
-  ◌+◌,
-  ◌++◌,
-  ◌&&◌,
-  not,
-  ℕ,
-  length,
-  List,
-  [],
-  ◌∷◌,
-  Bool,
-  true,
-  false,
-  Option,
-  Some,
-  None,
-  Result,
-  Ok,
-  Err,
-  slice_get,
-  unwrap_or,
-  ◌/◌,
-}
+use Rattle.std.specs.Prelude.{◌≡◌, ◌⊎◌, ◌<◌, ◌≤◌, ◌+◌, ◌++◌, ◌&&◌, not, ℕ, length, List, [], ◌∷◌, Bool, true, false, Some, None, Result, Ok, Err, slice_get, unwrap_or, ◌/◌}
 use Rattle.world.specs.declared.conn.Conn.{Conn}
 use Rattle.world.specs.declared.connected.Connected.{Connected}
 use Rattle.world.specs.declared.connected.Connected.TheVariants as connected
@@ -38,11 +12,9 @@ use Rattle.world.specs.Moments.{Since}
 use Rattle.world.specs.Places.{status, time, place_of}
 use Rattle.ready_loop.specs.declared.fault.LoopFault.{LoopFault}
 use Rattle.ready_loop.specs.declared.fault.LoopFault.TheVariants.{NetFault, Spent}
-use Rattle.ready_loop.specs.declared.link.Link.{Link}
 use Rattle.ready_loop.specs.History.{History}
 use Rattle.ready_loop.specs.Standing.{write_ended, StandsFor}
 use Rattle.ready_loop.specs.declared.readiness.Loop.{Loop}
-use Rattle.ready_loop.specs.Queues.{Held, rest_at}
 use Rattle.ready_loop.specs.States.{refused_in}
 
 -- a refused connection is begun again on its port, 200 ms after the clock before its refusal or in a last look

@@ -1,5 +1,5 @@
 -- What reading adds to a journal, its newest entry first.
-use Rattle.std.specs.Prelude.{◌≡◌, ◌<◌, ◌||◌, ℕ, Bool, List, [], ◌∷◌, true, false, Result, Ok, Err, Option, Some, None, take}
+use Rattle.std.specs.Prelude.{◌≡◌, ◌<◌, ◌||◌, ℕ, Bool, List, [], ◌∷◌, true, false, Result, Ok, Err, Some, None, take}
 use Rattle.world.specs.declared.conn.Conn.{Conn}
 use Rattle.world.specs.declared.side.Side.TheVariants as side
 use Rattle.world.specs.declared.entry.Entry.{Entry}

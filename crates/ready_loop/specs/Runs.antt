@@ -21,9 +21,10 @@ use Rattle.ready_loop.specs.History.{History, same, after_begin, after_queue, af
 use Rattle.ready_loop.specs.Offers.{IsBegunAgain, OfferMoment}
 use Rattle.ready_loop.specs.Reads.{IsReadOf, ReadMoment}
 use Rattle.ready_loop.specs.Standing.{StandsFor, Goes, IsElsewhere, MadeElsewhere}
-use Rattle.ready_loop.specs.Waits.{Turned, Looked}
+use Rattle.ready_loop.specs.States.{IsCalm}
+use Rattle.ready_loop.specs.Waits.{NoneDue, Turned, Looked}
 
--- one call, from a loop, what was asked of it and a journal to those after it
+-- one call (nobody reads the clock between an `offer` and the `turn` or `look` behind it), from a loop, what was asked of it and a journal to those after it
 pub data Calls (old : Loop) (h : History) (before : List Entry) : Loop → History → List Entry → Type 0 where
   begins : (job : ℕ) (heart : Bool) (result : Result (Unit {0}) LoopFault) (new : Loop) (after : List Entry)
       → Goes BeginMoment (after_begin job heart result) old new before after → Calls old h before new (after_begin job heart result h) after
@@ -31,9 +32,8 @@ pub data Calls (old : Loop) (h : History) (before : List Entry) : Loop → Histo
       → (StandsFor old h before → StandsFor new (after_queue conn bytes result h) before) → Calls old h before new (after_queue conn bytes result h) before
   offers : (result : Result (List Bool) LoopFault) (new : Loop) (after : List Entry)
       → Goes (OfferMoment false) (after_names result) old new before after → Calls old h before new (after_names result h) after
-  turns : (due : Option ℕ) (result : Result ℕ LoopFault) (last : ℕ) (new : Loop) (after : List Entry) → Turned due result last old new before after → Calls old h before new h after
-  looks : (jobs : List Bool) (result : Result (List Bool) LoopFault) (new : Loop) (after : List Entry)
-      → Looked jobs result old new before after → Calls old h before new (after_names result h) after
+  turns : (due : Option ℕ) (result : Result ℕ LoopFault) (last : ℕ) (new : Loop) (after : List Entry) → IsCalm last old → Turned due result last old new before after → Calls old h before new h after
+  looks : (jobs : List Bool) (result : Result (List Bool) LoopFault) (last : ℕ) (new : Loop) (after : List Entry) → IsCalm last old → Looked jobs result last old new before after → Calls old h before new (after_names result h) after
   reads : (result : Result Next LoopFault) (new : Loop) (after : List Entry) → Goes ReadMoment (after_next result) old new before after → Calls old h before new (after_next result h) after
   closes : (new : Loop) (after : List Entry) → Goes CloseMoment same old new before after → Calls old h before new h after
   elsewhere : (after : List Entry) → Since MadeElsewhere before after → Calls old h before old h after
@@ -44,12 +44,13 @@ pub data Runs (first : Loop) (asked : History) (start : List Entry) : Loop → H
   then : (l new : Loop) (h k : History) (before after : List Entry) → Runs first asked start l h before → Calls l h before new k after → Runs first asked start new k after
 
 -- a wait of a loop: at most 500 ms, 0 where a connection is awake, after each that was awake was read and
--- each of which a call had failed was closed
+-- each of which a call had failed was closed, and no refused connection is due to be begun again
 pub record IsFairWait (ms : ℕ) (past : List Entry) : Type 0 where
   pub most : ms ≤ 500
   pub sleeps : 0 < ms → (p : ℕ) → p < 64 → (status p past).awake ≡ false
   pub sound : (p : ℕ) → p < 64 → (status p past).failed ≡ false
   pub reads : ReadsAll past
+  pub calm : NoneDue past
 
 -- the entries that a run of a loop may hold
 pub data IsFair (past : List Entry) : Entry → Type 0 where

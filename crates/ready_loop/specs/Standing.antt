@@ -28,11 +28,10 @@ use Rattle.world.specs.Moments.{Since, Told}
 use Rattle.world.specs.Places.{Status, status, is_at}
 use Rattle.world.specs.Waits.{is_wait, wait_count}
 use Rattle.ready_loop.specs.declared.end.End.{End}
-use Rattle.ready_loop.specs.declared.end.End.TheVariants.{No, Found, Named}
+use Rattle.ready_loop.specs.declared.end.End.TheVariants.{No}
 use Rattle.ready_loop.specs.declared.link.Link.{Link}
 use Rattle.ready_loop.specs.declared.readiness.Loop.{Loop}
-use Rattle.ready_loop.specs.declared.stage.Stage.{Stage}
-use Rattle.ready_loop.specs.declared.stage.Stage.TheVariants.{Fresh, Begun, Closed}
+use Rattle.ready_loop.specs.declared.stage.Stage.TheVariants.{Fresh, Begun}
 use Rattle.ready_loop.specs.History.{History}
 use Rattle.ready_loop.specs.Link.{is_found, is_named, is_known, is_begun}
 use Rattle.ready_loop.specs.Queues.{Held, held_in}

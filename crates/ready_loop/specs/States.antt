@@ -31,7 +31,7 @@ use Rattle.ready_loop.specs.declared.fault.LoopFault.TheVariants.{NetFault, Spen
 use Rattle.ready_loop.specs.declared.link.Link.{Link}
 use Rattle.ready_loop.specs.declared.readiness.Loop.{Loop}
 use Rattle.ready_loop.specs.Link.{MayRead, MayWrite, named_link, is_found, is_known}
-use Rattle.ready_loop.specs.Queues.{Held, held_in, rest_at}
+use Rattle.ready_loop.specs.Queues.{held_in, rest_at}
 
 -- so it is of the connections at all places below this one
 abbrev pub EachBelow : ℕ → List Link → (ℕ → Link → Type 0) → Type 0
@@ -44,6 +44,10 @@ Each links P = EachBelow 64 links P
 -- a connection is not to be read any more
 abbrev pub NotRead : ℕ → Link → Type 0
 NotRead p link = MayRead link → ⊥
+
+-- how many waits a loop may still make
+abbrev pub waits_left : Loop → ℕ
+waits_left l = l.left
 
 -- no connection is to be read any more
 pub record IsDrained (l : Loop) : Type 0 where
@@ -64,11 +68,12 @@ pub record MayWait (l : Loop) : Type 0 where
   pub offered : IsOffered l
   pub sound : IsSound l
 
--- whether a connect was called for the connection at a place
+-- whether a connect was called for a connection, where something is kept of it
 abbrev pub known_in : Option Link → Bool
 known_in None = false
 known_in (Some link) = is_known link.stage
 
+-- whether a connect was called for the connection at a place
 abbrev pub known_at : Loop → ℕ → Bool
 known_at l p = known_in (slice_get l.links p)
 
@@ -90,11 +95,12 @@ refused_in (Some link) = link.refused
 pub record IsCalm (last : ℕ) (l : Loop) : Type 0 where
   pub each : Each l.links (λ p link. (at : ℕ) → link.refused ≡ Some at → last < at + 200)
 
--- whether a call of the connection at a place has failed, and it was not closed since
+-- whether a call of a connection has failed, where something is kept of it
 abbrev pub failed_in : Option Link → Bool
 failed_in None = false
 failed_in (Some link) = link.failed
 
+-- whether a call of the connection at a place has failed, and it was not closed since
 abbrev pub failed_at : Loop → ℕ → Bool
 failed_at l p = failed_in (slice_get l.links p)
 
@@ -142,23 +148,26 @@ pub record OnlyAt (place : ℕ) (old new : Loop) : Type 0 where
   pub held : (p : ℕ) → p ≢ place → held_in (slice_get new.queues p) ≡ held_in (slice_get old.queues p)
   pub left : new.left ≡ old.left
 
--- what falls with each write at a place: the bytes held, and whether it takes any
+-- a condition as a number
 abbrev pub flag : Bool → ℕ
 flag true = 1
 flag false = 0
 
+-- whether a connection takes bytes, as a number
 abbrev pub writable_in : Option Link → ℕ
 writable_in None = 0
 writable_in (Some link) = flag link.writable
 
+-- what falls with each write at a place: the bytes held, and whether it takes any
 abbrev pub load : ℕ → Loop → ℕ
 load place l = length (rest_at l.queues place) + writable_in (slice_get l.links place)
 
--- a write found the connection at a place ended, and no answer has named it
+-- whether a write found a connection ended that no answer has named, where something is kept of it
 abbrev pub found_in : Option Link → Bool
 found_in None = false
 found_in (Some link) = is_found link.end
 
+-- a write found the connection at a place ended, and no answer has named it
 abbrev pub found_at : Loop → ℕ → Bool
 found_at l p = found_in (slice_get l.links p)
 

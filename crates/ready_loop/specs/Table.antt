@@ -4,11 +4,12 @@ use Rattle.slab.specs.Slab.{Slab, get}
 use Rattle.ready_loop.specs.declared.link.Link.{Link}
 use Rattle.ready_loop.specs.Link.{fresh_link}
 
--- what stands under a key
+-- what is kept of a connection, where something is
 abbrev pub link_or : Option Link → Link
 link_or None = fresh_link
 link_or (Some link) = link
 
+-- what stands under a key
 abbrev pub link_in : Slab Link → ℕ → Link
 link_in slab key = link_or (get slab key)
 

@@ -1,28 +1,5 @@
 -- How long a wait may last, and what waiting adds to a journal, its newest entry first.
-use Rattle.std.specs.Prelude.{
-  ◌≡◌,
-  ◌<◌,
-  ◌≤◌,
-  ◌+◌,
-  ◌-◌,
-  ◌⊎◌,
-  ℕ,
-  List,
-  [],
-  ◌∷◌,
-  Bool,
-  true,
-  false,
-  Option,
-  Some,
-  None,
-  Result,
-  Ok,
-  Err,
-  slice_get,
-  min,
-  ◌/◌,
-}
+use Rattle.std.specs.Prelude.{◌≡◌, ◌<◌, ◌≤◌, ◌+◌, ◌-◌, ℕ, List, ◌∷◌, Bool, true, false, Option, Some, None, Result, Ok, Err, min, ◌/◌}
 use Rattle.world.specs.declared.conn.Conn.{Conn}
 use Rattle.world.specs.declared.did.Did.{Did}
 use Rattle.world.specs.declared.did.Did.TheVariants.{Done, Failed}
@@ -34,7 +11,6 @@ use Rattle.world.specs.Counts.{Counts, NetCause, WaitCause}
 use Rattle.world.specs.Places.{Status, status, time, is_reported}
 use Rattle.ready_loop.specs.declared.fault.LoopFault.{LoopFault}
 use Rattle.ready_loop.specs.declared.fault.LoopFault.TheVariants.{NetFault, Spent}
-use Rattle.ready_loop.specs.declared.link.Link.{Link}
 use Rattle.ready_loop.specs.declared.readiness.Loop.{Loop}
 use Rattle.ready_loop.specs.History.{History, after_names}
 use Rattle.ready_loop.specs.Offers.{LookMoment, IsFailureOf, Connects, is_looked}
@@ -84,6 +60,7 @@ pub record IsTurnWait (due : Option ℕ) (h : History) (ms : ℕ) (past : List E
   pub limit : IsLimit due (time past) (λ p. (status p past).awake) (λ p. (status p past).refused) ms
   pub served : AllServed h past
 
+-- the one entry of such a wait
 pub record Waits (due : Option ℕ) (h : History) (did : Did) (before after : List Entry) : Type 0 where
   pub ms : ℕ
   pub reports : Reports
@@ -125,11 +102,13 @@ pub record Turned (due : Option ℕ) (result : Result ℕ LoopFault) (last : ℕ
 
 -- the entries of a last look up to its wait: each connection of these jobs that was refused was begun again,
 -- nothing that could go on is left, and then a wait that does not last
-pub record LooksThenWaits (jobs : List Bool) (h : History) (did : Did) (before after : List Entry) : Type 0 where
+pub record LooksThenWaits (jobs : List Bool) (calm : Type 0) (h : History) (did : Did) (before after : List Entry) : Type 0 where
   pub past : List Entry
   pub looks : Since (LookMoment jobs h) before past
   pub begins : (p at : ℕ) → p < 64 → is_looked jobs (p / 4) ≡ true → (status p before).refused ≡ Some at → Connects p before past
   pub served : AllServed h past
+  -- where nothing was due before it, nothing is at its wait
+  pub none_due : calm → NoneDue past
   pub reports : Reports
   pub is : after ≡ made.Waited 0 reports did ∷ past
 
@@ -139,15 +118,15 @@ pub record LooksUntil (jobs : List Bool) (h : History) (conn : Conn) (before aft
   pub failure : IsFailureOf conn after
 
 -- the entries of a last look, by its answer
-abbrev pub LookCame : List Bool → Result (List Bool) LoopFault → History → List Entry → List Entry → Type 0
-LookCame jobs (Ok names) h before after = LooksThenWaits jobs h Done before after
-LookCame jobs (Err (NetFault None)) h before after = LooksThenWaits jobs h Failed before after
-LookCame jobs (Err (NetFault (Some conn))) h before after = LooksUntil jobs h conn before after
-LookCame jobs (Err Spent) h before after = after ≡ before
+abbrev pub LookCame : List Bool → Type 0 → Result (List Bool) LoopFault → History → List Entry → List Entry → Type 0
+LookCame jobs calm (Ok names) h before after = LooksThenWaits jobs calm h Done before after
+LookCame jobs calm (Err (NetFault None)) h before after = LooksThenWaits jobs calm h Failed before after
+LookCame jobs calm (Err (NetFault (Some conn))) h before after = LooksUntil jobs h conn before after
+LookCame jobs calm (Err Spent) h before after = after ≡ before
 
 -- a last look took a loop from each journal for which it stood to one for which it stands then
-pub record Looked (jobs : List Bool) (result : Result (List Bool) LoopFault) (old new : Loop) (before after : List Entry) : Type 0 where
-  pub so : (h : History) → StandsFor old h before → StandsFor new (after_names result h) after × LookCame jobs result h before after
+pub record Looked (jobs : List Bool) (result : Result (List Bool) LoopFault) (last : ℕ) (old new : Loop) (before after : List Entry) : Type 0 where
+  pub so : (h : History) → StandsFor old h before → StandsFor new (after_names result h) after × LookCame jobs (IsCalm last old) result h before after
 
 -- the counts after a last look
 abbrev pub LookCounts : Result (List Bool) LoopFault → Counts → Counts → Type 0

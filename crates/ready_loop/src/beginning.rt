@@ -11,7 +11,7 @@ ghost use Rattle.ready_loop.specs.History.{same, with_begun, after_begin, chans}
 ghost use Rattle.ready_loop.specs.Offers.{IsOfConn};
 ghost use Rattle.ready_loop.specs.Standing.{Goes, Follows};
 ghost use Rattle.ready_loop.specs.States.{IsDrained, IsOffered, IsSound, FailsOnly, OnlyAt};
-ghost use Rattle.ready_loop.specs.States.{SameKnown, failed_at, failed_connect, known_at};
+ghost use Rattle.ready_loop.specs.States.{SameKnown, failed_at, failed_connect, known_at, waits_left};
 
 use crate::conn_place::place_at;
 use crate::{Loop, LoopFault};
@@ -41,7 +41,7 @@ impl Loop {
         ensures drained { IsDrained self.old → IsDrained self.new }
         ensures failed { FailsOnly result self.old self.new }
         ensures sound { OnOk result (IsSound self.old → IsSound self.new) }
-        ensures same { self.new ≡ record self.old { links = self.new.links } }
+        ensures left { waits_left self.new ≡ waits_left self.old }
         ensures cause { CountsBy NetCause W.counts w.old w.new (IsErr result) }
     {
         let shell = Conn {
@@ -133,7 +133,7 @@ impl Loop {
             ≡ failed_closed (is_of_job job p) (failed_at self.old p) }
         ensures sound { IsSound self.old → IsSound self.new }
         ensures known { SameKnown self.old self.new }
-        ensures same { self.new ≡ record self.old { links = self.new.links } }
+        ensures left { waits_left self.new ≡ waits_left self.old }
         ensures counts { W.counts w.new ≡ W.counts w.old }
     {
         let chan = Chan::Shell;
@@ -170,7 +170,8 @@ impl Loop {
 /// Closes a connection, where that is asked for.
 fn close_where<W: World>(w: &mut W, conn: Conn, begun: bool)
     requires { conn.job < 16 }
-    ensures came { Follows W.journal w.old w.new (λ before after. after ≡ closing begun conn before) }
+    ensures came { Follows W.journal w.old w.new
+        (λ before after. after ≡ closing begun conn before) }
     ensures counts { W.counts w.new ≡ W.counts w.old }
 {
     if begun {

@@ -25,7 +25,7 @@ pub fn bytes_are_put_in_order()
 /// After any list of calls the loop stands for the journal, and each entry since is one that the
 /// rules allow: only connections that are awake are read, at most 64 times between two waits; only
 /// connections that are open are written to; only refused ones are begun again; and no wait comes
-/// before each connection that was awake was read.
+/// before each connection that was awake was read and each refused one that is due was begun again.
 pub fn rules_hold_after_any_calls()
     ensures { (first l : Loop) (asked h : History) (start journal : List Entry) →
         StandsFor first asked start → Runs first asked start l h journal →

@@ -4,7 +4,7 @@ ghost use Rattle.world.specs.Counts.{CountsBy, NetCause};
 ghost use Rattle.ready_loop.specs.History.{same};
 ghost use Rattle.ready_loop.specs.Offers.{LookMoment, FaultCame, BeginsBelow, IsOfConn, Names};
 ghost use Rattle.ready_loop.specs.Standing.{Goes, Follows};
-ghost use Rattle.ready_loop.specs.States.{IsDrained, IsOffered, IsSound, MayWait, FailsOnly, SameKnown};
+ghost use Rattle.ready_loop.specs.States.{IsDrained, IsOffered, IsSound, MayWait, FailsOnly, SameKnown, IsCalm, waits_left};
 ghost use Rattle.ready_loop.specs.Waits.{Looked, LookCounts, left_after};
 
 use crate::{Loop, LoopFault};
@@ -17,19 +17,21 @@ impl Loop {
     pub fn look<W: World>(&mut self, w: &mut W, jobs: [bool; 16]) -> Result<[bool; 64], LoopFault>
         requires { MayWait self.old }
         // Only connections of these jobs are begun or written to; then one wait that does not last.
-        ensures looked { Follows W.journal w.old w.new (Looked jobs result self.old self.new) }
+        ensures looked { Follows W.journal w.old w.new
+            (Looked jobs result (W.counts w.old).last self.old self.new) }
         ensures names { Follows W.journal w.old w.new (Names result self.old) }
 
         // `Spent` exactly where no wait is left, and then nothing changes.
-        ensures spent { (result ≡ Err LoopFault.Spent) ↔ (self.old.left ≡ 0) }
+        ensures spent { (result ≡ Err LoopFault.Spent) ↔ (waits_left self.old ≡ 0) }
         ensures still { result ≡ Err LoopFault.Spent → self.new ≡ self.old }
-        ensures left { self.new.left ≡ left_after result self.old.left }
+        ensures left { waits_left self.new ≡ left_after result (waits_left self.old) }
 
         ensures failed { FailsOnly result self.old self.new }
         ensures sound { OnOk result (IsSound self.new) }
         ensures known { SameKnown self.old self.new }
         ensures cause { LookCounts result (W.counts w.old) (W.counts w.new) }
     {
+        let _last = w.last();
         if self.left == 0 {
             return Err(LoopFault::Spent);
         }
@@ -51,6 +53,8 @@ impl Loop {
         ensures begins { OnOk result
             (Follows W.journal w.old w.new (BeginsBelow 64 jobs.now self.old)) }
         ensures offered { OnOk result (IsOffered self.old → IsOffered self.new) }
+        ensures calm { OnOk result (IsCalm (W.counts w.old).last self.old
+            → IsCalm (W.counts w.new).last self.new) }
         ensures drained { IsDrained self.old → IsDrained self.new }
         ensures failed { FailsOnly result self.old self.new }
         ensures known { SameKnown self.old self.new }

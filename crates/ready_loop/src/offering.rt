@@ -12,7 +12,7 @@ ghost use Rattle.ready_loop.specs.Queues.{rest_at};
 ghost use Rattle.ready_loop.specs.Standing.{Goes, Follows};
 ghost use Rattle.ready_loop.specs.States.{IsDrained, IsOffered, IsCalm, IsCalmAt, FailsOnly};
 ghost use Rattle.ready_loop.specs.States.{IsOfferedAt, AllOfferedBelow, OnlyAt, load, failed_at};
-ghost use Rattle.ready_loop.specs.States.{failed_connect, failed_put, found_at, NamesAll, IsSound, SameKnown};
+ghost use Rattle.ready_loop.specs.States.{failed_connect, failed_put, found_at, NamesAll, IsSound, SameKnown, waits_left};
 
 use crate::conn_place::conn_at;
 use crate::{Loop, LoopFault};
@@ -38,7 +38,7 @@ impl Loop {
         ensures failed { FailsOnly result self.old self.new }
         ensures sound { OnOk result (IsSound self.old → IsSound self.new) }
         ensures known { SameKnown self.old self.new }
-        ensures left { self.new.left ≡ self.old.left }
+        ensures left { waits_left self.new ≡ waits_left self.old }
         ensures cause { CountsBy NetCause W.counts w.old w.new (IsErr result) }
     {
         match self.offer_all(w) {
@@ -67,7 +67,12 @@ impl Loop {
     }
 
     /// Begins the connection at a place again where that is due, and offers what is queued on it.
-    pub(crate) fn offer_at<W: World>(&mut self, w: &mut W, place: usize, forced: bool) -> Result<(), LoopFault>
+    pub(crate) fn offer_at<W: World>(
+        &mut self,
+        w: &mut W,
+        place: usize,
+        forced: bool,
+    ) -> Result<(), LoopFault>
         requires { place < 64 }
         ensures goes { Follows W.journal w.old w.new
             (Goes (OfferAt forced place) same self.old self.new) }

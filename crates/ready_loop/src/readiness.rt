@@ -5,7 +5,7 @@ ghost use Rattle.world.specs.Places.{place_of};
 ghost use Rattle.world.specs.Waits.{wait_count};
 ghost use Rattle.ready_loop.specs.History.{History, no_history, after_queue};
 ghost use Rattle.ready_loop.specs.Standing.{StandsFor, AllShut, put_at};
-ghost use Rattle.ready_loop.specs.States.{IsDrained, IsSound, MayWait, SameKnown, known_at};
+ghost use Rattle.ready_loop.specs.States.{IsDrained, IsSound, MayWait, SameKnown, known_at, waits_left};
 
 use crate::conn_place::place_at;
 use crate::links::Links;
@@ -31,7 +31,7 @@ impl Loop {
         ensures stands { IfOk result (λ l. (journal : List Entry) → AllShut journal →
             StandsFor l (no_history (wait_count journal + turns)) journal) }
         ensures ready { IfOk result MayWait }
-        ensures left { IfOk result (λ l. l.left ≡ turns) }
+        ensures left { IfOk result (λ l. waits_left l ≡ turns) }
         ensures fresh { IfOk result (λ l. (p : ℕ) → known_at l p ≡ false) }
     {
         Ok(Loop {
@@ -53,7 +53,7 @@ impl Loop {
         ensures drained { IsDrained self.old → IsDrained self.new }
         ensures sound { IsSound self.old → IsSound self.new }
         ensures known { SameKnown self.old self.new }
-        ensures same { self.new ≡ record self.old { queues = self.new.queues } }
+        ensures left { waits_left self.new ≡ waits_left self.old }
     {
         self.queues.push(place_at(conn), bytes)
     }

@@ -9,7 +9,7 @@ ghost use Rattle.ready_loop.specs.Reads.{ReadMoment, NextCame, after_got, failed
 ghost use Rattle.ready_loop.specs.Offers.{IsOfConn};
 ghost use Rattle.ready_loop.specs.Standing.{Goes, Follows};
 ghost use Rattle.ready_loop.specs.States.{IsDrained, IsOffered, FailsOnly, EachBelow};
-ghost use Rattle.ready_loop.specs.States.{NotRead, IsSound, SameKnown, failed_at};
+ghost use Rattle.ready_loop.specs.States.{NotRead, IsSound, SameKnown, failed_at, waits_left};
 
 use crate::conn_place::conn_at;
 use crate::{Loop, LoopFault, Next};
@@ -34,7 +34,7 @@ impl Loop {
         ensures failed { FailsOnly result self.old self.new }
         ensures sound { OnOk result (IsSound self.old → IsSound self.new) }
         ensures known { SameKnown self.old self.new }
-        ensures same { self.new ≡ record self.old { links = self.new.links } }
+        ensures left { waits_left self.new ≡ waits_left self.old }
         ensures cause { CountsBy NetCause W.counts w.old w.new (IsErr result) }
     {
         for place in 0..64usize {

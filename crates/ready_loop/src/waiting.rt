@@ -4,7 +4,7 @@ ghost use Rattle.world.specs.Counts.{CountsBy, WaitCause};
 ghost use Rattle.world.specs.Places.{is_reported};
 ghost use Rattle.ready_loop.specs.Link.{wait_link};
 ghost use Rattle.ready_loop.specs.Standing.{Follows};
-ghost use Rattle.ready_loop.specs.States.{MayWait, FailsOnly, IsSound, MapsBelow, SameKnown, failed_at};
+ghost use Rattle.ready_loop.specs.States.{MayWait, FailsOnly, IsSound, MapsBelow, SameKnown, failed_at, waits_left};
 ghost use Rattle.ready_loop.specs.Waits.{WaitCame, Turned, TurnCounts};
 
 use crate::timer::limit;
@@ -20,14 +20,13 @@ impl Loop {
             (Turned due result (W.counts w.old).last self.old self.new) }
 
         // `Spent` exactly where no wait is left, and then nothing changes.
-        ensures spent { (result ≡ Err LoopFault.Spent) ↔ (self.old.left ≡ 0) }
+        ensures spent { (result ≡ Err LoopFault.Spent) ↔ (waits_left self.old ≡ 0) }
         ensures still { result ≡ Err LoopFault.Spent → self.new ≡ self.old }
 
         ensures failed { FailsOnly result self.old self.new }
         ensures sound { IsSound self.new }
         ensures known { SameKnown self.old self.new }
-        ensures same { self.new
-            ≡ record self.old { links = self.new.links; left = self.old.left - 1 } }
+        ensures left { waits_left self.new ≡ waits_left self.old - 1 }
         ensures cause { TurnCounts result (W.counts w.old) (W.counts w.new) }
     {
         let last = w.last();

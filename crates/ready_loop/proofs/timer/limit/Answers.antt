@@ -1,7 +1,7 @@
-use Rattle.std.proofs.Common.{arith, ◌≡◌, ◌<◌, ◌+◌, ◌∙◌, ap, sym, subst, ℕ, Bool, Option, min, slice_get, false}
+use Rattle.std.proofs.Common.{arith, ◌≡◌, ◌+◌, ◌∙◌, ap, sym, subst, ℕ, Option, min, slice_get}
 use Rattle.ready_loop.specs.States.{awake_in, refused_in}
 use Rattle.ready_loop.specs.Waits.{IsLeast, connect_wait}
-use Rattle.ready_loop.proofs.WaitLemmas.{least_any, least_more, limit_awake, limit_asleep, asleep_more}
+use Rattle.ready_loop.proofs.WaitLemmas.{least_any, least_more, limit_asleep, asleep_more}
 use Rattle.ready_loop.proofs.timer.limit.Goals as goal
 
 pub loop-place-init : goal.loop-place-init
@@ -17,7 +17,7 @@ loop-place-preserved c =
     let n = c.loop-place.place in
     let refused : ℕ → Option ℕ = λ p. refused_in (slice_get c.args.links.now p) in
     let ms : c.min-least.result ≡ min (connect_wait (refused n) c.args.last) c.loop-place.least
-        = c.min-least.ensures ∙ ap (λ (m : ℕ). min m c.loop-place.least) (c.ms_to_connect.ensures ∙ ap (λ (o : Option ℕ). connect_wait o c.args.last) (sym (ap refused_in c.at-link.ensures))) in
+    = c.min-least.ensures ∙ ap (λ (m : ℕ). min m c.loop-place.least) (c.ms_to_connect.ensures ∙ ap (λ (o : Option ℕ). connect_wait o c.args.last) (sym (ap refused_in c.at-link.ensures))) in
     record {
       bound = omega (arith, inv.bound, c.min-least.ensures);
       least = subst (λ (m : ℕ). IsLeast (n + 1) c.args.due c.args.last refused m) (sym ms) (least_more n c.args.due c.args.last c.loop-place.least refused inv.bound inv.least);

@@ -1,6 +1,5 @@
-use Rattle.std.proofs.Common.{arith, ◌≡◌, ◌<◌, ◌∙◌, ap, sym, subst, List, Some, IsSome, slice_get, get_or, length}
+use Rattle.std.proofs.Common.{arith, ◌≡◌, ◌<◌, subst, List, Some, slice_get, get_or, length}
 use Rattle.std.proofs.lemmas.Option.{slice_get-get_or}
-use Rattle.slab.specs.Slab.{get}
 use Rattle.ready_loop.specs.declared.link.Link.{Link}
 use Rattle.ready_loop.proofs.KeyLemmas.{at_key}
 use Rattle.ready_loop.proofs.links.Links.at.Goals as goal

@@ -1,7 +1,7 @@
-use Rattle.std.proofs.Common.{arith, ◌≡◌, ◌<◌, ◌∙◌, ap, set, List, slice_get, get_or, length}
+use Rattle.std.proofs.Common.{arith, ◌<◌, ◌∙◌, ap, set, List, get_or, length}
 use Rattle.std.proofs.lemmas.Option.{slice_get-get_or}
 use Rattle.ready_loop.specs.declared.link.Link.{Link}
-use Rattle.ready_loop.proofs.KeyLemmas.{put_key, held_after}
+use Rattle.ready_loop.proofs.KeyLemmas.{put_key}
 use Rattle.ready_loop.proofs.links.Links.put.Goals as goal
 
 pub returns : goal.returns

@@ -1,12 +1,10 @@
-use Rattle.std.proofs.Common.{arith, ◌≡◌, ◌≢◌, ◌+◌, ◌*◌, ap, sym, subst, false, true, Bool, [], ◌∷◌, ◌∙◌, List, Ok, Err, Some}
-use Rattle.world.specs.declared.chan.Chan.{Chan}
+use Rattle.std.proofs.Common.{arith, ◌≢◌, ap, sym, subst, Bool, [], ◌∷◌, ◌∙◌, Ok, Err}
 use Rattle.world.specs.declared.chan.Chan.TheVariants.{Shell, Control, Iopub, Heart}
 use Rattle.world.specs.Places.{place_of}
 use Rattle.world.proofs.MomentsLemmas.{told_as, told_then}
 use Rattle.ready_loop.specs.declared.fault.LoopFault.{LoopFault}
 use Rattle.ready_loop.specs.Begins.{Begins, BeginMoment}
-use Rattle.ready_loop.specs.History.{conn_of, heart_chan, after_begin, chans}
-use Rattle.ready_loop.specs.Standing.{Goes}
+use Rattle.ready_loop.specs.History.{conn_of, after_begin, chans}
 use Rattle.ready_loop.specs.States.{failed_after}
 use Rattle.ready_loop.proofs.StateLemmas.{sound_ok}
 use Rattle.ready_loop.proofs.StandLemmas.{goes_then, goes_step}
@@ -98,7 +96,7 @@ returns-clause-goes g c = told_then c.in-Ok.ensures.goes
     (told_then c.in-Ok-begin_on-2.ensures.goes c.begin_on-4.ensures.goes (λ x y z a b. goes_then {R = BeginMoment} (λ h now r. r) (λ h now r. r) a b))
     (λ x y z a b. goes_then {R = BeginMoment} (λ h now r. r) (λ h now r. r) a b)) (λ x y z a b.
     goes_step (λ h. after_last c.args.job c.begin_on-4.result c.begin_on-4.ensures.fault h
-        ∙ sym (ap (λ (heart : Bool). after_begin {U = Unit {0}} c.args.job heart c.begin_on-4.result h) c.if-not-heart.false))
+    ∙ sym (ap (λ (heart : Bool). after_begin {U = Unit {0}} c.args.job heart c.begin_on-4.result h) c.if-not-heart.false))
     (goes_then (λ h now r. r) (λ h now r. r) a b))
 
 pub returns-clause-sound : goal.returns-clause-sound

@@ -1,6 +1,4 @@
-use Rattle.std.proofs.Common.{rules, ◌∙◌, sym, ap, inl}
 use Rattle.world.proofs.MomentsLemmas.{told_start, told_as}
-use Rattle.ready_loop.specs.States.{refused_in}
 use Rattle.ready_loop.proofs.StandLemmas.{goes_start}
 use Rattle.ready_loop.proofs.LookLemmas.{begins_none, begins_one}
 use Rattle.ready_loop.proofs.readiness.Loop.begin_again.Goals as goal

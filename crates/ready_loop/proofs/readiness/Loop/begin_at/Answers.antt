@@ -1,8 +1,6 @@
 use Rattle.std.proofs.Common.{◌≡◌, List, set, ap, ◌∙◌, refl, sym, subst, Some, slice_get, ℕ}
 use Rattle.world.specs.declared.entry.Entry.{Entry}
 use Rattle.world.specs.Places.{time, place_of}
-use Rattle.ready_loop.specs.declared.link.Link.{Link}
-use Rattle.ready_loop.specs.declared.stage.Stage.TheVariants.{Fresh}
 use Rattle.ready_loop.specs.Link.{connect_link, begun_link}
 use Rattle.ready_loop.specs.States.{known_in}
 use Rattle.ready_loop.proofs.TableLemmas.{tells_now}
@@ -15,9 +13,9 @@ returns-clause-goes g c =
     let found = subst (λ (i : ℕ). slice_get c.args.self.now.links i ≡ Some c.at-link.result) c.place_at-place.ensures.place c.at-link.ensures in
     let fresh = fresh_of c.at-link.result.stage (sym (ap known_in found) ∙ c.requires.fresh) in
     tells_now (λ (now : List Entry). c.last-last.result ≡ time now) c.connect-how.ensures.tells c.last-last.ensures.told (λ past clock.
-        begin_goes c.args.conn c.args.port c.connect-how.result c.args.self.now c.put.new.self c.at-link.result c.last-last.result past found fresh
-        (c.put.ensures ∙ ap (λ (i : ℕ). set c.args.self.now.links i c.after_connect.result) c.place_at-place.ensures.place
-            ∙ ap (set c.args.self.now.links (place_of c.args.conn)) (c.after_connect.ensures ∙ ap (connect_link c.connect-how.result c.last-last.result) c.begun_on.ensures)) clock)
+    begin_goes c.args.conn c.args.port c.connect-how.result c.args.self.now c.put.new.self c.at-link.result c.last-last.result past found fresh
+    (c.put.ensures ∙ ap (λ (i : ℕ). set c.args.self.now.links i c.after_connect.result) c.place_at-place.ensures.place
+    ∙ ap (set c.args.self.now.links (place_of c.args.conn)) (c.after_connect.ensures ∙ ap (connect_link c.connect-how.result c.last-last.result) c.begun_on.ensures)) clock)
 
 pub returns-clause-only : goal.returns-clause-only
 returns-clause-only g c = only_set c.args.self.now (record c.args.self.now { links = c.put.new.self }) (place_of c.args.conn) c.after_connect.result
@@ -34,11 +32,11 @@ returns-clause-failed g c =
     let found = subst (λ (i : ℕ). slice_get c.args.self.now.links i ≡ Some c.at-link.result) c.place_at-place.ensures.place c.at-link.ensures in
     begin_fails c.connect-how.result c.args.conn c.last-last.result c.args.port c.args.self.now.links c.put.new.self c.at-link.result found
     (c.put.ensures ∙ ap (λ (i : ℕ). set c.args.self.now.links i c.after_connect.result) c.place_at-place.ensures.place
-        ∙ ap (set c.args.self.now.links (place_of c.args.conn)) (c.after_connect.ensures ∙ ap (connect_link c.connect-how.result c.last-last.result) c.begun_on.ensures))
+    ∙ ap (set c.args.self.now.links (place_of c.args.conn)) (c.after_connect.ensures ∙ ap (connect_link c.connect-how.result c.last-last.result) c.begun_on.ensures))
 
 pub returns-clause-known : goal.returns-clause-known
 returns-clause-known g c =
     let found = subst (λ (i : ℕ). slice_get c.args.self.now.links i ≡ Some c.at-link.result) c.place_at-place.ensures.place c.at-link.ensures in
     begin_known c.args.conn c.connect-how.result c.last-last.result c.args.port c.args.self.now.links c.put.new.self c.at-link.result found
     (c.put.ensures ∙ ap (λ (i : ℕ). set c.args.self.now.links i c.after_connect.result) c.place_at-place.ensures.place
-        ∙ ap (set c.args.self.now.links (place_of c.args.conn)) (c.after_connect.ensures ∙ ap (connect_link c.connect-how.result c.last-last.result) c.begun_on.ensures))
+    ∙ ap (set c.args.self.now.links (place_of c.args.conn)) (c.after_connect.ensures ∙ ap (connect_link c.connect-how.result c.last-last.result) c.begun_on.ensures))

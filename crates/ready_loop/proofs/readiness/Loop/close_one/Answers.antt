@@ -2,8 +2,6 @@ use Rattle.std.proofs.Common.{◌≡◌, List, set, ap, ◌∙◌, refl, sym, su
 use Rattle.world.specs.declared.entry.Entry.{Entry}
 use Rattle.world.specs.Places.{place_of}
 use Rattle.world.proofs.MomentsLemmas.{told_as}
-use Rattle.ready_loop.specs.declared.link.Link.{Link}
-use Rattle.ready_loop.specs.declared.readiness.Loop.{Loop}
 use Rattle.ready_loop.specs.Begins.{CloseMoment, closing, begun_in}
 use Rattle.ready_loop.specs.History.{same}
 use Rattle.ready_loop.specs.Link.{closed_link}

@@ -15,9 +15,9 @@ returns-clause-goes g c =
     let was = (g.W.Journal.counts c.args.w.now).last in
     let may = may_here (IsToBegin c.args.forced was) c.args.self.now.links c.args.place c.at-link.result c.at-link.ensures c.requires.may in
     tells_now (λ (now : List Entry). c.last-last.result ≡ time now) c.connect-how.ensures.tells c.last-last.ensures.told (λ past clock.
-        again_goes c.args.forced c.args.conn c.args.place c.connect-how.result c.args.self.now c.put.new.self c.at-link.result was c.last-last.result past
-        c.requires.place c.at-link.ensures may (c.last-last.ensures.is ∙ ap (λ k. k.last) c.connect-how.ensures.cause.others)
-        (c.put.ensures ∙ ap (set c.args.self.now.links c.args.place) c.after_connect.ensures) clock)
+    again_goes c.args.forced c.args.conn c.args.place c.connect-how.result c.args.self.now c.put.new.self c.at-link.result was c.last-last.result past
+    c.requires.place c.at-link.ensures may (c.last-last.ensures.is ∙ ap (λ k. k.last) c.connect-how.ensures.cause.others)
+    (c.put.ensures ∙ ap (set c.args.self.now.links c.args.place) c.after_connect.ensures) clock)
 
 pub returns-clause-only : goal.returns-clause-only
 returns-clause-only g c = only_set c.args.self.now (record c.args.self.now { links = c.put.new.self }) c.args.place c.after_connect.result c.put.ensures refl refl

@@ -1,4 +1,7 @@
-use Rattle.std.proofs.Common.{◌≡◌, ◌∙◌, ap, refl, sym}
+use Rattle.std.proofs.Common.{◌∙◌, ap, refl, sym, ◌≡◌, List}
+use Rattle.world.specs.declared.entry.Entry.{Entry}
+use Rattle.world.specs.Places.{time}
+use Rattle.ready_loop.proofs.TableLemmas.{told_from}
 use Rattle.world.proofs.MomentsLemmas.{told_as, told_then, told_both}
 use Rattle.ready_loop.specs.declared.readiness.Loop.{Loop}
 use Rattle.ready_loop.proofs.NameLemmas.{named_failed, named_known}
@@ -8,7 +11,7 @@ use Rattle.ready_loop.proofs.readiness.Loop.look.Goals as goal
 
 pub returns-in-Err-clause-looked : goal.returns-in-Err-clause-looked
 returns-in-Err-clause-looked g c = told_as (told_both c.in-Err.ensures.came c.in-Err.ensures.goes) (λ x y m.
-    looked_until c.args.jobs c.args.self.now c.offer_jobs.new.self c.in-Err.fault x y m.0 m.1)
+    looked_until c.args.jobs (g.W.Journal.counts c.args.w.now).last c.args.self.now c.offer_jobs.new.self c.in-Err.fault x y m.0 m.1)
 
 pub returns-in-Err-clause-left : goal.returns-in-Err-clause-left
 returns-in-Err-clause-left g c = c.in-Err.ensures.left ∙ sym (left_of c.in-Err.fault c.args.self.now.left c.in-Err.ensures.fault)
@@ -19,14 +22,16 @@ returns-in-Err-clause-cause g c = counts_of c.in-Err.fault (g.W.Journal.counts c
 pub returns-in-Failed-clause-looked : goal.returns-in-Failed-clause-looked
 returns-in-Failed-clause-looked g c =
     let may = may_then c.args.self.now c.offer_jobs.new.self c.requires c.in-Ok.ensures.drained c.in-Ok.ensures.offered c.in-Ok.ensures.failed.each in
-    told_then (told_both c.in-Ok.ensures.goes c.in-Ok.ensures.begins) c.in-Failed.ensures.came (λ x y z a came.
-    looked_failed c.args.jobs c.args.self.now c.offer_jobs.new.self may x y a.0 a.1 c.wait.new.self z came)
+    told_then (told_from {P = λ (past : List Entry). c.last-last.result ≡ time past} (told_both c.in-Ok.ensures.goes c.in-Ok.ensures.begins) c.last-last.ensures.told) c.in-Failed.ensures.came (λ x y z a came.
+    looked_failed c.args.jobs (g.W.Journal.counts c.args.w.now).last (g.W.Journal.counts c.offer_jobs.new.w).last c.args.self.now c.offer_jobs.new.self may c.in-Ok.ensures.calm
+    (ap (λ k. k.last) c.in-Ok.ensures.cause.others) x y (sym c.last-last.ensures.is ∙ a.1) a.0.0 a.0.1 c.wait.new.self z came)
 
 pub returns-in-Done-clause-looked : goal.returns-in-Done-clause-looked
 returns-in-Done-clause-looked g c =
     let may = may_then c.args.self.now c.offer_jobs.new.self c.requires c.in-Ok.ensures.drained c.in-Ok.ensures.offered c.in-Ok.ensures.failed.each in
-    told_then (told_both c.in-Ok.ensures.goes c.in-Ok.ensures.begins) c.in-Done.ensures.came (λ x y z a came.
-    looked_done c.args.jobs c.args.self.now c.offer_jobs.new.self may x y a.0 a.1 c.wait.new.self c.name_ends.new.self c.name_ends.result z came
+    told_then (told_from {P = λ (past : List Entry). c.last-last.result ≡ time past} (told_both c.in-Ok.ensures.goes c.in-Ok.ensures.begins) c.last-last.ensures.told) c.in-Done.ensures.came (λ x y z a came.
+    looked_done c.args.jobs (g.W.Journal.counts c.args.w.now).last (g.W.Journal.counts c.offer_jobs.new.w).last c.args.self.now c.offer_jobs.new.self may c.in-Ok.ensures.calm
+    (ap (λ k. k.last) c.in-Ok.ensures.cause.others) x y (sym c.last-last.ensures.is ∙ a.1) a.0.0 a.0.1 c.wait.new.self c.name_ends.new.self c.name_ends.result z came
     c.name_ends.ensures.all (ap (λ (l : Loop). l.queues) c.name_ends.ensures.same) (ap (λ (l : Loop). l.left) c.name_ends.ensures.same) c.name_ends.ensures.named)
 
 pub returns-in-Done-clause-names : goal.returns-in-Done-clause-names

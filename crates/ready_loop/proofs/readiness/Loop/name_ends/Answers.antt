@@ -1,4 +1,4 @@
-use Rattle.std.proofs.Common.{rules, arith, ◌≡◌, ◌<◌, ◌+◌, ◌∙◌, ap, sym, length, subst, List}
+use Rattle.std.proofs.Common.{rules, arith, ◌+◌, ◌∙◌, ap, sym, subst, List}
 use Rattle.std.proofs.Math.ListN.{length-set}
 use Rattle.ready_loop.specs.declared.link.Link.{Link}
 use Rattle.ready_loop.specs.Link.{named_link}

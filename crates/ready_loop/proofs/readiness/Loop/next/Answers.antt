@@ -1,4 +1,4 @@
-use Rattle.std.proofs.Common.{rules, arith, ◌≡◌, ◌∙◌, ap, sym, subst, refl, Some, slice_get}
+use Rattle.std.proofs.Common.{rules, arith, ◌≡◌, ◌∙◌, subst, refl, Some, slice_get}
 use Rattle.world.specs.Moments.{start, more}
 use Rattle.world.proofs.MomentsLemmas.{told_start, told_one, told_then}
 use Rattle.ready_loop.specs.declared.readiness.Loop.{Loop}

@@ -1,9 +1,9 @@
-use Rattle.std.proofs.Common.{rules, arith, ◌≡◌, ◌≢◌, ◌/◌, ◌∙◌, ap, refl, sym, true, false, ℕ}
+use Rattle.std.proofs.Common.{rules, arith, ◌≡◌, ◌≢◌, ◌/◌, ◌∙◌, refl, true, false, ap}
 use Rattle.std.proofs.lemmas.Option.{unwrap_or-slice_get}
 use Rattle.world.proofs.MomentsLemmas.{told_start, told_then, told_both, told_as}
 use Rattle.ready_loop.specs.Offers.{is_looked}
 use Rattle.ready_loop.proofs.StandLemmas.{goes_start, goes_then, cause_then}
-use Rattle.ready_loop.proofs.StateLemmas.{known_start, known_then}
+use Rattle.ready_loop.proofs.StateLemmas.{known_start, known_then, calm_joins}
 use Rattle.ready_loop.proofs.LookLemmas.{below_none, below_skip, below_more, look_moment, offered_at}
 use Rattle.ready_loop.proofs.readiness.Loop.offer_jobs.Goals as goal
 
@@ -13,6 +13,7 @@ loop-place-init g c = record {
   begins = told_start (λ x. below_none c.args.jobs.now c.args.self.now x);
   untouched = λ p le. refl;
   offered = λ o. o;
+  calm = λ k. k;
   drained = λ d. d;
   known = known_start c.args.self.now;
   failed = λ p. refl;
@@ -29,6 +30,7 @@ loop-place-preserved-then-not-jobs-place g c =
       begins = told_as inv.begins (λ x y b. below_skip skip b);
       untouched = λ p le. inv.untouched p (omega arith);
       offered = inv.offered;
+      calm = inv.calm;
       drained = inv.drained;
       known = inv.known;
       failed = inv.failed;
@@ -53,6 +55,8 @@ loop-place-preserved g c =
       begins = told_then (told_both inv.begins inv.goes) (told_both at.begins at.goes) (λ x y z a b. below_more (inv.untouched n (omega arith)) a.0 a.1 b.0 b.1);
       untouched = λ p le. let ne : p ≢ c.loop-place.place = λ e. omega (arith, e) in at.only.links p ne ∙ inv.untouched p (omega arith);
       offered = λ o. offered_at at.only at.offered (inv.offered o);
+      calm = λ k. calm_joins n (g.W.Journal.counts c.loop-place.w).last (g.W.Journal.counts c.offer_at.new.w).last c.loop-place.self c.offer_at.new.self
+          (ap (λ k. k.last) at.cause.others) at.only at.offered.calm (inv.calm k);
       drained = λ d. at.drained (inv.drained d);
       known = known_then inv.known at.known;
       failed = λ p. at.failed.each p ∙ inv.failed p;

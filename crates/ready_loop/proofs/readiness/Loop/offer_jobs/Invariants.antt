@@ -3,7 +3,7 @@ use Rattle.world.specs.Counts.{NetCause}
 use Rattle.ready_loop.specs.History.{same}
 use Rattle.ready_loop.specs.Offers.{LookMoment, BeginsBelow}
 use Rattle.ready_loop.specs.Standing.{Goes, Follows}
-use Rattle.ready_loop.specs.States.{IsDrained, IsOffered, SameKnown, failed_at}
+use Rattle.ready_loop.specs.States.{IsCalm, IsDrained, IsOffered, SameKnown, failed_at}
 use Rattle.ready_loop.proofs.readiness.Loop.offer_jobs.Given as goal
 
 abbrev pub invariant-loop-place : goal.invariant-loop-place
@@ -12,6 +12,7 @@ invariant-loop-place g l = record {
   begins : Follows g.W.Journal.journal l.fn.w l.w (BeginsBelow l.place l.jobs l.fn.self);
   untouched : (p : ℕ) → l.place ≤ p → slice_get l.self.links p ≡ slice_get l.fn.self.links p;
   offered : IsOffered l.fn.self → IsOffered l.self;
+  calm : IsCalm (g.W.Journal.counts l.fn.w).last l.fn.self → IsCalm (g.W.Journal.counts l.w).last l.self;
   drained : IsDrained l.fn.self → IsDrained l.self;
   known : SameKnown l.fn.self l.self;
   failed : (p : ℕ) → failed_at l.self p ≡ failed_at l.fn.self p;

@@ -1,6 +1,6 @@
-use Rattle.std.proofs.Common.{arith, ◌≡◌, ◌<◌, ◌++◌, ℕ, List, length, set, subst, OnOk}
+use Rattle.std.proofs.Common.{arith, ◌≡◌, ◌<◌, ◌++◌, ℕ, length, set, subst, OnOk}
 use Rattle.world.specs.Places.{place_of}
-use Rattle.ready_loop.specs.Queues.{Held, rest_at, taken_at}
+use Rattle.ready_loop.specs.Queues.{rest_at, taken_at}
 use Rattle.ready_loop.proofs.NewLemmas.{queue_stands}
 use Rattle.ready_loop.proofs.readiness.Loop.queue.Goals as goal
 

@@ -10,11 +10,11 @@ use Rattle.ready_loop.proofs.readiness.Loop.read_at.Goals as goal
 pub returns-clause-goes : goal.returns-clause-goes
 returns-clause-goes g c =
     let links_are : c.put.new.self ≡ set c.args.self.now.links c.args.place (read_link c.read-got.result c.last-last.result c.at-link.result)
-        = c.put.ensures ∙ ap (set c.args.self.now.links c.args.place) c.after_read.ensures in
+    = c.put.ensures ∙ ap (set c.args.self.now.links c.args.place) c.after_read.ensures in
     tells_with (λ (now : List Entry). c.last-last.result ≡ time now) c.read-got.ensures.tells c.read-got.ensures.refused c.last-last.ensures.told (λ past refused clock.
-        read_goes c.args.conn c.args.place (length c.args.buf.now) c.read-got.result c.read-got.new.buf c.args.self.now c.put.new.self c.at-link.result c.last-last.result past
-        c.requires.place c.at-link.ensures (may_here MayRead c.args.self.now.links c.args.place c.at-link.result c.at-link.ensures c.requires.may) links_are
-        (clock ∙ untimed c.args.conn (length c.args.buf.now) c.read-got.result c.read-got.new.buf past) refused)
+    read_goes c.args.conn c.args.place (length c.args.buf.now) c.read-got.result c.read-got.new.buf c.args.self.now c.put.new.self c.at-link.result c.last-last.result past
+    c.requires.place c.at-link.ensures (may_here MayRead c.args.self.now.links c.args.place c.at-link.result c.at-link.ensures c.requires.may) links_are
+    (clock ∙ untimed c.args.conn (length c.args.buf.now) c.read-got.result c.read-got.new.buf past) refused)
 
 pub returns-clause-offered : goal.returns-clause-offered
 returns-clause-offered g c = read_offered c.read-got.result c.last-last.result c.args.place c.args.self.now c.put.new.self c.at-link.result c.at-link.ensures c.requires.within

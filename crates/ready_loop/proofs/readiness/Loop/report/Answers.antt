@@ -1,4 +1,4 @@
-use Rattle.std.proofs.Common.{rules, arith, ℕ, ◌≡◌, ◌<◌, ◌+◌, ◌∙◌, ap, sym, subst, List, false, Bool}
+use Rattle.std.proofs.Common.{rules, arith, ℕ, ◌≡◌, ◌+◌, ◌∙◌, ap, sym, subst, List, false, Bool}
 use Rattle.std.proofs.lemmas.Option.{unwrap_or-slice_get}
 use Rattle.world.specs.Places.{is_reported}
 use Rattle.ready_loop.specs.declared.link.Link.{Link}

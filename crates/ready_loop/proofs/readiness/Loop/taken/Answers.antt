@@ -1,4 +1,4 @@
-use Rattle.std.proofs.Common.{arith, ◌≡◌, ◌<◌, ◌∙◌, ℕ, ap}
+use Rattle.std.proofs.Common.{arith, ◌<◌, ◌∙◌, ap}
 use Rattle.world.specs.Places.{place_of}
 use Rattle.ready_loop.specs.Queues.{taken_at}
 use Rattle.ready_loop.proofs.NewLemmas.{taken_is}

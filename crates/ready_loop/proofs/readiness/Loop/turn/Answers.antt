@@ -1,4 +1,4 @@
-use Rattle.std.proofs.Common.{◌≡◌, ap, List, refl}
+use Rattle.std.proofs.Common.{◌≡◌, List, refl}
 use Rattle.world.specs.declared.entry.Entry.{Entry}
 use Rattle.world.specs.Places.{time}
 use Rattle.world.proofs.MomentsLemmas.{told_start, told_as, told_one}

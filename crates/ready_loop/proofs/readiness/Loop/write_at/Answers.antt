@@ -3,8 +3,6 @@ use Rattle.world.specs.declared.entry.Entry.{Entry}
 use Rattle.world.specs.Places.{time}
 use Rattle.world.specs.Told.{PutSome}
 use Rattle.ready_loop.specs.Link.{MayWrite, write_link}
-use Rattle.ready_loop.specs.Queues.{held_in}
-use Rattle.ready_loop.proofs.CallLemmas.{held_write}
 use Rattle.ready_loop.proofs.TableLemmas.{tells_with}
 use Rattle.ready_loop.proofs.StateLemmas.{may_here, only_written, calm_written, drained_set, write_reads, write_fails, load_less, known_set, write_stage}
 use Rattle.ready_loop.proofs.OfferLemmas.{write_goes, untimed_write}
@@ -14,10 +12,10 @@ pub returns-clause-goes : goal.returns-clause-goes
 returns-clause-goes g c =
     let may = may_here MayWrite c.args.self.now.links c.args.place c.at-link.result c.at-link.ensures c.requires.may in
     tells_with (λ (now : List Entry). c.last-last.result ≡ time now) c.write-put.ensures.tells c.write-put.ensures.refused c.last-last.ensures.told (λ past refused clock.
-        write_goes c.args.conn c.args.place c.write-put.result c.rest.result.now c.args.self.now c.put.new.self c.take_off.new.self c.at-link.result c.last-last.result past
-        c.requires.place c.at-link.ensures may c.requires.some c.rest.ensures c.write-put.ensures.some
-        (c.put.ensures ∙ ap (set c.args.self.now.links c.args.place) c.after_write.ensures) c.take_off.ensures
-        (clock ∙ untimed_write c.args.conn c.write-put.result c.rest.result.now past) refused)
+    write_goes c.args.conn c.args.place c.write-put.result c.rest.result.now c.args.self.now c.put.new.self c.take_off.new.self c.at-link.result c.last-last.result past
+    c.requires.place c.at-link.ensures may c.requires.some c.rest.ensures c.write-put.ensures.some
+    (c.put.ensures ∙ ap (set c.args.self.now.links c.args.place) c.after_write.ensures) c.take_off.ensures
+    (clock ∙ untimed_write c.args.conn c.write-put.result c.rest.result.now past) refused)
 
 pub returns-clause-only : goal.returns-clause-only
 returns-clause-only g c = only_written c.args.self.now (record c.args.self.now { links = c.put.new.self; queues = c.take_off.new.self }) c.args.place c.after_write.result _ c.put.ensures c.take_off.ensures refl
