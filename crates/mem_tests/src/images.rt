@@ -19,6 +19,18 @@ fn file<'a>(files: &'a Files, path: &str) -> Option<&'a [u8]> {
     None
 }
 
+// Makes an empty file.
+fn create<W: Disk>(w: &mut W, path: &Text) -> Did {
+    w.create(path)
+}
+
+// Saves a text at a path, over any disk.
+fn replace<W: Disk>(w: &mut W, path: &SavePath, text: &[u8]) -> Result<(), SaveFault>
+    requires { 0 < length text.now }
+{
+    save(w, path, text)
+}
+
 // Whether after so many entries every image has one of these two texts at a path.
 fn always(
     w: &MemWorld<Fount>,
@@ -42,7 +54,7 @@ fn a_new_file_is_absent_or_whole(rt: HostRuntime) -> Result<(), Fail> {
     let alloc = rt.alloc();
     let mut w = world(alloc, &[("d/i", "in")], 0, plain(alloc, &[])?)?;
     let path = SavePath::of(alloc, &Text::of(alloc, "d/o")?)?;
-    save(&mut w, &path, b"x")?;
+    replace(&mut w, &path, b"x")?;
     for t in 0..5 {
         assert!(rt;
             always(&w, t, "d/o", None, Some(b"x"))?,
@@ -59,8 +71,8 @@ fn a_new_file_is_absent_or_whole(rt: HostRuntime) -> Result<(), Fail> {
 fn digits_pick_options_in_the_order_of_paths(rt: HostRuntime) -> Result<(), Fail> {
     let alloc = rt.alloc();
     let mut w = world(alloc, &[("b", "old")], 0, plain(alloc, &[])?)?;
-    assert!(rt; w.create(&Text::of(alloc, "c")?) == Did::Done);
-    assert!(rt; w.create(&Text::of(alloc, "a")?) == Did::Done);
+    assert!(rt; create(&mut w, &Text::of(alloc, "c")?) == Did::Done);
+    assert!(rt; create(&mut w, &Text::of(alloc, "a")?) == Did::Done);
     let rows: [(u64, Option<&[u8]>, Option<&[u8]>); 5] = [
         (0, None, None),
         (1, Some(b""), None),
@@ -87,9 +99,9 @@ fn a_failed_rename_leaves_the_last_save_or_its_own(rt: HostRuntime) -> Result<()
     let alloc = rt.alloc();
     let mut w = world(alloc, &[("o", "0")], 0, plain(alloc, &[13])?)?;
     let path = SavePath::of(alloc, &Text::of(alloc, "o")?)?;
-    save(&mut w, &path, b"1")?;
-    save(&mut w, &path, b"2")?;
-    assert!(rt; save(&mut w, &path, b"3") == Err(SaveFault::Rename));
+    replace(&mut w, &path, b"1")?;
+    replace(&mut w, &path, b"2")?;
+    assert!(rt; replace(&mut w, &path, b"3") == Err(SaveFault::Rename));
     for t in 10..15 {
         assert!(rt;
             always(&w, t, "o", Some(b"2"), Some(b"3"))?,
@@ -119,7 +131,7 @@ fn a_save_behind_a_fuse_leaves_old_or_new(rt: HostRuntime) -> Result<(), Fail> {
         let mut w = world(alloc, &[("o", "old")], 0, plain(alloc, &[])?)?;
         w.fuse(fuse as u64);
         assert!(rt;
-            save(&mut w, &path, b"new") == *end,
+            replace(&mut w, &path, b"new") == *end,
             "with a fuse of {fuse}"
         );
         let entries = w.journal().ok_or("not told")?.len() as u64;

@@ -36,6 +36,23 @@ pub(crate) fn plain(alloc: Global, fails: &[u64]) -> Result<Script, NoMemory>
     })
 }
 
+/// A script that starts at a moment, with these caps and so many refusals.
+pub(crate) fn script(
+    alloc: Global,
+    start_ms: u64,
+    pieces: &[u64],
+    refusals: u32,
+) -> Result<Script, NoMemory>
+    ensures { IfOk result (λ script. script.start_ms ≡ start_ms) }
+{
+    Ok(Script {
+        start_ms,
+        pieces: sizes(alloc, pieces)?,
+        fails: Sizes::new(alloc),
+        refusals,
+    })
+}
+
 /// A world with these files, this script, and one kernel that hands out so many bytes.
 pub(crate) fn world(
     alloc: Global,

@@ -114,11 +114,11 @@ up_is_status past ups conn same below =
 pub told_exact : {old mid : LinkedJournal} {new : Option (List Entry)} {R : List Entry → List Entry → Type 0}
     → (ready : List Bool) (hears : Conn → Bool) (result : Did) → mid ≡ old → Told (told_of mid.timed.entries) new R
     → (result ≡ did.Done → (conn : Conn) → conn.job < 16
-        → is_reported (place_of conn) ready ≡ (is_up old.ups conn && hears conn))
+    → is_reported (place_of conn) ready ≡ (is_up old.ups conn && hears conn))
     → Told (told_of old.timed.entries) new (λ before after. result ≡ did.Done → (conn : Conn) → conn.job < 16
-        → is_reported (place_of conn) ready ≡ ((status (place_of conn) before).up && hears conn))
+    → is_reported (place_of conn) ready ≡ ((status (place_of conn) before).up && hears conn))
 told_exact {old} {mid} {new} {R} ready hears result same told marks =
     let told_before : Told (told_of old.timed.entries) new R =
-      subst (λ (j : LinkedJournal). Told (told_of j.timed.entries) new R) same told in
+    subst (λ (j : LinkedJournal). Told (told_of j.timed.entries) new R) same told in
     told_as (told_linked told_before old.linked) (λ before after linked done conn below.
-      marks done conn below ∙ ap (λ (up : Bool). up && hears conn) (up_is_status before old.ups conn linked below))
+    marks done conn below ∙ ap (λ (up : Bool). up && hears conn) (up_is_status before old.ups conn linked below))

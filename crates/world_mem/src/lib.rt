@@ -25,6 +25,7 @@ pub mod telling;
 mod timed_journal;
 mod world_disk;
 mod world_kids;
+mod world_wait;
 mod world_wire;
 
 pub use far::Kernels;

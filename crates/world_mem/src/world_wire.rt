@@ -1,6 +1,6 @@
 //! The connections of a world in memory.
-ghost use Rattle.std.specs.Prelude.{◌≡◌, ◌<◌, ◌≤◌, ◌||◌, ◌&&◌, ℕ, All, IfSome, None};
-ghost use Rattle.std.specs.Prelude.{false, length, replicate, true};
+ghost use Rattle.std.specs.Prelude.{◌≡◌, ◌<◌, ◌||◌, ◌&&◌, All, IfSome, None, false, length};
+ghost use Rattle.std.specs.Prelude.{replicate};
 ghost use Rattle.world.specs.declared.conn.Conn.{Conn};
 ghost use Rattle.world.specs.declared.entry.Entry.{Entry};
 ghost use Rattle.world.specs.Calls.{Accepted, Gave, Took, StandsAfter};
@@ -11,248 +11,15 @@ ghost use Rattle.world.specs.Places.{is_reported, place_of, status, IsUnused, On
 ghost use Rattle.world.specs.Told.{Adds, AreDifferent, read_entry, GotSome, write_entry, PutSome};
 ghost use Rattle.world_mem.specs.Far.{at_job, is_ready, ServesUnless, Ticks, TookIf};
 ghost use Rattle.world_mem.specs.Links.{is_up, ups_after};
-ghost use Rattle.world_mem.specs.Near.{journal_of, counts_of, AfterNet, AfterConnect, AfterRead};
-ghost use Rattle.world_mem.specs.Near.{called, AfterPut, AfterWait};
+ghost use Rattle.world_mem.specs.Near.{called, journal_of, counts_of, AfterNet, AfterConnect};
+ghost use Rattle.world_mem.specs.Near.{AfterPut, AfterRead, AfterWait};
 ghost use Rattle.world_mem.specs.Store.{is_to_fail, FailsOrStarves};
-ghost use Rattle.world_mem.specs.Wire.{ports_unless, connected_by, is_refusing, room_of, ReadAs};
-ghost use Rattle.world_mem.specs.Wire.{clock_after, clock_by, did_put, is_any, ports_of};
-ghost use Rattle.world_mem.specs.Wire.{put_by};
+ghost use Rattle.world_mem.specs.Wire.{clock_by, connected_by, did_put, is_refusing, ports_of};
+ghost use Rattle.world_mem.specs.Wire.{ports_unless, put_by, room_of, ReadAs};
 
 use crate::MemWorld;
 use crate::count::rise_by;
-use crate::linked_journal::conn_at;
 use world::{Conn, Connected, Did, Entry, Give, Got, KernelSide, Put, Reports, Wire, World};
-
-impl<K: KernelSide> MemWorld<K> {
-    // Whether a connection is taken up.
-    fn try_connect(&mut self, conn: Conn) -> Connected
-        ensures is { result ≡ connected_by (is_to_fail self.old.near.store)
-            (is_refusing self.old.near.refusals) (at_job self.old.far.kernels.items conn.job false
-            (λ k. K.accepts k conn.chan self.old.far.clock)) }
-        ensures kernels { ServesUnless
-            (is_to_fail self.old.near.store || is_refusing self.old.near.refusals)
-            self.old.far.kernels.items self.new.far.kernels.items conn.job
-            (λ before after. StandsAfter (K.stands before) (K.stands after) (Accepted conn.chan
-            self.old.far.clock (K.accepts before conn.chan self.old.far.clock))) }
-        ensures started { self.new.far.started ≡ self.old.far.started }
-        ensures clock { self.new.far.clock ≡ self.old.far.clock }
-        ensures near { AfterConnect self.old.near self.new.near }
-        ensures cause { HasCause self.old.near.net_faults self.new.near.net_faults
-            (result ≡ Connected.Failed) }
-        ensures journal { self.new.near.journal ≡ self.old.near.journal }
-    {
-        let refuses = self.near.refuses();
-        if self.near.fails_net() {
-            return Connected::Failed;
-        }
-        if refuses {
-            return Connected::Refused;
-        }
-        if self.far.accept(conn) {
-            Connected::Begun
-        } else {
-            Connected::Refused
-        }
-    }
-
-    // What stands ready on a connection.
-    fn try_read(&mut self, conn: Conn, buf: &mut [u8]) -> Got
-        requires { 0 < length buf.old }
-        ensures some { GotSome result (length buf.old) }
-        ensures is { let room = room_of self.old.near.pieces self.old.near.turn (length buf.old) in
-            ReadAs (is_to_fail self.old.near.store) (at_job self.old.far.kernels.items conn.job Over
-            (λ k. K.gives k conn.chan self.old.far.clock room)) result buf.new }
-        ensures kernels { let room = room_of self.old.near.pieces self.old.near.turn
-            (length buf.old) in
-            ServesUnless (is_to_fail self.old.near.store)
-            self.old.far.kernels.items self.new.far.kernels.items conn.job
-            (λ before after. StandsAfter (K.stands before) (K.stands after)
-            (Gave conn.chan self.old.far.clock room
-            (K.gives before conn.chan self.old.far.clock room))) }
-        ensures started { self.new.far.started ≡ self.old.far.started }
-        ensures clock { self.new.far.clock ≡ self.old.far.clock }
-        ensures near { AfterRead self.old.near self.new.near }
-        ensures cause { HasCause self.old.near.net_faults self.new.near.net_faults
-            (result ≡ Got.Failed) }
-        ensures journal { self.new.near.journal ≡ self.old.near.journal }
-    {
-        let room = self.near.room(buf.len());
-        if self.near.fails_net() {
-            return Got::Failed;
-        }
-        match self.far.give(conn, &mut buf[..room]) {
-            Give::Bytes(n) => Got::Piece(n),
-            Give::Nothing => Got::Dry,
-            Give::Ended => Got::Ended,
-        }
-    }
-
-    // Hands a piece to a kernel.
-    fn try_put(&mut self, conn: Conn, piece: &[u8]) -> Did
-        ensures fails { FailsOrStarves (is_to_fail self.old.near.store)
-            self.old.near.store self.new.near.store result }
-        ensures kernels { ServesUnless (is_to_fail self.old.near.store)
-            self.old.far.kernels.items self.new.far.kernels.items conn.job
-            (λ before after. TookIf result (StandsAfter (K.stands before) (K.stands after)
-            (Took conn.chan self.old.far.clock piece.now))) }
-        ensures started { self.new.far.started ≡ self.old.far.started }
-        ensures clock { self.new.far.clock ≡ self.old.far.clock }
-        ensures near { AfterPut self.old.near self.new.near result }
-        ensures cause { HasCause self.old.near.net_faults self.new.near.net_faults
-            (result ≡ Did.Failed) }
-        ensures journal { self.new.near.journal ≡ self.old.near.journal }
-    {
-        let did = self.hand(conn, piece);
-        rise_by(&mut self.near.net_faults, did);
-        did
-    }
-
-    // Hands a piece to a kernel, and counts no fault.
-    fn hand(&mut self, conn: Conn, piece: &[u8]) -> Did
-        ensures fails { FailsOrStarves (is_to_fail self.old.near.store)
-            self.old.near.store self.new.near.store result }
-        ensures kernels { ServesUnless (is_to_fail self.old.near.store)
-            self.old.far.kernels.items self.new.far.kernels.items conn.job
-            (λ before after. TookIf result (StandsAfter (K.stands before) (K.stands after)
-            (Took conn.chan self.old.far.clock piece.now))) }
-        ensures started { self.new.far.started ≡ self.old.far.started }
-        ensures clock { self.new.far.clock ≡ self.old.far.clock }
-        ensures near { self.new.near ≡ record self.old.near {
-          store = record (called self.old.near.store) { starved = self.new.near.store.starved };
-        } }
-    {
-        if self.near.store.fails_now() {
-            return Did::Failed;
-        }
-        match self.far.take(self.near.alloc, conn, piece) {
-            Ok(()) => Did::Done,
-            Err(_) => self.near.store.starve(),
-        }
-    }
-}
-
-impl<K: KernelSide> MemWorld<K> {
-    // Brings the started kernels to the moment now, marks the connections that are up and have
-    // something to read, and moves the clock on where there is none.
-    fn try_wait(&mut self, ms: u32, out: &mut Reports) -> Did
-        ensures failed { result ≡ Did.Failed → out.new.ready ≡ replicate 64 false }
-        ensures cause { HasCause self.old.near.net_faults self.new.near.net_faults
-            (result ≡ Did.Failed) }
-        ensures later { self.old.near.waits ≤ self.new.near.waits }
-        ensures fails { FailsOrStarves (is_to_fail self.old.near.store)
-            self.old.near.store self.new.near.store result }
-        ensures ticks { result ≡ Did.Done → Ticks K.stands self.old.far.started
-            self.old.far.clock self.old.far.kernels.items self.new.far.kernels.items }
-        ensures reports { result ≡ Did.Done → (conn : Conn) → conn.job < 16 →
-            is_reported (place_of conn) out.new.ready ≡ (is_up self.old.near.journal.ups conn
-            && is_ready K.gives self.new.far.kernels.items self.old.far.clock conn) }
-        ensures up { (p : ℕ) → is_reported p out.new.ready ≡ true →
-            is_reported p self.old.near.journal.ups ≡ true }
-        ensures started { self.new.far.started ≡ self.old.far.started }
-        ensures clock { self.new.far.clock
-            ≡ clock_by result out.new.ready self.old.far.clock ms }
-        ensures near { AfterWait self.old.near self.new.near result }
-        ensures journal { self.new.near.journal ≡ self.old.near.journal }
-    {
-        *out = Reports { ready: [false; 64] };
-        match self.tick() {
-            Did::Failed => {
-                self.near.count_wait(Did::Failed);
-                Did::Failed
-            }
-            Did::Done => {
-                self.near.count_wait(Did::Done);
-                self.report_or_pass(ms, &mut out.ready);
-                Did::Done
-            }
-        }
-    }
-
-    // Marks the connections that are up and have something to read, and moves the clock on where
-    // there is none.
-    fn report_or_pass(&mut self, ms: u32, ready: &mut [bool; 64])
-        ensures reports { (conn : Conn) → conn.job < 16 → is_reported (place_of conn) ready.new
-            ≡ (is_up self.old.near.journal.ups conn
-            && is_ready K.gives self.old.far.kernels.items self.old.far.clock conn) }
-        ensures up { (p : ℕ) → is_reported p ready.new ≡ true →
-            is_reported p self.old.near.journal.ups ≡ true }
-        ensures kernels { self.new.far.kernels ≡ self.old.far.kernels }
-        ensures started { self.new.far.started ≡ self.old.far.started }
-        ensures clock { self.new.far.clock ≡ clock_after ready.new self.old.far.clock ms }
-        ensures near { self.new.near ≡ self.old.near }
-    {
-        self.report(ready);
-        if !has_any(ready) {
-            self.far.pass(ms);
-        }
-    }
-
-    // Brings the started kernels to the moment now.
-    fn tick(&mut self) -> Did
-        ensures fails { FailsOrStarves (is_to_fail self.old.near.store)
-            self.old.near.store self.new.near.store result }
-        ensures ticks { result ≡ Did.Done → Ticks K.stands self.old.far.started
-            self.old.far.clock self.old.far.kernels.items self.new.far.kernels.items }
-        ensures started { self.new.far.started ≡ self.old.far.started }
-        ensures clock { self.new.far.clock ≡ self.old.far.clock }
-        ensures near { self.new.near ≡ record self.old.near {
-          store = record (called self.old.near.store) { starved = self.new.near.store.starved };
-        } }
-    {
-        let ticked = self.far.tick(self.near.alloc);
-        if self.near.store.fails_now() {
-            return Did::Failed;
-        }
-        match ticked {
-            Ok(()) => Did::Done,
-            Err(_) => self.near.store.starve(),
-        }
-    }
-
-    // Marks the connections that are up and have something to read.
-    fn report(&self, ready: &mut [bool; 64])
-        ensures reports { (conn : Conn) → conn.job < 16 → is_reported (place_of conn) ready.new
-            ≡ (is_up self.now.near.journal.ups conn
-            && is_ready K.gives self.now.far.kernels.items self.now.far.clock conn) }
-        ensures up { (p : ℕ) → is_reported p ready.new ≡ true →
-            is_reported p self.now.near.journal.ups ≡ true }
-    {
-        for place in 0..64 {
-            let conn = conn_at(place);
-            ready[place] = self.is_to_report(conn);
-        }
-    }
-
-    // Whether a connection is up and has something to read.
-    fn is_to_report(&self, conn: Conn) -> bool
-        ensures { result ≡ (is_up self.now.near.journal.ups conn
-            && is_ready K.gives self.now.far.kernels.items self.now.far.clock conn) }
-    {
-        self.near.journal.is_up(conn) && self.far.is_ready(conn)
-    }
-}
-
-// Whether some place is marked.
-fn has_any(ready: &[bool; 64]) -> bool
-    ensures { result ≡ is_any ready.now }
-{
-    ready.iter().any(|place| *place)
-}
-
-// The ports of a job.
-fn ports_of(job: u8) -> [u16; 5]
-    requires { job < 16 }
-    ensures { result ≡ ports_of job }
-{
-    let first = 5 * job as u16;
-    [
-        1001 + first,
-        1002 + first,
-        1003 + first,
-        1004 + first,
-        1005 + first,
-    ]
-}
 
 // The clauses of the trait, and what this world answers.
 impl<K: KernelSide> Wire for MemWorld<K> {
@@ -426,3 +193,126 @@ impl<K: KernelSide> Wire for MemWorld<K> {
 }
 
 impl<K: KernelSide> World for MemWorld<K> {}
+
+impl<K: KernelSide> MemWorld<K> {
+    // Whether a connection is taken up.
+    fn try_connect(&mut self, conn: Conn) -> Connected
+        ensures is { result ≡ connected_by (is_to_fail self.old.near.store)
+            (is_refusing self.old.near.refusals) (at_job self.old.far.kernels.items conn.job false
+            (λ k. K.accepts k conn.chan self.old.far.clock)) }
+        ensures kernels { ServesUnless
+            (is_to_fail self.old.near.store || is_refusing self.old.near.refusals)
+            self.old.far.kernels.items self.new.far.kernels.items conn.job
+            (λ before after. StandsAfter (K.stands before) (K.stands after) (Accepted conn.chan
+            self.old.far.clock (K.accepts before conn.chan self.old.far.clock))) }
+        ensures started { self.new.far.started ≡ self.old.far.started }
+        ensures clock { self.new.far.clock ≡ self.old.far.clock }
+        ensures near { AfterConnect self.old.near self.new.near }
+        ensures cause { HasCause self.old.near.net_faults self.new.near.net_faults
+            (result ≡ Connected.Failed) }
+        ensures journal { self.new.near.journal ≡ self.old.near.journal }
+    {
+        let refuses = self.near.refuses();
+        if self.near.fails_net() {
+            return Connected::Failed;
+        }
+        if refuses {
+            return Connected::Refused;
+        }
+        if self.far.accept(conn) {
+            Connected::Begun
+        } else {
+            Connected::Refused
+        }
+    }
+
+    // What stands ready on a connection.
+    fn try_read(&mut self, conn: Conn, buf: &mut [u8]) -> Got
+        requires { 0 < length buf.old }
+        ensures some { GotSome result (length buf.old) }
+        ensures is { let room = room_of self.old.near.pieces self.old.near.turn (length buf.old) in
+            ReadAs (is_to_fail self.old.near.store) (at_job self.old.far.kernels.items conn.job Over
+            (λ k. K.gives k conn.chan self.old.far.clock room)) result buf.new }
+        ensures kernels { let room = room_of self.old.near.pieces self.old.near.turn
+            (length buf.old) in
+            ServesUnless (is_to_fail self.old.near.store)
+            self.old.far.kernels.items self.new.far.kernels.items conn.job
+            (λ before after. StandsAfter (K.stands before) (K.stands after)
+            (Gave conn.chan self.old.far.clock room
+            (K.gives before conn.chan self.old.far.clock room))) }
+        ensures started { self.new.far.started ≡ self.old.far.started }
+        ensures clock { self.new.far.clock ≡ self.old.far.clock }
+        ensures near { AfterRead self.old.near self.new.near }
+        ensures cause { HasCause self.old.near.net_faults self.new.near.net_faults
+            (result ≡ Got.Failed) }
+        ensures journal { self.new.near.journal ≡ self.old.near.journal }
+    {
+        let room = self.near.room(buf.len());
+        if self.near.fails_net() {
+            return Got::Failed;
+        }
+        match self.far.give(conn, &mut buf[..room]) {
+            Give::Bytes(n) => Got::Piece(n),
+            Give::Nothing => Got::Dry,
+            Give::Ended => Got::Ended,
+        }
+    }
+
+    // Hands a piece to a kernel.
+    fn try_put(&mut self, conn: Conn, piece: &[u8]) -> Did
+        ensures fails { FailsOrStarves (is_to_fail self.old.near.store)
+            self.old.near.store self.new.near.store result }
+        ensures kernels { ServesUnless (is_to_fail self.old.near.store)
+            self.old.far.kernels.items self.new.far.kernels.items conn.job
+            (λ before after. TookIf result (StandsAfter (K.stands before) (K.stands after)
+            (Took conn.chan self.old.far.clock piece.now))) }
+        ensures started { self.new.far.started ≡ self.old.far.started }
+        ensures clock { self.new.far.clock ≡ self.old.far.clock }
+        ensures near { AfterPut self.old.near self.new.near result }
+        ensures cause { HasCause self.old.near.net_faults self.new.near.net_faults
+            (result ≡ Did.Failed) }
+        ensures journal { self.new.near.journal ≡ self.old.near.journal }
+    {
+        let did = self.hand(conn, piece);
+        rise_by(&mut self.near.net_faults, did);
+        did
+    }
+
+    // Hands a piece to a kernel, and counts no fault.
+    fn hand(&mut self, conn: Conn, piece: &[u8]) -> Did
+        ensures fails { FailsOrStarves (is_to_fail self.old.near.store)
+            self.old.near.store self.new.near.store result }
+        ensures kernels { ServesUnless (is_to_fail self.old.near.store)
+            self.old.far.kernels.items self.new.far.kernels.items conn.job
+            (λ before after. TookIf result (StandsAfter (K.stands before) (K.stands after)
+            (Took conn.chan self.old.far.clock piece.now))) }
+        ensures started { self.new.far.started ≡ self.old.far.started }
+        ensures clock { self.new.far.clock ≡ self.old.far.clock }
+        ensures near { self.new.near ≡ record self.old.near {
+          store = record (called self.old.near.store) { starved = self.new.near.store.starved };
+        } }
+    {
+        if self.near.store.fails_now() {
+            return Did::Failed;
+        }
+        match self.far.take(self.near.alloc, conn, piece) {
+            Ok(()) => Did::Done,
+            Err(_) => self.near.store.starve(),
+        }
+    }
+}
+
+// The ports of a job.
+fn ports_of(job: u8) -> [u16; 5]
+    requires { job < 16 }
+    ensures { result ≡ ports_of job }
+{
+    let first = 5 * job as u16;
+    [
+        1001 + first,
+        1002 + first,
+        1003 + first,
+        1004 + first,
+        1005 + first,
+    ]
+}
