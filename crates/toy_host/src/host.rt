@@ -1,8 +1,8 @@
 //! The loop over the sockets.
 ghost use Rattle.std.specs.Prelude.{◌≡◌, ◌<◌, ◌≤◌, ◌^◌, ℕ};
 
-use crate::{HostFault, Ports};
 use crate::sockets::Sockets;
+use crate::{HostFault, Ports};
 use std::alloc::Global;
 use std::net::Net;
 use std::rt::Clock;

@@ -177,7 +177,8 @@ fn listener<R: Net>(rt: &R, poll: &Poll, chan: Chan, port: u16) -> io::Result<Tc
     let at = SocketAddr::from((Ipv4Addr::LOCALHOST, port));
     let mut listener = TcpListener::bind(rt, at)?;
     let token = Token(token(chan));
-    poll.registry().register(&mut listener, token, Interest::READABLE)?;
+    poll.registry()
+        .register(&mut listener, token, Interest::READABLE)?;
     Ok(listener)
 }
 
@@ -201,7 +202,8 @@ fn waiting(
 fn watched(stream: TcpStream, poll: &Poll, chan: Chan) -> io::Result<TcpStream> {
     let mut stream = stream;
     let both = Interest::READABLE | Interest::WRITABLE;
-    poll.registry().register(&mut stream, Token(4 + token(chan)), both)?;
+    poll.registry()
+        .register(&mut stream, Token(4 + token(chan)), both)?;
     stream.set_nodelay(true)?;
     Ok(stream)
 }
