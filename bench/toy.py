@@ -25,10 +25,14 @@ def check(name, found, wanted):
         FAILED.append(name)
 
 
+KERNELS = []
+
+
 def start(folder):
     """A kernel on free ports, and a client of it."""
-    file, info = write_connection_file(str(Path(folder) / "kernel.json"), kernel_name="toy")
+    file, info = write_connection_file(str(Path(folder) / "kernel.json"), key=b"0123-key", kernel_name="toy")
     kernel = subprocess.Popen([PROGRAM, file])
+    KERNELS.append(kernel)
     client = BlockingKernelClient(connection_file=file)
     client.load_connection_file()
     client.start_channels()
@@ -134,8 +138,20 @@ def statuses(folder):
 
 
 def main():
+    """Tries all of it, and ends the kernels that were started."""
     if not PROGRAM.exists():
         subprocess.run(["rt", "run", "--", "--about"], cwd=CRATE, check=True)
+    try:
+        run()
+    finally:
+        for kernel in KERNELS:
+            kernel.kill()
+    print(f"{len(FAILED)} failed")
+    return 1 if FAILED else 0
+
+
+def run():
+    """The statuses without a kernel, and then sessions with one."""
     with tempfile.TemporaryDirectory() as folder:
         statuses(folder)
         kernel, client, info = start(folder)
@@ -158,8 +174,6 @@ def main():
         client.execute("print 1\ndie")
         check("die", kernel.wait(timeout=10), 1)
         client.stop_channels()
-    print(f"{len(FAILED)} failed")
-    return 1 if FAILED else 0
 
 
 if __name__ == "__main__":
