@@ -1,5 +1,5 @@
 -- What a cell says is what is published for its text.
-use Rattle.std.proofs.Common.{◌≡◌, ℕ, List, [], ◌∷◌, ◌++◌, map, flat_map, refl, sym, ap, ◌∙◌, codes}
+use Rattle.std.proofs.Common.{◌≡◌, ℕ, List, [], ◌∷◌, ◌++◌, map, flat_map, refl, ap, ◌∙◌, codes}
 use Rattle.toy_lang.specs.declared.effect.Effect.{Effect}
 use Rattle.toy_lang.specs.declared.effect.Effect.TheVariants as effect
 use Rattle.toy_lang.specs.ToyOut as out
@@ -35,6 +35,6 @@ delivered_said (m ∷ ms) = ap (λ l. m ∷ l) (published_said ms)
 pub cell_said : (code : List ℕ) (count : ℕ) (es : List Effect) → messages_in (cell_notes code count es) ≡ published code count es
 cell_said code count es =
     let rest = both (map (note_of count) es) (delivered (close count es))
-        ∙ ap (λ l. l ++ messages_in (delivered (close count es))) (effects_said count es)
-        ∙ ap (λ l. flat_map (messages_of count) es ++ l) (delivered_said (close count es)) in
+    ∙ ap (λ l. l ++ messages_in (delivered (close count es))) (effects_said count es)
+    ∙ ap (λ l. flat_map (messages_of count) es ++ l) (delivered_said (close count es)) in
     ap (λ l. out.status (codes "busy") ∷ out.input code count ∷ l) rest

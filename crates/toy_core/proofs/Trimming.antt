@@ -3,7 +3,7 @@ use Rattle.std.proofs.Common.{◌≡◌, ℕ, ◌+◌, ◌-◌, ◌≤◌, Bool,
 use Rattle.std.proofs.lemmas.Bool.Decides.{nat_tests}
 use Rattle.std.proofs.lemmas.List.{length-append, drop_all, append-nil}
 use Rattle.toy_core.specs.declared.outbox.Outbox.{Outbox}
-use Rattle.toy_core.specs.Outboxes.{front, ready, left, is_handed_out, trimmed}
+use Rattle.toy_core.specs.Outboxes.{front, left, is_handed_out, trimmed}
 use Rattle.toy_core.proofs.Pourings.{drop-both}
 
 le_so : (a b : ℕ) → nat_le a b ≡ true → a ≤ b
