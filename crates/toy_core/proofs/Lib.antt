@@ -7,3 +7,5 @@ pub mod Wanting
 pub mod News
 pub mod Pourings
 pub mod Giving
+pub mod Said
+pub mod Trimming

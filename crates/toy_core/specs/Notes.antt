@@ -60,3 +60,10 @@ interrupted_notes count = note_of count interruption ∷ delivered (close count 
 -- one message on control
 abbrev pub control_notes : Message → List Note
 control_notes m = Say chan.Control m ∷ []
+
+-- the messages that notes say
+abbrev pub messages_in : List Note → List Message
+messages_in [] = []
+messages_in (Say c m ∷ notes) = m ∷ messages_in notes
+messages_in (Rest ms ∷ notes) = messages_in notes
+messages_in (Stop status ∷ notes) = messages_in notes

@@ -75,6 +75,17 @@ impl Agenda {
         self.end = end;
     }
 
+    /// Only the first acts have happened; the others are still to happen.
+    pub(crate) fn pass(&mut self, alloc: Global, now: u64, done: usize)
+        requires { now < 2 ^ 47 }
+    {
+        let done = done.min(self.acts.len());
+        let reach = reach_of(&self.acts.as_slice()[..done], self.since, now);
+        let acts = mem::replace(&mut self.acts, Acts::new(alloc));
+        self.acts = without_front(acts, done);
+        self.since = reach.moment;
+    }
+
     /// Acts are to happen after all others, and not before now.
     pub(crate) fn queue(&mut self, now: u64, acts: Acts) -> Result<(), NoMemory>
         ensures { OnOk result (self.new ≡ spec.queued now acts self.old) }

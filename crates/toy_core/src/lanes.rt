@@ -77,13 +77,16 @@ impl Lanes {
         }
     }
 
-    /// Acts happen, in order.
-    pub(crate) fn perform(&mut self, alloc: Global, acts: &[Act]) -> Result<(), NoMemory>
+    /// Acts happen, in order. Without memory an `Err` says how many have happened.
+    pub(crate) fn perform(&mut self, alloc: Global, acts: &[Act]) -> Result<(), usize>
         ensures { OnOk result ((ls : spec.Lines) →
             AreLines self.old ls → AreLines self.new (spec.performed acts.now ls)) }
     {
-        for act in acts {
-            self.perform_one(alloc, act)?;
+        for (i, act) in acts.iter().enumerate() {
+            match self.perform_one(alloc, act) {
+                Ok(()) => {}
+                Err(_) => return Err(i),
+            }
         }
         Ok(())
     }

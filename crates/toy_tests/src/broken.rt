@@ -36,18 +36,14 @@ const UNITS: [(&str, &[u8]); 4] = [
 
 /// Nothing more comes on the channel, and the others go on.
 fn is_ended(rt: &impl Abort, client: &mut Client, chan: Chan, rule: &str) -> Result<(), Fail> {
-    assert_eq!(rt; client.last(chan)?, Give::Ended, "{chan:?}: {rule}");
+    client.answers(rt, chan, Give::Ended)?;
     assert!(rt; client.is_ready(chan), "{chan:?}: {rule}");
     client.put(chan, b"\xFF\0\0\0\0\0\0\0\0\x7F\x03\x01NULL")?;
-    assert_eq!(rt; client.last(chan)?, Give::Ended, "{chan:?}: {rule}");
+    client.answers(rt, chan, Give::Ended)?;
     assert_eq!(rt; client.exited(), None, "{chan:?}: {rule}");
     for other in CHANNELS {
         if other != chan {
-            assert_eq!(rt;
-                client.last(other)?,
-                Give::Nothing,
-                "{other:?}, not {chan:?}: {rule}"
-            );
+            client.answers(rt, other, Give::Nothing)?;
         }
     }
     Ok(())
@@ -58,14 +54,24 @@ fn a_wrong_greeting_ends_its_channel(rt: HostRuntime) -> Result<(), Fail> {
     for chan in CHANNELS {
         for (rule, octets) in GREETINGS {
             let mut client = Client::new(rt.alloc())?;
-            assert!(rt; client.accept(chan));
-            client.put(chan, octets)?;
-            // The start was due before.
-            assert!(rt; 64 < client.octets(chan, 4096)?.len(), "{chan:?}: {rule}");
-            is_ended(&rt, &mut client, chan, rule)?;
+            breaks_at_start(&rt, &mut client, chan, rule, octets)?;
         }
     }
     Ok(())
+}
+
+fn breaks_at_start(
+    rt: &impl Abort,
+    client: &mut Client,
+    chan: Chan,
+    rule: &str,
+    octets: &[u8],
+) -> Result<(), Fail> {
+    assert!(rt; client.accept(chan), "{chan:?}");
+    client.put(chan, octets)?;
+    // The start was due before.
+    assert!(rt; 64 < client.octets(chan, 4096)?.len(), "{chan:?}: {rule}");
+    is_ended(rt, client, chan, rule)
 }
 
 #[test]
@@ -73,13 +79,23 @@ fn a_wrong_first_unit_ends_its_channel(rt: HostRuntime) -> Result<(), Fail> {
     for chan in CHANNELS {
         for (rule, octets) in FIRST_UNITS {
             let mut client = Client::new(rt.alloc())?;
-            assert!(rt; client.accept(chan));
-            client.put(chan, &zmtp_wire::greeting())?;
-            client.put(chan, octets)?;
-            is_ended(&rt, &mut client, chan, rule)?;
+            breaks_after_greeting(&rt, &mut client, chan, rule, octets)?;
         }
     }
     Ok(())
+}
+
+fn breaks_after_greeting(
+    rt: &impl Abort,
+    client: &mut Client,
+    chan: Chan,
+    rule: &str,
+    octets: &[u8],
+) -> Result<(), Fail> {
+    assert!(rt; client.accept(chan), "{chan:?}");
+    client.put(chan, &zmtp_wire::greeting())?;
+    client.put(chan, octets)?;
+    is_ended(rt, client, chan, rule)
 }
 
 #[test]
@@ -87,37 +103,53 @@ fn a_wrong_unit_ends_its_channel(rt: HostRuntime) -> Result<(), Fail> {
     for chan in CHANNELS {
         for (rule, octets) in UNITS {
             let mut client = Client::connected(rt.alloc())?;
-            client.put(chan, octets)?;
-            is_ended(&rt, &mut client, chan, rule)?;
+            breaks(&rt, &mut client, chan, rule, octets)?;
         }
     }
     Ok(())
+}
+
+fn breaks(
+    rt: &impl Abort,
+    client: &mut Client,
+    chan: Chan,
+    rule: &str,
+    octets: &[u8],
+) -> Result<(), Fail> {
+    client.put(chan, octets)?;
+    is_ended(rt, client, chan, rule)
 }
 
 #[test]
 fn too_many_frames_end_their_channel(rt: HostRuntime) -> Result<(), Fail> {
     for chan in CHANNELS {
         let mut client = Client::connected(rt.alloc())?;
-        for _ in 0..63 {
-            client.put(chan, b"\x01\0")?;
-        }
-        assert_eq!(rt; client.last(chan)?, Give::Nothing, "{chan:?}");
-        client.put(chan, b"\x01")?;
-        is_ended(&rt, &mut client, chan, "too many")?;
+        has_too_many(&rt, &mut client, chan)?;
     }
     Ok(())
 }
 
+fn has_too_many(rt: &impl Abort, client: &mut Client, chan: Chan) -> Result<(), Fail> {
+    for _ in 0..63 {
+        client.put(chan, b"\x01\0")?;
+    }
+    client.answers(rt, chan, Give::Nothing)?;
+    client.put(chan, b"\x01")?;
+    is_ended(rt, client, chan, "too many")
+}
+
 #[test]
-fn a_broken_shell_has_no_reply_and_is_still_served(rt: HostRuntime) -> Result<(), Fail> {
+fn a_broken_shell_has_no_reply_and_its_cell_goes_on(rt: HostRuntime) -> Result<(), Fail> {
     let mut client = Client::connected(rt.alloc())?;
+    goes_on(&rt, &mut client)
+}
+
+fn goes_on(rt: &impl Abort, client: &mut Client) -> Result<(), Fail> {
     client.execute("q", "print 1\nsleep 10\nprint 2")?;
-    client.hear(Chan::Iopub)?;
+    client.hears_kinds(rt, Chan::Iopub, "status q execute_input q stream q ")?;
     client.put(Chan::Shell, b"\x08")?;
     client.wait(10);
-    assert_eq!(rt; client.octets(Chan::Shell, 4096)?.len(), 0);
-    assert_eq!(rt; client.last(Chan::Shell)?, Give::Ended);
-    let heard = client.hear(Chan::Iopub)?;
-    assert!(rt; heard.as_str().contains("\"2\\n\""), "{heard}");
-    Ok(())
+    client.hears_octets(rt, Chan::Shell, b"")?;
+    client.answers(rt, Chan::Shell, Give::Ended)?;
+    client.hears_part(rt, Chan::Iopub, "\"2\\n\"")
 }

@@ -5,6 +5,7 @@ ghost use Rattle.toy_core.specs.Toy.{latest_of};
 use jmsg::{Decoded, Header, Message, decode, encode};
 use jtext::{Bytes, Fields, Json, Text, read, write_compact};
 use std::alloc::Global;
+use std::process::Abort;
 use std::test::Fail;
 use toy_core::Toy;
 use world::{Chan, Give, KernelSide};
@@ -217,21 +218,96 @@ impl Client {
         Ok(())
     }
 
-    /// Whether the kernel has something for a channel, octets or the end.
-    pub(crate) fn is_ready(&self, chan: Chan) -> bool {
-        self.toy.ready(chan, self.now)
+    /// It hears just this.
+    pub(crate) fn hears(&mut self, rt: &impl Abort, chan: Chan, wanted: &str) -> Result<(), Fail> {
+        let heard = self.hear(chan)?;
+        assert_eq!(rt; heard.as_str(), wanted, "{chan:?}");
+        Ok(())
     }
 
-    /// What the kernel answers on a channel that has nothing more to say now.
-    pub(crate) fn last(&mut self, chan: Chan) -> Result<Give, Fail> {
+    /// It hears something in which this stands.
+    pub(crate) fn hears_part(
+        &mut self,
+        rt: &impl Abort,
+        chan: Chan,
+        part: &str,
+    ) -> Result<(), Fail> {
+        let heard = self.hear(chan)?;
+        assert!(rt;
+            heard.as_str().contains(part),
+            "{chan:?}: {part} in {heard}"
+        );
+        Ok(())
+    }
+
+    /// It hears messages of these types, each with the id of its request.
+    pub(crate) fn hears_kinds(
+        &mut self,
+        rt: &impl Abort,
+        chan: Chan,
+        wanted: &str,
+    ) -> Result<(), Fail> {
+        let heard = self.hear(chan)?;
+        let found = kinds(self.alloc, heard.as_str())?;
+        assert_eq!(rt; found.as_str(), wanted, "{chan:?}");
+        Ok(())
+    }
+
+    /// It is given just these octets.
+    pub(crate) fn hears_octets(
+        &mut self,
+        rt: &impl Abort,
+        chan: Chan,
+        wanted: &[u8],
+    ) -> Result<(), Fail> {
+        let octets = self.octets(chan, 3)?;
+        assert_eq!(rt; octets.bytes(), wanted, "{chan:?}");
+        Ok(())
+    }
+
+    /// The kernel answers this on a channel once it has said what it says now.
+    pub(crate) fn answers(
+        &mut self,
+        rt: &impl Abort,
+        chan: Chan,
+        wanted: Give,
+    ) -> Result<(), Fail> {
         self.octets(chan, 4096)?;
         let now = self.now;
         let mut buf = [0u8; 8];
-        Ok(self.toy.give(chan, now, &mut buf))
+        assert_eq!(rt; self.toy.give(chan, now, &mut buf), wanted, "{chan:?}");
+        Ok(())
+    }
+
+    /// Sends a request in whose signature one digit is changed.
+    pub(crate) fn put_unsigned(&mut self) -> Result<(), Fail> {
+        let mut octets = self.request(Chan::Shell, "r", "kernel_info_request", "{}")?;
+        if 14 < octets.len() {
+            let digit = octets.take(14);
+            octets.insert(14, digit ^ 1)?;
+        }
+        self.put(Chan::Shell, octets.bytes())
+    }
+
+    /// Whether the kernel has something for a channel, octets or the end.
+    pub(crate) fn is_ready(&self, chan: Chan) -> bool {
+        self.toy.ready(chan, self.now)
     }
 
     /// The status with which the kernel has ended.
     pub(crate) fn exited(&self) -> Option<i32> {
         self.toy.exited(self.now)
     }
+}
+
+/// The types of the messages that came, each with the id of its request.
+fn kinds(alloc: Global, heard: &str) -> Result<String, Fail> {
+    let mut out = String::new(alloc);
+    for line in heard.lines() {
+        for word in line.split(' ').take(2) {
+            out.push_str(word)?;
+            out.push_str(" ")?;
+        }
+    }
+    Ok(out)
 }
