@@ -1,4 +1,6 @@
 //! Child programs of the system.
+ghost use Rattle.world.specs.Environment.{AllStrings};
+
 use crate::worlds::{
     children, open_descriptors, real_world, start_script, start_with, status, text, texts,
 };
@@ -94,7 +96,9 @@ fn what_is_no_program_can_not_be_started(rt: HostRuntime) -> Result<(), Fail> {
 }
 
 /// What a script that has these variables writes into a file.
-fn written(rt: &HostRuntime, script: &str, env: &Fields) -> Result<String, Fail> {
+fn written(rt: &HostRuntime, script: &str, env: &Fields) -> Result<String, Fail>
+    requires { AllStrings env.now }
+{
     let mut w = real_world(rt)?;
     if !start_with(rt, &mut w, 0, script, env)? {
         return Err(Fail::new("not started"));
@@ -124,10 +128,12 @@ fn a_child_knows_who_started_it(rt: HostRuntime) -> Result<(), Fail> {
 
 #[test]
 fn the_variables_of_a_kernel_spec_go_over_ours(rt: HostRuntime) -> Result<(), Fail> {
-    let mut env = Fields::new(rt.alloc());
-    for (name, value) in [("KERNEL_COLOUR", "dark red"), ("JPY_PARENT_PID", "none")] {
-        env.push((text(&rt, name)?, Json::Str(text(&rt, value)?)))?;
-    }
+    let colour = (
+        text(&rt, "KERNEL_COLOUR")?,
+        Json::Str(text(&rt, "dark red")?),
+    );
+    let parent = (text(&rt, "JPY_PARENT_PID")?, Json::Str(text(&rt, "none")?));
+    let env = Fields::of_vec(vec![in rt.alloc(); colour, parent]?);
     let script = "echo \"$KERNEL_COLOUR, $JPY_PARENT_PID\" > written";
     let told = written(&rt, script, &env)?;
     assert_eq!(rt; told.as_str(), "dark red, none\n");
@@ -144,7 +150,7 @@ fn sixteen_children_leave_no_descriptor_and_no_child(rt: HostRuntime) -> Result<
     }
     assert_eq!(rt;
         children(&rt)?,
-        before.1 + 16,
+        before.1.saturating_add(16),
         "each is there until it is taken in"
     );
     for job in 0..16u8 {

@@ -1,5 +1,6 @@
 //! What the tests of the real world share.
 ghost use Rattle.std.specs.Prelude.{◌<◌};
+ghost use Rattle.world.specs.Environment.{AllStrings};
 
 use jtext::{Fields, Text, Texts};
 use std::test::Fail;
@@ -84,7 +85,8 @@ pub(crate) fn start_with(
     script: &str,
     env: &Fields,
 ) -> Result<bool, Fail>
-    requires { job < 16 }
+    requires job { job < 16 }
+    requires strings { AllStrings env.now }
 {
     let argv = texts(rt, &["/bin/sh", "-c", script])?;
     let dir = text(rt, ".")?;
