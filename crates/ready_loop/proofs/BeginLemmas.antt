@@ -9,7 +9,7 @@ use Rattle.world.specs.declared.connected.Connected.{Connected}
 use Rattle.world.specs.declared.entry.Entry.{Entry}
 use Rattle.world.specs.declared.entry.Entry.TheVariants as made
 use Rattle.world.specs.Moments.{start, more}
-use Rattle.world.specs.Places.{status, time, place_of, is_at, chan_number}
+use Rattle.world.specs.Places.{status, time, place_of, is_at}
 use Rattle.world.proofs.StatusLemmas.{at_own, connected_own, closed_own}
 use Rattle.ready_loop.specs.declared.fault.LoopFault.{LoopFault}
 use Rattle.ready_loop.specs.declared.fault.LoopFault.TheVariants.{NetFault, Spent}

@@ -1,8 +1,6 @@
 -- What a last look adds to the journal.
 use Rattle.std.proofs.Common.{◌≡◌, inl, inr, ◌+◌, ◌/◌, ◌<◌, ℕ, Bool, true, false, List, [], ◌∷◌, Some, None, Ok, Err, slice_get, arith, refl, sym, ◌∙◌, ap, subst}
 use Rattle.std.proofs.lemmas.Bool.{cases_eq, false≢true}
-use Rattle.world.specs.declared.chan.Chan.{Chan}
-use Rattle.world.specs.declared.chan.Chan.TheVariants.{Shell, Control, Iopub, Heart}
 use Rattle.world.specs.declared.conn.Conn.{Conn}
 use Rattle.world.specs.declared.did.Did.{Did}
 use Rattle.world.specs.declared.did.Did.TheVariants as did
@@ -10,7 +8,7 @@ use Rattle.world.specs.declared.entry.Entry.{Entry}
 use Rattle.world.specs.Counts.{Counts, NetCause}
 use Rattle.world.specs.Moments.{Since, start, more}
 use Rattle.world.proofs.MomentsLemmas.{since_then, since_as}
-use Rattle.world.specs.Places.{place_of, chan_number, time}
+use Rattle.world.specs.Places.{place_of, time}
 use Rattle.ready_loop.specs.declared.fault.LoopFault.{LoopFault}
 use Rattle.ready_loop.specs.declared.fault.LoopFault.TheVariants.{NetFault, Spent}
 use Rattle.ready_loop.specs.declared.link.Link.{Link}
