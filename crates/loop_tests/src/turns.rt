@@ -3,7 +3,7 @@
 ghost use Rattle.std.specs.Prelude.{◌≡◌, ◌<◌, true, IsTrue};
 ghost use Rattle.world.specs.Places.{place_of};
 ghost use Rattle.ready_loop.specs.Begins.{IsFresh};
-ghost use Rattle.ready_loop.specs.History.{conn_of};
+ghost use Rattle.ready_loop.specs.History.{conn_on};
 ghost use Rattle.ready_loop.specs.States.{IsSound, MayWait, known_at};
 
 use jtext::Bytes;
@@ -18,7 +18,7 @@ const PORTS: [u16; 5] = [1001, 1002, 1003, 1004, 1005];
 fn start<W: World>(l: &mut Loop, w: &mut W, job: u8) -> bool
     requires job { job < 16 }
     requires fresh { IsFresh job l.old }
-    ensures known { IsTrue result → known_at l.new (place_of (conn_of job Chan.Shell)) ≡ true }
+    ensures known { IsTrue result → known_at l.new (place_of (conn_on job Chan.Shell)) ≡ true }
     ensures sound { IsTrue result → IsSound l.old → IsSound l.new }
 {
     match l.begin(w, job, PORTS, false) {
