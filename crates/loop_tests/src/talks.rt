@@ -2,7 +2,7 @@
 ghost use Rattle.std.specs.Prelude.{◌≡◌, true, IsTrue};
 ghost use Rattle.world.specs.Places.{place_of};
 ghost use Rattle.ready_loop.specs.Begins.{IsFresh};
-ghost use Rattle.ready_loop.specs.History.{conn_of};
+ghost use Rattle.ready_loop.specs.History.{conn_on};
 ghost use Rattle.ready_loop.specs.States.{IsSound, IsDrained, IsOffered, known_at};
 
 use crate::talk::TalkWorld;
@@ -19,7 +19,7 @@ const SHELL: Conn = Conn {
 // Begins job 0.
 fn start<W: World>(l: &mut Loop, w: &mut W) -> bool
     requires { IsFresh 0 l.old }
-    ensures known { IsTrue result → known_at l.new (place_of (conn_of 0 Chan.Shell)) ≡ true }
+    ensures known { IsTrue result → known_at l.new (place_of (conn_on 0 Chan.Shell)) ≡ true }
     ensures drained { IsDrained l.old → IsDrained l.new }
     ensures sound { IsTrue result → IsSound l.old → IsSound l.new }
 {

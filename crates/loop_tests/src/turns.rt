@@ -3,7 +3,7 @@
 ghost use Rattle.std.specs.Prelude.{◌≡◌, ◌<◌, true, IsTrue};
 ghost use Rattle.world.specs.Places.{place_of};
 ghost use Rattle.ready_loop.specs.Begins.{IsFresh};
-ghost use Rattle.ready_loop.specs.History.{conn_of};
+ghost use Rattle.ready_loop.specs.History.{conn_on};
 ghost use Rattle.ready_loop.specs.States.{IsSound, MayWait, known_at};
 
 use jtext::Bytes;
@@ -18,7 +18,7 @@ const PORTS: [u16; 5] = [1001, 1002, 1003, 1004, 1005];
 fn start<W: World>(l: &mut Loop, w: &mut W, job: u8) -> bool
     requires job { job < 16 }
     requires fresh { IsFresh job l.old }
-    ensures known { IsTrue result → known_at l.new (place_of (conn_of job Chan.Shell)) ≡ true }
+    ensures known { IsTrue result → known_at l.new (place_of (conn_on job Chan.Shell)) ≡ true }
     ensures sound { IsTrue result → IsSound l.old → IsSound l.new }
 {
     match l.begin(w, job, PORTS, false) {
@@ -100,7 +100,17 @@ fn a_loop_waits_its_turns_and_is_spent(rt: HostRuntime) -> Result<(), Fail> {
     assert!(rt; l.turn(&mut w, Some(120)) == Ok(0));
     assert!(rt; serve(&mut l, &mut w));
     assert!(rt; l.turn(&mut w, None) == Err(LoopFault::Spent));
-    assert!(rt; holds(&w, &[("waited", 500, 0), ("moment", 0, 0), ("waited", 120, 0), ("moment", 0, 0)]));
+    assert!(rt;
+        holds(
+            &w,
+            &[
+                ("waited", 500, 0),
+                ("moment", 0, 0),
+                ("waited", 120, 0),
+                ("moment", 0, 0)
+            ]
+        )
+    );
     Ok(())
 }
 
@@ -125,20 +135,25 @@ fn a_refused_job_is_begun_again_by_a_look_and_closed_once(rt: HostRuntime) -> Re
     assert!(rt; l.taken(shell) == 0);
     l.close(&mut w, 1);
     l.close(&mut w, 1);
-    assert!(rt; holds(&w, &[
-        ("refused", 4, 1001),
-        ("refused", 5, 1004),
-        ("refused", 6, 1002),
-        ("waited", 200, 0),
-        ("moment", 0, 0),
-        ("refused", 4, 1001),
-        ("refused", 5, 1004),
-        ("refused", 6, 1002),
-        ("waited", 0, 0),
-        ("closed", 4, 0),
-        ("closed", 5, 0),
-        ("closed", 6, 0),
-    ]));
+    assert!(rt;
+        holds(
+            &w,
+            &[
+                ("refused", 4, 1001),
+                ("refused", 5, 1004),
+                ("refused", 6, 1002),
+                ("waited", 200, 0),
+                ("moment", 0, 0),
+                ("refused", 4, 1001),
+                ("refused", 5, 1004),
+                ("refused", 6, 1002),
+                ("waited", 0, 0),
+                ("closed", 4, 0),
+                ("closed", 5, 0),
+                ("closed", 6, 0),
+            ]
+        )
+    );
     Ok(())
 }
 
@@ -148,12 +163,17 @@ fn the_heartbeat_is_begun_where_it_is_wanted(rt: HostRuntime) -> Result<(), Fail
     let mut w = NullWorld::new(alloc);
     let mut l = Loop::new(alloc, 1)?;
     assert!(rt; l.begin(&mut w, 0, PORTS, true).is_ok());
-    assert!(rt; holds(&w, &[
-        ("refused", 0, 1001),
-        ("refused", 1, 1004),
-        ("refused", 2, 1002),
-        ("refused", 3, 1005),
-    ]));
+    assert!(rt;
+        holds(
+            &w,
+            &[
+                ("refused", 0, 1001),
+                ("refused", 1, 1004),
+                ("refused", 2, 1002),
+                ("refused", 3, 1005),
+            ]
+        )
+    );
     Ok(())
 }
 

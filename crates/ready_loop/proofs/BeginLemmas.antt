@@ -9,7 +9,7 @@ use Rattle.world.specs.declared.connected.Connected.{Connected}
 use Rattle.world.specs.declared.entry.Entry.{Entry}
 use Rattle.world.specs.declared.entry.Entry.TheVariants as made
 use Rattle.world.specs.Moments.{start, more}
-use Rattle.world.specs.Places.{status, time, place_of, is_at, chan_number}
+use Rattle.world.specs.Places.{status, time, place_of, is_at}
 use Rattle.world.proofs.StatusLemmas.{at_own, connected_own, closed_own}
 use Rattle.ready_loop.specs.declared.fault.LoopFault.{LoopFault}
 use Rattle.ready_loop.specs.declared.fault.LoopFault.TheVariants.{NetFault, Spent}
@@ -21,7 +21,7 @@ use Rattle.ready_loop.specs.Link.{MayRead, MayWrite, connect_link, begun_link, c
 use Rattle.ready_loop.specs.Begins.{BeginMoment, Begins, BeginsOne, port_of, CloseMoment, CloseCame, ClosesOne, closing, begun_in, failed_closed}
 use Rattle.ready_loop.specs.Queues.{held_in, rest_at}
 use Rattle.ready_loop.specs.Begins as begins
-use Rattle.ready_loop.specs.History.{History, same, with_begun, with_all_begun, conn_of, chans, after_begin}
+use Rattle.ready_loop.specs.History.{History, same, with_begun, with_all_begun, conn_on, chans, after_begin}
 use Rattle.ready_loop.specs.Standing.{write_ended, StandsAt, Stand, StandsFor, Goes}
 use Rattle.ready_loop.specs.States.{OnlyAt, IsOffered, Each, SameKnown, failed_in, failed_connect, known_in, known_at}
 use Rattle.ready_loop.proofs.CallLemmas.{stands_begun, stands_closed, stands_unbegun}
@@ -33,7 +33,8 @@ use Rattle.ready_loop.proofs.TableLemmas.{chan_low, within, some_at, some_is, sl
 -- ---- a first connect
 
 pub begin_goes : (conn : Conn) (port : ℕ) (how : Connected) (l : Loop) (links : List Link) (link : Link) (last : ℕ) (past : List Entry)
-    → slice_get l.links (place_of conn) ≡ Some link → link.stage ≡ Fresh → links ≡ set l.links (place_of conn) (connect_link how last (begun_link port link)) → last ≡ time past
+    → slice_get l.links (place_of conn) ≡ Some link → link.stage ≡ Fresh
+    → links ≡ set l.links (place_of conn) (connect_link how last (begun_link port link)) → last ≡ time past
     → Goes BeginMoment (with_begun (place_of conn)) l (record l { links = links }) past (made.Connected conn port how ∷ past)
 begin_goes conn port how l links link last past found fresh is clock =
     let q = place_of conn in
@@ -50,12 +51,15 @@ begin_goes conn port how l links link last past found fresh is clock =
           );
     }
 
-pub begin_reads : (how : Connected) (last port : ℕ) (link : Link) → (MayRead (connect_link how last (begun_link port link)) → MayRead (begun_link port link))
+pub begin_reads : (how : Connected) (last port : ℕ) (link : Link)
+    → (MayRead (connect_link how last (begun_link port link)) → MayRead (begun_link port link))
     → MayRead (connect_link how last (begun_link port link)) → MayRead link
 begin_reads how last port link f m = let k = f m in record { awake = k.awake; sound = k.sound; reads = k.reads }
 
-pub begin_fails : (how : Connected) (conn : Conn) (last port : ℕ) (links now : List Link) (link : Link) → slice_get links (place_of conn) ≡ Some link
-    → now ≡ set links (place_of conn) (connect_link how last (begun_link port link)) → (p : ℕ) → failed_in (slice_get now p) ≡ failed_connect how conn p (failed_in (slice_get links p))
+pub begin_fails : (how : Connected) (conn : Conn) (last port : ℕ) (links now : List Link) (link : Link)
+    → slice_get links (place_of conn) ≡ Some link
+    → now ≡ set links (place_of conn) (connect_link how last (begun_link port link)) → (p : ℕ)
+    → failed_in (slice_get now p) ≡ failed_connect how conn p (failed_in (slice_get links p))
 begin_fails how conn last port links now link found is p =
     failed_set (λ i b. failed_connect how conn i b) links now (place_of conn) (connect_link how last (begun_link port link)) link found is
     (connect_failed how last (begun_link port link) conn) (λ i b ne. failed_connect_other how conn i b ne) p
@@ -70,8 +74,10 @@ fresh_of Begun e = cc
 fresh_of Closed e = cc
 
 -- one more is begun
-pub begin_known : (conn : Conn) (how : Connected) (last port : ℕ) (links now : List Link) (link : Link) → slice_get links (place_of conn) ≡ Some link
-    → now ≡ set links (place_of conn) (connect_link how last (begun_link port link)) → (p : ℕ) → known_in (slice_get now p) ≡ is_at p conn || known_in (slice_get links p)
+pub begin_known : (conn : Conn) (how : Connected) (last port : ℕ) (links now : List Link) (link : Link)
+    → slice_get links (place_of conn) ≡ Some link
+    → now ≡ set links (place_of conn) (connect_link how last (begun_link port link)) → (p : ℕ)
+    → known_in (slice_get now p) ≡ is_at p conn || known_in (slice_get links p)
 begin_known conn how last port links now link found is p = elim (cases_eq p (place_of conn)) [
   | inl e ↦
       let own = ap (λ ls. known_in (slice_get ls (place_of conn))) is ∙ ap known_in (slice_get-set_same links (place_of conn) (connect_link how last (begun_link port link)) (within links (place_of conn) found))
@@ -94,32 +100,37 @@ or_true false b e = e
 -- ---- the connects of a job
 
 pub begins_then : {U : Type 0} {job : ℕ} {ports : List ℕ} (u : U) (chan : Chan) (rest : List Chan) (result : Result U LoopFault) (x y z : List Entry)
-    → BeginsOne {U = U} (conn_of job chan) (port_of ports chan) (Ok u) x y → Begins job ports rest result y z → Begins job ports (chan ∷ rest) result x z
+    → BeginsOne {U = U} (conn_on job chan) (port_of ports chan) (Ok u) x y → Begins job ports rest result y z
+    → Begins job ports (chan ∷ rest) result x z
 begins_then {job = job} {ports} u chan rest result x y z one b = begins.more chan rest one.0 result x z one.1 (subst (λ w. Begins job ports rest result w z) one.2 b)
 
 pub begins_failed : {U : Type 0} {job : ℕ} {ports : List ℕ} (chan : Chan) (rest : List Chan) (fault : LoopFault) (x y : List Entry)
-    → BeginsOne {U = U} (conn_of job chan) (port_of ports chan) (Err fault) x y → Begins {U = U} job ports (chan ∷ rest) (Err fault) x y
+    → BeginsOne {U = U} (conn_on job chan) (port_of ports chan) (Err fault) x y
+    → Begins {U = U} job ports (chan ∷ rest) (Err fault) x y
 begins_failed {U} {job} {ports} chan rest (NetFault (Some conn)) x y one =
     subst (λ c. Begins {U = U} job ports (chan ∷ rest) (Err (NetFault (Some c))) x y) (sym one.0)
-    (subst (λ w. Begins {U = U} job ports (chan ∷ rest) (Err (NetFault (Some (conn_of job chan)))) x w) (sym one.1) (begins.failed chan rest x))
+    (subst (λ w. Begins {U = U} job ports (chan ∷ rest) (Err (NetFault (Some (conn_on job chan)))) x w) (sym one.1) (begins.failed chan rest x))
 begins_failed chan rest (NetFault None) x y one = absurd one
 begins_failed chan rest Spent x y one = absurd one
 
 pub begins_last : {U : Type 0} {job : ℕ} {ports : List ℕ} (chan : Chan) (result : Result U LoopFault) (x y : List Entry)
-    → BeginsOne (conn_of job chan) (port_of ports chan) result x y → Begins job ports (chan ∷ []) result x y
+    → BeginsOne (conn_on job chan) (port_of ports chan) result x y → Begins job ports (chan ∷ []) result x y
 begins_last chan (Ok u) x y one = begins_then u chan [] (Ok u) x y y one (begins.done u y)
 begins_last chan (Err fault) x y one = begins_failed chan [] fault x y one
 
 -- after the last connect, whatever it answered
-pub after_last : {U : Type 0} (job : ℕ) (r : Result U LoopFault) → IfErr r (λ fault. fault ≡ NetFault (Some (conn_of job Heart))) → (h : History)
+pub after_last : {U : Type 0} (job : ℕ) (r : Result U LoopFault)
+    → IfErr r (λ fault. fault ≡ NetFault (Some (conn_on job Heart))) → (h : History)
     → with_all_begun job (chans true) h ≡ after_begin job true r h
 after_last job (Ok u) e h = refl
 after_last {U} job (Err fault) e h = sym (ap (λ f. after_begin {U = U} job true (Err f) h) e)
 
 -- ---- a close
 
-unbegun_goes : (conn : Conn) (l : Loop) (links : List Link) (link : Link) (past : List Entry) → slice_get l.links (place_of conn) ≡ Some link → false ≡ is_begun link.stage
-    → links ≡ set l.links (place_of conn) (closed_link link) → Goes CloseMoment same l (record l { links = links }) past past
+unbegun_goes : (conn : Conn) (l : Loop) (links : List Link) (link : Link) (past : List Entry)
+    → slice_get l.links (place_of conn) ≡ Some link → false ≡ is_begun link.stage
+    → links ≡ set l.links (place_of conn) (closed_link link)
+    → Goes CloseMoment same l (record l { links = links }) past past
 unbegun_goes conn l links link past found shut is = record {
   so = λ h stand. (
     record {
@@ -140,8 +151,10 @@ unbegun_goes conn l links link past found shut is = record {
   );
 }
 
-begun_goes : (conn : Conn) (l : Loop) (links : List Link) (link : Link) (past : List Entry) → slice_get l.links (place_of conn) ≡ Some link → true ≡ is_begun link.stage
-    → links ≡ set l.links (place_of conn) (closed_link link) → Goes CloseMoment same l (record l { links = links }) past (made.Closed conn ∷ past)
+begun_goes : (conn : Conn) (l : Loop) (links : List Link) (link : Link) (past : List Entry)
+    → slice_get l.links (place_of conn) ≡ Some link → true ≡ is_begun link.stage
+    → links ≡ set l.links (place_of conn) (closed_link link)
+    → Goes CloseMoment same l (record l { links = links }) past (made.Closed conn ∷ past)
 begun_goes conn l links link past found begun is = record {
   so = λ h stand.
       let m = stand.each (place_of conn) link found in
@@ -153,18 +166,22 @@ begun_goes conn l links link past found begun is = record {
       );
 }
 
-pub closed_goes : (b : Bool) (conn : Conn) (l : Loop) (links : List Link) (link : Link) (past : List Entry) → slice_get l.links (place_of conn) ≡ Some link → b ≡ is_begun link.stage
-    → links ≡ set l.links (place_of conn) (closed_link link) → Goes CloseMoment same l (record l { links = links }) past (closing b conn past)
+pub closed_goes : (b : Bool) (conn : Conn) (l : Loop) (links : List Link) (link : Link) (past : List Entry)
+    → slice_get l.links (place_of conn) ≡ Some link → b ≡ is_begun link.stage
+    → links ≡ set l.links (place_of conn) (closed_link link)
+    → Goes CloseMoment same l (record l { links = links }) past (closing b conn past)
 closed_goes true conn l links link past found b is = begun_goes conn l links link past found b is
 closed_goes false conn l links link past found b is = unbegun_goes conn l links link past found b is
 
-pub closed_fails : (conn : Conn) (links now : List Link) (link : Link) → slice_get links (place_of conn) ≡ Some link → now ≡ set links (place_of conn) (closed_link link)
+pub closed_fails : (conn : Conn) (links now : List Link) (link : Link) → slice_get links (place_of conn) ≡ Some link
+    → now ≡ set links (place_of conn) (closed_link link)
     → (p : ℕ) → failed_in (slice_get now p) ≡ failed_closed (is_at p conn) (failed_in (slice_get links p))
 closed_fails conn links now link found is p =
     failed_set (λ i b. failed_closed (is_at i conn) b) links now (place_of conn) (closed_link link) link found is
     (ap (λ x. failed_closed x link.failed) (sym (at_own conn))) (λ i b ne. ap (λ x. failed_closed x b) (not_at i conn ne)) p
 
-pub closed_offered : (l : Loop) (q : ℕ) (links : List Link) (link : Link) → slice_get l.links q ≡ Some link → links ≡ set l.links q (closed_link link) → IsOffered l → IsOffered (record l { links = links })
+pub closed_offered : (l : Loop) (q : ℕ) (links : List Link) (link : Link) → slice_get l.links q ≡ Some link
+    → links ≡ set l.links q (closed_link link) → IsOffered l → IsOffered (record l { links = links })
 closed_offered l q links link found is o = record {
   each = subst (λ (ls : List Link). Each ls (λ p x. MayWrite x → rest_at l.queues p ≡ [])) (sym is)
       (each_set {P = λ p x. MayWrite x → rest_at l.queues p ≡ []} 64 q l.links (closed_link link) (within l.links q found) (λ m. absurd (false≢true m.writable)) o.each);
@@ -178,7 +195,8 @@ either true y w = refl
 either false y w = refl
 
 -- the four of a job
-pub closed_four : (s c i h w : Bool) → failed_closed h (failed_closed i (failed_closed c (failed_closed s w))) ≡ failed_closed (h || (i || (c || s))) w
+pub closed_four : (s c i h w : Bool)
+    → failed_closed h (failed_closed i (failed_closed c (failed_closed s w))) ≡ failed_closed (h || (i || (c || s))) w
 closed_four s c i h w = ap (λ v. failed_closed h (failed_closed i v)) (either c s w) ∙ ap (λ v. failed_closed h v) (either i (c || s) w) ∙ either h (i || (c || s)) w
 
 -- one of another channel is as before
@@ -202,24 +220,25 @@ pub record Both (P Q : List Entry → List Entry → Type 0) (before after : Lis
 pub both : {P Q : List Entry → List Entry → Type 0} (x y z : List Entry) → P x y → Q y z → Both P Q x z
 both x y z p q = record { mid = y; first = p; second = q }
 
-module _ (job : ℕ) (low : job < 16) (a b c d e : Loop) (shell : OnlyAt (place_of (conn_of job Shell)) a b) (control : OnlyAt (place_of (conn_of job Control)) b c)
-    (iopub : OnlyAt (place_of (conn_of job Iopub)) c d) where
-  pub close_came : (v w x y z : List Entry) → ClosesOne (conn_of job Shell) a v w → ClosesOne (conn_of job Control) b w x → ClosesOne (conn_of job Iopub) c x y
-      → ClosesOne (conn_of job Heart) d y z → CloseCame job a v z
+module _ (job : ℕ) (low : job < 16) (a b c d e : Loop) (shell : OnlyAt (place_of (conn_on job Shell)) a b) (control : OnlyAt (place_of (conn_on job Control)) b c)
+    (iopub : OnlyAt (place_of (conn_on job Iopub)) c d) where
+  pub close_came : (v w x y z : List Entry) → ClosesOne (conn_on job Shell) a v w → ClosesOne (conn_on job Control) b w x
+      → ClosesOne (conn_on job Iopub) c x y
+      → ClosesOne (conn_on job Heart) d y z → CloseCame job a v z
   close_came v w x y z one two three four = record {
     so = λ h stand.
-        let by : (chan : Chan) → begun_in (slice_get a.links (place_of (conn_of job chan))) ≡ (status (place_of (conn_of job chan)) v).begun = λ chan. begun_stands (conn_of job chan) a h v low stand in
+        let by : (chan : Chan) → begun_in (slice_get a.links (place_of (conn_on job chan))) ≡ (status (place_of (conn_on job chan)) v).begun = λ chan. begun_stands (conn_on job chan) a h v low stand in
         let s1 = by Shell in
-        let s2 = begun_other (conn_of job Control) (conn_of job Shell) a b (λ e. omega (arith, e)) shell ∙ by Control in
-        let s3 = begun_other (conn_of job Iopub) (conn_of job Control) b c (λ e. omega (arith, e)) control
-        ∙ begun_other (conn_of job Iopub) (conn_of job Shell) a b (λ e. omega (arith, e)) shell ∙ by Iopub in
-        let s4 = begun_other (conn_of job Heart) (conn_of job Iopub) c d (λ e. omega (arith, e)) iopub
-        ∙ begun_other (conn_of job Heart) (conn_of job Control) b c (λ e. omega (arith, e)) control
-        ∙ begun_other (conn_of job Heart) (conn_of job Shell) a b (λ e. omega (arith, e)) shell ∙ by Heart in
-        four ∙ ap (λ t. closing t (conn_of job Heart) y) s4
-        ∙ ap (λ j. closing (status (place_of (conn_of job Heart)) v).begun (conn_of job Heart) j) (three ∙ ap (λ t. closing t (conn_of job Iopub) x) s3
-        ∙ ap (λ j. closing (status (place_of (conn_of job Iopub)) v).begun (conn_of job Iopub) j) (two ∙ ap (λ t. closing t (conn_of job Control) w) s2
-        ∙ ap (λ j. closing (status (place_of (conn_of job Control)) v).begun (conn_of job Control) j) (one ∙ ap (λ t. closing t (conn_of job Shell) v) s1)));
+        let s2 = begun_other (conn_on job Control) (conn_on job Shell) a b (λ e. omega (arith, e)) shell ∙ by Control in
+        let s3 = begun_other (conn_on job Iopub) (conn_on job Control) b c (λ e. omega (arith, e)) control
+        ∙ begun_other (conn_on job Iopub) (conn_on job Shell) a b (λ e. omega (arith, e)) shell ∙ by Iopub in
+        let s4 = begun_other (conn_on job Heart) (conn_on job Iopub) c d (λ e. omega (arith, e)) iopub
+        ∙ begun_other (conn_on job Heart) (conn_on job Control) b c (λ e. omega (arith, e)) control
+        ∙ begun_other (conn_on job Heart) (conn_on job Shell) a b (λ e. omega (arith, e)) shell ∙ by Heart in
+        four ∙ ap (λ t. closing t (conn_on job Heart) y) s4
+        ∙ ap (λ j. closing (status (place_of (conn_on job Heart)) v).begun (conn_on job Heart) j) (three ∙ ap (λ t. closing t (conn_on job Iopub) x) s3
+        ∙ ap (λ j. closing (status (place_of (conn_on job Iopub)) v).begun (conn_on job Iopub) j) (two ∙ ap (λ t. closing t (conn_on job Control) w) s2
+        ∙ ap (λ j. closing (status (place_of (conn_on job Control)) v).begun (conn_on job Control) j) (one ∙ ap (λ t. closing t (conn_on job Shell) v) s1)));
   }
 
 -- a close forgets no connection
@@ -228,7 +247,8 @@ known_closed Fresh = refl
 known_closed Begun = refl
 known_closed Closed = refl
 
-pub closed_known : (l new : Loop) (q : ℕ) (link : Link) → slice_get l.links q ≡ Some link → new.links ≡ set l.links q (closed_link link) → SameKnown l new
+pub closed_known : (l new : Loop) (q : ℕ) (link : Link) → slice_get l.links q ≡ Some link
+    → new.links ≡ set l.links q (closed_link link) → SameKnown l new
 closed_known l new q link found is = record { each = kept_set known_in l.links new.links q (closed_link link) link found is (known_closed link.stage) }
 
 -- and none has failed after it that had not before

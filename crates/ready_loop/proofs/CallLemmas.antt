@@ -64,7 +64,8 @@ ends_again : {end : End} {b n e : Bool} → end ≡ No → EndIs end b n e → E
 ends_again {end} {b} {n} whole m = record { found = ap is_found whole ∙ never_ended b n; told = m.told }
 
 -- one that is up was begun by this loop
-pub known_up : {link : Link} {held : Held} {b : Bool} {q : List ℕ} {n : Bool} {s : Status} {e : Bool} → StandsAt link held b q n s e → s.up ≡ true → b ≡ true
+pub known_up : {link : Link} {held : Held} {b : Bool} {q : List ℕ} {n : Bool} {s : Status} {e : Bool}
+    → StandsAt link held b q n s e → s.up ≡ true → b ≡ true
 known_up {link} m up = sym m.known ∙ known_of_begun link.stage (m.stage ∙ m.up_begun up)
 
 -- ---- a connection that is lost
@@ -261,7 +262,8 @@ pub put_known : {b : Bool} {xs : List ℕ} → b ≡ true → put_by b xs ≡ xs
 put_known {b} {xs} k = ap (λ x. put_by x xs) k
 
 pub stands_write : (link : Link) (held : Held) (b : Bool) (q : List ℕ) (n : Bool) (s : Status) (e : Bool) (answer : Put) (last clock : ℕ)
-    → last ≡ clock → link.writable ≡ true → PutSome answer (length held.rest) → (answer ≡ put.Refused → s.put ≡ []) → StandsAt link held b q n s e
+    → last ≡ clock → link.writable ≡ true → PutSome answer (length held.rest) → (answer ≡ put.Refused → s.put ≡ [])
+    → StandsAt link held b q n s e
     → StandsAt (write_link answer last link) (held_write answer held) b q n (status_write answer held.rest clock s) (ended_write answer e)
 stands_write link held b q n s e (put.Took k) last clock t writable some unused m =
     let up : s.up ≡ true = m.open_up (sym m.writable ∙ writable) in
@@ -534,7 +536,8 @@ fresh_closed Fresh e = refl
 fresh_closed Begun e = cc
 fresh_closed Closed e = cc
 
-pub stands_closed : (link : Link) (held : Held) (b : Bool) (q : List ℕ) (n : Bool) (s : Status) (e : Bool) → StandsAt link held b q n s e → StandsAt (closed_link link) held b q n (closed_after s) e
+pub stands_closed : (link : Link) (held : Held) (b : Bool) (q : List ℕ) (n : Bool) (s : Status) (e : Bool)
+    → StandsAt link held b q n s e → StandsAt (closed_link link) held b q n (closed_after s) e
 stands_closed link held b q n s e m =
     record {
       awake = refl;
@@ -567,7 +570,8 @@ none_is None f = refl
 none_is (Some at) f = absurd (false≢true (f at refl))
 
 -- one that is not begun has nothing to be closed
-pub stands_unbegun : (link : Link) (held : Held) (b : Bool) (q : List ℕ) (n : Bool) (s : Status) (e : Bool) → is_begun link.stage ≡ false → StandsAt link held b q n s e → StandsAt (closed_link link) held b q n s e
+pub stands_unbegun : (link : Link) (held : Held) (b : Bool) (q : List ℕ) (n : Bool) (s : Status) (e : Bool)
+    → is_begun link.stage ≡ false → StandsAt link held b q n s e → StandsAt (closed_link link) held b q n s e
 stands_unbegun link held b q n s e shut m =
     let not_up : s.up ≡ true → false ≡ true = λ u. sym shut ∙ m.stage ∙ m.up_begun u in
     record {
@@ -599,7 +603,8 @@ either_up : {X : Type 0} (a b : Bool) → (a ≡ true → X) → (b ≡ true →
 either_up true b f g e = f refl
 either_up false b f g e = g e
 
-pub stands_waited : (link : Link) (held : Held) (b : Bool) (q : List ℕ) (n : Bool) (s : Status) (e : Bool) (answer : Did) (ready : List Bool) (p : ℕ) → (is_reported p ready ≡ true → s.up ≡ true) → StandsAt link held b q n s e
+pub stands_waited : (link : Link) (held : Held) (b : Bool) (q : List ℕ) (n : Bool) (s : Status) (e : Bool) (answer : Did) (ready : List Bool) (p : ℕ)
+    → (is_reported p ready ≡ true → s.up ≡ true) → StandsAt link held b q n s e
     → StandsAt (wait_link answer (is_reported p ready) link) held b q n (waited_after p ready answer s) e
 stands_waited link held b q n s e did.Done ready p up m =
     record {
@@ -662,7 +667,8 @@ ends_told Named b n e m = m
 whole_told : {end : End} → end ≡ No → named_end end ≡ No
 whole_told e = ap named_end e
 
-pub stands_named : (link : Link) (held : Held) (b : Bool) (q : List ℕ) (n : Bool) (s : Status) (e : Bool) → StandsAt link held b q n s e → StandsAt (named_link link) held b q (named_so link.end n) s e
+pub stands_named : (link : Link) (held : Held) (b : Bool) (q : List ℕ) (n : Bool) (s : Status) (e : Bool)
+    → StandsAt link held b q n s e → StandsAt (named_link link) held b q (named_so link.end n) s e
 stands_named link held b q n s e m =
     record {
       awake = m.awake;
@@ -689,7 +695,8 @@ stands_named link held b q n s e m =
 
 -- ---- bytes that are queued
 
-pub stands_queued : (link : Link) (held : Held) (b : Bool) (q : List ℕ) (n : Bool) (s : Status) (e : Bool) (more : List ℕ) → StandsAt link held b q n s e
+pub stands_queued : (link : Link) (held : Held) (b : Bool) (q : List ℕ) (n : Bool) (s : Status) (e : Bool) (more : List ℕ)
+    → StandsAt link held b q n s e
     → StandsAt link (record { rest = held.rest ++ more; taken = held.taken }) b (q ++ more) n s e
 stands_queued link held b q n s e more m =
     record {

@@ -7,25 +7,29 @@ use Rattle.ready_loop.specs.Link.{fresh_link}
 use Rattle.ready_loop.specs.Table.{link_or, link_in, links_of, AllHeld, AllApart}
 use Rattle.ready_loop.proofs.TableLemmas.{slice_get-set_same, slice_get-set_other, some_is, within}
 
-map_get : (f : ℕ → Link) (keys : List ℕ) (p key : ℕ) → slice_get keys p ≡ Some key → slice_get (map f keys) p ≡ Some (f key)
+map_get : (f : ℕ → Link) (keys : List ℕ) (p key : ℕ) → slice_get keys p ≡ Some key
+    → slice_get (map f keys) p ≡ Some (f key)
 map_get f [] p key e = cc
 map_get f (x ∷ rest) zero key e = let k : x ≡ key = cc in ap (λ i. Some (f i)) k
 map_get f (x ∷ rest) (suc p) key e = map_get f rest p key e
 
 -- what stands under the key of a place
-pub at_key : (slab : Slab Link) (keys : List ℕ) (p key : ℕ) (link : Link) → slice_get keys p ≡ Some key → get slab key ≡ Some link → slice_get (links_of slab keys) p ≡ Some link
+pub at_key : (slab : Slab Link) (keys : List ℕ) (p key : ℕ) (link : Link) → slice_get keys p ≡ Some key
+    → get slab key ≡ Some link → slice_get (links_of slab keys) p ≡ Some link
 at_key slab keys p key link at is = map_get (link_in slab) keys p key at ∙ ap (λ o. Some (link_or o)) is
 
 -- ---- one link replaced
 
-map_same : (f g : ℕ → Link) (keys : List ℕ) → ((p key : ℕ) → slice_get keys p ≡ Some key → g key ≡ f key) → map g keys ≡ map f keys
+map_same : (f g : ℕ → Link) (keys : List ℕ) → ((p key : ℕ) → slice_get keys p ≡ Some key → g key ≡ f key)
+    → map g keys ≡ map f keys
 map_same f g [] same = refl
 map_same f g (x ∷ rest) same =
     let first = same 0 x refl in
     let others = map_same f g rest (λ p key e. same (suc p) key e) in
     ap (λ l. l ∷ map g rest) first ∙ ap (λ ls. f x ∷ ls) others
 
-map_set : (f g : ℕ → Link) (keys : List ℕ) (place : ℕ) (link : Link) → ((key : ℕ) → slice_get keys place ≡ Some key → g key ≡ link)
+map_set : (f g : ℕ → Link) (keys : List ℕ) (place : ℕ) (link : Link)
+    → ((key : ℕ) → slice_get keys place ≡ Some key → g key ≡ link)
     → ((p key : ℕ) → p ≢ place → slice_get keys p ≡ Some key → g key ≡ f key) → map g keys ≡ set (map f keys) place link
 map_set f g [] place link here others = refl
 map_set f g (x ∷ rest) zero link here others =
@@ -37,13 +41,15 @@ map_set f g (x ∷ rest) (suc place) link here others =
     let same = map_set f g rest place link here (λ p key ne e. others (suc p) key (λ z. ne (omega (arith, z))) e) in
     ap (λ l. l ∷ map g rest) first ∙ ap (λ ls. f x ∷ ls) same
 
-pub put_key : (old new : Slab Link) (keys : List ℕ) (place key : ℕ) (link : Link) → length keys ≡ 64 → place < 64 → AllApart 64 keys → slice_get keys place ≡ Some key
+pub put_key : (old new : Slab Link) (keys : List ℕ) (place key : ℕ) (link : Link) → length keys ≡ 64 → place < 64
+    → AllApart 64 keys → slice_get keys place ≡ Some key
     → Updates old new key (Some link) → links_of new keys ≡ set (links_of old keys) place link
 put_key old new keys place key link size low apart at up = map_set (link_in old) (link_in new) keys place link
     (λ k e. let same : key ≡ k = some_is (sym at ∙ e) in subst (λ i. link_in new i ≡ link) same (ap link_or up.changed))
     (λ p k ne e. ap link_or (up.others k (λ same. ne (apart p place k (omega (arith, size, within keys p e)) low e (at ∙ ap Some (sym same))))))
 
-pub held_after : (old new : Slab Link) (keys : List ℕ) (key : ℕ) (link : Link) → Updates old new key (Some link) → AllHeld 64 old keys → AllHeld 64 new keys
+pub held_after : (old new : Slab Link) (keys : List ℕ) (key : ℕ) (link : Link) → Updates old new key (Some link)
+    → AllHeld 64 old keys → AllHeld 64 new keys
 held_after old new keys key link up held p k low e = elim (cases_eq k key) [
   | inl same ↦ subst (λ i. IsSome (get new i)) (sym same) (subst (λ o. IsSome o) (sym up.changed) refl)
   | inr ne ↦ subst (λ o. IsSome o) (sym (up.others k ne)) (held p k low e)
@@ -55,7 +61,8 @@ held_after old new keys key link up held p k low e = elim (cases_eq k key) [
 abbrev pub AllFresh : ℕ → Slab Link → List ℕ → Type 0
 AllFresh n slab keys = (p key : ℕ) → p < n → slice_get keys p ≡ Some key → get slab key ≡ Some fresh_link
 
-pub fresh_more : (n : ℕ) (old new : Slab Link) (keys : List ℕ) (key : ℕ) → n < length keys → Updates old new key (Some fresh_link) → AllFresh n old keys → AllFresh (n + 1) new (set keys n key)
+pub fresh_more : (n : ℕ) (old new : Slab Link) (keys : List ℕ) (key : ℕ) → n < length keys
+    → Updates old new key (Some fresh_link) → AllFresh n old keys → AllFresh (n + 1) new (set keys n key)
 fresh_more n old new keys key lt up all p k low e = elim (cases_eq p n) [
   | inl same ↦
       let at : slice_get (set keys n key) n ≡ Some k = subst (λ i. slice_get (set keys n key) i ≡ Some k) same e in
@@ -71,7 +78,8 @@ fresh_more n old new keys key lt up all p k low e = elim (cases_eq p n) [
 ]
 
 -- a key that had nothing is no key so far
-pub apart_more : (n : ℕ) (old : Slab Link) (keys : List ℕ) (key : ℕ) → n < length keys → get old key ≡ None → AllFresh n old keys → AllApart n keys → AllApart (n + 1) (set keys n key)
+pub apart_more : (n : ℕ) (old : Slab Link) (keys : List ℕ) (key : ℕ) → n < length keys → get old key ≡ None
+    → AllFresh n old keys → AllApart n keys → AllApart (n + 1) (set keys n key)
 apart_more n old keys key lt none fresh apart p q k lowp lowq ep eq =
     elim (cases_eq p n) [
       | inl pn ↦ elim (cases_eq q n) [
@@ -99,12 +107,14 @@ apart_more n old keys key lt none fresh apart p q k lowp lowq ep eq =
 pub fresh_held : (slab : Slab Link) (keys : List ℕ) → AllFresh 64 slab keys → AllHeld 64 slab keys
 fresh_held slab keys all p key low e = subst (λ o. IsSome o) (sym (all p key low e)) refl
 
-map_fresh : (f : ℕ → Link) (keys : List ℕ) → ((p key : ℕ) → slice_get keys p ≡ Some key → f key ≡ fresh_link) → map f keys ≡ replicate (length keys) fresh_link
+map_fresh : (f : ℕ → Link) (keys : List ℕ) → ((p key : ℕ) → slice_get keys p ≡ Some key → f key ≡ fresh_link)
+    → map f keys ≡ replicate (length keys) fresh_link
 map_fresh f [] same = refl
 map_fresh f (x ∷ rest) same =
     let first = same 0 x refl in
     let others = map_fresh f rest (λ p key e. same (suc p) key e) in
     ap (λ l. l ∷ map f rest) first ∙ ap (λ ls. fresh_link ∷ ls) others
 
-pub fresh_links : (slab : Slab Link) (keys : List ℕ) → length keys ≡ 64 → AllFresh 64 slab keys → links_of slab keys ≡ replicate 64 fresh_link
+pub fresh_links : (slab : Slab Link) (keys : List ℕ) → length keys ≡ 64 → AllFresh 64 slab keys
+    → links_of slab keys ≡ replicate 64 fresh_link
 fresh_links slab keys size all = map_fresh (link_in slab) keys (λ p key e. ap link_or (all p key (omega (arith, size, within keys p e)) e)) ∙ ap (λ n. replicate n fresh_link) size

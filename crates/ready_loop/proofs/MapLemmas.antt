@@ -26,7 +26,8 @@ maps_none f links = record {
 }
 
 -- one place more
-pub maps_more : (n : ℕ) (f : ℕ → Link → Link) (old now : List Link) (here new : Link) → slice_get now n ≡ Some here → new ≡ f n here
+pub maps_more : (n : ℕ) (f : ℕ → Link → Link) (old now : List Link) (here new : Link) → slice_get now n ≡ Some here
+    → new ≡ f n here
     → MapsBelow n f old now → MapsBelow (n + 1) f old (set now n new)
 maps_more n f old now here new found is r = record {
   size = length-set now n new ∙ r.size;
@@ -46,20 +47,23 @@ maps_more n f old now here new found is r = record {
 }
 
 -- what stood at a place that the step has not reached
-pub maps_here : (n : ℕ) (f : ℕ → Link → Link) (old now : List Link) (here : Link) → slice_get now n ≡ Some here → MapsBelow n f old now → slice_get old n ≡ Some here
+pub maps_here : (n : ℕ) (f : ℕ → Link → Link) (old now : List Link) (here : Link) → slice_get now n ≡ Some here
+    → MapsBelow n f old now → slice_get old n ≡ Some here
 maps_here n f old now here found r =
     let (was, at, s) = some_was (MapsTo n f n here) (slice_get old n) (r.each n here found) in
     at ∙ ap Some (sym (s.above (omega arith)))
 
 -- the whole step, of a table of 64
-pub maps_at : (f : ℕ → Link → Link) (old new : List Link) → MapsBelow 64 f old new → (p : ℕ) (link : Link) → p < 64 → slice_get new p ≡ Some link
+pub maps_at : (f : ℕ → Link → Link) (old new : List Link) → MapsBelow 64 f old new → (p : ℕ) (link : Link) → p < 64
+    → slice_get new p ≡ Some link
     → (was : Link) × (slice_get old p ≡ Some was) × (link ≡ f p was)
 maps_at f old new r p link low found =
     let (was, at, s) = some_was (MapsTo 64 f p link) (slice_get old p) (r.each p link found) in
     (was, at, s.below low)
 
 -- a step that leaves what is kept of each connection
-pub maps_kept : (g : Option Link → Bool) (n : ℕ) (f : ℕ → Link → Link) (old new : List Link) → ((p : ℕ) (link : Link) → g (Some (f p link)) ≡ g (Some link)) → MapsBelow n f old new
+pub maps_kept : (g : Option Link → Bool) (n : ℕ) (f : ℕ → Link → Link) (old new : List Link)
+    → ((p : ℕ) (link : Link) → g (Some (f p link)) ≡ g (Some link)) → MapsBelow n f old new
     → (p : ℕ) → g (slice_get new p) ≡ g (slice_get old p)
 maps_kept g n f old new same r p = at (slice_get new p) refl
   where
@@ -70,10 +74,12 @@ maps_kept g n f old new same r p = at (slice_get new p) refl
         ap g e ∙ elim (cases_lt p n) [ inl lt ↦ ap (λ l. g (Some l)) (s.below lt) ∙ same p was | inr le ↦ ap (λ l. g (Some l)) (s.above le) ]
         ∙ sym (ap g here)
 
-pub maps_failed : (n : ℕ) (f : ℕ → Link → Link) (old new : List Link) → ((p : ℕ) (link : Link) → (f p link).failed ≡ link.failed) → MapsBelow n f old new
+pub maps_failed : (n : ℕ) (f : ℕ → Link → Link) (old new : List Link)
+    → ((p : ℕ) (link : Link) → (f p link).failed ≡ link.failed) → MapsBelow n f old new
     → (p : ℕ) → failed_in (slice_get new p) ≡ failed_in (slice_get old p)
 maps_failed n f old new same r = maps_kept failed_in n f old new same r
 
-pub maps_known : (n : ℕ) (f : ℕ → Link → Link) (old new : List Link) → ((p : ℕ) (link : Link) → (f p link).stage ≡ link.stage) → MapsBelow n f old new
+pub maps_known : (n : ℕ) (f : ℕ → Link → Link) (old new : List Link)
+    → ((p : ℕ) (link : Link) → (f p link).stage ≡ link.stage) → MapsBelow n f old new
     → (p : ℕ) → known_in (slice_get new p) ≡ known_in (slice_get old p)
 maps_known n f old new same r = maps_kept known_in n f old new (λ p link. ap is_known (same p link)) r

@@ -19,7 +19,8 @@ use Rattle.ready_loop.proofs.StandLemmas.{stands_as}
 use Rattle.ready_loop.proofs.TableLemmas.{within, some_at, slice_get-set_same, slice_get-set_other}
 
 -- the names so far, and one place more
-pub named_more : (n : ℕ) (names : List Bool) (f : ℕ → Bool) (b : Bool) → n < length names → b ≡ f n → ((p : ℕ) → p < n → slice_get names p ≡ Some (f p))
+pub named_more : (n : ℕ) (names : List Bool) (f : ℕ → Bool) (b : Bool) → n < length names → b ≡ f n
+    → ((p : ℕ) → p < n → slice_get names p ≡ Some (f p))
     → (p : ℕ) → p < n + 1 → slice_get (set names n b) p ≡ Some (f p)
 named_more n names f b lt is below p low = elim (cases_eq p n) [
   | inl e ↦ subst (λ i. slice_get (set names n b) i ≡ Some (f i)) (sym e) (slice_get-set_same names n b lt ∙ ap Some is)
@@ -28,7 +29,8 @@ named_more n names f b lt is below p low = elim (cases_eq p n) [
 
 module _ (l new : Loop) (names : List Bool) (all : NamesAll l.links new.links) (queues : new.queues ≡ l.queues) (left : new.left ≡ l.left)
     (named : (p : ℕ) → p < 64 → slice_get names p ≡ Some (found_at l p)) where
-  pub named_stands : (h : History) (journal : List Entry) → StandsFor l h journal → StandsFor new (with_all_named names h) journal
+  pub named_stands : (h : History) (journal : List Entry) → StandsFor l h journal
+      → StandsFor new (with_all_named names h) journal
   named_stands h journal stand = record {
     size = all.size ∙ stand.size;
     waits = ap (λ n. wait_count journal + n) left ∙ stand.waits;
@@ -41,7 +43,8 @@ module _ (l new : Loop) (names : List Bool) (all : NamesAll l.links new.links) (
         (stands_named was _ _ _ _ _ _ (stand.each p was at)));
   }
 
-  pub names_are : (h : History) (journal : List Entry) → StandsFor l h journal → (p : ℕ) → p < 64 → slice_get names p ≡ Some (is_to_name h journal p)
+  pub names_are : (h : History) (journal : List Entry) → StandsFor l h journal → (p : ℕ) → p < 64
+      → slice_get names p ≡ Some (is_to_name h journal p)
   names_are h journal stand p low =
       let (link, at) = some_at l.links p (omega (arith, stand.size)) in
       let m = stand.each p link at in
@@ -52,7 +55,8 @@ module _ (l new : Loop) (names : List Bool) (all : NamesAll l.links new.links) (
       → Goes P (after_names {E = LoopFault} (Ok names)) first new i j
   named_goes {i = i} {j} m = record { so = λ h s. let r = m.so h s in (named_stands h j r.0, r.1) }
 
-  pub named_names : {P : History → List Entry → Type 0} {first : Loop} {i j : List Entry} → Goes P same first l i j → Names {E = LoopFault} (Ok names) first i j
+  pub named_names : {P : History → List Entry → Type 0} {first : Loop} {i j : List Entry} → Goes P same first l i j
+      → Names {E = LoopFault} (Ok names) first i j
   named_names {i = i} {j} m = record { so = λ h s p low. names_are h j (m.so h s).0 p low }
 
 -- naming changes nothing of what is to be done

@@ -60,8 +60,10 @@ fresh_stands p turns journal shut = record {
   ends = record { found = refl; told = refl };
 }
 
-pub new_stands : (links : List Link) (queues : List Held) (turns : ℕ) → links ≡ replicate 64 fresh_link → queues ≡ replicate 64 (record { rest = []; taken = 0 })
-    → (journal : List Entry) → AllShut journal → Stand links queues turns (no_history (wait_count journal + turns)) journal
+pub new_stands : (links : List Link) (queues : List Held) (turns : ℕ) → links ≡ replicate 64 fresh_link
+    → queues ≡ replicate 64 (record { rest = []; taken = 0 })
+    → (journal : List Entry) → AllShut journal
+    → Stand links queues turns (no_history (wait_count journal + turns)) journal
 new_stands links queues turns links_are queues_are journal shut = record {
   size = ap length links_are ∙ replicate_length 64 fresh_link;
   waits = refl;
@@ -102,7 +104,8 @@ own_queued q more h = cond-true (q == q) _ _ (eq-eqb q q refl)
 
 queued_one : (q : ℕ) (more : List ℕ) (l : Loop) (queues : List Held) → q < length l.queues
     → queues ≡ set l.queues q (record { rest = rest_at l.queues q ++ more; taken = taken_at l.queues q })
-    → (h : History) (journal : List Entry) → StandsFor l h journal → Stand l.links queues l.left (with_queued q more h) journal
+    → (h : History) (journal : List Entry) → StandsFor l h journal
+    → Stand l.links queues l.left (with_queued q more h) journal
 queued_one q more l queues within is h journal stand = record {
   size = stand.size;
   waits = stand.waits;
@@ -120,15 +123,18 @@ queued_one q more l queues within is h journal stand = record {
   ];
 }
 
-pub queue_stands : {U E : Type 0} (r : Result U E) (conn : Conn) (more : List ℕ) (l : Loop) (queues : List Held) → place_of conn < length l.queues
+pub queue_stands : {U E : Type 0} (r : Result U E) (conn : Conn) (more : List ℕ) (l : Loop) (queues : List Held)
+    → place_of conn < length l.queues
     → OnOk r (queues ≡ set l.queues (place_of conn) (record { rest = rest_at l.queues (place_of conn) ++ more; taken = taken_at l.queues (place_of conn) }))
-    → OnErr r (queues ≡ l.queues) → (h : History) (journal : List Entry) → StandsFor l h journal → Stand l.links queues l.left (after_queue conn more r h) journal
+    → OnErr r (queues ≡ l.queues) → (h : History) (journal : List Entry) → StandsFor l h journal
+    → Stand l.links queues l.left (after_queue conn more r h) journal
 queue_stands (Ok u) conn more l queues within ok err h journal stand = queued_one (place_of conn) more l queues within ok h journal stand
 queue_stands (Err e) conn more l queues within ok err h journal stand = subst (λ (qs : List Held). Stand l.links qs l.left h journal) (sym err) stand
 
 -- ---- what was taken
 
-pub taken_is : (q : ℕ) (l : Loop) → q < 64 → (h : History) (journal : List Entry) → StandsFor l h journal → taken_at l.queues q ≡ length (put_at h journal q)
+pub taken_is : (q : ℕ) (l : Loop) → q < 64 → (h : History) (journal : List Entry) → StandsFor l h journal
+    → taken_at l.queues q ≡ length (put_at h journal q)
 taken_is q l low h journal stand =
     let (link, found) = some_at l.links q (omega (arith, stand.size)) in
     (stand.each q link found).sends.taken

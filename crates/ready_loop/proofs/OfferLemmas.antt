@@ -26,11 +26,13 @@ use Rattle.ready_loop.proofs.TableLemmas.{within, slice_get-set_same, slice_get-
 
 -- ---- a connect
 
-pub ended_connect : (conn : Conn) (number : ℕ) (how : Connected) (past : List Entry) → write_ended (place_of conn) (made.Connected conn number how ∷ past) ≡ false
+pub ended_connect : (conn : Conn) (number : ℕ) (how : Connected) (past : List Entry)
+    → write_ended (place_of conn) (made.Connected conn number how ∷ past) ≡ false
 ended_connect conn number how past = cond-true (is_at (place_of conn) conn) _ _ (at_own conn)
 
 pub again_goes : (forced : Bool) (conn : Conn) (p : ℕ) (how : Connected) (l : Loop) (links : List Link) (link : Link) (was last : ℕ) (past : List Entry)
-    → place_of conn ≡ p → slice_get l.links p ≡ Some link → IsToBegin forced was link → last ≡ was → links ≡ set l.links p (connect_link how last link) → last ≡ time past
+    → place_of conn ≡ p → slice_get l.links p ≡ Some link → IsToBegin forced was link → last ≡ was
+    → links ≡ set l.links p (connect_link how last link) → last ≡ time past
     → Goes (OfferAt forced p) same l (record l { links = links }) past (made.Connected conn link.port how ∷ past)
 again_goes forced conn p how l links link was last past place found to then is clock =
     let entry : Entry = made.Connected conn link.port how in
@@ -68,7 +70,8 @@ status_own conn put.Ended piece past = ended_own conn side.Write past
 status_own conn put.Refused piece past = refused_own conn side.Write past
 status_own conn put.Failed piece past = put_failed_own conn past
 
-concerns_not : (conn : Conn) (answer : Put) (piece : List ℕ) (p : ℕ) → p ≢ place_of conn → concerns p (write_entry conn answer piece) ≡ false
+pub concerns_not : (conn : Conn) (answer : Put) (piece : List ℕ) (p : ℕ) → p ≢ place_of conn
+    → concerns p (write_entry conn answer piece) ≡ false
 concerns_not conn (put.Took n) piece p ne = not_at p conn ne
 concerns_not conn put.Stuck piece p ne = not_at p conn ne
 concerns_not conn put.Ended piece p ne = not_at p conn ne
@@ -90,7 +93,8 @@ ended_own_write conn put.Ended piece past = cond-true (is_at (place_of conn) con
 ended_own_write conn put.Refused piece past = refl
 ended_own_write conn put.Failed piece past = refl
 
-pub untimed_write : (conn : Conn) (answer : Put) (piece : List ℕ) (past : List Entry) → time (write_entry conn answer piece ∷ past) ≡ time past
+pub untimed_write : (conn : Conn) (answer : Put) (piece : List ℕ) (past : List Entry)
+    → time (write_entry conn answer piece ∷ past) ≡ time past
 untimed_write conn (put.Took n) piece past = refl
 untimed_write conn put.Stuck piece past = refl
 untimed_write conn put.Ended piece past = refl
@@ -105,10 +109,12 @@ held_within queues q some = at (slice_get queues q) refl some
     at None e lt = absurd (omega arith)
     at (Some held) e lt = within queues q e
 
-pub held_set : (queues : List Held) (q : ℕ) (new : Held) → 0 < length (rest_at queues q) → held_in (slice_get (set queues q new) q) ≡ new
+pub held_set : (queues : List Held) (q : ℕ) (new : Held) → 0 < length (rest_at queues q)
+    → held_in (slice_get (set queues q new) q) ≡ new
 held_set queues q new some = ap held_in (slice_get-set_same queues q new (held_within queues q some))
 
-pub held_other : (queues : List Held) (q p : ℕ) (new : Held) → p ≢ q → held_in (slice_get (set queues q new) p) ≡ held_in (slice_get queues p)
+pub held_other : (queues : List Held) (q p : ℕ) (new : Held) → p ≢ q
+    → held_in (slice_get (set queues q new) p) ≡ held_in (slice_get queues p)
 held_other queues q p new ne = ap held_in (slice_get-set_other queues q p new ne)
 
 module _ (conn : Conn) (answer : Put) (l : Loop) (link : Link) (last : ℕ) (past : List Entry)
@@ -130,7 +136,8 @@ module _ (conn : Conn) (answer : Put) (l : Loop) (link : Link) (last : ℕ) (pas
       stand_at (write_entry conn answer piece) q (write_link answer last link) (within l.links q found) (no_wait conn answer piece)
       (λ p ne. concerns_not conn answer piece p ne) (λ p ne. held_other l.queues q p (held_write answer (held_in (slice_get l.queues q))) ne) (same_but q h) own stand
 
-  write_rule : (h : History) → StandsFor l h past → IsOfferedTo (h.queued (place_of conn)) conn (rest_at l.queues (place_of conn)) past
+  write_rule : (h : History) → StandsFor l h past
+      → IsOfferedTo (h.queued (place_of conn)) conn (rest_at l.queues (place_of conn)) past
   write_rule h stand =
       let q = place_of conn in
       let m = stand.each q link found in
@@ -143,9 +150,11 @@ module _ (conn : Conn) (answer : Put) (l : Loop) (link : Link) (last : ℕ) (pas
       }
 
 pub write_goes : (conn : Conn) (p : ℕ) (answer : Put) (piece : List ℕ) (l : Loop) (links : List Link) (queues : List Held) (link : Link) (last : ℕ) (past : List Entry)
-    → place_of conn ≡ p → slice_get l.links p ≡ Some link → MayWrite link → 0 < length (rest_at l.queues p) → piece ≡ rest_at l.queues p
+    → place_of conn ≡ p → slice_get l.links p ≡ Some link → MayWrite link → 0 < length (rest_at l.queues p)
+    → piece ≡ rest_at l.queues p
     → PutSome answer (length piece) → links ≡ set l.links p (write_link answer last link)
-    → queues ≡ set l.queues p (held_write answer (held_in (slice_get l.queues p))) → last ≡ time past → (answer ≡ put.Refused → IsUnused (place_of conn) past)
+    → queues ≡ set l.queues p (held_write answer (held_in (slice_get l.queues p))) → last ≡ time past
+    → (answer ≡ put.Refused → IsUnused (place_of conn) past)
     → Goes (OfferAt false p) same l (record l { links = links; queues = queues }) past (write_entry conn answer piece ∷ past)
 write_goes conn p answer piece l links queues link last past place found may some piece_is took is queues_are clock unused =
     let found' : slice_get l.links (place_of conn) ≡ Some link = subst (λ i. slice_get l.links i ≡ Some link) (sym place) found in
@@ -167,12 +176,14 @@ write_goes conn p answer piece l links queues link last past place found may som
 -- ---- the rules of offers
 
 -- what is offered at a place
-pub offer_moment : (forced : Bool) (place : ℕ) (h : History) (now : List Entry) → OfferAt forced place h now → OfferMoment forced h now
+pub offer_moment : (forced : Bool) (place : ℕ) (h : History) (now : List Entry) → OfferAt forced place h now
+    → OfferMoment forced h now
 offer_moment forced place h [] o = absurd o
 offer_moment forced place h (entry ∷ past) o = (o.0, o.2)
 
 -- offers are by the weaker rule too
-forced_offer : (forced : Bool) (h : History) (past : List Entry) (conn : Conn) (entry : Entry) → Offers false h past conn entry → Offers forced h past conn entry
+forced_offer : (forced : Bool) (h : History) (past : List Entry) (conn : Conn) (entry : Entry)
+    → Offers false h past conn entry → Offers forced h past conn entry
 forced_offer forced h past conn entry (again port how r) = again port how (record {
   at = r.at;
   refused = r.refused;
@@ -184,6 +195,7 @@ forced_offer forced h past conn entry (again port how r) = again port how (recor
     not_so e = cc
 forced_offer forced h past conn entry (writes answer piece r) = writes answer piece r
 
-pub forced_at : (forced : Bool) (place : ℕ) (h : History) (now : List Entry) → OfferAt false place h now → OfferAt forced place h now
+pub forced_at : (forced : Bool) (place : ℕ) (h : History) (now : List Entry) → OfferAt false place h now
+    → OfferAt forced place h now
 forced_at forced place h [] o = absurd o
 forced_at forced place h (entry ∷ past) o = (o.0, o.1, forced_offer forced h past o.0 entry o.2)

@@ -29,11 +29,13 @@ as_before t s d a f (awake e) = awake (a ∙ e)
 as_before t s d a f (ended e) = ended e
 as_before t s d a f (failed e) = failed (f ∙ e)
 
-same_step : (b : Bool) (t s : Status) (d : Bool) → t.awake ≡ s.awake → t.failed ≡ s.failed → Good s d → Good (if b then t else s) (false || d)
+same_step : (b : Bool) (t s : Status) (d : Bool) → t.awake ≡ s.awake → t.failed ≡ s.failed → Good s d
+    → Good (if b then t else s) (false || d)
 same_step true t s d a f g = as_before t s d a f g
 same_step false t s d a f g = g
 
-step : (p clock : ℕ) (entry : Entry) (s : Status) (d : Bool) → is_wait entry ≡ false → Good s d → Good (status_after p clock entry s) (ends_reading p entry || d)
+step : (p clock : ℕ) (entry : Entry) (s : Status) (d : Bool) → is_wait entry ≡ false → Good s d
+    → Good (status_after p clock entry s) (ends_reading p entry || d)
 step p clock (made.Connected conn port connected.Begun) s d w g = same_step (is_at p conn) _ s d refl refl g
 step p clock (made.Connected conn port connected.Refused) s d w g = same_step (is_at p conn) _ s d refl refl g
 step p clock (made.Connected conn port connected.Failed) s d w g = failed_step (is_at p conn) _ s d refl g
@@ -49,7 +51,8 @@ step p clock (made.PutFailed conn) s d w g = failed_step (is_at p conn) _ s d re
 step p clock (made.Waited ms reports did) s d w g = cc
 step p clock _ s d w g = g
 
-since_at : (p : ℕ) (entry : Entry) (past : List Entry) (b : Bool) → is_wait entry ≡ b → (status p (if b then entry ∷ past else to_wait past)).awake ≡ true
+since_at : (p : ℕ) (entry : Entry) (past : List Entry) (b : Bool) → is_wait entry ≡ b
+    → (status p (if b then entry ∷ past else to_wait past)).awake ≡ true
     → ((status p (to_wait past)).awake ≡ true → Good (status p past) (was_ended p past))
     → Good (status p (entry ∷ past)) (if b then false else ends_reading p entry || was_ended p past)
 since_at p entry past true w a ih = awake a
@@ -59,7 +62,8 @@ since : (p : ℕ) (past : List Entry) → (status p (to_wait past)).awake ≡ tr
 since p [] a = awake a
 since p (entry ∷ past) a = since_at p entry past (is_wait entry) refl a (since p past)
 
-one_read : (p : ℕ) (queued : List ℕ) (past : List Entry) → Good (status p past) (was_ended p past) → IsServed queued (status p past)
+one_read : (p : ℕ) (queued : List ℕ) (past : List Entry) → Good (status p past) (was_ended p past)
+    → IsServed queued (status p past)
     → (was_ended p past ≡ true) ⊎ (64 ≤ (status p past).count)
 one_read p queued past (awake e) s = inr (s.drained e)
 one_read p queued past (ended e) s = inl e

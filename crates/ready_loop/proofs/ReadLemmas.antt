@@ -30,7 +30,8 @@ status_own conn room got.Ended buffer past = ended_own conn side.Read past
 status_own conn room got.Refused buffer past = refused_own conn side.Read past
 status_own conn room got.Failed buffer past = read_failed_own conn past
 
-concerns_not : (conn : Conn) (room : ℕ) (answer : Got) (buffer : List ℕ) (p : ℕ) → p ≢ place_of conn → concerns p (read_entry conn room answer buffer) ≡ false
+concerns_not : (conn : Conn) (room : ℕ) (answer : Got) (buffer : List ℕ) (p : ℕ) → p ≢ place_of conn
+    → concerns p (read_entry conn room answer buffer) ≡ false
 concerns_not conn room (got.Piece n) buffer p ne = not_at p conn ne
 concerns_not conn room got.Dry buffer p ne = not_at p conn ne
 concerns_not conn room got.Ended buffer p ne = not_at p conn ne
@@ -52,14 +53,16 @@ ended_own_read conn room got.Ended buffer past = refl
 ended_own_read conn room got.Refused buffer past = refl
 ended_own_read conn room got.Failed buffer past = refl
 
-pub untimed : (conn : Conn) (room : ℕ) (answer : Got) (buffer : List ℕ) (past : List Entry) → time (read_entry conn room answer buffer ∷ past) ≡ time past
+pub untimed : (conn : Conn) (room : ℕ) (answer : Got) (buffer : List ℕ) (past : List Entry)
+    → time (read_entry conn room answer buffer ∷ past) ≡ time past
 untimed conn room (got.Piece n) buffer past = refl
 untimed conn room got.Dry buffer past = refl
 untimed conn room got.Ended buffer past = refl
 untimed conn room got.Refused buffer past = refl
 untimed conn room got.Failed buffer past = refl
 
-is_one : (conn : Conn) (room : ℕ) (answer : Got) (buffer : List ℕ) → is_read (place_of conn) (read_entry conn room answer buffer) ≡ true
+is_one : (conn : Conn) (room : ℕ) (answer : Got) (buffer : List ℕ)
+    → is_read (place_of conn) (read_entry conn room answer buffer) ≡ true
 is_one conn room (got.Piece n) buffer = at_own conn
 is_one conn room got.Dry buffer = at_own conn
 is_one conn room got.Ended buffer = at_own conn
@@ -85,7 +88,8 @@ own_history got.Failed conn h m = m
 
 -- a read of a connection that may be read
 pub read_goes : (conn : Conn) (p room : ℕ) (answer : Got) (buffer : List ℕ) (l : Loop) (links : List Link) (link : Link) (last : ℕ) (past : List Entry)
-    → place_of conn ≡ p → slice_get l.links p ≡ Some link → MayRead link → links ≡ set l.links p (read_link answer last link) → last ≡ time past
+    → place_of conn ≡ p → slice_get l.links p ≡ Some link → MayRead link
+    → links ≡ set l.links p (read_link answer last link) → last ≡ time past
     → (answer ≡ got.Refused → IsUnused (place_of conn) past)
     → Goes ReadMoment (after_got answer conn) l (record l { links = links }) past (read_entry conn room answer buffer ∷ past)
 read_goes conn p room answer buffer l links link last past place found may is clock unused =

@@ -51,7 +51,8 @@ concerns_none p (made.PutFailed conn) e = let c = e.conn in cc
 concerns_none p (made.Waited ms reports did) e = let c = e.wait in cc
 concerns_none p _ e = refl
 
-other_stands : (l : Loop) (h : History) (entry : Entry) (past : List Entry) → IsElsewhere entry → StandsFor l h past → StandsFor l h (entry ∷ past)
+other_stands : (l : Loop) (h : History) (entry : Entry) (past : List Entry) → IsElsewhere entry → StandsFor l h past
+    → StandsFor l h (entry ∷ past)
 other_stands l h entry past e stand = record {
   size = stand.size;
   waits = ap (λ n. n + l.left) (not_counted entry past e.wait) ∙ stand.waits;
@@ -60,7 +61,8 @@ other_stands l h entry past e stand = record {
       stands_as refl refl refl refl (status_elsewhere p entry past none) (ended_elsewhere p entry past none) (stand.each p link found);
 }
 
-pub others_stand : (l : Loop) (h : History) (before after : List Entry) → Since MadeElsewhere before after → StandsFor l h before → StandsFor l h after
+pub others_stand : (l : Loop) (h : History) (before after : List Entry) → Since MadeElsewhere before after
+    → StandsFor l h before → StandsFor l h after
 others_stand l h before _ start stand = stand
 others_stand l h before _ (more {past} {entry} s e) stand = other_stands l h entry past e (others_stand l h before past s stand)
 
@@ -80,7 +82,8 @@ fair_read : (now : List Entry) (h : History) → ReadMoment h now → FairMoment
 fair_read [] h m = m
 fair_read (entry ∷ past) h m = runs.read m.0 entry m.1
 
-fair_offers : (forced : Bool) (h : History) (past : List Entry) (conn : Conn) (entry : Entry) → Offers forced h past conn entry → IsFair past entry
+fair_offers : (forced : Bool) (h : History) (past : List Entry) (conn : Conn) (entry : Entry)
+    → Offers forced h past conn entry → IsFair past entry
 fair_offers forced h past conn entry (again port how r) = runs.again forced conn port how r
 fair_offers forced h past conn entry (writes answer piece r) = runs.write conn answer piece r.writable
 
@@ -104,13 +107,15 @@ limit_most due h ms past rule = elim (some_awake past) [
   | inr none ↦ (rule.limit.rests none).least 500 most
 ]
 
-pub sleeps_asleep : (due : Option ℕ) (h : History) (ms : ℕ) (past : List Entry) → IsTurnWait due h ms past → 0 < ms → (p : ℕ) → p < 64 → (status p past).awake ≡ false
+pub sleeps_asleep : (due : Option ℕ) (h : History) (ms : ℕ) (past : List Entry) → IsTurnWait due h ms past → 0 < ms
+    → (p : ℕ) → p < 64 → (status p past).awake ≡ false
 sleeps_asleep due h ms past rule lt = elim (some_awake past) [
   | inl some ↦ let zero_is = rule.limit.awaits some.place some.low some.awake in absurd (omega arith)
   | inr none ↦ none
 ]
 
-fair_turn : (due : Option ℕ) (h : History) (ms : ℕ) (past : List Entry) → IsTurnWait due h ms past → NoneDue past → IsFairWait ms past
+fair_turn : (due : Option ℕ) (h : History) (ms : ℕ) (past : List Entry) → IsTurnWait due h ms past → NoneDue past
+    → IsFairWait ms past
 fair_turn due h ms past rule calm = record {
   most = limit_most due h ms past rule;
   sleeps = sleeps_asleep due h ms past rule;
@@ -128,24 +133,29 @@ fair_zero h past served calm = record {
   calm = calm;
 }
 
-one_wait : (due : Option ℕ) (h : History) (did : Did) (before after : List Entry) → NoneDue before → Waits due h did before after → Since FairMoment before after
+one_wait : (due : Option ℕ) (h : History) (did : Did) (before after : List Entry) → NoneDue before
+    → Waits due h did before after → Since FairMoment before after
 one_wait due h did before after calm w = subst (Since FairMoment before) (sym w.is) (more start (runs.waited w.ms w.reports did (fair_turn due h w.ms before w.rule calm)))
 
-behind_wait : (due : Option ℕ) (h : History) (did : Did) (before after : List Entry) → Waits due h did before after → is_after_wait after ≡ true
+behind_wait : (due : Option ℕ) (h : History) (did : Did) (before after : List Entry) → Waits due h did before after
+    → is_after_wait after ≡ true
 behind_wait due h did before after w = subst (λ j. is_after_wait j ≡ true) (sym w.is) refl
 
-turn_fair : (due : Option ℕ) (result : Result ℕ LoopFault) (h : History) (before after : List Entry) → NoneDue before → TurnCame due result h before after → Since FairMoment before after
+turn_fair : (due : Option ℕ) (result : Result ℕ LoopFault) (h : History) (before after : List Entry) → NoneDue before
+    → TurnCame due result h before after → Since FairMoment before after
 turn_fair due (Ok now) h before after calm came =
     subst (Since FairMoment before) (sym came.is) (more (one_wait due h Done before came.past calm came.waits) (runs.clock now (behind_wait due h Done before came.past came.waits)))
 turn_fair due (Err (NetFault None)) h before after calm came = one_wait due h Failed before after calm came
 turn_fair due (Err (NetFault (Some conn))) h before after calm came = absurd came
 turn_fair due (Err Spent) h before after calm came = subst (Since FairMoment before) (sym came) start
 
-look_wait : (jobs : List Bool) (C : Type 0) (h : History) (did : Did) (before after : List Entry) → C → LooksThenWaits jobs C h did before after → Since FairMoment before after
+look_wait : (jobs : List Bool) (C : Type 0) (h : History) (did : Did) (before after : List Entry) → C
+    → LooksThenWaits jobs C h did before after → Since FairMoment before after
 look_wait jobs C h did before after calm l =
     subst (Since FairMoment before) (sym l.is) (more (since_as (λ now m. fair_look jobs now h m) l.looks) (runs.waited 0 l.reports did (fair_zero h l.past l.served (l.none_due calm))))
 
-look_fair : (jobs : List Bool) (C : Type 0) (result : Result (List Bool) LoopFault) (h : History) (before after : List Entry) → C → LookCame jobs C result h before after → Since FairMoment before after
+look_fair : (jobs : List Bool) (C : Type 0) (result : Result (List Bool) LoopFault) (h : History) (before after : List Entry)
+    → C → LookCame jobs C result h before after → Since FairMoment before after
 look_fair jobs C (Ok names) h before after calm came = look_wait jobs C h Done before after calm came
 look_fair jobs C (Err (NetFault None)) h before after calm came = look_wait jobs C h Failed before after calm came
 look_fair jobs C (Err (NetFault (Some conn))) h before after calm came = since_as (λ now m. fair_look jobs now h m) came.looks
@@ -153,7 +163,8 @@ look_fair jobs C (Err Spent) h before after calm came = subst (Since FairMoment 
 
 -- ---- any calls
 
-call_holds : (old new : Loop) (h k : History) (before after : List Entry) → Calls old h before new k after → StandsFor old h before → StandsFor new k after × Since FairMoment before after
+call_holds : (old new : Loop) (h k : History) (before after : List Entry) → Calls old h before new k after
+    → StandsFor old h before → StandsFor new k after × Since FairMoment before after
 call_holds old _ h _ before _ (runs.begins job heart result new after goes) stand = let r = goes.so h stand in (r.0, since_as (λ now m. fair_begin now h m) r.1)
 call_holds old _ h _ before _ (runs.queues conn bytes result new goes) stand = (goes stand, start)
 call_holds old _ h _ before _ (runs.offers result new after goes) stand = let r = goes.so h stand in (r.0, since_as (λ now m. fair_offer now h m) r.1)
@@ -163,7 +174,8 @@ call_holds old _ h _ before _ (runs.reads result new after goes) stand = let r =
 call_holds old _ h _ before _ (runs.closes new after goes) stand = let r = goes.so h stand in (r.0, since_as (λ now m. fair_close now h m) r.1)
 call_holds old _ h _ before _ (runs.elsewhere after since) stand = (others_stand old h before after since stand, since_as fair_other since)
 
-pub runs_hold : (first : Loop) (asked : History) (start_at : List Entry) → StandsFor first asked start_at → (l : Loop) (h : History) (journal : List Entry) → Runs first asked start_at l h journal
+pub runs_hold : (first : Loop) (asked : History) (start_at : List Entry) → StandsFor first asked start_at
+    → (l : Loop) (h : History) (journal : List Entry) → Runs first asked start_at l h journal
     → StandsFor l h journal × Since FairMoment start_at journal
 runs_hold first asked start_at stand _ _ _ runs.none = (stand, start)
 runs_hold first asked start_at stand _ _ _ (runs.then l new h k before after run call) =

@@ -21,7 +21,8 @@ use Rattle.ready_loop.specs.Standing.{write_ended, StandsAt, Stand, StandsFor, G
 use Rattle.ready_loop.proofs.TableLemmas.{slice_get-set_same, slice_get-set_other, some_is}
 
 -- an entry of no concern to a place changes nothing of how it was ended
-pub ended_elsewhere : (p : ℕ) (entry : Entry) (past : List Entry) → concerns p entry ≡ false → write_ended p (entry ∷ past) ≡ write_ended p past
+pub ended_elsewhere : (p : ℕ) (entry : Entry) (past : List Entry) → concerns p entry ≡ false
+    → write_ended p (entry ∷ past) ≡ write_ended p past
 ended_elsewhere p (made.Connected conn port how) past e = cond-false (is_at p conn) _ _ e
 ended_elsewhere p (made.Ended conn side.Write) past e = cond-false (is_at p conn) _ _ e
 ended_elsewhere p _ past e = refl
@@ -99,7 +100,8 @@ stand_at {links} {queues} {now} {left} {h} {k} {past} entry q new within no_wait
 
 -- ---- calls one after another
 
-pub goes_start : {rule : History → List Entry → Type 0} {l : Loop} (before : List Entry) → Goes rule (λ h. h) l l before before
+pub goes_start : {rule : History → List Entry → Type 0} {l : Loop} (before : List Entry)
+    → Goes rule (λ h. h) l l before before
 goes_start before = record { so = λ h s. (s, start) }
 
 pub goes_then : {P Q R : History → List Entry → Type 0} {f g : History → History} {a b c : Loop} {i j k : List Entry}
@@ -126,6 +128,7 @@ cause_then {a} {b} {c} m n f g =
     }
 
 -- the same under an equal step
-pub goes_step : {P : History → List Entry → Type 0} {f g : History → History} {a b : Loop} {i j : List Entry} → ((h : History) → f h ≡ g h)
+pub goes_step : {P : History → List Entry → Type 0} {f g : History → History} {a b : Loop} {i j : List Entry}
+    → ((h : History) → f h ≡ g h)
     → Goes P f a b i j → Goes P g a b i j
 goes_step {b = b} {j = j} same m = record { so = λ h s. let r = m.so h s in (subst (λ k. StandsFor b k j) (same h) r.0, r.1) }

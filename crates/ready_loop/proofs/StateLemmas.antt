@@ -23,7 +23,8 @@ use Rattle.ready_loop.proofs.TableLemmas.{slice_get-set_same, slice_get-set_othe
 
 -- ---- a table with one link replaced
 
-pub each_set : {P : ℕ → Link → Type 0} (n q : ℕ) (links : List Link) (new : Link) → q < length links → P q new → EachBelow n links P → EachBelow n (set links q new) P
+pub each_set : {P : ℕ → Link → Type 0} (n q : ℕ) (links : List Link) (new : Link) → q < length links → P q new
+    → EachBelow n links P → EachBelow n (set links q new) P
 each_set {P} n q links new lt here all p link low is = elim (cases_eq p q) [
   | inl e ↦
       let at : slice_get (set links q new) q ≡ Some link = subst (λ i. slice_get (set links q new) i ≡ Some link) e is in
@@ -33,7 +34,8 @@ each_set {P} n q links new lt here all p link low is = elim (cases_eq p q) [
 ]
 
 -- one place more
-pub each_more : {P : ℕ → Link → Type 0} (q : ℕ) (links : List Link) (new : Link) → q < length links → P q new → EachBelow q links P → EachBelow (q + 1) (set links q new) P
+pub each_more : {P : ℕ → Link → Type 0} (q : ℕ) (links : List Link) (new : Link) → q < length links → P q new
+    → EachBelow q links P → EachBelow (q + 1) (set links q new) P
 each_more {P} q links new lt here all p link low is = elim (cases_eq p q) [
   | inl e ↦
       let at : slice_get (set links q new) q ≡ Some link = subst (λ i. slice_get (set links q new) i ≡ Some link) e is in
@@ -43,7 +45,8 @@ each_more {P} q links new lt here all p link low is = elim (cases_eq p q) [
 ]
 
 -- one place more that was passed
-pub each_next : {P : ℕ → Link → Type 0} (q : ℕ) (links : List Link) (link : Link) → slice_get links q ≡ Some link → P q link → EachBelow q links P → EachBelow (q + 1) links P
+pub each_next : {P : ℕ → Link → Type 0} (q : ℕ) (links : List Link) (link : Link) → slice_get links q ≡ Some link
+    → P q link → EachBelow q links P → EachBelow (q + 1) links P
 each_next {P} q links link found here all p l low is = elim (cases_eq p q) [
   | inl e ↦
       let at : slice_get links q ≡ Some l = subst (λ i. slice_get links i ≡ Some l) e is in
@@ -52,14 +55,17 @@ each_next {P} q links link found here all p l low is = elim (cases_eq p q) [
   | inr ne ↦ all p l (omega arith) is
 ]
 
-pub failed_set_own : (links : List Link) (q : ℕ) (new : Link) → q < length links → failed_in (slice_get (set links q new) q) ≡ new.failed
+pub failed_set_own : (links : List Link) (q : ℕ) (new : Link) → q < length links
+    → failed_in (slice_get (set links q new) q) ≡ new.failed
 failed_set_own links q new lt = ap failed_in (slice_get-set_same links q new lt)
 
-pub failed_set_other : (links : List Link) (q p : ℕ) (new : Link) → p ≢ q → failed_in (slice_get (set links q new) p) ≡ failed_in (slice_get links p)
+pub failed_set_other : (links : List Link) (q p : ℕ) (new : Link) → p ≢ q
+    → failed_in (slice_get (set links q new) p) ≡ failed_in (slice_get links p)
 failed_set_other links q p new ne = ap failed_in (slice_get-set_other links q p new ne)
 
 -- what is kept of each connection, where one link was replaced that keeps it
-pub kept_set : (g : Option Link → Bool) (links now : List Link) (q : ℕ) (new link : Link) → slice_get links q ≡ Some link → now ≡ set links q new
+pub kept_set : (g : Option Link → Bool) (links now : List Link) (q : ℕ) (new link : Link) → slice_get links q ≡ Some link
+    → now ≡ set links q new
     → g (Some new) ≡ g (Some link) → (p : ℕ) → g (slice_get now p) ≡ g (slice_get links p)
 kept_set g links now q new link found is same p = elim (cases_eq p q) [
   | inl e ↦
@@ -69,7 +75,8 @@ kept_set g links now q new link found is same p = elim (cases_eq p q) [
 ]
 
 -- a link replaced by one of the same stage
-pub known_set : (l new : Loop) (q : ℕ) (then link : Link) → slice_get l.links q ≡ Some link → new.links ≡ set l.links q then → then.stage ≡ link.stage → SameKnown l new
+pub known_set : (l new : Loop) (q : ℕ) (then link : Link) → slice_get l.links q ≡ Some link
+    → new.links ≡ set l.links q then → then.stage ≡ link.stage → SameKnown l new
 known_set l new q then link found is same = record { each = kept_set known_in l.links new.links q then link found is (ap is_known same) }
 
 pub known_start : (l : Loop) → SameKnown l l
@@ -86,7 +93,8 @@ read_stage got.Refused last link = refl
 read_stage got.Failed last link = refl
 
 -- what has failed, where one link was replaced
-pub failed_set : (f : ℕ → Bool → Bool) (links now : List Link) (q : ℕ) (new link : Link) → slice_get links q ≡ Some link → now ≡ set links q new
+pub failed_set : (f : ℕ → Bool → Bool) (links now : List Link) (q : ℕ) (new link : Link) → slice_get links q ≡ Some link
+    → now ≡ set links q new
     → new.failed ≡ f q link.failed → ((p : ℕ) (b : Bool) → p ≢ q → f p b ≡ b)
     → (p : ℕ) → failed_in (slice_get now p) ≡ f p (failed_in (slice_get links p))
 failed_set f links now q new link found is own other p = elim (cases_eq p q) [
@@ -105,7 +113,8 @@ read_may_write got.Ended last link m = absurd (false≢true m.writable)
 read_may_write got.Refused last link m = absurd (false≢true m.writable)
 read_may_write got.Failed last link m = absurd (false≢true (sym m.sound))
 
-pub read_offered : (answer : Got) (last q : ℕ) (l : Loop) (links : List Link) (link : Link) → slice_get l.links q ≡ Some link → q < 64
+pub read_offered : (answer : Got) (last q : ℕ) (l : Loop) (links : List Link) (link : Link)
+    → slice_get l.links q ≡ Some link → q < 64
     → links ≡ set l.links q (read_link answer last link) → IsOffered l → IsOffered (record l { links = links })
 read_offered answer last q l links link found low is o = record {
   each = subst (λ (ls : List Link). Each ls (λ p x. MayWrite x → rest_at l.queues p ≡ [])) (sym is)
@@ -113,7 +122,8 @@ read_offered answer last q l links link found low is o = record {
       (λ m. o.each q link low found (read_may_write answer last link m)) o.each);
 }
 
-read_failed : (answer : Got) (last : ℕ) (link : Link) (conn : Conn) → link.failed ≡ false → (read_link answer last link).failed ≡ failed_got answer conn (place_of conn) link.failed
+read_failed : (answer : Got) (last : ℕ) (link : Link) (conn : Conn) → link.failed ≡ false
+    → (read_link answer last link).failed ≡ failed_got answer conn (place_of conn) link.failed
 read_failed (got.Piece n) last link conn e = refl
 read_failed got.Dry last link conn e = refl
 read_failed got.Ended last link conn e = refl
@@ -127,8 +137,10 @@ failed_got_other got.Ended conn p b ne = refl
 failed_got_other got.Refused conn p b ne = refl
 failed_got_other got.Failed conn p b ne = ap (λ x. x || b) (ne_eqb p (place_of conn) ne)
 
-pub read_fails : (answer : Got) (conn : Conn) (last q : ℕ) (links now : List Link) (link : Link) → place_of conn ≡ q → slice_get links q ≡ Some link → link.failed ≡ false
-    → now ≡ set links q (read_link answer last link) → (p : ℕ) → failed_in (slice_get now p) ≡ failed_got answer conn p (failed_in (slice_get links p))
+pub read_fails : (answer : Got) (conn : Conn) (last q : ℕ) (links now : List Link) (link : Link) → place_of conn ≡ q
+    → slice_get links q ≡ Some link → link.failed ≡ false
+    → now ≡ set links q (read_link answer last link) → (p : ℕ)
+    → failed_in (slice_get now p) ≡ failed_got answer conn p (failed_in (slice_get links p))
 read_fails answer conn last q links now link place found sound is p =
     failed_set (λ i b. failed_got answer conn i b) links now (place_of conn) (read_link answer last link) link (subst (λ i. slice_get links i ≡ Some link) (sym place) found)
     (is ∙ ap (λ i. set links i (read_link answer last link)) (sym place)) (read_failed answer last link conn sound) (λ i b ne. failed_got_other answer conn i b ne) p
@@ -136,7 +148,8 @@ read_fails answer conn last q links now link place found sound is p =
 dry_reads : (last : ℕ) (link : Link) → MayRead (read_link got.Dry last link) → ⊥
 dry_reads last link m = false≢true m.awake
 
-pub read_below : (answer : Got) (last q : ℕ) (links now : List Link) (link : Link) → slice_get links q ≡ Some link → now ≡ set links q (read_link answer last link)
+pub read_below : (answer : Got) (last q : ℕ) (links now : List Link) (link : Link) → slice_get links q ≡ Some link
+    → now ≡ set links q (read_link answer last link)
     → answer ≡ got.Dry → EachBelow q links NotRead → EachBelow (q + 1) now NotRead
 read_below answer last q links now link found is dry all =
     subst (λ (ls : List Link). EachBelow (q + 1) ls NotRead) (sym is)
@@ -144,23 +157,27 @@ read_below answer last q links now link found is dry all =
     (subst (λ a. MayRead (read_link a last link) → ⊥) (sym dry) (dry_reads last link)) all)
 
 -- what is known of the connection at a place, and back
-pub may_here : (P : Link → Type 0) (links : List Link) (q : ℕ) (link : Link) → slice_get links q ≡ Some link → IsSomeAnd (slice_get links q) P → P link
+pub may_here : (P : Link → Type 0) (links : List Link) (q : ℕ) (link : Link) → slice_get links q ≡ Some link
+    → IsSomeAnd (slice_get links q) P → P link
 may_here P links q link found may = subst (λ o. IsSomeAnd o P) found may
 
-pub and_here : (P : Link → Type 0) (links : List Link) (q : ℕ) (link : Link) → slice_get links q ≡ Some link → P link → IsSomeAnd (slice_get links q) P
+pub and_here : (P : Link → Type 0) (links : List Link) (q : ℕ) (link : Link) → slice_get links q ≡ Some link → P link
+    → IsSomeAnd (slice_get links q) P
 and_here P links q link found may = subst (λ o. IsSomeAnd o P) (sym found) may
 
 -- ---- a connect and a write
 
 -- where a link was replaced that may be read only where the old one may
-pub drained_set : (l new : Loop) (q : ℕ) (link then : Link) → slice_get l.links q ≡ Some link → q < 64 → new.links ≡ set l.links q then
+pub drained_set : (l new : Loop) (q : ℕ) (link then : Link) → slice_get l.links q ≡ Some link → q < 64
+    → new.links ≡ set l.links q then
     → (MayRead then → MayRead link) → IsDrained l → IsDrained new
 drained_set l new q link then found low is only d = record {
   each = subst (λ (ls : List Link). Each ls NotRead) (sym is)
       (each_set {P = NotRead} 64 q l.links then (within l.links q found) (λ m. d.each q link low found (only m)) d.each);
 }
 
-pub only_set : (l new : Loop) (q : ℕ) (link : Link) → new.links ≡ set l.links q link → new.queues ≡ l.queues → new.left ≡ l.left → OnlyAt q l new
+pub only_set : (l new : Loop) (q : ℕ) (link : Link) → new.links ≡ set l.links q link → new.queues ≡ l.queues
+    → new.left ≡ l.left → OnlyAt q l new
 only_set l new q link is queues left = record {
   links = λ p ne. ap (λ ls. slice_get ls p) is ∙ slice_get-set_other l.links q p link ne;
   held = λ p ne. ap (λ qs. held_in (slice_get qs p)) queues;
@@ -172,18 +189,22 @@ connect_reads connected.Begun last link m = record { awake = m.awake; sound = m.
 connect_reads connected.Refused last link m = record { awake = m.awake; sound = m.sound; reads = m.reads }
 connect_reads connected.Failed last link m = absurd (false≢true (sym m.sound))
 
-pub connect_failed : (how : Connected) (last : ℕ) (link : Link) (conn : Conn) → (connect_link how last link).failed ≡ failed_connect how conn (place_of conn) link.failed
+pub connect_failed : (how : Connected) (last : ℕ) (link : Link) (conn : Conn)
+    → (connect_link how last link).failed ≡ failed_connect how conn (place_of conn) link.failed
 connect_failed connected.Begun last link conn = refl
 connect_failed connected.Refused last link conn = refl
 connect_failed connected.Failed last link conn = ap (λ b. b || link.failed) (sym (eq-eqb (place_of conn) (place_of conn) refl))
 
-pub failed_connect_other : (how : Connected) (conn : Conn) (p : ℕ) (b : Bool) → p ≢ place_of conn → failed_connect how conn p b ≡ b
+pub failed_connect_other : (how : Connected) (conn : Conn) (p : ℕ) (b : Bool) → p ≢ place_of conn
+    → failed_connect how conn p b ≡ b
 failed_connect_other connected.Begun conn p b ne = refl
 failed_connect_other connected.Refused conn p b ne = refl
 failed_connect_other connected.Failed conn p b ne = ap (λ x. x || b) (ne_eqb p (place_of conn) ne)
 
-pub connect_fails : (how : Connected) (conn : Conn) (last q : ℕ) (links now : List Link) (link : Link) → place_of conn ≡ q → slice_get links q ≡ Some link
-    → now ≡ set links q (connect_link how last link) → (p : ℕ) → failed_in (slice_get now p) ≡ failed_connect how conn p (failed_in (slice_get links p))
+pub connect_fails : (how : Connected) (conn : Conn) (last q : ℕ) (links now : List Link) (link : Link) → place_of conn ≡ q
+    → slice_get links q ≡ Some link
+    → now ≡ set links q (connect_link how last link) → (p : ℕ)
+    → failed_in (slice_get now p) ≡ failed_connect how conn p (failed_in (slice_get links p))
 connect_fails how conn last q links now link place found is p =
     failed_set (λ i b. failed_connect how conn i b) links now (place_of conn) (connect_link how last link) link (subst (λ i. slice_get links i ≡ Some link) (sym place) found)
     (is ∙ ap (λ i. set links i (connect_link how last link)) (sym place)) (connect_failed how last link conn) (λ i b ne. failed_connect_other how conn i b ne) p
@@ -191,12 +212,14 @@ connect_fails how conn last q links now link place found is p =
 some_at : {a b : ℕ} → Some a ≡ Some b → a ≡ b
 some_at e = cc
 
-connect_calm : (how : Connected) (last : ℕ) (link : Link) (at : ℕ) → (connect_link how last link).refused ≡ Some at → last < at + 200
+connect_calm : (how : Connected) (last : ℕ) (link : Link) (at : ℕ) → (connect_link how last link).refused ≡ Some at
+    → last < at + 200
 connect_calm connected.Begun last link at e = cc
 connect_calm connected.Refused last link at e = let k = some_at e in omega arith
 connect_calm connected.Failed last link at e = cc
 
-pub calm_connected : (how : Connected) (last later q : ℕ) (l new : Loop) (link : Link) → slice_get l.links q ≡ Some link → new.links ≡ set l.links q (connect_link how last link) → last ≡ later → IsCalmAt q later new
+pub calm_connected : (how : Connected) (last later q : ℕ) (l new : Loop) (link : Link) → slice_get l.links q ≡ Some link
+    → new.links ≡ set l.links q (connect_link how last link) → last ≡ later → IsCalmAt q later new
 calm_connected how last later q l new link found is clock = record {
   at = λ x at_q at refused.
       let here : slice_get (set l.links q (connect_link how last link)) q ≡ Some x = subst (λ (ls : List Link). slice_get ls q ≡ Some x) is at_q in
@@ -211,7 +234,8 @@ write_reads put.Ended last link m = absurd (false≢true m.awake)
 write_reads put.Refused last link m = absurd (false≢true m.awake)
 write_reads put.Failed last link m = absurd (false≢true (sym m.sound))
 
-write_failed : (answer : Put) (last : ℕ) (link : Link) (conn : Conn) → (write_link answer last link).failed ≡ failed_put answer conn (place_of conn) link.failed
+write_failed : (answer : Put) (last : ℕ) (link : Link) (conn : Conn)
+    → (write_link answer last link).failed ≡ failed_put answer conn (place_of conn) link.failed
 write_failed (put.Took n) last link conn = refl
 write_failed put.Stuck last link conn = refl
 write_failed put.Ended last link conn = refl
@@ -225,13 +249,16 @@ failed_put_other put.Ended conn p b ne = refl
 failed_put_other put.Refused conn p b ne = refl
 failed_put_other put.Failed conn p b ne = ap (λ x. x || b) (ne_eqb p (place_of conn) ne)
 
-pub write_fails : (answer : Put) (conn : Conn) (last q : ℕ) (links now : List Link) (link : Link) → place_of conn ≡ q → slice_get links q ≡ Some link
-    → now ≡ set links q (write_link answer last link) → (p : ℕ) → failed_in (slice_get now p) ≡ failed_put answer conn p (failed_in (slice_get links p))
+pub write_fails : (answer : Put) (conn : Conn) (last q : ℕ) (links now : List Link) (link : Link) → place_of conn ≡ q
+    → slice_get links q ≡ Some link
+    → now ≡ set links q (write_link answer last link) → (p : ℕ)
+    → failed_in (slice_get now p) ≡ failed_put answer conn p (failed_in (slice_get links p))
 write_fails answer conn last q links now link place found is p =
     failed_set (λ i b. failed_put answer conn i b) links now (place_of conn) (write_link answer last link) link (subst (λ i. slice_get links i ≡ Some link) (sym place) found)
     (is ∙ ap (λ i. set links i (write_link answer last link)) (sym place)) (write_failed answer last link conn) (λ i b ne. failed_put_other answer conn i b ne) p
 
-write_calm : (answer : Put) (last was : ℕ) (link : Link) → ((at : ℕ) → link.refused ≡ Some at → was < at + 200) → last ≡ was
+write_calm : (answer : Put) (last was : ℕ) (link : Link) → ((at : ℕ) → link.refused ≡ Some at → was < at + 200)
+    → last ≡ was
     → (at : ℕ) → (write_link answer last link).refused ≡ Some at → last < at + 200
 write_calm (put.Took n) last was link calm clock at e = let k = calm at e in omega arith
 write_calm put.Stuck last was link calm clock at e = let k = calm at e in omega arith
@@ -239,7 +266,8 @@ write_calm put.Ended last was link calm clock at e = let k = calm at e in omega 
 write_calm put.Refused last was link calm clock at e = let k = some_at e in omega arith
 write_calm put.Failed last was link calm clock at e = let k = calm at e in omega arith
 
-pub calm_written : (answer : Put) (last was later q : ℕ) (l new : Loop) (link : Link) → slice_get l.links q ≡ Some link → new.links ≡ set l.links q (write_link answer last link)
+pub calm_written : (answer : Put) (last was later q : ℕ) (l new : Loop) (link : Link) → slice_get l.links q ≡ Some link
+    → new.links ≡ set l.links q (write_link answer last link)
     → last ≡ later → later ≡ was → IsCalmAt q was l → IsCalmAt q later new
 calm_written answer last was later q l new link found is clock same calm = record {
   at = λ x at_q at refused.
@@ -248,7 +276,8 @@ calm_written answer last was later q l new link found is clock same calm = recor
       subst (λ n. n < at + 200) clock (write_calm answer last was link (calm.at link found) (clock ∙ same) at (ap (λ y. y.refused) x_is ∙ refused));
 }
 
-pub only_written : (l new : Loop) (q : ℕ) (link : Link) (held : Held) → new.links ≡ set l.links q link → new.queues ≡ set l.queues q held → new.left ≡ l.left → OnlyAt q l new
+pub only_written : (l new : Loop) (q : ℕ) (link : Link) (held : Held) → new.links ≡ set l.links q link
+    → new.queues ≡ set l.queues q held → new.left ≡ l.left → OnlyAt q l new
 only_written l new q link held is queues left = record {
   links = λ p ne. ap (λ ls. slice_get ls p) is ∙ slice_get-set_other l.links q p link ne;
   held = λ p ne. ap (λ qs. held_in (slice_get qs p)) queues ∙ ap held_in (slice_get-set_other l.queues q p held ne);
@@ -296,7 +325,8 @@ less_here put.Ended last link rest w some = let k = ap flag w in omega arith
 less_here put.Refused last link rest w some = let k = ap flag w in omega arith
 less_here put.Failed last link rest w some = let k = ap flag w in omega arith
 
-pub load_less : (answer : Put) (last q : ℕ) (l new : Loop) (link : Link) → slice_get l.links q ≡ Some link → link.writable ≡ true → 0 < length (rest_at l.queues q)
+pub load_less : (answer : Put) (last q : ℕ) (l new : Loop) (link : Link) → slice_get l.links q ≡ Some link
+    → link.writable ≡ true → 0 < length (rest_at l.queues q)
     → PutSome answer (length (rest_at l.queues q)) → new.links ≡ set l.links q (write_link answer last link)
     → new.queues ≡ set l.queues q (held_write answer (held_in (slice_get l.queues q))) → load q new < load q l
 load_less answer last q l new link found w some took is queues =
@@ -312,7 +342,8 @@ load_less answer last q l new link found w some took is queues =
 -- ---- places one after another
 
 -- nothing is left at a place that has neither
-pub offered_then : (place last : ℕ) (l : Loop) → IsCalmAt place last l → (IsSomeAnd (slice_get l.links place) MayWrite × (0 < length (rest_at l.queues place)) → ⊥)
+pub offered_then : (place last : ℕ) (l : Loop) → IsCalmAt place last l
+    → (IsSomeAnd (slice_get l.links place) MayWrite × (0 < length (rest_at l.queues place)) → ⊥)
     → IsOfferedAt place last l
 offered_then place last l calm none = record {
   calm = calm;
@@ -324,7 +355,8 @@ offered_then place last l calm none = record {
     empty (x ∷ xs) h = absurd (h (omega arith))
 
 -- one that is not to be begun again is calm
-pub calm_none : (place last : ℕ) (forced : Bool) (l : Loop) (link : Link) → slice_get l.links place ≡ Some link → (IsToBegin forced last link → ⊥) → IsCalmAt place last l
+pub calm_none : (place last : ℕ) (forced : Bool) (l : Loop) (link : Link) → slice_get l.links place ≡ Some link
+    → (IsToBegin forced last link → ⊥) → IsCalmAt place last l
 calm_none place last forced l link found none = record {
   at = λ x at_x at refused.
       let x_is : link ≡ x = some_is (sym found ∙ at_x) in
@@ -345,7 +377,8 @@ only_then m n = record {
 }
 
 -- one place more
-pub offered_more : (n last later : ℕ) (old new : Loop) → later ≡ last → OnlyAt n old new → IsOfferedAt n later new → AllOfferedBelow n last old → AllOfferedBelow (n + 1) later new
+pub offered_more : (n last later : ℕ) (old new : Loop) → later ≡ last → OnlyAt n old new → IsOfferedAt n later new
+    → AllOfferedBelow n last old → AllOfferedBelow (n + 1) later new
 offered_more n last later old new clock only here below = record {
   each = λ p low. elim (cases_eq p n) [
     | inl e ↦ subst (λ i. IsOfferedAt i later new) (sym e) here
@@ -358,7 +391,8 @@ offered_more n last later old new clock only here below = record {
   ];
 }
 
-pub not_failed : (answer : Put) (conn : Conn) (p : ℕ) (was : Bool) → (answer ≡ put.Failed → ⊥) → failed_put answer conn p was ≡ was
+pub not_failed : (answer : Put) (conn : Conn) (p : ℕ) (was : Bool) → (answer ≡ put.Failed → ⊥)
+    → failed_put answer conn p was ≡ was
 not_failed (put.Took n) conn p was ne = refl
 not_failed put.Stuck conn p was ne = refl
 not_failed put.Ended conn p was ne = refl
@@ -366,7 +400,8 @@ not_failed put.Refused conn p was ne = refl
 not_failed put.Failed conn p was ne = absurd (ne refl)
 
 -- a place that is calm joins the others
-pub calm_joins : (q last later : ℕ) (l new : Loop) → later ≡ last → OnlyAt q l new → IsCalmAt q later new → IsCalm last l → IsCalm later new
+pub calm_joins : (q last later : ℕ) (l new : Loop) → later ≡ last → OnlyAt q l new → IsCalmAt q later new → IsCalm last l
+    → IsCalm later new
 calm_joins q last later l new clock only here calm = record {
   each = λ p link low found at refused. elim (cases_eq p q) [
     | inl e ↦ here.at link (subst (λ i. slice_get new.links i ≡ Some link) e found) at refused

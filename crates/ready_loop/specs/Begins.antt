@@ -13,7 +13,7 @@ use Rattle.ready_loop.specs.declared.fault.LoopFault.{LoopFault}
 use Rattle.ready_loop.specs.declared.fault.LoopFault.TheVariants.{NetFault, Spent}
 use Rattle.ready_loop.specs.declared.link.Link.{Link}
 use Rattle.ready_loop.specs.declared.readiness.Loop.{Loop}
-use Rattle.ready_loop.specs.History.{History, conn_of, chans}
+use Rattle.ready_loop.specs.History.{History, conn_on, chans}
 use Rattle.ready_loop.specs.Link.{is_begun}
 use Rattle.ready_loop.specs.Standing.{StandsFor}
 use Rattle.ready_loop.specs.States.{known_at}
@@ -34,12 +34,13 @@ BeginMoment h (_ ∷ past) = ⊥
 -- connects of a job's channels, in this order, each on its port, up to one that fails; with the answer
 pub data Begins {U : Type 0} (job : ℕ) (ports : List ℕ) : List Chan → Result U LoopFault → List Entry → List Entry → Type 0 where
   done : (u : U) (past : List Entry) → Begins job ports [] (Ok u) past past
-  more : (chan : Chan) (rest : List Chan) (how : Connected) (result : Result U LoopFault) (before after : List Entry) → how ≢ connected.Failed
-      → Begins job ports rest result (made.Connected (conn_of job chan) (port_of ports chan) how ∷ before) after
+  more : (chan : Chan) (rest : List Chan) (how : Connected) (result : Result U LoopFault) (before after : List Entry)
+      → how ≢ connected.Failed
+      → Begins job ports rest result (made.Connected (conn_on job chan) (port_of ports chan) how ∷ before) after
       → Begins job ports (chan ∷ rest) result before after
   failed : (chan : Chan) (rest : List Chan) (before : List Entry)
-      → Begins job ports (chan ∷ rest) (Err (NetFault (Some (conn_of job chan)))) before
-      (made.Connected (conn_of job chan) (port_of ports chan) connected.Failed ∷ before)
+      → Begins job ports (chan ∷ rest) (Err (NetFault (Some (conn_on job chan)))) before
+      (made.Connected (conn_on job chan) (port_of ports chan) connected.Failed ∷ before)
 
 -- one connect, with its answer
 abbrev pub BeginsOne : {U : Type 0} → Conn → ℕ → Result U LoopFault → List Entry → List Entry → Type 0
@@ -50,14 +51,14 @@ BeginsOne conn port (Err Spent) before after = ⊥
 
 -- no connect was called for any connection of a job
 pub record IsFresh (job : ℕ) (l : Loop) : Type 0 where
-  pub each : (chan : Chan) → known_at l (place_of (conn_of job chan)) ≡ false
+  pub each : (chan : Chan) → known_at l (place_of (conn_on job chan)) ≡ false
 
 -- a connect was called for each connection of a job, that of the heartbeat where it is wanted
 pub record IsBegun (job : ℕ) (heart : Bool) (l : Loop) : Type 0 where
-  pub shell : known_at l (place_of (conn_of job Shell)) ≡ true
-  pub control : known_at l (place_of (conn_of job Control)) ≡ true
-  pub iopub : known_at l (place_of (conn_of job Iopub)) ≡ true
-  pub heart_too : heart ≡ true → known_at l (place_of (conn_of job Heart)) ≡ true
+  pub shell : known_at l (place_of (conn_on job Shell)) ≡ true
+  pub control : known_at l (place_of (conn_on job Control)) ≡ true
+  pub iopub : known_at l (place_of (conn_on job Iopub)) ≡ true
+  pub heart_too : heart ≡ true → known_at l (place_of (conn_on job Heart)) ≡ true
 
 -- the newest entry closes a connection that was begun
 abbrev pub CloseMoment : History → List Entry → Type 0
@@ -73,7 +74,7 @@ closing false conn past = past
 -- the journal after each of these channels was closed that was begun, in this order
 abbrev pub closings : ℕ → (Chan → Bool) → List Chan → List Entry → List Entry
 closings job begun [] past = past
-closings job begun (chan ∷ rest) past = closings job begun rest (closing (begun chan) (conn_of job chan) past)
+closings job begun (chan ∷ rest) past = closings job begun rest (closing (begun chan) (conn_on job chan) past)
 
 -- a connect was called for the connection at a place, and no close has followed
 abbrev pub begun_in : Option Link → Bool
@@ -87,11 +88,11 @@ ClosesOne conn old before after = after ≡ closing (begun_in (slice_get old.lin
 -- the entries of a close: one for each connection of the job for which connect was called since its last close
 pub record CloseCame (job : ℕ) (old : Loop) (before after : List Entry) : Type 0 where
   pub so : (h : History) → StandsFor old h before
-      → after ≡ closings job (λ chan. (status (place_of (conn_of job chan)) before).begun) (chans true) before
+      → after ≡ closings job (λ chan. (status (place_of (conn_on job chan)) before).begun) (chans true) before
 
 -- a place is of this job
 abbrev pub is_of_job : ℕ → ℕ → Bool
-is_of_job job p = is_at p (conn_of job Heart) || (is_at p (conn_of job Iopub) || (is_at p (conn_of job Control) || is_at p (conn_of job Shell)))
+is_of_job job p = is_at p (conn_on job Heart) || (is_at p (conn_on job Iopub) || (is_at p (conn_on job Control) || is_at p (conn_on job Shell)))
 
 -- whether a connection has failed, after one was closed
 abbrev pub failed_closed : Bool → Bool → Bool

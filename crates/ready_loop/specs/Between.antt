@@ -20,4 +20,5 @@ was_ended p (entry ∷ past) = if is_wait entry then false else ends_reading p e
 
 -- each connection that was awake after the last wait was read to its end, or gave bytes 64 times
 pub record ReadsAll (past : List Entry) : Type 0 where
-  pub each : (p : ℕ) → p < 64 → (status p (to_wait past)).awake ≡ true → (was_ended p past ≡ true) ⊎ (64 ≤ (status p past).count)
+  pub each : (p : ℕ) → p < 64 → (status p (to_wait past)).awake ≡ true
+      → (was_ended p past ≡ true) ⊎ (64 ≤ (status p past).count)

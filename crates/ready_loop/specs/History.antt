@@ -10,8 +10,8 @@ use Rattle.ready_loop.specs.declared.next.Next.{Next}
 use Rattle.ready_loop.specs.declared.next.Next.TheVariants.{Piece, Ended, Refused, Quiet}
 
 -- the connection of a job to a channel
-abbrev pub conn_of : ℕ → Chan → Conn
-conn_of job chan = record { job = job; chan = chan }
+abbrev pub conn_on : ℕ → Chan → Conn
+conn_on job chan = record { job = job; chan = chan }
 
 -- the heartbeat, where it is wanted
 abbrev pub heart_chan : Bool → List Chan
@@ -56,7 +56,7 @@ with_begun place h = record h { begun = λ p. p == place || h.begun p }
 -- connections of a job were begun on these channels
 abbrev pub with_all_begun : ℕ → List Chan → History → History
 with_all_begun job [] h = h
-with_all_begun job (chan ∷ rest) h = with_all_begun job rest (with_begun (place_of (conn_of job chan)) h)
+with_all_begun job (chan ∷ rest) h = with_all_begun job rest (with_begun (place_of (conn_on job chan)) h)
 
 -- bytes were queued at this place
 abbrev pub with_queued : ℕ → List ℕ → History → History

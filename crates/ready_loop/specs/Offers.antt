@@ -33,8 +33,10 @@ pub record IsOfferedTo (queued : List ℕ) (conn : Conn) (piece : List ℕ) (pas
 
 -- an entry of a connection that begins it again, or offers it what is queued
 pub data Offers (forced : Bool) (h : History) (past : List Entry) (conn : Conn) : Entry → Type 0 where
-  again : (port : ℕ) (how : Connected) → IsBegunAgain forced conn port past → Offers forced h past conn (made.Connected conn port how)
-  writes : (answer : Put) (piece : List ℕ) → IsOfferedTo (h.queued (place_of conn)) conn piece past → Offers forced h past conn (write_entry conn answer piece)
+  again : (port : ℕ) (how : Connected) → IsBegunAgain forced conn port past
+      → Offers forced h past conn (made.Connected conn port how)
+  writes : (answer : Put) (piece : List ℕ) → IsOfferedTo (h.queued (place_of conn)) conn piece past
+      → Offers forced h past conn (write_entry conn answer piece)
 
 -- the newest entry does so
 abbrev pub OfferMoment : Bool → History → List Entry → Type 0
@@ -61,16 +63,19 @@ Extends before after = Since (λ now. Unit {0}) before after
 
 -- a connect of the connection at a place is among the new entries
 pub data Connects (p : ℕ) (before : List Entry) : List Entry → Type 0 where
-  connects : (conn : Conn) (port : ℕ) (how : Connected) (past : List Entry) → Extends before past → place_of conn ≡ p → Connects p before (made.Connected conn port how ∷ past)
+  connects : (conn : Conn) (port : ℕ) (how : Connected) (past : List Entry) → Extends before past
+      → place_of conn ≡ p → Connects p before (made.Connected conn port how ∷ past)
   later : (entry : Entry) (past : List Entry) → Connects p before past → Connects p before (entry ∷ past)
 
 -- where it was refused and that is forced, the connection at a place was begun again
 pub record BeginsAt (forced : Bool) (place : ℕ) (old : Loop) (before after : List Entry) : Type 0 where
-  pub so : (h : History) → StandsFor old h before → forced ≡ true → (at : ℕ) → refused_in (slice_get old.links place) ≡ Some at → Connects place before after
+  pub so : (h : History) → StandsFor old h before → forced ≡ true → (at : ℕ)
+      → refused_in (slice_get old.links place) ≡ Some at → Connects place before after
 
 -- each connection of these jobs that was refused was begun again, at the places below this one
 pub record BeginsBelow (n : ℕ) (jobs : List Bool) (old : Loop) (before after : List Entry) : Type 0 where
-  pub so : (h : History) → StandsFor old h before → (p at : ℕ) → p < n → is_looked jobs (p / 4) ≡ true → refused_in (slice_get old.links p) ≡ Some at → Connects p before after
+  pub so : (h : History) → StandsFor old h before → (p at : ℕ) → p < n → is_looked jobs (p / 4) ≡ true
+      → refused_in (slice_get old.links p) ≡ Some at → Connects p before after
 
 -- the newest entry is a failed call of this connection
 abbrev pub IsFailureOf : Conn → List Entry → Type 0

@@ -27,21 +27,31 @@ use Rattle.ready_loop.specs.Waits.{NoneDue, Turned, Looked}
 -- one call (nobody reads the clock between an `offer` and the `turn` or `look` behind it), from a loop, what was asked of it and a journal to those after it
 pub data Calls (old : Loop) (h : History) (before : List Entry) : Loop → History → List Entry → Type 0 where
   begins : (job : ℕ) (heart : Bool) (result : Result (Unit {0}) LoopFault) (new : Loop) (after : List Entry)
-      → Goes BeginMoment (after_begin job heart result) old new before after → Calls old h before new (after_begin job heart result h) after
+      → Goes BeginMoment (after_begin job heart result) old new before after
+      → Calls old h before new (after_begin job heart result h) after
   queues : (conn : Conn) (bytes : List ℕ) (result : Result (Unit {0}) NoMemory) (new : Loop)
-      → (StandsFor old h before → StandsFor new (after_queue conn bytes result h) before) → Calls old h before new (after_queue conn bytes result h) before
+      → (StandsFor old h before → StandsFor new (after_queue conn bytes result h) before)
+      → Calls old h before new (after_queue conn bytes result h) before
   offers : (result : Result (List Bool) LoopFault) (new : Loop) (after : List Entry)
-      → Goes (OfferMoment false) (after_names result) old new before after → Calls old h before new (after_names result h) after
-  turns : (due : Option ℕ) (result : Result ℕ LoopFault) (last : ℕ) (new : Loop) (after : List Entry) → IsCalm last old → Turned due result last old new before after → Calls old h before new h after
-  looks : (jobs : List Bool) (result : Result (List Bool) LoopFault) (last : ℕ) (new : Loop) (after : List Entry) → IsCalm last old → Looked jobs result last old new before after → Calls old h before new (after_names result h) after
-  reads : (result : Result Next LoopFault) (new : Loop) (after : List Entry) → Goes ReadMoment (after_next result) old new before after → Calls old h before new (after_next result h) after
-  closes : (new : Loop) (after : List Entry) → Goes CloseMoment same old new before after → Calls old h before new h after
+      → Goes (OfferMoment false) (after_names result) old new before after
+      → Calls old h before new (after_names result h) after
+  turns : (due : Option ℕ) (result : Result ℕ LoopFault) (last : ℕ) (new : Loop) (after : List Entry)
+      → IsCalm last old → Turned due result last old new before after → Calls old h before new h after
+  looks : (jobs : List Bool) (result : Result (List Bool) LoopFault) (last : ℕ) (new : Loop) (after : List Entry)
+      → IsCalm last old → Looked jobs result last old new before after
+      → Calls old h before new (after_names result h) after
+  reads : (result : Result Next LoopFault) (new : Loop) (after : List Entry)
+      → Goes ReadMoment (after_next result) old new before after
+      → Calls old h before new (after_next result h) after
+  closes : (new : Loop) (after : List Entry) → Goes CloseMoment same old new before after
+      → Calls old h before new h after
   elsewhere : (after : List Entry) → Since MadeElsewhere before after → Calls old h before old h after
 
 -- any list of calls
 pub data Runs (first : Loop) (asked : History) (start : List Entry) : Loop → History → List Entry → Type 0 where
   none : Runs first asked start first asked start
-  then : (l new : Loop) (h k : History) (before after : List Entry) → Runs first asked start l h before → Calls l h before new k after → Runs first asked start new k after
+  then : (l new : Loop) (h k : History) (before after : List Entry) → Runs first asked start l h before
+      → Calls l h before new k after → Runs first asked start new k after
 
 -- a wait of a loop: at most 500 ms, 0 where a connection is awake, after each that was awake was read and
 -- each of which a call had failed was closed, and no refused connection is due to be begun again
@@ -57,14 +67,18 @@ pub data IsFair (past : List Entry) : Entry → Type 0 where
   -- a read of a connection that is awake and gave bytes less than 64 times since the last wait
   read : (conn : Conn) (entry : Entry) → IsReadOf conn past entry → IsFair past entry
   -- a write to one that is open to writing
-  write : (conn : Conn) (answer : Put) (piece : List ℕ) → (status (place_of conn) past).writable ≡ true → IsFair past (write_entry conn answer piece)
+  write : (conn : Conn) (answer : Put) (piece : List ℕ) → (status (place_of conn) past).writable ≡ true
+      → IsFair past (write_entry conn answer piece)
   -- a first connect
-  begun : (conn : Conn) (port : ℕ) (how : Connected) → (status (place_of conn) past).begun ≡ false → IsFair past (made.Connected conn port how)
+  begun : (conn : Conn) (port : ℕ) (how : Connected) → (status (place_of conn) past).begun ≡ false
+      → IsFair past (made.Connected conn port how)
   -- another of a connection that was refused, at its time or in a last look
-  again : (forced : Bool) (conn : Conn) (port : ℕ) (how : Connected) → IsBegunAgain forced conn port past → IsFair past (made.Connected conn port how)
+  again : (forced : Bool) (conn : Conn) (port : ℕ) (how : Connected) → IsBegunAgain forced conn port past
+      → IsFair past (made.Connected conn port how)
   -- a close of one that was begun
   closed : (conn : Conn) → (status (place_of conn) past).begun ≡ true → IsFair past (made.Closed conn)
-  waited : (ms : ℕ) (reports : Reports) (did : Did) → IsFairWait ms past → IsFair past (made.Waited ms reports did)
+  waited : (ms : ℕ) (reports : Reports) (did : Did) → IsFairWait ms past
+      → IsFair past (made.Waited ms reports did)
   -- the clock, directly behind a wait
   clock : (ms : ℕ) → is_after_wait past ≡ true → IsFair past (made.Moment ms)
   other : (entry : Entry) → IsElsewhere entry → IsFair past entry

@@ -96,7 +96,8 @@ pub record StandsAt (link : Link) (held : Held) (begun : Bool) (queued : List �
 pub record Stand (links : List Link) (queues : List Held) (left : ℕ) (h : History) (journal : List Entry) : Type 0 where
   pub size : length links ≡ 64
   pub waits : wait_count journal + left ≡ h.turns
-  pub each : (p : ℕ) (link : Link) → slice_get links p ≡ Some link → StandsAt link (held_in (slice_get queues p))
+  pub each : (p : ℕ) (link : Link) → slice_get links p ≡ Some link
+      → StandsAt link (held_in (slice_get queues p))
       (h.begun p) (h.queued p) (h.named p) (status p journal) (write_ended p journal)
 
 -- [a loop stands for a journal, after these calls]

@@ -131,7 +131,8 @@ failed_put put.Failed conn p was = is_at p conn || was
 
 -- the connection at a place is not due to be begun again
 pub record IsCalmAt (place last : ℕ) (l : Loop) : Type 0 where
-  pub at : (link : Link) → slice_get l.links place ≡ Some link → (at : ℕ) → link.refused ≡ Some at → last < at + 200
+  pub at : (link : Link) → slice_get l.links place ≡ Some link → (at : ℕ) → link.refused ≡ Some at
+      → last < at + 200
 
 -- nothing is to be done at a place before a wait
 pub record IsOfferedAt (place last : ℕ) (l : Loop) : Type 0 where
@@ -179,7 +180,8 @@ pub record MapsTo (n : ℕ) (f : ℕ → Link → Link) (p : ℕ) (link was : Li
 -- at each place below this one the link was changed so, and no other
 pub record MapsBelow (n : ℕ) (f : ℕ → Link → Link) (old new : List Link) : Type 0 where
   pub size : length new ≡ length old
-  pub each : (p : ℕ) (link : Link) → slice_get new p ≡ Some link → IsSomeAnd (slice_get old p) (MapsTo n f p link)
+  pub each : (p : ℕ) (link : Link) → slice_get new p ≡ Some link
+      → IsSomeAnd (slice_get old p) (MapsTo n f p link)
 
 -- each end that was found is named
 abbrev pub NamesAll : List Link → List Link → Type 0

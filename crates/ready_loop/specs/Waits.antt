@@ -105,7 +105,8 @@ pub record Turned (due : Option ℕ) (result : Result ℕ LoopFault) (last : ℕ
 pub record LooksThenWaits (jobs : List Bool) (calm : Type 0) (h : History) (did : Did) (before after : List Entry) : Type 0 where
   pub past : List Entry
   pub looks : Since (LookMoment jobs h) before past
-  pub begins : (p at : ℕ) → p < 64 → is_looked jobs (p / 4) ≡ true → (status p before).refused ≡ Some at → Connects p before past
+  pub begins : (p at : ℕ) → p < 64 → is_looked jobs (p / 4) ≡ true → (status p before).refused ≡ Some at
+      → Connects p before past
   pub served : AllServed h past
   -- where nothing was due before it, nothing is at its wait
   pub none_due : calm → NoneDue past
@@ -126,7 +127,8 @@ LookCame jobs calm (Err Spent) h before after = after ≡ before
 
 -- a last look took a loop from each journal for which it stood to one for which it stands then
 pub record Looked (jobs : List Bool) (result : Result (List Bool) LoopFault) (last : ℕ) (old new : Loop) (before after : List Entry) : Type 0 where
-  pub so : (h : History) → StandsFor old h before → StandsFor new (after_names result h) after × LookCame jobs (IsCalm last old) result h before after
+  pub so : (h : History) → StandsFor old h before
+      → StandsFor new (after_names result h) after × LookCame jobs (IsCalm last old) result h before after
 
 -- the counts after a last look
 abbrev pub LookCounts : Result (List Bool) LoopFault → Counts → Counts → Type 0

@@ -2,10 +2,12 @@
 ghost use Rattle.std.specs.Prelude.{◌≡◌, ◌⊎◌, ◌<◌, ◌≤◌, ◌++◌, ℕ, Bool, false, true, List, Option};
 ghost use Rattle.world.specs.declared.entry.Entry.{Entry};
 ghost use Rattle.world.specs.Moments.{Since};
-ghost use Rattle.world.specs.Places.{status, time};
+ghost use Rattle.world.specs.Places.{is_reported, place_of, status, time};
+ghost use Rattle.world.specs.declared.conn.Conn.{Conn};
 ghost use Rattle.ready_loop.specs.declared.readiness.Loop.{Loop};
 ghost use Rattle.ready_loop.specs.Between.{ReadsAll};
-ghost use Rattle.ready_loop.specs.History.{History};
+ghost use Rattle.ready_loop.specs.History.{History, with_all_named};
+ghost use Rattle.ready_loop.specs.Offers.{LookMoment, is_looked, is_to_name};
 ghost use Rattle.ready_loop.specs.Runs.{Runs, FairMoment};
 ghost use Rattle.ready_loop.specs.Standing.{StandsFor, MadeElsewhere, put_at};
 ghost use Rattle.ready_loop.specs.Waits.{AllServed, IsTurnWait, IsLeast, SomeAwake, Timer};
@@ -57,4 +59,18 @@ pub fn sleeps_only_where_nothing_goes_on()
 pub fn hurries_only_where_something_is_due()
     ensures { (due : Option ℕ) (h : History) (past : List Entry) → IsTurnWait due h 0 past →
         SomeAwake past ⊎ Timer 64 due (time past) (λ p. (status p past).refused) 0 }
+{}
+
+/// An end that an answer has named is not named again.
+pub fn named_ends_are_not_named_again()
+    ensures { (h : History) (names : List Bool) (journal : List Entry) (p : ℕ) →
+        is_reported p names ≡ true →
+        is_to_name (with_all_named names h) journal p ≡ false }
+{}
+
+/// The connects and writes of a last look leave the connections of every other job as they were.
+pub fn looks_leave_other_jobs()
+    ensures { (jobs : List Bool) (h : History) (before after : List Entry) →
+        Since (LookMoment jobs h) before after → (conn : Conn) → is_looked jobs conn.job ≡ false →
+        status (place_of conn) after ≡ status (place_of conn) before }
 {}

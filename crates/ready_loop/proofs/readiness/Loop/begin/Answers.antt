@@ -4,7 +4,7 @@ use Rattle.world.specs.Places.{place_of}
 use Rattle.world.proofs.MomentsLemmas.{told_as, told_then}
 use Rattle.ready_loop.specs.declared.fault.LoopFault.{LoopFault}
 use Rattle.ready_loop.specs.Begins.{Begins, BeginMoment}
-use Rattle.ready_loop.specs.History.{conn_of, after_begin, chans}
+use Rattle.ready_loop.specs.History.{conn_on, after_begin, chans}
 use Rattle.ready_loop.specs.States.{failed_after}
 use Rattle.ready_loop.proofs.StateLemmas.{sound_ok}
 use Rattle.ready_loop.proofs.StandLemmas.{goes_then, goes_step}
@@ -17,27 +17,27 @@ begin_on-requires-clause-fresh g c = c.requires.fresh.each Shell
 pub begin_on-requires-2-clause-fresh : goal.begin_on-requires-2-clause-fresh
 begin_on-requires-2-clause-fresh g c =
     let job = c.args.job in
-    let apart : place_of (conn_of job Control) ≢ place_of (conn_of job Shell) = λ e. omega (arith, e) in
-    fresh_other (place_of (conn_of job Control)) (place_of (conn_of job Shell)) c.args.self.now c.begin_on.new.self apart c.begin_on.ensures.only (c.requires.fresh.each Control)
+    let apart : place_of (conn_on job Control) ≢ place_of (conn_on job Shell) = λ e. omega (arith, e) in
+    fresh_other (place_of (conn_on job Control)) (place_of (conn_on job Shell)) c.args.self.now c.begin_on.new.self apart c.begin_on.ensures.only (c.requires.fresh.each Control)
 
 pub begin_on-requires-3-clause-fresh : goal.begin_on-requires-3-clause-fresh
 begin_on-requires-3-clause-fresh g c =
     let job = c.args.job in
-    let a : place_of (conn_of job Iopub) ≢ place_of (conn_of job Shell) = λ e. omega (arith, e) in
-    let b : place_of (conn_of job Iopub) ≢ place_of (conn_of job Control) = λ e. omega (arith, e) in
-    fresh_other (place_of (conn_of job Iopub)) (place_of (conn_of job Control)) c.begin_on.new.self c.begin_on-2.new.self b c.begin_on-2.ensures.only
-    (fresh_other (place_of (conn_of job Iopub)) (place_of (conn_of job Shell)) c.args.self.now c.begin_on.new.self a c.begin_on.ensures.only (c.requires.fresh.each Iopub))
+    let a : place_of (conn_on job Iopub) ≢ place_of (conn_on job Shell) = λ e. omega (arith, e) in
+    let b : place_of (conn_on job Iopub) ≢ place_of (conn_on job Control) = λ e. omega (arith, e) in
+    fresh_other (place_of (conn_on job Iopub)) (place_of (conn_on job Control)) c.begin_on.new.self c.begin_on-2.new.self b c.begin_on-2.ensures.only
+    (fresh_other (place_of (conn_on job Iopub)) (place_of (conn_on job Shell)) c.args.self.now c.begin_on.new.self a c.begin_on.ensures.only (c.requires.fresh.each Iopub))
 
 pub begin_on-requires-4-clause-fresh : goal.begin_on-requires-4-clause-fresh
 begin_on-requires-4-clause-fresh g c =
     let job = c.args.job in
-    let q = place_of (conn_of job Heart) in
-    let a : place_of (conn_of job Heart) ≢ place_of (conn_of job Shell) = λ e. omega (arith, e) in
-    let b : place_of (conn_of job Heart) ≢ place_of (conn_of job Control) = λ e. omega (arith, e) in
-    let d : place_of (conn_of job Heart) ≢ place_of (conn_of job Iopub) = λ e. omega (arith, e) in
-    fresh_other q (place_of (conn_of job Iopub)) c.begin_on-2.new.self c.begin_on-3.new.self d c.begin_on-3.ensures.only
-    (fresh_other q (place_of (conn_of job Control)) c.begin_on.new.self c.begin_on-2.new.self b c.begin_on-2.ensures.only
-    (fresh_other q (place_of (conn_of job Shell)) c.args.self.now c.begin_on.new.self a c.begin_on.ensures.only (c.requires.fresh.each Heart)))
+    let q = place_of (conn_on job Heart) in
+    let a : place_of (conn_on job Heart) ≢ place_of (conn_on job Shell) = λ e. omega (arith, e) in
+    let b : place_of (conn_on job Heart) ≢ place_of (conn_on job Control) = λ e. omega (arith, e) in
+    let d : place_of (conn_on job Heart) ≢ place_of (conn_on job Iopub) = λ e. omega (arith, e) in
+    fresh_other q (place_of (conn_on job Iopub)) c.begin_on-2.new.self c.begin_on-3.new.self d c.begin_on-3.ensures.only
+    (fresh_other q (place_of (conn_on job Control)) c.begin_on.new.self c.begin_on-2.new.self b c.begin_on-2.ensures.only
+    (fresh_other q (place_of (conn_on job Shell)) c.args.self.now c.begin_on.new.self a c.begin_on.ensures.only (c.requires.fresh.each Heart)))
 
 -- ---- the entries
 

@@ -3,7 +3,7 @@ use Rattle.world.specs.declared.chan.Chan.TheVariants.{Shell, Control, Iopub, He
 use Rattle.world.specs.Places.{is_at}
 use Rattle.world.proofs.MomentsLemmas.{told_then}
 use Rattle.ready_loop.specs.Begins.{CloseMoment, ClosesOne, failed_closed}
-use Rattle.ready_loop.specs.History.{conn_of}
+use Rattle.ready_loop.specs.History.{conn_on}
 use Rattle.ready_loop.specs.States.{failed_at}
 use Rattle.ready_loop.proofs.StandLemmas.{goes_then}
 use Rattle.ready_loop.proofs.BeginLemmas.{close_came, closed_four, closed_sound, Both, both}
@@ -13,8 +13,8 @@ use Rattle.ready_loop.proofs.readiness.Loop.close.Goals as goal
 pub returns-clause-came : goal.returns-clause-came
 returns-clause-came g c = told_then c.close_one.ensures.came
     (told_then c.close_one-2.ensures.came
-    (told_then c.close_one-3.ensures.came c.close_one-4.ensures.came (λ x y z p q. both {P = ClosesOne (conn_of c.args.job Iopub) c.close_one-2.new.self} {Q = ClosesOne (conn_of c.args.job Heart) c.close_one-3.new.self} x y z p q))
-    (λ w x z o r. both {P = ClosesOne (conn_of c.args.job Control) c.close_one.new.self} {Q = Both (ClosesOne (conn_of c.args.job Iopub) c.close_one-2.new.self) (ClosesOne (conn_of c.args.job Heart) c.close_one-3.new.self)} w x z o r))
+    (told_then c.close_one-3.ensures.came c.close_one-4.ensures.came (λ x y z p q. both {P = ClosesOne (conn_on c.args.job Iopub) c.close_one-2.new.self} {Q = ClosesOne (conn_on c.args.job Heart) c.close_one-3.new.self} x y z p q))
+    (λ w x z o r. both {P = ClosesOne (conn_on c.args.job Control) c.close_one.new.self} {Q = Both (ClosesOne (conn_on c.args.job Iopub) c.close_one-2.new.self) (ClosesOne (conn_on c.args.job Heart) c.close_one-3.new.self)} w x z o r))
     (λ v w z n r. close_came c.args.job c.requires c.args.self.now c.close_one.new.self c.close_one-2.new.self c.close_one-3.new.self c.close_one-4.new.self
     c.close_one.ensures.only c.close_one-2.ensures.only c.close_one-3.ensures.only v w r.mid r.second.mid z n r.first r.second.first r.second.second)
 
@@ -32,10 +32,10 @@ returns-clause-offered g c = λ d. c.close_one-4.ensures.offered (c.close_one-3.
 pub returns-clause-failed : goal.returns-clause-failed
 returns-clause-failed g c = λ p.
     let job = c.args.job in
-    c.close_one-4.ensures.failed p ∙ ap (λ b. failed_closed (is_at p (conn_of job Heart)) b) (c.close_one-3.ensures.failed p
-    ∙ ap (λ b. failed_closed (is_at p (conn_of job Iopub)) b) (c.close_one-2.ensures.failed p
-    ∙ ap (λ b. failed_closed (is_at p (conn_of job Control)) b) (c.close_one.ensures.failed p)))
-    ∙ closed_four (is_at p (conn_of job Shell)) (is_at p (conn_of job Control)) (is_at p (conn_of job Iopub)) (is_at p (conn_of job Heart)) (failed_at c.args.self.now p)
+    c.close_one-4.ensures.failed p ∙ ap (λ b. failed_closed (is_at p (conn_on job Heart)) b) (c.close_one-3.ensures.failed p
+    ∙ ap (λ b. failed_closed (is_at p (conn_on job Iopub)) b) (c.close_one-2.ensures.failed p
+    ∙ ap (λ b. failed_closed (is_at p (conn_on job Control)) b) (c.close_one.ensures.failed p)))
+    ∙ closed_four (is_at p (conn_on job Shell)) (is_at p (conn_on job Control)) (is_at p (conn_on job Iopub)) (is_at p (conn_on job Heart)) (failed_at c.args.self.now p)
 
 pub returns-clause-known : goal.returns-clause-known
 returns-clause-known g c = known_then (known_then (known_then c.close_one.ensures.known c.close_one-2.ensures.known) c.close_one-3.ensures.known) c.close_one-4.ensures.known
