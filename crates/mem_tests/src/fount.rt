@@ -1,5 +1,5 @@
 //! A kernel that hands out bytes.
-ghost use Rattle.std.specs.Prelude.{◌≡◌, length, replicate, true};
+ghost use Rattle.std.specs.Prelude.{◌≡◌, true};
 ghost use Rattle.mem_tests.specs.Fount.{poured, exits_at};
 
 use jtext::NoMemory;
@@ -55,7 +55,7 @@ impl KernelSide for Fount {
             return Give::Nothing;
         }
         let size = self.left.min(buf.len());
-        pour(&mut buf[..size]);
+        buf[..size].fill(7);
         self.left -= size;
         Give::Bytes(size)
     }
@@ -66,13 +66,5 @@ impl KernelSide for Fount {
 
     fn exited(&self, now: u64) -> Option<i32> {
         if now < 1000 { None } else { Some(0) }
-    }
-}
-
-fn pour(buf: &mut [u8])
-    ensures { buf.new ≡ replicate (length buf.old) 7 }
-{
-    for byte in buf.iter_mut() {
-        *byte = 7;
     }
 }
