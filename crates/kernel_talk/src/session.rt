@@ -41,7 +41,10 @@ impl Session {
     /// A session of this name and key, of two random words each; it made no request.
     pub fn new(alloc: Global, name: (u64, u64), key: (u64, u64)) -> Result<Session, NoMemory>
         ensures { IfOk result (λ s. s ≡ record {
-            name = identifier_of name.0 name.1; key = identifier_of key.0 key.1; made = 0 }) }
+          name = identifier_of name.0 name.1;
+          key = identifier_of key.0 key.1;
+          made = 0;
+        }) }
     {
         let name = identifier(alloc, name.0, name.1)?;
         let key = identifier(alloc, key.0, key.1)?;
