@@ -1,6 +1,7 @@
 //! A last look: one more try to begin, to write and to wait, for some jobs alone.
-ghost use Rattle.std.specs.Prelude.{◌≡◌, ◌↔◌, IfErr, IsErr, OnOk, Err};
+ghost use Rattle.std.specs.Prelude.{◌≡◌, ◌↔◌, IfErr, IsErr, OnOk, Err, Some};
 ghost use Rattle.world.specs.Counts.{CountsBy, NetCause};
+ghost use Rattle.world.specs.declared.conn.Conn.{Conn};
 ghost use Rattle.ready_loop.specs.History.{same};
 ghost use Rattle.ready_loop.specs.Offers.{LookMoment, FaultCame, BeginsBelow, IsOfConn, Names};
 ghost use Rattle.ready_loop.specs.Standing.{Goes, Follows};
@@ -26,6 +27,9 @@ impl Loop {
         ensures still { result ≡ Err LoopFault.Spent → self.new ≡ self.old }
         ensures left { waits_left self.new ≡ left_after result (waits_left self.old) }
 
+        // After a fault of a connection no wait was made, so nothing is to be read.
+        ensures drained { (conn : Conn) → result ≡ Err (LoopFault.NetFault (Some conn)) →
+            IsDrained self.new }
         ensures failed { FailsOnly result self.old self.new }
         ensures sound { OnOk result (IsSound self.new) }
         ensures known { SameKnown self.old self.new }

@@ -55,3 +55,6 @@ returns-in-Failed-clause-known g c = known_then c.in-Ok.ensures.known c.in-Faile
 pub returns-in-Done-clause-known : goal.returns-in-Done-clause-known
 returns-in-Done-clause-known g c = known_then (known_then c.in-Ok.ensures.known c.in-Done.ensures.known)
     (named_known c.wait.new.self c.name_ends.new.self c.name_ends.ensures.all (ap (λ (l : Loop). l.queues) c.name_ends.ensures.same))
+
+pub returns-in-Err-clause-drained : goal.returns-in-Err-clause-drained
+returns-in-Err-clause-drained g c = λ conn e. c.in-Err.ensures.drained c.requires.drained
