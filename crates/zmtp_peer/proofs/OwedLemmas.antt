@@ -43,7 +43,7 @@ not_shaken_says : (r : Role) (b : List ℕ) (over : Bool) → is_shaken r b ≡ 
 not_shaken_says r b true e h = absurd (h ((shaken_meant r b).0 e))
 not_shaken_says r b false e h = refl
 
-subscribes_one : (r : Role) (b s : List ℕ) → Subscribes r b s → s ≡ subscription_to r b
+pub subscribes_one : (r : Role) (b s : List ℕ) → Subscribes r b s → s ≡ subscription_to r b
 subscribes_one r b _ (no_sub f) = ap (λ x. cond (x && is_shaken r b) (subscription_for (newer_of b)) []) (sym f)
 subscribes_one r b _ (not_yet h) = no_subscription (is_sub r) (is_shaken r b) _ (not_shaken_says r b (is_shaken r b) refl h)
 subscribes_one r b _ (everything newer f i e) =

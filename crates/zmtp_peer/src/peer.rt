@@ -12,7 +12,7 @@ ghost use Rattle.zmtp_wire.specs.Writing.{greeting_octets, ready_octets, message
 ghost use Rattle.zmtp_peer.specs.Envelope.{enveloped, bodies_of};
 ghost use Rattle.zmtp_peer.specs.Subscription.{prefixes_after, prefixes_after_one, prefixes_in};
 ghost use Rattle.zmtp_peer.specs.Subscription.{IsWanted};
-ghost use Rattle.zmtp_peer.specs.Reply.{Owes, pongs};
+ghost use Rattle.zmtp_peer.specs.Reply.{Owes, pongs, subscription_to};
 ghost use Rattle.zmtp_peer.specs.Peer.{StandsFor, Brings, BringsSome, IsDue, IsSettled, IsStarved};
 ghost use Rattle.zmtp_peer.specs.Peer.{answer_of, role_of};
 
@@ -194,6 +194,25 @@ impl Peer {
                 self.starved = true;
                 Err(refused)
             }
+        }
+    }
+
+    /// The subscription that we owe the other side by now, whether it was given or not; empty where
+    /// we owe none.
+    pub fn subscription(&self) -> &'static [u8]
+        ensures is { (b sent : List ℕ) → StandsFor self.now b sent →
+            result.now ≡ subscription_to (role_of self.now) b }
+        ensures starved { IsStarved self.now → result.now ≡ [] }
+    {
+        if !is_sub(self.role) {
+            return b"";
+        }
+        if !self.shaken() {
+            return b"";
+        }
+        match self.decoder.newer() {
+            Some(newer) => subscription_octets(newer),
+            None => b"",
         }
     }
 
