@@ -43,7 +43,7 @@ reason_of end.NoConnectionFile = codes "cannot save: connection file"
 reason_of end.NoMemory = []
 reason_of (end.NoIdle cell) = of_cell cell (codes "no idle")
 reason_of end.NetFault = codes "network fault"
-reason_of (end.BadPeer on f) = codes "bad peer on " ++ name_of on ++ codes ": " ++ decimal (number_of f) ++ codes " at " ++ decimal (place_of f)
+reason_of (end.BadPeer on f) = codes "bad peer on " ++ name_of on ++ codes ": " ++ (decimal (number_of f) ++ codes " at " ++ decimal (place_of f))
 reason_of end.Spent = codes "turn budget spent"
 
 -- the last line of a job on this output; want of memory ends the whole run, which says so itself

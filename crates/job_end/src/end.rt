@@ -1,7 +1,11 @@
 //! `End`, how a job ends.
+ghost use Rattle.std.specs.Prelude.{◌≡◌, IfOk};
+ghost use Rattle.said_lines.specs.Lines.{spoken_line as said_of};
+ghost use Rattle.job_end.specs.Reasons.{of_cell as cell_reason, line_of as line_of_end};
+ghost use Rattle.job_end.specs.declared.end.End.TheVariants as ending;
 
 use crate::Answer;
-use crate::reasons::{bad_peer, error_of, of_cell, of_path, of_save, of_spec};
+use crate::reasons::{error_of, of_cell, of_path, of_peer, of_save, of_spec};
 use jtext::{Bytes, NoMemory, Text};
 use kspec::SpecFault;
 use nb_load::LoadFault;
@@ -104,6 +108,7 @@ impl End {
         }
     }
 
+    /// The last line of a job on this output that ends so.
     fn line(&self, alloc: Global, output: &str) -> Result<Bytes, NoMemory>
         ensures { IfOk result (λ b. b ≡ line_of output.now self.now) }
     {
@@ -111,29 +116,67 @@ impl End {
             End::Done => spoken_line(alloc, output, b"done"),
             End::CellError { cell, name } => {
                 let error = error_of(alloc, name)?;
-                of_cell(alloc, output, *cell, error.bytes())
-            }
-            End::NotRead { path } => of_path(alloc, output, path),
-            End::TooLarge => spoken_line(alloc, output, b"too large"),
-            End::NotLoaded(LoadFault::NoMemory) => Ok(Bytes::new(alloc)),
-            End::NotLoaded(fault) => {
-                let reason = fault.reason(alloc)?;
+                let reason = of_cell(alloc, *cell, error.bytes())?;
                 spoken_line(alloc, output, reason.bytes())
             }
+            End::NotRead { path } => {
+                let reason = of_path(alloc, path)?;
+                spoken_line(alloc, output, reason.bytes())
+            }
+            End::TooLarge => spoken_line(alloc, output, b"too large"),
+            End::NotLoaded(fault) => loading_line(alloc, output, fault),
             End::NoKernelName => spoken_line(alloc, output, b"kernel spec: no name"),
             End::BadKernelName => spoken_line(alloc, output, b"kernel spec: bad name"),
-            End::BadSpec(fault) => of_spec(alloc, output, *fault),
+            End::BadSpec(fault) => {
+                let reason = of_spec(alloc, *fault)?;
+                spoken_line(alloc, output, reason.as_bytes())
+            }
             End::NotStarted => spoken_line(alloc, output, b"cannot start the kernel"),
             End::NotReady => spoken_line(alloc, output, b"kernel not ready"),
             End::KernelLost => spoken_line(alloc, output, b"kernel lost"),
-            End::TimedOut { cell } => of_cell(alloc, output, *cell, b"timed out"),
-            End::NotSaved(fault) => of_save(alloc, output, *fault),
+            End::TimedOut { cell } => cell_line(alloc, output, *cell, b"timed out"),
+            End::NotSaved(fault) => {
+                let reason = of_save(alloc, *fault)?;
+                spoken_line(alloc, output, reason.as_bytes())
+            }
             End::NoConnectionFile => spoken_line(alloc, output, b"cannot save: connection file"),
             End::NoMemory => Ok(Bytes::new(alloc)),
-            End::NoIdle { cell } => of_cell(alloc, output, *cell, b"no idle"),
+            End::NoIdle { cell } => cell_line(alloc, output, *cell, b"no idle"),
             End::NetFault => spoken_line(alloc, output, b"network fault"),
-            End::BadPeer { chan, fault } => bad_peer(alloc, output, *chan, *fault),
+            End::BadPeer { chan, fault } => {
+                let reason = of_peer(alloc, *chan, *fault)?;
+                spoken_line(alloc, output, reason.bytes())
+            }
             End::Spent => spoken_line(alloc, output, b"turn budget spent"),
         }
+    }
+}
+
+/// Something of a cell.
+fn cell_line(alloc: Global, output: &str, cell: u32, what: &[u8]) -> Result<Bytes, NoMemory>
+    ensures { IfOk result (λ b. b ≡ said_of output.now (cell_reason cell what.now)) }
+{
+    let reason = of_cell(alloc, cell, what)?;
+    spoken_line(alloc, output, reason.bytes())
+}
+
+/// An input that gives no notebook.
+fn loading_line(alloc: Global, output: &str, fault: &LoadFault) -> Result<Bytes, NoMemory>
+    ensures { IfOk result (λ b. b ≡ line_of_end output.now (ending.NotLoaded fault.now)) }
+{
+    match fault {
+        LoadFault::NoMemory => Ok(Bytes::new(alloc)),
+        _ => {
+            let reason = fault.reason(alloc)?;
+            spoken_line(alloc, output, reason.bytes())
+        }
+    }
+}
+
+impl From<NoMemory> for End {
+    ghost from_gives = { λ _ e. e ≡ ending.NoMemory };
+
+    fn from(_: NoMemory) -> End {
+        End::NoMemory
     }
 }

@@ -4,4 +4,6 @@
 #[cfg(test)]
 mod asking;
 #[cfg(test)]
+mod lines;
+#[cfg(test)]
 mod requests;
