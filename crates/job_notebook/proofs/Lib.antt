@@ -1,0 +1,4 @@
+pub mod ForgetLemmas
+pub mod KeptLemmas
+pub mod ReadLemmas
+pub mod SettleLemmas
