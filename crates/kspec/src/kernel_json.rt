@@ -20,6 +20,7 @@ const DEEP: u32 = 100;
 /// the kernel will have to be interrupted by a message. Keys that nbrun doesn't use are free.
 pub fn spec(alloc: Global, bytes: &[u8], interrupt: bool) -> Result<Spec, SpecFault>
     ensures says { IfOk result (λ s. kernel_json.Says interrupt bytes.now s) }
+    ensures starts { IfOk result kernel_json.CanStart }
     ensures refused { IfErr result (λ f.
         (f ≡ fault.NoMemory) ⊎ kernel_json.Refuses interrupt bytes.now f) }
 {
