@@ -1,0 +1,4 @@
+mod FileLaws
+mod FindingLaws
+mod LaunchLaws
+mod WordLaws
