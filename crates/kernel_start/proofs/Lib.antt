@@ -1,4 +1,4 @@
 mod FileLaws
 mod FindingLaws
-mod LaunchLaws
+pub mod LaunchLaws
 mod WordLaws

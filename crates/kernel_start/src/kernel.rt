@@ -147,6 +147,7 @@ impl Kernel {
     }
 
     /// The same, by its entries.
+    #[tactic(auto, using(crate::proofs::LaunchLaws::has_program))]
     fn launch<W: Kids>(
         &self,
         alloc: Global,

@@ -1,5 +1,5 @@
 pub mod Decimals
-mod Faultless
+pub mod Faultless
 mod Filled
 mod Pairs
 mod Unique
