@@ -1,4 +1,5 @@
 pub mod Decimals
+pub mod Faultless
 mod Filled
 mod Pairs
 mod Unique

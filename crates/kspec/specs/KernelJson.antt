@@ -1,5 +1,5 @@
 -- What a `kernel.json` says (jupyter_client, "Kernel specs": `argv`, `env`, `interrupt_mode`).
-use Rattle.std.specs.Prelude.{◌≡◌, ◌≤◌, ◌⊎◌, ℕ, Bool, List, [], map, Option, Some, None, if◌then◌else◌, ◌&&◌, not, nat_le, length, codes, unwrap_or}
+use Rattle.std.specs.Prelude.{◌≡◌, ◌<◌, ◌≤◌, ◌⊎◌, ℕ, Bool, true, List, [], map, All, Option, Some, None, if◌then◌else◌, ◌&&◌, not, nat_le, length, codes, unwrap_or}
 use Rattle.std.specs.List.{list_all}
 use Rattle.std.specs.Str.{bytes_eq}
 use Rattle.jtext.specs.declared.json.Json.{Json}
@@ -74,6 +74,11 @@ pub record Says (interrupt : Bool) (bytes : List ℕ) (s : Spec) : Type 0 where
   pub text : IsTextOf bytes tree
   pub faultless : fault_of interrupt tree ≡ None
   pub told : s ≡ spec_of tree
+
+-- a program can be started by it: there is one, and each variable has a string
+pub record CanStart (s : Spec) : Type 0 where
+  pub program : 0 < length s.argv
+  pub strings : All (λ variable. is_string variable.1 ≡ true) s.env
 
 -- the bytes are refused so: they spell no tree, or this is the first fault of the tree that they spell
 abbrev pub Refuses : Bool → List ℕ → SpecFault → Type 0

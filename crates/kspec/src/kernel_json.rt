@@ -18,8 +18,10 @@ const DEEP: u32 = 100;
 
 /// Reads a `kernel.json` (jupyter_client, "Kernel specs") from its bytes. `interrupt` says whether
 /// the kernel will have to be interrupted by a message. Keys that nbrun doesn't use are free.
+#[tactic(auto, using(crate::proofs::Faultless::can_start))]
 pub fn spec(alloc: Global, bytes: &[u8], interrupt: bool) -> Result<Spec, SpecFault>
     ensures says { IfOk result (λ s. kernel_json.Says interrupt bytes.now s) }
+    ensures starts { IfOk result kernel_json.CanStart }
     ensures refused { IfErr result (λ f.
         (f ≡ fault.NoMemory) ⊎ kernel_json.Refuses interrupt bytes.now f) }
 {

@@ -1,0 +1,4 @@
+mod FileLaws
+mod FindingLaws
+pub mod LaunchLaws
+mod WordLaws

@@ -1,0 +1,5 @@
+pub mod ConnectionFile
+pub mod Finding
+pub mod Launch
+pub mod Messages
+pub mod RandomWords
