@@ -1,9 +1,9 @@
 mod KeptLemmas
-mod ManySaves
+pub mod ManySaves
 mod MarkLemmas
 mod PrefixLemmas
 pub mod PutLemmas
-mod SafeLemmas
-mod SavedLemmas
+pub mod SafeLemmas
+pub mod SavedLemmas
 mod SettledCells
 mod ValidLemmas

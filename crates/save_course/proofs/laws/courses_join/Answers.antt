@@ -1,8 +1,5 @@
-use Rattle.save_course.proofs.CourseLemmas.{joined, wider}
+use Rattle.save_course.proofs.CourseLemmas.{joined}
 use Rattle.save_course.proofs.laws.courses_join.Goals as goal
 
-pub returns-clause-joined : goal.returns-clause-joined
-returns-clause-joined c = joined
-
-pub returns-clause-wider : goal.returns-clause-wider
-returns-clause-wider c = wider
+pub returns : goal.returns
+returns c output merge first from settled later is_open before past after one other = joined output merge first from before one other
