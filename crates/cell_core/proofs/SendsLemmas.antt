@@ -13,7 +13,7 @@ use Rattle.cell_core.specs.declared.moved.Moved.{Moved}
 use Rattle.cell_core.specs.declared.clock.Clock.{Clock}
 use Rattle.cell_core.specs.Task.{Task, cell_of}
 use Rattle.cell_core.specs.Events.{is_saved}
-use Rattle.cell_core.specs.Holds.{running_state, awaits, now_of, is_past, read_again, reach}
+use Rattle.cell_core.specs.Holds.{running_state, awaits, is_save, now_of, is_past, read_again, reach}
 use Rattle.cell_core.specs.Moves.{move, stays, sent, ends, fails, stops, in_preparing, start_due, look_or, in_starting, late, in_running, on_passed, in_passing, in_closing, in_failing, moved}
 use Rattle.cell_core.specs.Sending.{next_in, saves_in, IsInOrder, SendsOn}
 use Rattle.cell_core.proofs.RightClosing.{saved_is}
@@ -129,3 +129,13 @@ fewer task clock lost (Failing k w) event h saved = subst (λ (e : Event). saves
 fewer task clock lost (Starting due) event h saved = absurd (true≢false (sym saved ∙ h))
 fewer task clock lost (Running r) event h saved = absurd (true≢false (sym saved ∙ h))
 fewer task clock lost (Stopped failing) event h saved = absurd (true≢false (sym saved ∙ h))
+
+-- a loss asks for no save
+pub lost_saves_none : (task : Task) (clock : Clock) (lost : Bool) (state : State) → is_save (moved task clock lost state Lost).step.act ≡ false
+lost_saves_none task clock lost Preparing = refl
+lost_saves_none task clock lost (Starting due) = refl
+lost_saves_none task clock lost (Running r) = refl
+lost_saves_none task clock lost (Passing k) = refl
+lost_saves_none task clock lost Closing = refl
+lost_saves_none task clock lost (Failing k why) = refl
+lost_saves_none task clock lost (Stopped failing) = refl

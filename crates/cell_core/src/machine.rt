@@ -94,6 +94,9 @@ impl Core {
 
         // An acknowledged save asks for at most one more, on which none follows.
         ensures fewer { is_saved e ≡ true → saves_ahead self.new < saves_ahead self.old }
+
+        // The end of a connection or of the kernel alone asks for none.
+        ensures lost { e ≡ event.Lost → is_save result.act ≡ false }
     {
         let moved = self.moved(e);
         self.clock = self.clock.after(e);
