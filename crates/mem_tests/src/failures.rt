@@ -164,13 +164,16 @@ fn fails_alone<W: World + SeenDisk>(
     Ok(disk && others && counts(w) == faults(number) && w.refused_memory() == 0)
 }
 
+fn fails_by_number(alloc: Global, number: u64) -> Result<bool, NoMemory> {
+    let mut w = world(alloc, &[("a", "text")], 9, plain(alloc, &[number])?)?;
+    fails_alone(&mut w, alloc, number)
+}
+
 #[test]
 fn calls_fail_by_their_numbers_alone(rt: HostRuntime) -> Result<(), Fail> {
-    let alloc = rt.alloc();
     for number in 0..19 {
-        let mut w = world(alloc, &[("a", "text")], 9, plain(alloc, &[number])?)?;
         assert!(rt;
-            fails_alone(&mut w, alloc, number)?,
+            fails_by_number(rt.alloc(), number)?,
             "with {number} to fail"
         );
     }
@@ -192,13 +195,16 @@ fn burns<W: SeenCrash>(w: &mut W, alloc: Global, fuse: u64) -> Result<bool, NoMe
     )
 }
 
+fn fails_by_fuse(alloc: Global, fuse: u64) -> Result<bool, NoMemory> {
+    let files = [("a", "text"), ("t", ""), ("b", "")];
+    let mut w = world(alloc, &files, 0, plain(alloc, &[])?)?;
+    burns(&mut w, alloc, fuse)
+}
+
 #[test]
 fn a_spent_fuse_fails_every_call_of_the_disk(rt: HostRuntime) -> Result<(), Fail> {
-    let alloc = rt.alloc();
-    let files = [("a", "text"), ("t", ""), ("b", "")];
     for fuse in 0..8 {
-        let mut w = world(alloc, &files, 0, plain(alloc, &[])?)?;
-        assert!(rt; burns(&mut w, alloc, fuse)?, "with a fuse of {fuse}");
+        assert!(rt; fails_by_fuse(rt.alloc(), fuse)?, "with a fuse of {fuse}");
     }
     Ok(())
 }

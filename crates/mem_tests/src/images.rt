@@ -53,21 +53,23 @@ fn picks<W: SeenCrash>(
     Ok(stands(&files, "a", a) && stands(&files, "b", Some(b"old")) && stands(&files, "c", c))
 }
 
+// Whether the digits of a number pick what stands at `a` and then at `c`, two files that were made.
+fn picks_by_digits<W: SeenCrash>(w: &mut W, alloc: Global) -> Result<bool, Fail> {
+    let made = create_two(w, alloc)?;
+    Ok(
+        made && picks(w, 2, 0, None, None)?
+            && picks(w, 2, 1, Some(b""), None)?
+            && picks(w, 2, 2, Some(b"X"), None)?
+            && picks(w, 2, 3, None, Some(b""))?
+            && picks(w, 2, 8, Some(b"X"), Some(b"X"))?
+            && picks(w, 1, 1, None, Some(b""))?,
+    )
+}
+
 #[test]
 fn digits_pick_options_in_the_order_of_paths(rt: HostRuntime) -> Result<(), Fail> {
     let alloc = rt.alloc();
     let mut w = world(alloc, &[("b", "old")], 0, plain(alloc, &[])?)?;
-    assert!(rt; create_two(&mut w, alloc)?);
-    let rows: [(u64, u64, Option<&[u8]>, Option<&[u8]>); 6] = [
-        (2, 0, None, None),
-        (2, 1, Some(b""), None),
-        (2, 2, Some(b"X"), None),
-        (2, 3, None, Some(b"")),
-        (2, 8, Some(b"X"), Some(b"X")),
-        (1, 1, None, Some(b"")),
-    ];
-    for (t, choice, a, c) in rows {
-        assert!(rt; picks(&w, t, choice, a, c)?, "{choice} after {t} entries");
-    }
+    assert!(rt; picks_by_digits(&mut w, alloc)?);
     Ok(())
 }

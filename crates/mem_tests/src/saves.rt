@@ -76,28 +76,47 @@ fn ends_there<W: SeenCrash>(w: &W) -> bool {
     matches!(w.left(told(w).saturating_add(1), 0), Err(ImageFault::Past))
 }
 
+// A save of a new file: until its end a crash leaves no file or the whole one, and then the whole one.
+fn makes_a_file<W: SeenCrash>(w: &mut W, alloc: Global) -> Result<bool, Fail> {
+    let answer = save_to(w, alloc, "d/o", b"x")?;
+    Ok(
+        answer == Ok(())
+            && told(w) == 5
+            && is_ever(w, 0, 4, "d/o", [None, Some(b"x")])?
+            && is_ever(w, 5, 5, "d/o", [Some(b"x"), Some(b"x")])?
+            && is_ever(w, 0, 5, "d/i", [Some(b"in"), Some(b"in")])?
+            && ends_there(w),
+    )
+}
+
 #[test]
 fn a_new_file_is_absent_or_whole(rt: HostRuntime) -> Result<(), Fail> {
     let alloc = rt.alloc();
     let mut w = world(alloc, &[("d/i", "in")], 0, plain(alloc, &[])?)?;
-    assert!(rt; save_to(&mut w, alloc, "d/o", b"x")? == Ok(()));
-    assert_eq!(rt; told(&w), 5);
-    assert!(rt; is_ever(&w, 0, 4, "d/o", [None, Some(b"x")])?);
-    assert!(rt; is_ever(&w, 5, 5, "d/o", [Some(b"x"), Some(b"x")])?);
-    assert!(rt; is_ever(&w, 0, 5, "d/i", [Some(b"in"), Some(b"in")])?);
-    assert!(rt; ends_there(&w));
+    assert!(rt; makes_a_file(&mut w, alloc)?);
     Ok(())
+}
+
+// The temporary file of a save may be anything until its sync, and whole or absent from then on.
+// Without a crash it is gone.
+fn opens_the_temporary<W: SeenCrash>(w: &mut W, alloc: Global) -> Result<bool, Fail> {
+    let path = "d/o.nbrun-tmp";
+    let answer = save_to(w, alloc, "d/o", b"x")?;
+    let gone = w.bytes_at(&Text::of(alloc, path)?).is_none();
+    Ok(
+        answer == Ok(())
+            && gone
+            && is_open(w, 1, path)?
+            && is_open(w, 2, path)?
+            && is_ever(w, 3, 5, path, [None, Some(b"x")])?,
+    )
 }
 
 #[test]
 fn the_temporary_file_may_be_anything_until_its_sync(rt: HostRuntime) -> Result<(), Fail> {
     let alloc = rt.alloc();
     let mut w = world(alloc, &[], 0, plain(alloc, &[])?)?;
-    let path = "d/o.nbrun-tmp";
-    assert!(rt; save_to(&mut w, alloc, "d/o", b"x")? == Ok(()));
-    assert!(rt; is_open(&w, 1, path)? && is_open(&w, 2, path)?);
-    assert!(rt; is_ever(&w, 3, 5, path, [None, Some(b"x")])?);
-    assert!(rt; w.bytes_at(&Text::of(alloc, path)?).is_none());
+    assert!(rt; opens_the_temporary(&mut w, alloc)?);
     Ok(())
 }
 
@@ -110,29 +129,36 @@ fn save_thrice<W: Disk>(w: &mut W, alloc: Global) -> Result<bool, NoMemory> {
     )
 }
 
+// What a crash leaves of these three: from the end of a save on it is that one or the next, the third
+// among them.
+fn leaves_each<W: SeenCrash>(w: &mut W, alloc: Global) -> Result<bool, Fail> {
+    let saves = save_thrice(w, alloc)?;
+    Ok(
+        saves
+            && told(w) == 14
+            && is_ever(w, 0, 4, "o", [Some(b"0"), Some(b"1")])?
+            && is_ever(w, 5, 9, "o", [Some(b"1"), Some(b"2")])?
+            && is_ever(w, 10, 14, "o", [Some(b"2"), Some(b"3")])?
+            && !is_ever(w, 14, 14, "o", [Some(b"2"), Some(b"2")])?,
+    )
+}
+
 #[test]
 fn a_failed_rename_leaves_the_last_save_or_its_own(rt: HostRuntime) -> Result<(), Fail> {
     let alloc = rt.alloc();
     let mut w = world(alloc, &[("o", "0")], 0, plain(alloc, &[13])?)?;
-    assert!(rt; save_thrice(&mut w, alloc)?);
-    assert!(rt; told(&w) == 14);
-    assert!(rt; is_ever(&w, 0, 4, "o", [Some(b"0"), Some(b"1")])?);
-    assert!(rt; is_ever(&w, 5, 9, "o", [Some(b"1"), Some(b"2")])?);
-    assert!(rt; is_ever(&w, 10, 14, "o", [Some(b"2"), Some(b"3")])?);
-    assert!(rt;
-        !always(&w, 14, "o", Some(b"2"), Some(b"2"))?,
-        "the third save may be there"
-    );
+    assert!(rt; leaves_each(&mut w, alloc)?);
     Ok(())
 }
 
-/// The answers of a save whose call with the index fails.
-const FAULTS: [SaveFault; 5] = [
-    SaveFault::Write,
-    SaveFault::Write,
-    SaveFault::Sync,
-    SaveFault::Rename,
-    SaveFault::DirSync,
+/// The answers of a save whose call with the index fails. It makes five.
+const ANSWERS: [Result<(), SaveFault>; 6] = [
+    Err(SaveFault::Write),
+    Err(SaveFault::Write),
+    Err(SaveFault::Sync),
+    Err(SaveFault::Rename),
+    Err(SaveFault::DirSync),
+    Ok(()),
 ];
 
 // Whether a save answers so, and leaves the old bytes or the new ones at each moment of it.
@@ -146,13 +172,21 @@ fn leaves_either<W: SeenCrash>(
     Ok(found == answer && is_ever(w, 0, told(w), output, OLD_OR_NEW)?)
 }
 
+// The same where the call with this number fails.
+fn leaves_by_number(
+    alloc: Global,
+    number: u64,
+    answer: Result<(), SaveFault>,
+) -> Result<bool, Fail> {
+    let mut w = world(alloc, &[("o", "old")], 0, plain(alloc, &[number])?)?;
+    leaves_either(&mut w, alloc, "o", answer)
+}
+
 #[test]
 fn a_save_with_a_failing_call_leaves_old_or_new(rt: HostRuntime) -> Result<(), Fail> {
-    let alloc = rt.alloc();
-    for (number, fault) in FAULTS.iter().enumerate() {
-        let mut w = world(alloc, &[("o", "old")], 0, plain(alloc, &[number as u64])?)?;
+    for (number, answer) in ANSWERS.iter().enumerate() {
         assert!(rt;
-            leaves_either(&mut w, alloc, "o", Err(*fault))?,
+            leaves_by_number(rt.alloc(), number as u64, *answer)?,
             "with {number} to fail"
         );
     }
@@ -170,18 +204,19 @@ fn burns_between<W: SeenCrash>(
     leaves_either(w, alloc, "o", answer)
 }
 
+fn leaves_by_fuse(alloc: Global, fuse: u64, answer: Result<(), SaveFault>) -> Result<bool, Fail> {
+    let mut w = world(alloc, &[("o", "old")], 0, plain(alloc, &[])?)?;
+    burns_between(&mut w, alloc, fuse, answer)
+}
+
 #[test]
 fn a_save_behind_a_fuse_leaves_old_or_new(rt: HostRuntime) -> Result<(), Fail> {
-    let alloc = rt.alloc();
-    for (fuse, fault) in FAULTS.iter().enumerate() {
-        let mut w = world(alloc, &[("o", "old")], 0, plain(alloc, &[])?)?;
+    for (fuse, answer) in ANSWERS.iter().enumerate() {
         assert!(rt;
-            burns_between(&mut w, alloc, fuse as u64, Err(*fault))?,
+            leaves_by_fuse(rt.alloc(), fuse as u64, *answer)?,
             "with a fuse of {fuse}"
         );
     }
-    let mut w = world(alloc, &[("o", "old")], 0, plain(alloc, &[])?)?;
-    assert!(rt; burns_between(&mut w, alloc, 5, Ok(()))?);
     Ok(())
 }
 
@@ -197,12 +232,15 @@ fn replaces<W: SeenCrash>(w: &mut W, alloc: Global, output: &str) -> Result<bool
     )
 }
 
+fn is_replaced(alloc: Global, output: &str) -> Result<bool, Fail> {
+    let mut w = world(alloc, &[(output, "old")], 0, plain(alloc, &[])?)?;
+    replaces(&mut w, alloc, output)
+}
+
 #[test]
 fn an_output_is_replaced_wherever_it_stands(rt: HostRuntime) -> Result<(), Fail> {
-    let alloc = rt.alloc();
     for output in ["d/o", "o", "/o", "d/../o"] {
-        let mut w = world(alloc, &[(output, "old")], 0, plain(alloc, &[])?)?;
-        assert!(rt; replaces(&mut w, alloc, output)?, "{output}");
+        assert!(rt; is_replaced(rt.alloc(), output)?, "{output}");
     }
     Ok(())
 }
