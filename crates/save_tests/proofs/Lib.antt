@@ -1,1 +1,2 @@
 -- the answers of tests alone
+mod StaysFit

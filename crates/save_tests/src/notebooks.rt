@@ -1,6 +1,8 @@
 //! A notebook of two cells, as it is before a run and in the saves of one.
 use jtext::read;
 use nb_model::{Notebook, of_json, prepare};
+use out_fold::Fold;
+use progress_save::settle;
 use std::test::Fail;
 
 /// The notebook before the run.
@@ -12,6 +14,19 @@ pub(crate) fn prepared(rt: &HostRuntime) -> Result<Notebook, Fail> {
     let alloc = rt.alloc();
     let tree = read(alloc, GIVEN.as_bytes(), 128)?;
     Ok(prepare(alloc, of_json(alloc, tree)?)?)
+}
+
+/// The notebook of a run that stopped at its first cell.
+pub(crate) fn stopped(rt: &HostRuntime) -> Result<Notebook, Fail> {
+    let alloc = rt.alloc();
+    let mut notebook = prepared(rt)?;
+    let mut fold = Fold::new(alloc, 2, false)?;
+    if notebook.cells.len() != 2 {
+        return Err("another notebook".into());
+    }
+    fold.start(0);
+    settle(alloc, &mut notebook, &fold, 1, Some(0))?;
+    Ok(notebook)
 }
 
 /// Both cells are settled.

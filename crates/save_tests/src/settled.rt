@@ -2,7 +2,7 @@
 ghost use Rattle.std.specs.Prelude.{◌≡◌, ◌+◌, ◌<◌, ◌≤◌, length};
 ghost use Rattle.out_fold.specs.Stands.{cells_of, next_of};
 
-use crate::notebooks::{SETTLED, STOPPED, prepared};
+use crate::notebooks::{SETTLED, STOPPED, prepared, stopped};
 use jcontent::{Content, Shown, State};
 use jtext::{Fields, Json, NoMemory, NumText, Text};
 use nb_model::Notebook;
@@ -86,13 +86,8 @@ fn two_cells_are_settled_one_after_the_other(rt: HostRuntime) -> Result<(), Fail
 
 #[test]
 fn a_run_that_stopped_is_marked_so(rt: HostRuntime) -> Result<(), Fail> {
-    let alloc = rt.alloc();
-    let mut notebook = prepared(&rt)?;
-    let mut fold = Fold::new(alloc, 2, false)?;
-    assert_eq!(rt; notebook.cells.len(), 2);
-    fold.start(0);
-    settle(alloc, &mut notebook, &fold, 1, Some(0))?;
-    assert!(rt; has_text(alloc, &notebook, STOPPED)?);
+    let notebook = stopped(&rt)?;
+    assert!(rt; has_text(rt.alloc(), &notebook, STOPPED)?);
     Ok(())
 }
 
