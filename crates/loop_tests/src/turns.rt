@@ -1,31 +1,15 @@
 //! One loop over the world that does nothing: each connect is refused, no wait reports anything, and
 //! the clock stands still.
-ghost use Rattle.std.specs.Prelude.{◌≡◌, ◌<◌, true, IsTrue};
-ghost use Rattle.world.specs.Places.{place_of};
-ghost use Rattle.ready_loop.specs.Begins.{IsFresh};
-ghost use Rattle.ready_loop.specs.History.{conn_on};
-ghost use Rattle.ready_loop.specs.States.{IsSound, MayWait, known_at};
+ghost use Rattle.std.specs.Prelude.{IsTrue};
+ghost use Rattle.ready_loop.specs.States.{IsSound, MayWait};
 
+use crate::steps::{PORTS, start};
+use crate::worlds::{answer, place};
 use jtext::Bytes;
 use ready_loop::{Loop, LoopFault, Next};
 use std::test::Fail;
-use world::{Chan, Conn, Connected, Entry, World};
+use world::{Chan, Conn, Entry, World};
 use world_mem::NullWorld;
-
-const PORTS: [u16; 5] = [1001, 1002, 1003, 1004, 1005];
-
-// Begins a job's connections.
-fn start<W: World>(l: &mut Loop, w: &mut W, job: u8) -> bool
-    requires job { job < 16 }
-    requires fresh { IsFresh job l.old }
-    ensures known { IsTrue result → known_at l.new (place_of (conn_on job Chan.Shell)) ≡ true }
-    ensures sound { IsTrue result → IsSound l.old → IsSound l.new }
-{
-    match l.begin(w, job, PORTS, false) {
-        Ok(()) => true,
-        Err(_) => false,
-    }
-}
 
 // Reads until nothing is left and offers what is queued.
 fn serve<W: World>(l: &mut Loop, w: &mut W) -> bool
@@ -44,30 +28,12 @@ fn serve<W: World>(l: &mut Loop, w: &mut W) -> bool
 // The entries of a null world, in short: what, the place or the limit, and the port.
 fn row(entry: &Entry) -> (&'static str, u64, u64) {
     match entry {
-        Entry::Connected { conn, port, how } => (
-            match how {
-                Connected::Begun => "begun",
-                Connected::Refused => "refused",
-                Connected::Failed => "failed",
-            },
-            place(*conn),
-            u64::from(*port),
-        ),
+        Entry::Connected { conn, port, how } => (answer(*how), place(*conn), u64::from(*port)),
         Entry::Closed { conn } => ("closed", place(*conn), 0),
         Entry::Waited { ms, .. } => ("waited", u64::from(*ms), 0),
         Entry::Moment { ms } => ("moment", *ms, 0),
         _ => ("other", 0, 0),
     }
-}
-
-fn place(conn: Conn) -> u64 {
-    let chan = match conn.chan {
-        Chan::Shell => 0,
-        Chan::Control => 1,
-        Chan::Iopub => 2,
-        Chan::Heart => 3,
-    };
-    4 * u64::from(conn.job) + chan
 }
 
 fn holds(w: &NullWorld, rows: &[(&str, u64, u64)]) -> bool {
@@ -123,7 +89,7 @@ fn a_refused_job_is_begun_again_by_a_look_and_closed_once(rt: HostRuntime) -> Re
         job: 1,
         chan: Chan::Shell,
     };
-    assert!(rt; start(&mut l, &mut w, 1));
+    assert!(rt; start(&mut l, &mut w, 1, false));
     l.queue(shell, Bytes::of(alloc, b"abc")?)?;
     assert!(rt; l.taken(shell) == 0);
     assert!(rt; serve(&mut l, &mut w));

@@ -1,5 +1,5 @@
 -- What a first connect and a close do to a loop.
-use Rattle.std.proofs.Common.{◌≡◌, ◌≢◌, inl, inr, ◌<◌, ◌||◌, ℕ, Bool, true, false, List, [], ◌∷◌, length, set, Some, None, Result, Ok, Err, IfErr, slice_get, arith, refl, sym, ◌∙◌, ap, subst}
+use Rattle.std.proofs.Common.{◌≡◌, ◌≢◌, inl, inr, ◌<◌, ◌||◌, ◌⊎◌, ℕ, Bool, true, false, List, [], ◌∷◌, length, set, Option, Some, None, Result, Ok, Err, IfErr, slice_get, arith, refl, sym, ◌∙◌, ap, subst}
 use Rattle.world.specs.declared.chan.Chan.{Chan}
 use Rattle.std.proofs.lemmas.Bool.{cases_eq, false≢true}
 use Rattle.std.proofs.Math.ListN.{length-set}
@@ -18,16 +18,16 @@ use Rattle.ready_loop.specs.declared.readiness.Loop.{Loop}
 use Rattle.ready_loop.specs.declared.stage.Stage.{Stage}
 use Rattle.ready_loop.specs.declared.stage.Stage.TheVariants.{Fresh, Begun, Closed}
 use Rattle.ready_loop.specs.Link.{MayRead, MayWrite, connect_link, begun_link, closed_link, closed_stage, is_begun, is_known}
-use Rattle.ready_loop.specs.Begins.{BeginMoment, Begins, BeginsOne, port_of, CloseMoment, CloseCame, ClosesOne, closing, begun_in, failed_closed}
+use Rattle.ready_loop.specs.Begins.{BeginMoment, Begins, BeginsOne, port_of, CloseMoment, CloseCame, ClosesOne, closing, begun_in, failed_closed, is_of_job}
 use Rattle.ready_loop.specs.Queues.{held_in, rest_at}
 use Rattle.ready_loop.specs.Begins as begins
 use Rattle.ready_loop.specs.History.{History, same, with_begun, with_all_begun, conn_on, chans, after_begin}
 use Rattle.ready_loop.specs.Standing.{write_ended, StandsAt, Stand, StandsFor, Goes}
-use Rattle.ready_loop.specs.States.{OnlyAt, IsOffered, Each, SameKnown, failed_in, failed_connect, known_in, known_at}
+use Rattle.ready_loop.specs.States.{OnlyAt, IsOffered, IsSound, Each, SameKnown, HoldsForKnown, failed_at, failed_in, failed_connect, known_in, known_at}
 use Rattle.ready_loop.proofs.CallLemmas.{stands_begun, stands_closed, stands_unbegun}
 use Rattle.ready_loop.proofs.OfferLemmas.{ended_connect}
 use Rattle.ready_loop.proofs.StandLemmas.{stand_at, stands_as, same_but, begun_but, not_at, or_own}
-use Rattle.ready_loop.proofs.StateLemmas.{each_set, failed_set, kept_set, connect_failed, failed_connect_other, connect_stage}
+use Rattle.ready_loop.proofs.StateLemmas.{each_set, failed_set, kept_set, known_by, connect_failed, failed_connect_other, connect_stage}
 use Rattle.ready_loop.proofs.TableLemmas.{chan_low, within, some_at, some_is, slice_get-set_same, slice_get-set_other}
 
 -- ---- a first connect
@@ -96,6 +96,23 @@ or_left false b e = (refl, e)
 pub or_true : (a b : Bool) → b ≡ true → a || b ≡ true
 or_true true b e = refl
 or_true false b e = e
+
+-- nothing comes to be held for it
+pub begin_holds : (conn : Conn) (l new : Loop) → new.queues ≡ l.queues
+    → ((p : ℕ) → known_at new p ≡ is_at p conn || known_at l p) → HoldsForKnown l → HoldsForKnown new
+begin_holds conn l new queues known h = record {
+  each = λ p fresh. ap (λ qs. rest_at qs p) queues ∙ h.each p (or_left (is_at p conn) (known_at l p) (sym (known p) ∙ fresh)).1;
+}
+
+-- and so nothing is to be offered to it
+pub begin_offered : (q : ℕ) (l new : Loop) → new.queues ≡ l.queues → OnlyAt q l new → known_at l q ≡ false
+    → HoldsForKnown l → IsOffered l → IsOffered new
+begin_offered q l new queues only fresh h o = record {
+  each = λ p link low found may. ap (λ qs. rest_at qs p) queues ∙ elim (cases_eq p q) [
+    | inl e ↦ h.each p (subst (λ i. known_at l i ≡ false) (sym e) fresh)
+    | inr ne ↦ o.each p link low (sym (only.links p ne) ∙ found) may
+  ];
+}
 
 -- ---- the connects of a job
 
@@ -248,10 +265,49 @@ known_closed Begun = refl
 known_closed Closed = refl
 
 pub closed_known : (l new : Loop) (q : ℕ) (link : Link) → slice_get l.links q ≡ Some link
-    → new.links ≡ set l.links q (closed_link link) → SameKnown l new
-closed_known l new q link found is = record { each = kept_set known_in l.links new.links q (closed_link link) link found is (known_closed link.stage) }
+    → new.links ≡ set l.links q (closed_link link) → new.queues ≡ l.queues → SameKnown l new
+closed_known l new q link found is queues = known_by l new (kept_set known_in l.links new.links q (closed_link link) link found is (known_closed link.stage))
+    (λ p e. ap (λ qs. rest_at qs p) queues ∙ e)
 
 -- and none has failed after it that had not before
 pub closed_sound : (b w : Bool) → w ≡ false → failed_closed b w ≡ false
 closed_sound true w e = refl
 closed_sound false w e = e
+
+-- a place of a connection of a job is of that job
+own_job : (job p : ℕ) (chan : Chan) → is_at p (conn_on job chan) ≡ true → is_of_job job p ≡ true
+own_job job p Heart e = ap (λ b. b || (is_at p (conn_on job Iopub) || (is_at p (conn_on job Control) || is_at p (conn_on job Shell)))) e
+own_job job p Iopub e = or_true (is_at p (conn_on job Heart)) _ (ap (λ b. b || (is_at p (conn_on job Control) || is_at p (conn_on job Shell))) e)
+own_job job p Control e = or_true (is_at p (conn_on job Heart)) _ (or_true (is_at p (conn_on job Iopub)) _ (ap (λ b. b || is_at p (conn_on job Shell)) e))
+own_job job p Shell e = or_true (is_at p (conn_on job Heart)) _ (or_true (is_at p (conn_on job Iopub)) _ (or_true (is_at p (conn_on job Control)) _ e))
+
+-- a connection of a loop of which none has failed
+not_failed : (l : Loop) → IsSound l → (p : ℕ) → p < 64 → failed_at l p ≡ false
+not_failed l sound p low = at (slice_get l.links p) refl
+  where
+    at : (found : Option Link) → slice_get l.links p ≡ found → failed_at l p ≡ false
+    at None e = ap failed_in e
+    at (Some link) e = ap failed_in e ∙ sound.each p link low e
+
+-- the one that failed is of the job that was closed
+closed_whole : (conn : Conn) (p : ℕ) (b : Bool) → is_of_job conn.job p ≡ b → (was : Bool) → was ≡ false
+    → failed_closed b (is_at p conn || was) ≡ false
+closed_whole conn p true of was e = refl
+closed_whole conn p false of was e = elim (at (is_at p conn) refl) [
+  | inl own ↦ absurd (false≢true (sym of ∙ own_job conn.job p conn.chan own))
+  | inr other ↦ ap (λ b. b || was) other ∙ e
+]
+  where
+    at : (b : Bool) → is_at p conn ≡ b → (is_at p conn ≡ true) ⊎ (is_at p conn ≡ false)
+    at true e = inl e
+    at false e = inr e
+
+-- one fault, and a close of its job
+pub mended : (conn : Conn) (old mid new : Loop) → IsSound old
+    → ((p : ℕ) → failed_at mid p ≡ is_at p conn || failed_at old p)
+    → ((p : ℕ) → failed_at new p ≡ failed_closed (is_of_job conn.job p) (failed_at mid p)) → IsSound new
+mended conn old mid new sound fails closes = record {
+  each = λ p link low found.
+      sym (ap failed_in found) ∙ closes p ∙ ap (λ b. failed_closed (is_of_job conn.job p) b) (fails p)
+      ∙ closed_whole conn p (is_of_job conn.job p) refl (failed_at old p) (not_failed old sound p low);
+}

@@ -16,6 +16,7 @@ use Rattle.ready_loop.specs.States.{NamesAll, IsDrained, IsOffered, IsCalm, AllO
 use Rattle.ready_loop.proofs.CallLemmas.{stands_named}
 use Rattle.ready_loop.proofs.MapLemmas.{maps_at, maps_failed, maps_known}
 use Rattle.ready_loop.proofs.StandLemmas.{stands_as}
+use Rattle.ready_loop.proofs.StateLemmas.{known_by}
 use Rattle.ready_loop.proofs.TableLemmas.{within, some_at, slice_get-set_same, slice_get-set_other}
 
 -- the names so far, and one place more
@@ -87,4 +88,4 @@ module _ (l new : Loop) (all : NamesAll l.links new.links) (queues : new.queues 
   named_failed p = maps_failed 64 (λ q. named_link) l.links new.links (λ q link. refl) all p
 
   pub named_known : SameKnown l new
-  named_known = record { each = maps_known 64 (λ q. named_link) l.links new.links (λ q link. refl) all }
+  named_known = known_by l new (maps_known 64 (λ q. named_link) l.links new.links (λ q link. refl) all) (λ p e. ap (λ qs. rest_at qs p) queues ∙ e)

@@ -1,5 +1,5 @@
 -- What a new loop stands for, and what queueing does.
-use Rattle.std.proofs.Common.{◌≡◌, inl, inr, ◌+◌, ◌<◌, ◌++◌, ◌==◌, ℕ, zero, suc, false, List, [], length, set, replicate, Some, Result, Ok, Err, OnOk, OnErr, slice_get, arith, refl, sym, ◌∙◌, ap, subst}
+use Rattle.std.proofs.Common.{◌≡◌, inl, inr, ◌+◌, ◌<◌, ◌++◌, ◌==◌, ℕ, zero, suc, true, false, List, [], length, set, replicate, Some, Result, Ok, Err, OnOk, OnErr, slice_get, arith, refl, sym, ◌∙◌, ap, subst}
 use Rattle.std.proofs.lemmas.Bool.{cases_eq, eq-eqb, cond-true, false≢true}
 use Rattle.world.specs.declared.conn.Conn.{Conn}
 use Rattle.world.specs.declared.entry.Entry.{Entry}
@@ -11,7 +11,7 @@ use Rattle.ready_loop.specs.Link.{fresh_link}
 use Rattle.ready_loop.specs.History.{History, no_history, with_queued, after_queue}
 use Rattle.ready_loop.specs.Queues.{Held, held_in, rest_at, taken_at}
 use Rattle.ready_loop.specs.Standing.{StandsAt, Stand, StandsFor, IsShut, AllShut, put_at, write_ended}
-use Rattle.ready_loop.specs.States.{MayWait, known_in, known_at}
+use Rattle.ready_loop.specs.States.{MayWait, HoldsForKnown, SameKnown, known_in, known_at}
 use Rattle.ready_loop.proofs.CallLemmas.{stands_queued}
 use Rattle.ready_loop.proofs.StandLemmas.{stands_as, queued_but}
 use Rattle.ready_loop.proofs.TableLemmas.{some_at, slice_get-set_same, slice_get-set_other, not_some}
@@ -97,6 +97,9 @@ new_fresh l links_are p = ap (λ (ls : List Link). known_in (slice_get ls p)) li
     at (suc n) zero = refl
     at (suc n) (suc p) = at n p
 
+pub new_holds : (l : Loop) → l.queues ≡ replicate 64 (record { rest = []; taken = 0 }) → HoldsForKnown l
+new_holds l queues_are = record { each = λ p fresh. ap (λ (qs : List Held). rest_at qs p) queues_are ∙ ap (λ (x : Held). x.rest) (held_empty 64 p) }
+
 -- ---- queueing
 
 own_queued : (q : ℕ) (more : List ℕ) (h : History) → (with_queued q more h).queued q ≡ h.queued q ++ more
@@ -130,6 +133,26 @@ pub queue_stands : {U E : Type 0} (r : Result U E) (conn : Conn) (more : List �
     → Stand l.links queues l.left (after_queue conn more r h) journal
 queue_stands (Ok u) conn more l queues within ok err h journal stand = queued_one (place_of conn) more l queues within ok h journal stand
 queue_stands (Err e) conn more l queues within ok err h journal stand = subst (λ (qs : List Held). Stand l.links qs l.left h journal) (sym err) stand
+
+-- bytes are queued on a connection that was begun
+pub queue_known : {U E : Type 0} (r : Result U E) (q : ℕ) (more : List ℕ) (l : Loop) (queues : List Held)
+    → known_at l q ≡ true
+    → OnOk r (queues ≡ set l.queues q (record { rest = rest_at l.queues q ++ more; taken = taken_at l.queues q }))
+    → OnErr r (queues ≡ l.queues) → SameKnown l (record l { queues = queues })
+queue_known (Ok u) q more l queues known ok err = record {
+  each = λ p. refl;
+  holds = λ h. record {
+    each = λ p fresh. elim (cases_eq p q) [
+      | inl e ↦ absurd (false≢true (sym fresh ∙ subst (λ i. known_at l i ≡ true) (sym e) known))
+      | inr ne ↦ ap (λ qs. rest_at qs p) ok
+          ∙ ap (λ o. (held_in o).rest) (slice_get-set_other l.queues q p (record { rest = rest_at l.queues q ++ more; taken = taken_at l.queues q }) ne) ∙ h.each p fresh
+    ];
+  };
+}
+queue_known (Err e) q more l queues known ok err = record {
+  each = λ p. refl;
+  holds = λ h. record { each = λ p fresh. ap (λ qs. rest_at qs p) err ∙ h.each p fresh };
+}
 
 -- ---- what was taken
 

@@ -15,7 +15,7 @@ use Rattle.ready_loop.specs.declared.readiness.Loop.{Loop}
 use Rattle.ready_loop.specs.Link.{MayRead, MayWrite, IsToBegin, read_link, connect_link, write_link, is_known}
 use Rattle.ready_loop.specs.Queues.{Held, held_in, rest_at, put_count}
 use Rattle.ready_loop.specs.Reads.{failed_got}
-use Rattle.ready_loop.specs.States.{EachBelow, Each, IsDrained, IsOffered, IsSound, NotRead, failed_in, failed_at, failed_connect, failed_put, IsCalmAt, IsOfferedAt, AllOfferedBelow, OnlyAt, FailsOnly, SameKnown, known_in, flag, writable_in, load, IsCalm}
+use Rattle.ready_loop.specs.States.{EachBelow, Each, IsDrained, IsOffered, IsSound, NotRead, failed_in, failed_at, failed_connect, failed_put, IsCalmAt, IsOfferedAt, AllOfferedBelow, OnlyAt, FailsOnly, SameKnown, known_in, known_at, flag, writable_in, load, IsCalm}
 use Rattle.ready_loop.specs.declared.fault.LoopFault.{LoopFault}
 use Rattle.ready_loop.proofs.CallLemmas.{held_write}
 use Rattle.ready_loop.proofs.OfferLemmas.{held_set}
@@ -74,16 +74,35 @@ kept_set g links now q new link found is same p = elim (cases_eq p q) [
   | inr ne ↦ ap (λ ls. g (slice_get ls p)) is ∙ ap g (slice_get-set_other links q p new ne)
 ]
 
+-- where bytes are added at no place that has none, and none is begun
+pub known_by : (l new : Loop) → ((p : ℕ) → known_at new p ≡ known_at l p)
+    → ((p : ℕ) → rest_at l.queues p ≡ [] → rest_at new.queues p ≡ []) → SameKnown l new
+known_by l new same empty = record {
+  each = same;
+  holds = λ h. record { each = λ p fresh. empty p (h.each p (sym (same p) ∙ fresh)) };
+}
+
 -- a link replaced by one of the same stage
 pub known_set : (l new : Loop) (q : ℕ) (then link : Link) → slice_get l.links q ≡ Some link
-    → new.links ≡ set l.links q then → then.stage ≡ link.stage → SameKnown l new
-known_set l new q then link found is same = record { each = kept_set known_in l.links new.links q then link found is (ap is_known same) }
+    → new.links ≡ set l.links q then → then.stage ≡ link.stage
+    → ((p : ℕ) → rest_at l.queues p ≡ [] → rest_at new.queues p ≡ []) → SameKnown l new
+known_set l new q then link found is same empty = known_by l new (kept_set known_in l.links new.links q then link found is (ap is_known same)) empty
 
 pub known_start : (l : Loop) → SameKnown l l
-known_start l = record { each = λ p. refl }
+known_start l = record { each = λ p. refl; holds = λ h. h }
 
 pub known_then : {a b c : Loop} → SameKnown a b → SameKnown b c → SameKnown a c
-known_then m n = record { each = λ p. n.each p ∙ m.each p }
+known_then m n = record { each = λ p. n.each p ∙ m.each p; holds = λ h. n.holds (m.holds h) }
+
+-- where one queue was replaced that held bytes, one that holds none is as it was
+pub empty_set : (queues now : List Held) (q : ℕ) (held : Held) → 0 < length (rest_at queues q) → now ≡ set queues q held
+    → (p : ℕ) → rest_at queues p ≡ [] → rest_at now p ≡ []
+empty_set queues now q held some is p empty = elim (cases_eq p q) [
+  | inl e ↦
+      let none : length (rest_at queues q) ≡ 0 = ap length (subst (λ i. rest_at queues i ≡ []) e empty) in
+      absurd (omega (arith, some, none))
+  | inr ne ↦ ap (λ qs. rest_at qs p) is ∙ ap (λ o. (held_in o).rest) (slice_get-set_other queues q p held ne) ∙ empty
+]
 
 pub read_stage : (answer : Got) (last : ℕ) (link : Link) → (read_link answer last link).stage ≡ link.stage
 read_stage (got.Piece n) last link = refl

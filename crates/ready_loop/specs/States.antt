@@ -77,9 +77,14 @@ known_in (Some link) = is_known link.stage
 abbrev pub known_at : Loop → ℕ → Bool
 known_at l p = known_in (slice_get l.links p)
 
--- a call begins no connection for the first time
+-- bytes are held only for connections for which a connect was called
+pub record HoldsForKnown (l : Loop) : Type 0 where
+  pub each : (p : ℕ) → known_at l p ≡ false → rest_at l.queues p ≡ []
+
+-- a call begins no connection for the first time, and queues nothing on one that was not begun
 pub record SameKnown (old new : Loop) : Type 0 where
   pub each : (p : ℕ) → known_at new p ≡ known_at old p
+  pub holds : HoldsForKnown old → HoldsForKnown new
 
 -- whether the connection at a place is awake
 abbrev pub awake_in : Option Link → Bool

@@ -11,7 +11,7 @@ ghost use Rattle.ready_loop.specs.History.{same, with_begun, after_begin, chans}
 ghost use Rattle.ready_loop.specs.Offers.{IsOfConn};
 ghost use Rattle.ready_loop.specs.Standing.{Goes, Follows};
 ghost use Rattle.ready_loop.specs.States.{IsDrained, IsOffered, IsSound, FailsOnly, OnlyAt};
-ghost use Rattle.ready_loop.specs.States.{SameKnown, failed_at, failed_connect, known_at, waits_left};
+ghost use Rattle.ready_loop.specs.States.{HoldsForKnown, SameKnown, failed_at, failed_connect, known_at, waits_left};
 
 use crate::conn_place::place_at;
 use crate::{Loop, LoopFault};
@@ -39,6 +39,9 @@ impl Loop {
         ensures others { (p : ℕ) → is_of_job job p ≡ false →
             known_at self.new p ≡ known_at self.old p }
         ensures drained { IsDrained self.old → IsDrained self.new }
+        // Nothing is to be offered to a connection that was just begun.
+        ensures holds { HoldsForKnown self.old → HoldsForKnown self.new }
+        ensures offered { HoldsForKnown self.old → IsOffered self.old → IsOffered self.new }
         ensures failed { FailsOnly result self.old self.new }
         ensures sound { OnOk result (IsSound self.old → IsSound self.new) }
         ensures left { waits_left self.new ≡ waits_left self.old }
@@ -85,6 +88,8 @@ impl Loop {
             (Goes BeginMoment (with_begun (place_of conn)) self.old self.new) }
         ensures only { OnlyAt (place_of conn) self.old self.new }
         ensures drained { IsDrained self.old → IsDrained self.new }
+        ensures holds { HoldsForKnown self.old → HoldsForKnown self.new }
+        ensures offered { HoldsForKnown self.old → IsOffered self.old → IsOffered self.new }
         ensures failed { FailsOnly result self.old self.new }
         ensures known { (p : ℕ) → known_at self.new p ≡ is_at p conn || known_at self.old p }
         ensures same { self.new ≡ record self.old { links = self.new.links } }
@@ -106,6 +111,8 @@ impl Loop {
             (Goes BeginMoment (with_begun (place_of conn)) self.old self.new) }
         ensures only { OnlyAt (place_of conn) self.old self.new }
         ensures drained { IsDrained self.old → IsDrained self.new }
+        ensures holds { HoldsForKnown self.old → HoldsForKnown self.new }
+        ensures offered { HoldsForKnown self.old → IsOffered self.old → IsOffered self.new }
         ensures failed { (p : ℕ) → failed_at self.new p
             ≡ failed_connect result conn p (failed_at self.old p) }
         ensures known { (p : ℕ) → known_at self.new p ≡ is_at p conn || known_at self.old p }

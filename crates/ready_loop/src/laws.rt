@@ -1,15 +1,17 @@
 //! What holds of a loop after any list of calls. A journal has its newest entry first.
-ghost use Rattle.std.specs.Prelude.{◌≡◌, ◌⊎◌, ◌<◌, ◌≤◌, ◌++◌, ℕ, Bool, false, true, List, Option};
+ghost use Rattle.std.specs.Prelude.{◌≡◌, ◌⊎◌, ◌<◌, ◌≤◌, ◌++◌, ◌||◌, ℕ, Bool, false, true, List, Option};
 ghost use Rattle.world.specs.declared.entry.Entry.{Entry};
 ghost use Rattle.world.specs.Moments.{Since};
-ghost use Rattle.world.specs.Places.{is_reported, place_of, status, time};
+ghost use Rattle.world.specs.Places.{is_at, is_reported, place_of, status, time};
 ghost use Rattle.world.specs.declared.conn.Conn.{Conn};
 ghost use Rattle.ready_loop.specs.declared.readiness.Loop.{Loop};
+ghost use Rattle.ready_loop.specs.Begins.{failed_closed, is_of_job};
 ghost use Rattle.ready_loop.specs.Between.{ReadsAll};
 ghost use Rattle.ready_loop.specs.History.{History, with_all_named};
 ghost use Rattle.ready_loop.specs.Offers.{LookMoment, is_looked, is_to_name};
 ghost use Rattle.ready_loop.specs.Runs.{Runs, FairMoment};
 ghost use Rattle.ready_loop.specs.Standing.{StandsFor, MadeElsewhere, put_at};
+ghost use Rattle.ready_loop.specs.States.{IsSound, failed_at};
 ghost use Rattle.ready_loop.specs.Waits.{AllServed, IsTurnWait, IsLeast, SomeAwake, Timer};
 
 /// Calls of the world that touch no connection, between two calls of a loop, change nothing of it.
@@ -73,4 +75,14 @@ pub fn looks_leave_other_jobs()
     ensures { (jobs : List Bool) (h : History) (before after : List Entry) →
         Since (LookMoment jobs h) before after → (conn : Conn) → is_looked jobs conn.job ≡ false →
         status (place_of conn) after ≡ status (place_of conn) before }
+{}
+
+/// Where a fault named a connection and the connections of its job were closed since, none has
+/// failed: as far as that goes the loop may wait again.
+pub fn a_close_mends_a_fault()
+    ensures { (conn : Conn) (old failed closed : Loop) → IsSound old →
+        ((p : ℕ) → failed_at failed p ≡ is_at p conn || failed_at old p) →
+        ((p : ℕ) → failed_at closed p
+        ≡ failed_closed (is_of_job conn.job p) (failed_at failed p)) →
+        IsSound closed }
 {}

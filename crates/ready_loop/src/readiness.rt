@@ -5,7 +5,7 @@ ghost use Rattle.world.specs.Places.{place_of};
 ghost use Rattle.world.specs.Waits.{wait_count};
 ghost use Rattle.ready_loop.specs.History.{History, no_history, after_queue};
 ghost use Rattle.ready_loop.specs.Standing.{StandsFor, AllShut, put_at};
-ghost use Rattle.ready_loop.specs.States.{IsDrained, IsSound, MayWait, SameKnown, known_at, waits_left};
+ghost use Rattle.ready_loop.specs.States.{HoldsForKnown, IsDrained, IsSound, MayWait, SameKnown, known_at, waits_left};
 
 use crate::conn_place::place_at;
 use crate::links::Links;
@@ -33,6 +33,7 @@ impl Loop {
         ensures ready { IfOk result MayWait }
         ensures left { IfOk result (λ l. waits_left l ≡ turns) }
         ensures fresh { IfOk result (λ l. (p : ℕ) → known_at l p ≡ false) }
+        ensures holds { IfOk result HoldsForKnown }
     {
         Ok(Loop {
             links: Links::new(alloc)?,

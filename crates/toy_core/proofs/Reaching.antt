@@ -1,5 +1,5 @@
 -- How far acts have come, from place to place.
-use Rattle.std.proofs.Common.{◌≡◌, ℕ, ◌+◌, ◌<◌, ◌≤◌, Bool, true, false, List, [], ◌∷◌, length, take, drop, get_or, cond, nat_le, Option, None, Some, refl, sym, ap, ◌∙◌, arith}
+use Rattle.std.proofs.Common.{◌≡◌, ℕ, zero, suc, ◌+◌, ◌<◌, ◌≤◌, ◌++◌, Bool, true, false, List, [], ◌∷◌, length, take, drop, get_or, cond, nat_le, Option, None, Some, refl, sym, ap, subst, ◌∙◌, arith}
 use Rattle.std.specs.Prelude.{ℤ}
 use Rattle.std.proofs.lemmas.Bool.Decides.{nat_tests}
 use Rattle.std.proofs.lemmas.List.{drop_more, drop_all}
@@ -123,3 +123,38 @@ reached_front now since (Send c octets ∷ acts) = ap (λ x. Send c octets ∷ x
 reached_front now since (Pause ms ∷ acts) = front_pause (nat_le (since + ms) now) ms acts _ (reached_front now (since + ms) acts)
 reached_front now since (End status ∷ acts) = refl
 reached_front now since (Close parent count ∷ acts) = ap (λ x. Close parent count ∷ x) (reached_front now since acts)
+
+reached_then : (n : ℕ) (b : Bool) (acts : List Act) → suc n < length (cond b acts []) → b ≡ true
+reached_then n true acts h = refl
+reached_then n false acts h = absurd (omega (arith, h))
+
+is_at_most : (a b : ℕ) → nat_le a b ≡ true → a ≤ b
+is_at_most a b e = grind (arith, nat_tests, e)
+
+-- where the first acts, which were due, have happened, the others happen when they would have
+pub passed : (n now since : ℕ) (acts : List Act) → n < length (reached now since acts) → (t : ℕ) → now ≤ t
+    → reached t since acts ≡ take n acts ++ reached t (begun_at now since (take n acts)) (drop n acts)
+passed zero now since acts h t le = refl
+passed (suc n) now since [] h t le = absurd (omega (arith, h))
+passed (suc n) now since (Send c octets ∷ acts) h t le = ap (λ x. Send c octets ∷ x) (passed n now since acts (omega (arith, h)) t le)
+passed (suc n) now since (Pause ms ∷ acts) h t le =
+    let over : nat_le (since + ms) now ≡ true = reached_then n (nat_le (since + ms) now) (Pause ms ∷ reached now (since + ms) acts) h in
+    let later : nat_le (since + ms) t ≡ true = let k : since + ms ≤ now = is_at_most (since + ms) now over in at_most (since + ms) t (omega (arith, k, le)) in
+    let more : n < length (reached now (since + ms) acts) = let k : suc n < length (Pause ms ∷ reached now (since + ms) acts) = subst (λ (b : Bool). suc n < length (cond b (Pause ms ∷ reached now (since + ms) acts) [])) over h in omega (arith, k) in
+    chosen _ (Pause ms ∷ reached t (since + ms) acts) [] later
+    ∙ ap (λ x. Pause ms ∷ x) (passed n now (since + ms) acts more t le)
+    ∙ ap (λ m. Pause ms ∷ (take n acts ++ reached t m (drop n acts))) (sym (chosen _ (begun_at now (since + ms) (take n acts)) since over))
+passed (suc n) now since (End status ∷ acts) h t le = absurd (omega (arith, h))
+passed (suc n) now since (Close parent count ∷ acts) h t le = ap (λ x. Close parent count ∷ x) (passed n now since acts (omega (arith, h)) t le)
+
+short_pause : (b : Bool) (ms : ℕ) (acts r : List Act) → length r ≤ length acts → length (cond b (Pause ms ∷ r) []) ≤ length (Pause ms ∷ acts)
+short_pause true ms acts r h = omega (arith, h)
+short_pause false ms acts r h = omega arith
+
+-- no more acts have happened than there are
+pub reached_short : (now since : ℕ) (acts : List Act) → length (reached now since acts) ≤ length acts
+reached_short now since [] = omega arith
+reached_short now since (Send c octets ∷ acts) = let k = reached_short now since acts in omega (arith, k)
+reached_short now since (Pause ms ∷ acts) = short_pause (nat_le (since + ms) now) ms acts (reached now (since + ms) acts) (reached_short now (since + ms) acts)
+reached_short now since (End status ∷ acts) = omega arith
+reached_short now since (Close parent count ∷ acts) = let k = reached_short now since acts in omega (arith, k)

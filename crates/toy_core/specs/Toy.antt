@@ -95,6 +95,17 @@ pub record StandsFor (toy : Toy) (calls : List Call) : Type 0 where
   pub unstarved : toy.starved ≡ false
   pub machine : Is toy.machine (standing toy.key calls)
 
+-- memory was wanted for it
+abbrev pub is_starved : Toy → Bool
+is_starved toy = toy.starved
+
+-- it is as it was, but for the latest moment: whatever was due or is to happen stays
+pub record IsStill (old new : Toy) : Type 0 where
+  pub gives : (c : Chan) (now room : ℕ) → gives new c now room ≡ gives old c now room
+  pub accepts : (c : Chan) (now : ℕ) → accepts new c now ≡ accepts old c now
+  pub exits : (now : ℕ) → exits new now ≡ exits old now
+  pub starved : is_starved new ≡ is_starved old
+
 -- the key under which it signs
 abbrev pub key_of : Toy → List ℕ
 key_of toy = toy.key

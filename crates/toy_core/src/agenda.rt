@@ -1,5 +1,5 @@
 //! `Agenda`, what is still to happen, and when.
-ghost use Rattle.std.specs.Prelude.{◌≡◌, ◌<◌, ◌≤◌, ◌^◌, [], length, take, drop, OnOk, option_map};
+ghost use Rattle.std.specs.Prelude.{◌≡◌, ◌<◌, ◌≤◌, ◌^◌, ◌++◌, [], ℕ, length, take, drop, OnOk, option_map};
 ghost use Rattle.toy_core.specs.Acts.{reached, first_close, after_close};
 ghost use Rattle.toy_core.specs.Standing as spec;
 
@@ -78,6 +78,11 @@ impl Agenda {
     /// Only the first acts have happened; the others are still to happen.
     pub(crate) fn pass(&mut self, alloc: Global, now: u64, done: usize)
         requires { now < 2 ^ 47 }
+        // Nothing is put off: by each later moment just the same has happened.
+        ensures rest { done < length (reached now self.old.since self.old.acts) → (t : ℕ) →
+            now ≤ t → reached t self.old.since self.old.acts
+            ≡ take done self.old.acts ++ reached t self.new.since self.new.acts }
+        ensures end { self.new.end ≡ self.old.end }
     {
         let done = done.min(self.acts.len());
         let reach = reach_of(&self.acts.as_slice()[..done], self.since, now);

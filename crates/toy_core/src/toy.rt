@@ -1,5 +1,5 @@
 //! `Toy`, the far end of a job's connections.
-ghost use Rattle.std.specs.Prelude.{◌≡◌, ◌<◌, ◌≤◌, ◌^◌, [], IfOk};
+ghost use Rattle.std.specs.Prelude.{◌≡◌, ◌↔◌, ◌<◌, ◌≤◌, ◌^◌, [], IfOk, IsErr, false, true};
 ghost use Rattle.toy_core.specs.Toy as toy;
 
 use crate::machine::Machine;
@@ -26,6 +26,7 @@ impl Toy {
         ensures stands { IfOk result (λ made. toy.StandsFor made []) }
         ensures key { IfOk result (λ made. toy.key_of made ≡ key.now) }
         ensures latest { IfOk result (λ made. toy.latest_of made ≡ 0) }
+        ensures fed { IfOk result (λ made. toy.is_starved made ≡ false) }
     {
         Ok(Toy {
             alloc,
@@ -52,18 +53,42 @@ impl KernelSide for Toy {
 
     ghost stands = { toy.StandsFor };
 
-    fn tick(&mut self, _alloc: Global, now: u64) -> Result<(), NoMemory> {
+    fn tick(&mut self, _alloc: Global, now: u64) -> Result<(), NoMemory>
+        requires bound { now < 2 ^ 47 }
+        requires later { toy.latest_of self.old ≤ now }
+        ensures moment { toy.latest_of self.new ≡ now }
+        ensures stands { IfOk result (λ _.
+            StandsAfter (toy.StandsFor self.old) (toy.StandsFor self.new) (Ticked now)) }
+        ensures still { toy.IsStill self.old self.new }
+    {
         self.latest = now;
         Ok(())
     }
 
-    fn accept(&mut self, chan: Chan, now: u64) -> bool {
+    fn accept(&mut self, chan: Chan, now: u64) -> bool
+        requires bound { now < 2 ^ 47 }
+        requires later { toy.latest_of self.old ≤ now }
+        ensures moment { toy.latest_of self.new ≡ now }
+        ensures answer { result ≡ toy.accepts self.old chan now }
+        ensures stands { StandsAfter (toy.StandsFor self.old) (toy.StandsFor self.new)
+            (Accepted chan now result) }
+        ensures starved { toy.is_starved self.new ≡ toy.is_starved self.old }
+    {
         self.latest = now;
         self.machine.accept(self.alloc, chan, now)
     }
 
-    /// After want of memory each later call wants it too.
-    fn take(&mut self, alloc: Global, chan: Chan, now: u64, piece: &[u8]) -> Result<(), NoMemory> {
+    /// After want of memory each later call wants it too, and changes nothing of what is due.
+    fn take(&mut self, alloc: Global, chan: Chan, now: u64, piece: &[u8]) -> Result<(), NoMemory>
+        requires bound { now < 2 ^ 47 }
+        requires later { toy.latest_of self.old ≤ now }
+        ensures moment { toy.latest_of self.new ≡ now }
+        ensures stands { IfOk result (λ _. StandsAfter (toy.StandsFor self.old)
+            (toy.StandsFor self.new) (Took chan now piece.now)) }
+        ensures refused { IsErr result ↔ (toy.is_starved self.new ≡ true) }
+        ensures again { toy.is_starved self.old ≡ true →
+            IsErr result × toy.IsStill self.old self.new }
+    {
         self.latest = now;
         if self.starved {
             return Err(NoMemory);
@@ -77,7 +102,16 @@ impl KernelSide for Toy {
         }
     }
 
-    fn give(&mut self, chan: Chan, now: u64, buf: &mut [u8]) -> Give {
+    fn give(&mut self, chan: Chan, now: u64, buf: &mut [u8]) -> Give
+        requires bound { now < 2 ^ 47 }
+        requires later { toy.latest_of self.old ≤ now }
+        requires room { 0 < length buf.old }
+        ensures moment { toy.latest_of self.new ≡ now }
+        ensures answer { Gives (toy.gives self.old chan now (length buf.old)) result buf.new }
+        ensures stands { StandsAfter (toy.StandsFor self.old) (toy.StandsFor self.new)
+            (Gave chan now (length buf.old) (given_of result buf.new)) }
+        ensures starved { toy.is_starved self.new ≡ toy.is_starved self.old }
+    {
         self.latest = now;
         self.machine.give(chan, now, buf)
     }

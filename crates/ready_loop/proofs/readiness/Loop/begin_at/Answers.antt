@@ -5,7 +5,7 @@ use Rattle.ready_loop.specs.Link.{connect_link, begun_link}
 use Rattle.ready_loop.specs.States.{known_in}
 use Rattle.ready_loop.proofs.TableLemmas.{tells_now}
 use Rattle.ready_loop.proofs.StateLemmas.{only_set, drained_set, connect_reads}
-use Rattle.ready_loop.proofs.BeginLemmas.{begin_goes, begin_reads, begin_fails, begin_known, fresh_of}
+use Rattle.ready_loop.proofs.BeginLemmas.{begin_goes, begin_reads, begin_fails, begin_known, begin_holds, begin_offered, fresh_of}
 use Rattle.ready_loop.proofs.readiness.Loop.begin_at.Goals as goal
 
 pub returns-clause-goes : goal.returns-clause-goes
@@ -40,3 +40,9 @@ returns-clause-known g c =
     begin_known c.args.conn c.connect-how.result c.last-last.result c.args.port c.args.self.now.links c.put.new.self c.at-link.result found
     (c.put.ensures ∙ ap (λ (i : ℕ). set c.args.self.now.links i c.after_connect.result) c.place_at-place.ensures.place
     ∙ ap (set c.args.self.now.links (place_of c.args.conn)) (c.after_connect.ensures ∙ ap (connect_link c.connect-how.result c.last-last.result) c.begun_on.ensures))
+
+pub returns-clause-holds : goal.returns-clause-holds
+returns-clause-holds g c = begin_holds c.args.conn c.args.self.now (record c.args.self.now { links = c.put.new.self }) refl (returns-clause-known g c)
+
+pub returns-clause-offered : goal.returns-clause-offered
+returns-clause-offered g c = begin_offered (place_of c.args.conn) c.args.self.now (record c.args.self.now { links = c.put.new.self }) refl (returns-clause-only g c) c.requires.fresh

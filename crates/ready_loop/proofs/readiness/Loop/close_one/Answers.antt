@@ -43,4 +43,4 @@ returns-clause-failed g c =
 
 pub returns-clause-known : goal.returns-clause-known
 returns-clause-known g c = closed_known c.args.self.now (record c.args.self.now { links = c.put.new.self }) c.place_at-place.result c.at-link.result c.at-link.ensures
-    (c.put.ensures ∙ ap (set c.args.self.now.links c.place_at-place.result) c.after_close.ensures)
+    (c.put.ensures ∙ ap (set c.args.self.now.links c.place_at-place.result) c.after_close.ensures) refl

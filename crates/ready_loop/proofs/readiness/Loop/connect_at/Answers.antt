@@ -41,4 +41,4 @@ returns-clause-connects g c = tells_as c.connect-how.ensures.tells (λ past. con
 
 pub returns-clause-known : goal.returns-clause-known
 returns-clause-known g c = known_set c.args.self.now (record c.args.self.now { links = c.put.new.self }) c.args.place (connect_link c.connect-how.result c.last-last.result c.at-link.result) c.at-link.result c.at-link.ensures
-    (c.put.ensures ∙ ap (set c.args.self.now.links c.args.place) c.after_connect.ensures) (connect_stage c.connect-how.result c.last-last.result c.at-link.result)
+    (c.put.ensures ∙ ap (set c.args.self.now.links c.args.place) c.after_connect.ensures) (connect_stage c.connect-how.result c.last-last.result c.at-link.result) (λ p e. e)

@@ -1,4 +1,5 @@
-use Rattle.std.proofs.Common.{rules, arith, ◌≡◌, ◌∙◌, subst, refl, Some, slice_get}
+use Rattle.std.proofs.Common.{rules, arith, ◌≡◌, ◌∙◌, ◌∷◌, ℕ, ap, take, subst, refl, Some, slice_get}
+use Rattle.world.specs.declared.entry.Entry.TheVariants as made
 use Rattle.world.specs.Moments.{start, more}
 use Rattle.world.proofs.MomentsLemmas.{told_start, told_one, told_then}
 use Rattle.ready_loop.specs.declared.readiness.Loop.{Loop}
@@ -23,6 +24,22 @@ loop-place-init g c = record {
 
 pub returns-in-Piece-clause-goes : goal.returns-in-Piece-clause-goes
 returns-in-Piece-clause-goes g c = told_then c.loop-place.invariant.goes c.in-Piece.ensures.goes (λ x y z a b. goes_then (λ h now r. r) (λ h now r. r) a b)
+
+pub returns-in-Piece-clause-came : goal.returns-in-Piece-clause-came
+returns-in-Piece-clause-came g c = told_one c.loop-place.invariant.dry c.in-Piece.ensures.tells (λ x y s. record {
+  past = y;
+  dry = s;
+  newest = ap (λ (room : ℕ). made.Got c.conn_at-conn.result room (take c.in-Piece.n c.read_at.new.buf) ∷ y) c.loop-place.invariant.room;
+})
+
+pub returns-in-Ended-clause-came : goal.returns-in-Ended-clause-came
+returns-in-Ended-clause-came g c = told_one c.loop-place.invariant.dry c.in-Ended.ensures.tells (λ x y s. record { past = y; dry = s; newest = refl })
+
+pub returns-in-Refused-clause-came : goal.returns-in-Refused-clause-came
+returns-in-Refused-clause-came g c = told_one c.loop-place.invariant.dry c.in-Refused.ensures.tells (λ x y s. record { past = y; dry = s; newest = refl })
+
+pub returns-in-Failed-clause-came : goal.returns-in-Failed-clause-came
+returns-in-Failed-clause-came g c = told_one c.loop-place.invariant.dry c.in-Failed.ensures.tells (λ x y s. record { past = y; dry = s; newest = refl })
 
 pub returns-in-Ended-clause-goes : goal.returns-in-Ended-clause-goes
 returns-in-Ended-clause-goes g c = told_then c.loop-place.invariant.goes c.in-Ended.ensures.goes (λ x y z a b. goes_then (λ h now r. r) (λ h now r. r) a b)

@@ -32,4 +32,4 @@ returns-clause-below g c = read_below c.read-got.result c.last-last.result c.arg
 
 pub returns-clause-known : goal.returns-clause-known
 returns-clause-known g c = known_set c.args.self.now (record c.args.self.now { links = c.put.new.self }) c.args.place (read_link c.read-got.result c.last-last.result c.at-link.result) c.at-link.result c.at-link.ensures
-    (c.put.ensures ∙ ap (set c.args.self.now.links c.args.place) c.after_read.ensures) (read_stage c.read-got.result c.last-last.result c.at-link.result)
+    (c.put.ensures ∙ ap (set c.args.self.now.links c.args.place) c.after_read.ensures) (read_stage c.read-got.result c.last-last.result c.at-link.result) (λ p e. e)

@@ -4,7 +4,7 @@ use Rattle.world.specs.Places.{time}
 use Rattle.world.specs.Told.{PutSome}
 use Rattle.ready_loop.specs.Link.{MayWrite, write_link}
 use Rattle.ready_loop.proofs.TableLemmas.{tells_with}
-use Rattle.ready_loop.proofs.StateLemmas.{may_here, only_written, calm_written, drained_set, write_reads, write_fails, load_less, known_set, write_stage}
+use Rattle.ready_loop.proofs.StateLemmas.{may_here, only_written, calm_written, drained_set, write_reads, write_fails, load_less, known_set, empty_set, write_stage}
 use Rattle.ready_loop.proofs.OfferLemmas.{write_goes, untimed_write}
 use Rattle.ready_loop.proofs.readiness.Loop.write_at.Goals as goal
 
@@ -44,3 +44,4 @@ returns-clause-failed g c = write_fails c.write-put.result c.args.conn c.last-la
 pub returns-clause-known : goal.returns-clause-known
 returns-clause-known g c = known_set c.args.self.now (record c.args.self.now { links = c.put.new.self; queues = c.take_off.new.self }) c.args.place (write_link c.write-put.result c.last-last.result c.at-link.result) c.at-link.result c.at-link.ensures
     (c.put.ensures ∙ ap (set c.args.self.now.links c.args.place) c.after_write.ensures) (write_stage c.write-put.result c.last-last.result c.at-link.result)
+    (empty_set c.args.self.now.queues c.take_off.new.self c.args.place _ c.requires.some c.take_off.ensures)
