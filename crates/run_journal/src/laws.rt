@@ -1,0 +1,6 @@
+//! What holds of every journal, each law the contract of a function without a body.
+
+pub mod growth;
+pub mod isolation;
+pub mod reading;
+pub mod safety;
