@@ -16,3 +16,6 @@ pub mod ExampleNoIdle
 pub mod ExampleBatch
 pub mod ExamplePlain
 pub mod ExampleQueue
+pub mod ExampleAwake
+pub mod Positions
+pub mod Ordering

@@ -18,3 +18,4 @@ pub mod Grow
 pub mod Safety
 pub mod Decoding
 pub mod Literal
+pub mod Order

@@ -2,5 +2,6 @@
 
 pub mod growth;
 pub mod isolation;
+pub mod order;
 pub mod reading;
 pub mod safety;
