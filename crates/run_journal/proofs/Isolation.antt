@@ -357,7 +357,8 @@ module _ (j : Job) where
   no_ack_next b ready saves [] e = e
   no_ack_next b ready saves (r ∷ rs) e = refl
 
-  no_next : (p : List Entry) → is_next j false (is_ready j p) (acked j p) (requests j p) ≡ false
+  -- the next request doesn't come to stand a moment later without a cause
+  pub no_next : (p : List Entry) → is_next j false (is_ready j p) (acked j p) (requests j p) ≡ false
   no_next [] = refl
   no_next (entry ∷ p) =
       let rs : List Request = map (goes_on j entry p) (requests j p) in

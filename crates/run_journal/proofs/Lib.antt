@@ -19,3 +19,5 @@ pub mod ExampleQueue
 pub mod ExampleAwake
 pub mod Positions
 pub mod Ordering
+pub mod Agreeing
+pub mod Hearing

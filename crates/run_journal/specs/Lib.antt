@@ -19,3 +19,4 @@ pub mod Safety
 pub mod Decoding
 pub mod Literal
 pub mod Order
+pub mod Agreement

@@ -1,5 +1,6 @@
 //! What holds of every journal, each law the contract of a function without a body.
 
+pub mod agreement;
 pub mod growth;
 pub mod isolation;
 pub mod order;
