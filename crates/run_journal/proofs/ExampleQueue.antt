@@ -1,0 +1,43 @@
+-- What is queued, entry by entry.
+use Rattle.std.proofs.Common.{◌≡◌, List, [], ◌∷◌, ◌++◌, true, refl, reverse}
+use Rattle.world.specs.declared.chan.Chan.TheVariants.{Shell, Control, Iopub, Heart}
+use Rattle.world.specs.declared.entry.Entry.{Entry}
+use Rattle.world.specs.declared.entry.Entry.TheVariants as made
+use Rattle.run_journal.specs.Job.{Job}
+use Rattle.run_journal.specs.Arrivals.{arrive, is_shaken, can_ask, ask_on}
+use Rattle.run_journal.specs.Looks.{looked, can_ping, ping_on, is_silent, is_lost, ran_out}
+use Rattle.run_journal.specs.Requests.{is_broken, is_interrupted}
+use Rattle.run_journal.specs.Why.{bad_stream}
+use Rattle.run_journal.specs.Due.{due}
+use Rattle.run_journal.proofs.Toy.{job, saved, got, put, begun, closed, turn, start, printed}
+
+-- one cell, with a heartbeat
+abbrev beating : Job
+beating = record job { heartbeat = true; task = record { plan = 0 ∷ []; cells = 1; times = job.task.times } }
+
+-- The handshakes on the heartbeat and on control are finished at 20. At 40 a PING comes on shell in the entry by which the
+-- kernel is ready. The cell ends at 50; then another clock entry comes, before the connections are closed.
+abbrev journal : List Entry
+journal = reverse (saved beating ++ start beating ++ (begun beating Heart ∷ []) ++ turn 20
+    ++ (got beating Heart (9 ∷ []) ∷ got beating Control (9 ∷ []) ∷ got beating Shell (9 ∷ []) ∷ got beating Iopub (9 ∷ []) ∷ put beating Iopub (100 ∷ 101 ∷ []) ∷ [])
+    ++ turn 30 ++ turn 40 ++ (got beating Iopub (0 ∷ 1 ∷ []) ∷ got beating Shell (5 ∷ 1 ∷ 8 ∷ 77 ∷ []) ∷ [])
+    ++ turn 50 ++ printed beating 2 21 ++ saved beating ++ (made.Moment 99 ∷ closed beating Shell ∷ made.Moment 120 ∷ []))
+
+-- the PONG comes before the request that the same entry brings
+shell_is : due beating Shell journal ≡ 100 ∷ 201 ∷ 1 ∷ 30 ∷ 108 ∷ 77 ∷ 202 ∷ 2 ∷ 40 ∷ []
+unfolding arrive is_shaken can_ask ask_on looked can_ping ping_on is_silent is_lost ran_out is_broken is_interrupted bad_stream
+shell_is = refl
+
+-- the date of the last message is that of the end
+control_is : due beating Control journal ≡ 100 ∷ 205 ∷ 3 ∷ 50 ∷ []
+unfolding arrive is_shaken can_ask ask_on looked can_ping ping_on is_silent is_lost ran_out is_broken is_interrupted bad_stream
+control_is = refl
+
+-- the first ping is due at once: at 50, the first clock entry after readiness
+heart_is : due beating Heart journal ≡ 100 ∷ 204 ∷ 0 ∷ 0 ∷ []
+unfolding arrive is_shaken can_ask ask_on looked can_ping ping_on is_silent is_lost ran_out is_broken is_interrupted bad_stream
+heart_is = refl
+
+iopub_is : due beating Iopub journal ≡ 100 ∷ 101 ∷ []
+unfolding arrive is_shaken can_ask ask_on looked can_ping ping_on is_silent is_lost ran_out is_broken is_interrupted bad_stream
+iopub_is = refl

@@ -1,0 +1,42 @@
+-- The requests that the core of a job knows by its events, and those of the journal, agree.
+use Rattle.std.specs.Prelude.{◌≡◌, ℕ, ◌<◌, ◌≤◌, List, [], ◌∷◌, length, option_map, slice_get, IsSomeAnd, None, Some}
+use Rattle.world.specs.declared.chan.Chan.{Chan}
+use Rattle.world.specs.declared.entry.Entry.{Entry}
+use Rattle.cell_core.specs.declared.event.Event.{Event}
+use Rattle.cell_core.specs.declared.event.Event.TheVariants as event
+use Rattle.cell_core.specs.Events as events
+use Rattle.cell_core.specs.Requests as core
+use Rattle.run_journal.specs.Job.{Job}
+use Rattle.run_journal.specs.Parts.{bytes_got, acked}
+use Rattle.run_journal.specs.Arrivals.{is_ready}
+use Rattle.run_journal.specs.Requests.{Request, has_idle, reply, requests}
+
+-- What the core was told since request k came to stand is what came for it: whether its idle did, and whether its reply did
+-- and is fatal.
+pub record AgreesOn (j : Job) (k : ℕ) (later : List Event) (r : Request) : Type 0 where
+  pub idle : core.has_idle (core.own later) ≡ has_idle r.io
+  pub reply : core.reply later ≡ option_map (λ m. j.fatal k m.0.content) (reply r)
+
+-- The events, the newest first, tell as many acknowledged saves as the journal, whether the kernel is ready, and the same
+-- requests.
+pub record Agrees (j : Job) (told : List Event) (past : List Entry) : Type 0 where
+  pub acked : events.acked told ≡ acked j past
+  pub ready : events.came events.is_ready told ≡ is_ready j past
+  pub standing : (k : ℕ) (r : Request) → slice_get (requests j past) k ≡ Some r → IsSomeAnd (core.after j.task k told) (λ later. AgreesOn j k later r)
+  pub none : (k : ℕ) → k < length j.task.plan → length (requests j past) ≤ k → core.after j.task k told ≡ None
+
+-- an event that is neither an acknowledgement nor readiness nor what comes for a request
+pub data IsOther : Event → Type 0 where
+  moment : (ms : ℕ) → IsOther (event.Moment ms)
+  looked : IsOther event.Looked
+  lost : IsOther event.Lost
+  broken : IsOther event.Broken
+
+-- after these events, told one after another
+abbrev pub told_on : List Event → List Event → List Event
+told_on [] told = told
+told_on (e ∷ es) told = told_on es (e ∷ told)
+
+-- no byte comes by an entry
+abbrev pub BringsNothing : Job → Entry → List Entry → Type 0
+BringsNothing j entry past = (c : Chan) → bytes_got j c (entry ∷ past) ≡ bytes_got j c past

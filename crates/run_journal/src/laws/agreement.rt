@@ -1,0 +1,68 @@
+//! The requests that a job's core knows by its events agree with those of the journal: at the start,
+//! and on from entry to entry, where each event is told that the entry gives. A loss or a broken
+//! stream may be told later, and a look's end too, since they keep the agreement whenever they are
+//! told.
+ghost use Rattle.std.specs.Prelude.{◌≡◌, ℕ, true, false, List, [], ◌∷◌, Some, IsSomeAnd};
+ghost use Rattle.std.specs.Prelude.{slice_get};
+ghost use Rattle.world.specs.declared.entry.Entry.{Entry};
+ghost use Rattle.cell_core.specs.declared.event.Event.{Event};
+ghost use Rattle.cell_core.specs.declared.event.Event.TheVariants.{Saved, Ready};
+ghost use Rattle.cell_core.specs.Requests as core;
+ghost use Rattle.run_journal.specs.Job.{Job};
+ghost use Rattle.run_journal.specs.Parts.{is_acknowledging};
+ghost use Rattle.run_journal.specs.Arrivals.{is_ready};
+ghost use Rattle.run_journal.specs.Requests.{Request, requests, last_request, is_passed};
+ghost use Rattle.run_journal.specs.Course.{came_for};
+ghost use Rattle.run_journal.specs.Agreement.{Agrees, BringsNothing, IsOther, told_on};
+
+/// Before anything is told and before any entry they agree.
+pub fn agree_at_first()
+    ensures { (j : Job) → Agrees j [] [] }
+{}
+
+/// An event of the clock, a look, a loss or a broken stream keeps the agreement, whenever it is
+/// told.
+pub fn other_events_agree()
+    ensures { (j : Job) (event : Event) (told : List Event) (past : List Entry) → IsOther event →
+        Agrees j told past → Agrees j (event ∷ told) past }
+{}
+
+/// An entry by which no byte comes and no save is acknowledged keeps it, with no event told.
+pub fn quiet_entries_agree()
+    ensures { (j : Job) (entry : Entry) (told : List Event) (past : List Entry) →
+        BringsNothing j entry past → is_acknowledging j (entry ∷ past) ≡ false →
+        Agrees j told past → Agrees j told (entry ∷ past) }
+{}
+
+/// An acknowledgement keeps it where it is told: the next request comes to stand for both, or for
+/// neither.
+pub fn acknowledgements_agree()
+    ensures { (j : Job) (entry : Entry) (told : List Event) (past : List Entry) →
+        BringsNothing j entry past → is_acknowledging j (entry ∷ past) ≡ true →
+        Agrees j told past → Agrees j (Saved ∷ told) (entry ∷ past) }
+{}
+
+/// Readiness keeps it where it is told.
+pub fn readiness_agrees()
+    ensures { (j : Job) (entry : Entry) (told : List Event) (past : List Entry) →
+        is_acknowledging j (entry ∷ past) ≡ false → is_ready j past ≡ false →
+        is_ready j (entry ∷ past) ≡ true → Agrees j told past →
+        Agrees j (Ready ∷ told) (entry ∷ past) }
+{}
+
+/// What comes for the last request keeps it where it is told, up to the message by which that
+/// request is over.
+pub fn messages_agree()
+    ensures { (j : Job) (entry : Entry) (told : List Event) (past : List Entry) →
+        is_acknowledging j (entry ∷ past) ≡ false → is_ready j (entry ∷ past) ≡ is_ready j past →
+        Agrees j told past →
+        Agrees j (told_on (came_for j (last_request 0 (requests j past)) entry past) told)
+        (entry ∷ past) }
+{}
+
+/// Where they agree, a request is passed for the core exactly where it is in the journal.
+pub fn passed_requests_agree()
+    ensures { (j : Job) (told : List Event) (past : List Entry) (k : ℕ) (r : Request) →
+        Agrees j told past → slice_get (requests j past) k ≡ Some r →
+        core.is_passed_in (core.after j.task k told) ≡ is_passed j k r }
+{}
