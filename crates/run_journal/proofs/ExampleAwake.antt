@@ -156,3 +156,9 @@ asks_too_early = refl
 course_is : reverse (course one journal).told ≡ event.Saved ∷ event.Moment 10 ∷ event.Moment 20 ∷ event.Moment 30 ∷ event.Moment 40 ∷ event.Ready ∷ event.Moment 50 ∷ event.Reply false ∷ event.Io brief.Else ∷ event.Io brief.Else ∷ event.Io brief.Idle ∷ event.Saved ∷ []
 unfolding arrive is_shaken can_ask ask_on looked can_ping ping_on is_silent is_lost ran_out is_broken is_interrupted bad_stream
 course_is = refl
+
+-- a look may find a connection refused that was tried for it
+tried_for_a_look : all_along (begins_again jobs) (reverse (begins ++ (wait 500 (true ∷ []) ∷ made.Moment 60010 ∷ made.Looked 0 None ∷ dry one Shell ∷ made.Refused (record { job = 0; chan = Iopub }) side.Write
+    ∷ made.Connected (record { job = 0; chan = Iopub }) 2 connected.Refused ∷ wait 0 [] ∷ []))) ≡ true
+unfolding arrive is_shaken can_ask ask_on looked can_ping ping_on is_silent is_lost ran_out is_broken is_interrupted bad_stream
+tried_for_a_look = refl
