@@ -24,3 +24,4 @@ pub mod Hearing
 pub mod AskedLemmas
 pub mod Turns
 pub mod ExampleLaws
+pub mod Flowing
