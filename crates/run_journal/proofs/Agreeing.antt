@@ -168,7 +168,7 @@ agree_other j e told past o a = record {
 -- ---- an entry by which no byte comes and no save is acknowledged
 
 -- nothing new makes a kernel ready
-ready_unheard : (j : Job) (entry : Entry) (past : List Entry) → ((c : Chan) → bytes_got j c (entry ∷ past) ≡ bytes_got j c past) → is_ready j (entry ∷ past) ≡ is_ready j past
+pub ready_unheard : (j : Job) (entry : Entry) (past : List Entry) → ((c : Chan) → bytes_got j c (entry ∷ past) ≡ bytes_got j c past) → is_ready j (entry ∷ past) ≡ is_ready j past
 unfolding ask_on
 ready_unheard j entry past same =
     ap (λ ms. ((asked j past).told || list_any (tells (asked j past).ids) ms) && ((asked j past).heard || has_some (arrive j Iopub entry past))) (arrive_nothing j entry past Shell (same Shell))

@@ -16,6 +16,7 @@ use Rattle.run_journal.specs.Due.{all_along, is_sent}
 use Rattle.run_journal.specs.Starts.{connects_rightly}
 use Rattle.run_journal.specs.Awake.{in_order, waits_last, waits_short, reads_all, reads_few, keeps_up, reads_clock, looks_once, begins_again, begins_refused, begins_early, has_room}
 use Rattle.run_journal.specs.Course.{course}
+use Rattle.run_journal.specs.Agreement.{Flows}
 use Rattle.world.specs.declared.chan.Chan.{Chan}
 use Rattle.world.specs.declared.connected.Connected.TheVariants as connected
 use Rattle.world.specs.declared.did.Did.TheVariants.{Done as done}
@@ -156,3 +157,14 @@ asks_too_early = refl
 course_is : reverse (course one journal).told ≡ event.Saved ∷ event.Moment 10 ∷ event.Moment 20 ∷ event.Moment 30 ∷ event.Moment 40 ∷ event.Ready ∷ event.Moment 50 ∷ event.Reply false ∷ event.Io brief.Else ∷ event.Io brief.Else ∷ event.Io brief.Idle ∷ event.Saved ∷ []
 unfolding arrive is_shaken can_ask ask_on looked can_ping ping_on is_silent is_lost ran_out is_broken is_interrupted bad_stream
 course_is = refl
+
+-- a look may find a connection refused that was tried for it
+tried_for_a_look : all_along (begins_again jobs) (reverse (begins ++ (wait 500 (true ∷ []) ∷ made.Moment 60010 ∷ made.Looked 0 None ∷ dry one Shell ∷ made.Refused (record { job = 0; chan = Iopub }) side.Write
+    ∷ made.Connected (record { job = 0; chan = Iopub }) 2 connected.Refused ∷ wait 0 [] ∷ []))) ≡ true
+unfolding arrive is_shaken can_ask ask_on looked can_ping ping_on is_silent is_lost ran_out is_broken is_interrupted bad_stream
+tried_for_a_look = refl
+
+-- up to the last save nothing of the requests waits to be told
+flows : Flows one (reverse (asks ++ (wait 500 (true ∷ false ∷ true ∷ []) ∷ made.Moment 50 ∷ made.Looked 0 None ∷ got one Shell (3 ∷ 2 ∷ []) ∷ dry one Shell ∷ got one Iopub (0 ∷ 2 ∷ 21 ∷ 2 ∷ 1 ∷ 2 ∷ []) ∷ [])))
+unfolding arrive is_shaken can_ask ask_on looked can_ping ping_on is_silent is_lost ran_out is_broken is_interrupted bad_stream
+flows = refl

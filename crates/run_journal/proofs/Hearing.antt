@@ -135,7 +135,7 @@ pub data IsComing : Event → Type 0 where
   replied : (fatal : Bool) → IsComing (event.Reply fatal)
 
 -- so of each
-abbrev AreComing : List Event → Type 0
+abbrev pub AreComing : List Event → Type 0
 AreComing [] = Unit {0}
 AreComing (e ∷ es) = IsComing e × AreComing es
 
@@ -151,7 +151,7 @@ coming_replies : (j : Job) (k : ℕ) (ms : List Arrival) → AreComing (map (λ 
 coming_replies j k [] = tt
 coming_replies j k (m ∷ ms) = (replied (j.fatal k m.content), coming_replies j k ms)
 
-coming_for : (j : Job) (o : Option (ℕ × Request)) (entry : Entry) (past : List Entry) → AreComing (came_for j o entry past)
+pub coming_for : (j : Job) (o : Option (ℕ × Request)) (entry : Entry) (past : List Entry) → AreComing (came_for j o entry past)
 coming_for j None entry past = tt
 coming_for j (Some r) entry past =
     cond_both (is_over r.1) [] _ AreComing (λ e. tt)
@@ -187,7 +187,7 @@ none_on task k (x ∷ es) told c e =
     none_on task k es (x ∷ told) c.1
     (after_more task k x told ∙ none_more (stands_at task k) x told (core.after task k told) e (stands_later task k x told (coming_saved c.0) (coming_ready c.0) (not_now task k told e)))
 
-told_append : (es fs told : List Event) → told_on (es ++ fs) told ≡ told_on fs (told_on es told)
+pub told_append : (es fs told : List Event) → told_on (es ++ fs) told ≡ told_on fs (told_on es told)
 told_append [] fs told = refl
 told_append (e ∷ es) fs told = told_append es fs (e ∷ told)
 

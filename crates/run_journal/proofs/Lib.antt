@@ -21,3 +21,7 @@ pub mod Positions
 pub mod Ordering
 pub mod Agreeing
 pub mod Hearing
+pub mod AskedLemmas
+pub mod Turns
+pub mod ExampleLaws
+pub mod Flowing

@@ -1,15 +1,19 @@
 -- The requests that the core of a job knows by its events, and those of the journal, agree.
-use Rattle.std.specs.Prelude.{◌≡◌, ℕ, ◌<◌, ◌≤◌, List, [], ◌∷◌, length, option_map, slice_get, IsSomeAnd, None, Some}
+use Rattle.std.specs.Prelude.{◌≡◌, ℕ, ◌<◌, ◌≤◌, ◌&&◌, List, [], ◌∷◌, length, Bool, true, false, not, option_map, slice_get, IsSomeAnd, None, Some}
+use Rattle.std.specs.List.{list_all}
 use Rattle.world.specs.declared.chan.Chan.{Chan}
 use Rattle.world.specs.declared.entry.Entry.{Entry}
 use Rattle.cell_core.specs.declared.event.Event.{Event}
 use Rattle.cell_core.specs.declared.event.Event.TheVariants as event
 use Rattle.cell_core.specs.Events as events
+use Rattle.cell_core.specs.Acts.{has_stopped, heard}
 use Rattle.cell_core.specs.Requests as core
 use Rattle.run_journal.specs.Job.{Job}
 use Rattle.run_journal.specs.Parts.{bytes_got, acked}
 use Rattle.run_journal.specs.Arrivals.{is_ready}
 use Rattle.run_journal.specs.Requests.{Request, has_idle, reply, requests}
+use Rattle.run_journal.specs.Due.{all_along}
+use Rattle.run_journal.specs.Course.{course}
 
 -- What the core was told since request k came to stand is what came for it: whether its idle did, and whether its reply did
 -- and is fatal.
@@ -40,3 +44,19 @@ told_on (e ∷ es) told = told_on es (e ∷ told)
 -- no byte comes by an entry
 abbrev pub BringsNothing : Job → Entry → List Entry → Type 0
 BringsNothing j entry past = (c : Chan) → bytes_got j c (entry ∷ past) ≡ bytes_got j c past
+
+-- the same as a test
+abbrev pub is_other : Event → Bool
+is_other (event.Moment ms) = true
+is_other event.Looked = true
+is_other event.Lost = true
+is_other event.Broken = true
+is_other _ = false
+
+-- by now the job hasn't stopped, and no acknowledgement, readiness, message or reply waits to be told
+abbrev pub is_told : Job → List Entry → Bool
+is_told j past = list_all is_other (course j past).held && not (has_stopped j.task (heard j.task (course j past).told))
+
+-- so at every moment
+abbrev pub Flows : Job → List Entry → Type 0
+Flows j past = all_along (is_told j) past ≡ true

@@ -8,7 +8,7 @@ use Rattle.world.specs.declared.did.Did.TheVariants as did
 use Rattle.world.specs.declared.entry.Entry.{Entry}
 use Rattle.world.specs.declared.entry.Entry.TheVariants as made
 use Rattle.world.specs.Places.{is_at, is_read, is_write, time}
-use Rattle.world.specs.Waits.{has_wait, before_wait, to_wait, since_wait}
+use Rattle.world.specs.Waits.{is_after_wait, has_wait, before_wait, to_wait, since_wait}
 use Rattle.kernel_talk.specs.Asking.{next_ask}
 use Rattle.kernel_talk.specs.Pinging.{next_ping}
 use Rattle.cell_core.specs.Deadlines.{interrupt_ms, idle_ms}
@@ -177,7 +177,7 @@ keeps_up jobs _ = true
 -- the clock is read directly after a done wait at which no last look is called for, and after the first wait only there
 abbrev pub reads_clock : List Job → List Entry → Bool
 reads_clock jobs (made.Moment ms ∷ made.Waited limit reports did.Done ∷ past) = not (is_look_due jobs past)
-reads_clock jobs (made.Moment ms ∷ past) = not (has_wait past)
+reads_clock jobs (made.Moment ms ∷ past) = not (has_wait past) || is_after_wait past
 reads_clock jobs (entry ∷ made.Waited limit reports did.Done ∷ past) = is_look_due jobs past
 reads_clock jobs _ = true
 
@@ -189,11 +189,13 @@ looks_once jobs (made.Waited ms reports did ∷ past) =
     (list_all (λ j. implies (is_running j past) (count_by (is_look j) (since_wait past) == 1)) jobs)
 looks_once jobs _ = true
 
--- before a wait no connection of a running job is left refused that may be begun again, and what is due was offered
+-- before a wait each refused connection of a running job that may be begun again was tried since the wait before it, and what
+-- is due was offered
 abbrev pub begins_again : List Job → List Entry → Bool
 begins_again jobs (made.Waited ms reports did ∷ past) =
     each_connection jobs (λ j c. implies (is_running j past)
-    (not (may_begin_again j past (connection j c past).refused) && implies (has_due past j c) (list_any (is_write (place j c)) (since_wait past))))
+    (implies (may_begin_again j past (connection j c past).refused) (list_any (is_connect j c) (since_wait past))
+    && implies (has_due past j c) (list_any (is_write (place j c)) (since_wait past))))
 begins_again jobs _ = true
 
 -- a connection is begun again only where it is refused and may be

@@ -20,3 +20,4 @@ pub mod Decoding
 pub mod Literal
 pub mod Order
 pub mod Agreement
+pub mod Asked

@@ -1,8 +1,10 @@
 //! What holds of every journal, each law the contract of a function without a body.
 
 pub mod agreement;
+pub mod asked;
 pub mod growth;
 pub mod isolation;
 pub mod order;
 pub mod reading;
 pub mod safety;
+pub mod turns;

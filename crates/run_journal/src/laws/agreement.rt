@@ -12,8 +12,8 @@ ghost use Rattle.run_journal.specs.Job.{Job};
 ghost use Rattle.run_journal.specs.Parts.{is_acknowledging};
 ghost use Rattle.run_journal.specs.Arrivals.{is_ready};
 ghost use Rattle.run_journal.specs.Requests.{Request, requests, last_request, is_passed};
-ghost use Rattle.run_journal.specs.Course.{came_for};
-ghost use Rattle.run_journal.specs.Agreement.{Agrees, BringsNothing, IsOther, told_on};
+ghost use Rattle.run_journal.specs.Course.{came_for, course};
+ghost use Rattle.run_journal.specs.Agreement.{Agrees, BringsNothing, Flows, IsOther, told_on};
 
 /// Before anything is told and before any entry they agree.
 pub fn agree_at_first()
@@ -65,4 +65,10 @@ pub fn passed_requests_agree()
     ensures { (j : Job) (told : List Event) (past : List Entry) (k : ℕ) (r : Request) →
         Agrees j told past → slice_get (requests j past) k ≡ Some r →
         core.is_passed_in (core.after j.task k told) ≡ is_passed j k r }
+{}
+
+/// What the core is told over a journal agrees with it, as long as the job hasn't stopped and no
+/// acknowledgement, readiness, message or reply waits to be told.
+pub fn courses_agree()
+    ensures { (j : Job) (past : List Entry) → Flows j past → Agrees j (course j past).told past }
 {}
