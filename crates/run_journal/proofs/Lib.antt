@@ -25,3 +25,4 @@ pub mod AskedLemmas
 pub mod Turns
 pub mod ExampleLaws
 pub mod Flowing
+pub mod Asking
