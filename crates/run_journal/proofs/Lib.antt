@@ -26,3 +26,5 @@ pub mod Turns
 pub mod ExampleLaws
 pub mod Flowing
 pub mod Asking
+pub mod ExampleEnds
+pub mod ExampleJupyter
