@@ -146,7 +146,7 @@ told_all xs rs hs cs os e o c = by (cuts xs rs (hs ++ cs) os (e ∙ sym (append_
 -- ---- what is told
 
 -- the job has stopped, or what was told is a front of what was to be told, and the rest waits
-data Tells (j : Job) (told to_tell : List Event) (c : Course) : Type 0 where
+pub data Tells (j : Job) (told to_tell : List Event) (c : Course) : Type 0 where
   stopped : has_stopped j.task (heard j.task c.told) ≡ true → Tells j told to_tell c
   front : (xs : List Event) → xs ++ c.held ≡ to_tell → c.told ≡ told_on xs told → Tells j told to_tell c
 
@@ -154,7 +154,7 @@ tells_more : (j : Job) (e : Event) (told es : List Event) (c : Course) → Tells
 tells_more j e told es c (stopped h) = stopped h
 tells_more j e told es c (front xs f g) = front (e ∷ xs) (ap (λ v. e ∷ v) f) g
 
-tell_front : (j : Job) (told late es : List Event) → Tells j told es (tell j told late es)
+pub tell_front : (j : Job) (told late es : List Event) → Tells j told es (tell j told late es)
 tell_front j told late [] = front [] refl refl
 tell_front j told late (e ∷ es) =
     cond_both (has_stopped j.task (heard j.task told)) (record { told = told; held = []; late = [] })
@@ -185,7 +185,7 @@ late_other j (entry ∷ past) =
 -- ---- what an entry gives
 
 -- what it gives besides messages and readiness
-abbrev rest_at : Job → Entry → List Entry → List Event → List Event
+abbrev pub rest_at : Job → Entry → List Entry → List Event → List Event
 rest_at j entry past late =
     when_so (is_broken j (entry ∷ past) && not (is_broken j past)) event.Broken
     ++ begins_at j entry past
@@ -194,7 +194,7 @@ rest_at j entry past late =
     ++ (if ends_look j entry past then event.Looked ∷ late ++ when_so (is_late j entry past) event.Lost else [])
 
 -- messages and readiness
-abbrev core_at : Job → Entry → List Entry → List Event
+abbrev pub core_at : Job → Entry → List Entry → List Event
 core_at j entry past = came_for j (last_request 0 (requests j past)) entry past ++ when_so (is_ready j (entry ∷ past) && not (is_ready j past)) event.Ready
 
 five : (cs as_ bs ds es fs : List Event) → cs ++ as_ ++ bs ++ ds ++ es ++ fs ≡ cs ++ (as_ ++ bs ++ ds ++ es ++ fs)
@@ -202,7 +202,7 @@ five [] as_ bs ds es fs = refl
 five (c ∷ cs) as_ bs ds es fs = ap (λ v. c ∷ v) (five cs as_ bs ds es fs)
 
 -- all that it gives
-events_are : (j : Job) (entry : Entry) (past : List Entry) (late : List Event) → events_at j entry past late ≡ core_at j entry past ++ rest_at j entry past late
+pub events_are : (j : Job) (entry : Entry) (past : List Entry) (late : List Event) → events_at j entry past late ≡ core_at j entry past ++ rest_at j entry past late
 events_are j entry past late = five (core_at j entry past) _ _ _ _ _
 
 clock_other : (o : Option ℕ) → AreOther (clock_event o)
@@ -251,7 +251,7 @@ core_are j entry past =
 
 -- ---- one entry
 
-not_both : (b : Bool) → b ≡ true → b ≡ false → ⊥
+pub not_both : (b : Bool) → b ≡ true → b ≡ false → ⊥
 not_both true e f = cc
 not_both false e f = cc
 
@@ -352,7 +352,7 @@ held_other j [] e = tt
 held_other j (entry ∷ past) e =
     others_are (course j (entry ∷ past)).held (and_parts (list_all is_other (course j (entry ∷ past)).held) _ (and_parts (is_told j (entry ∷ past)) (all_along (is_told j) past) e).0).0
 
-not_false : (b : Bool) → not b ≡ true → b ≡ false
+pub not_false : (b : Bool) → not b ≡ true → b ≡ false
 not_false true e = cc
 not_false false e = refl
 

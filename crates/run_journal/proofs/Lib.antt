@@ -28,3 +28,4 @@ pub mod Flowing
 pub mod Asking
 pub mod ExampleEnds
 pub mod ExampleJupyter
+pub mod Telling

@@ -1,8 +1,10 @@
 -- The requests that the core of a job knows by its events, and those of the journal, agree.
-use Rattle.std.specs.Prelude.{◌≡◌, ℕ, ◌<◌, ◌≤◌, ◌&&◌, List, [], ◌∷◌, length, Bool, true, false, not, option_map, slice_get, IsSomeAnd, None, Some}
+use Rattle.std.specs.Prelude.{◌≡◌, ℕ, ◌<◌, ◌≤◌, ◌&&◌, List, [], ◌∷◌, length, Bool, true, false, not, Option, option_map, slice_get, IsSomeAnd, None, Some, if◌then◌else◌}
 use Rattle.std.specs.List.{list_all}
 use Rattle.world.specs.declared.chan.Chan.{Chan}
 use Rattle.world.specs.declared.entry.Entry.{Entry}
+use Rattle.cell_core.specs.declared.why.Why.{Why}
+use Rattle.cell_core.specs.declared.why.Why.TheVariants as cause
 use Rattle.cell_core.specs.declared.event.Event.{Event}
 use Rattle.cell_core.specs.declared.event.Event.TheVariants as event
 use Rattle.cell_core.specs.Events as events
@@ -13,6 +15,7 @@ use Rattle.run_journal.specs.Parts.{bytes_got, acked}
 use Rattle.run_journal.specs.Arrivals.{is_ready}
 use Rattle.run_journal.specs.Requests.{Request, has_idle, reply, requests}
 use Rattle.run_journal.specs.Due.{all_along}
+use Rattle.run_journal.specs.Order.{begins_unread}
 use Rattle.run_journal.specs.Course.{course}
 
 -- What the core was told since request k came to stand is what came for it: whether its idle did, and whether its reply did
@@ -60,3 +63,19 @@ is_told j past = list_all is_other (course j past).held && not (has_stopped j.ta
 -- so at every moment
 abbrev pub Flows : Job → List Entry → Type 0
 Flows j past = all_along (is_told j) past ≡ true
+
+-- a cause that needs neither the clock nor a look: an executed plan, a fatal reply or a broken stream
+abbrev pub is_at_once : Why → Bool
+is_at_once cause.Done = true
+is_at_once cause.CellError = true
+is_at_once cause.BadPeer = true
+is_at_once _ = false
+
+-- such a cause, where there is one
+abbrev pub at_once : Option Why → Option Why
+at_once None = None
+at_once (Some why) = if is_at_once why then Some why else None
+
+-- no connection of the job was begun again after bytes were got on it
+abbrev pub BeginsUnread : Job → List Entry → Type 0
+BeginsUnread j past = (c : Chan) → all_along (begins_unread j c) past ≡ true
