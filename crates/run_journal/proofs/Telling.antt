@@ -1,9 +1,9 @@
 -- Broken streams and losses are told, and what stops a job at once stops its core.
-use Rattle.std.proofs.Common.{◌≡◌, ℕ, ◌<◌, List, [], ◌∷◌, ◌++◌, length, Bool, true, false, ◌&&◌, ◌||◌, not, cond, Option, Some, None, refl, sym, ◌∙◌, ap}
+use Rattle.std.proofs.Common.{◌≡◌, ◌⊎◌, inl, inr, ℕ, ◌<◌, List, [], ◌∷◌, ◌++◌, length, Bool, true, false, ◌&&◌, ◌||◌, not, cond, Option, Some, None, refl, sym, ◌∙◌, ap}
 use Rattle.std.specs.Prelude.{is_some, option_map, if◌then◌else◌}
-use Rattle.std.specs.List.{list_any}
+use Rattle.std.specs.List.{list_any, list_all}
 use Rattle.std.proofs.Math.Bool.{or-false}
-use Rattle.std.proofs.lemmas.Bool.{and_parts, cond_both}
+use Rattle.std.proofs.lemmas.Bool.{and_parts, cond-true, cond_both, cases_Bool}
 use Rattle.world.specs.declared.chan.Chan.{Chan}
 use Rattle.world.specs.declared.chan.Chan.TheVariants.{Shell, Control, Iopub, Heart}
 use Rattle.world.specs.declared.entry.Entry.{Entry}
@@ -14,7 +14,7 @@ use Rattle.cell_core.specs.declared.event.Event.{Event}
 use Rattle.cell_core.specs.declared.event.Event.TheVariants as event
 use Rattle.cell_core.specs.declared.why.Why.{Why}
 use Rattle.cell_core.specs.declared.why.Why.TheVariants as cause
-use Rattle.cell_core.specs.Acts.{awaits_saved, has_stopped, heard}
+use Rattle.cell_core.specs.Acts.{has_stopped, heard}
 use Rattle.cell_core.specs.Events as events
 use Rattle.cell_core.specs.Requests as core
 use Rattle.cell_core.specs.Saves as core_saves
@@ -27,10 +27,10 @@ use Rattle.run_journal.specs.Decoding.{IsDecoding}
 use Rattle.run_journal.specs.Due.{all_along}
 use Rattle.run_journal.specs.Order.{begins_unread}
 use Rattle.run_journal.specs.Course.{came_for, begins_at, clock_event, when_so, in_look, ends_look, is_late, events_at, Course, tell, late_then, told_saved, course}
-use Rattle.run_journal.specs.Agreement.{Agrees, told_on, is_told, Flows, at_once, BeginsUnread}
+use Rattle.run_journal.specs.Agreement.{Agrees, told_on, is_of_looks, Flows, at_once, BeginsUnread}
 use Rattle.run_journal.proofs.Ordering.{bytes_more}
 use Rattle.run_journal.proofs.Hearing.{IsComing, io, replied, AreComing, coming_for}
-use Rattle.run_journal.proofs.Flowing.{Tells, stopped, front, tell_front, rest_at, core_at, events_are, not_both, not_false, course_agrees}
+use Rattle.run_journal.proofs.Flowing.{Tells, front, tell_by, tell_front, rest_at, core_at, events_are, not_both, told_parts, course_agrees}
 use Rattle.run_journal.proofs.Asking.{done_same, error_same}
 
 -- ---- whether an event is among others
@@ -67,30 +67,35 @@ module _ (t : Event → Bool) where
   came_saved true told e = ap (λ b. b || events.came t told) e
   came_saved false told e = refl
 
-  -- told or waiting after an entry are those before it and what the entry gives
-  among_front : (told held es : List Event) (c : Course) (xs : List Event) → xs ++ c.held ≡ held ++ es → c.told ≡ told_on xs told
+  -- where none of them came after the stop, told or waiting after an entry are those before it and what the entry gives
+  among_front : (told held es : List Event) (c : Course) (xs : List Event) → events.came t c.unheard ≡ false → xs ++ (c.held ++ c.unheard) ≡ held ++ es → c.told ≡ told_on xs told
       → is_among c ≡ ((events.came t told || events.came t held) || events.came t es)
-  among_front told held es c xs f g =
+  among_front told held es c xs none f g =
       ap (λ v. events.came t v || events.came t c.held) g
       ∙ ap (λ b. b || events.came t c.held) (came_on xs told)
       ∙ sym (or_swap (events.came t xs) (events.came t told) (events.came t c.held))
-      ∙ ap (λ b. events.came t told || b) (sym (came_append xs c.held) ∙ ap (events.came t) f ∙ came_append held es)
+      ∙ ap (λ b. events.came t told || (events.came t xs || b)) (sym (add_none c.held c.unheard (events.came t c.held) refl none))
+      ∙ ap (λ b. events.came t told || b) (sym (came_append xs (c.held ++ c.unheard)) ∙ ap (events.came t) f ∙ came_append held es)
       ∙ or_join (events.came t told) (events.came t held) (events.came t es)
 
   module _ (j : Job) (entry : Entry) (past : List Entry) where
-    among_next : t event.Saved ≡ false → has_stopped j.task (heard j.task (course j (entry ∷ past)).told) ≡ false
+    among_next : t event.Saved ≡ false → events.came t (course j (entry ∷ past)).unheard ≡ false
         → is_among (course j (entry ∷ past)) ≡ (is_among (course j past) || events.came t (events_at j entry past (course j past).late))
-    among_next e going = by (tell_front j (told_saved j entry past c.told) (late_then j entry past c.late) (c.held ++ events_at j entry past c.late))
+    among_next e none = by (tell_front j (told_saved j entry past c.told) (late_then j entry past c.late) (c.held ++ events_at j entry past c.late))
       where
         c : Course
         c = course j past
 
         by : Tells j (told_saved j entry past c.told) (c.held ++ events_at j entry past c.late) (course j (entry ∷ past))
             → is_among (course j (entry ∷ past)) ≡ (is_among c || events.came t (events_at j entry past c.late))
-        by (stopped h) = absurd (not_both (has_stopped j.task (heard j.task (course j (entry ∷ past)).told)) h going)
         by (front xs f g) =
-            among_front (told_saved j entry past c.told) c.held (events_at j entry past c.late) (course j (entry ∷ past)) xs f g
+            among_front (told_saved j entry past c.told) c.held (events_at j entry past c.late) (course j (entry ∷ past)) xs none f g
             ∙ ap (λ b. (b || events.came t c.held) || events.came t (events_at j entry past c.late)) (came_saved (is_acknowledging j (entry ∷ past)) c.told e)
+
+  -- none waits for a look where none did
+  none_late : (j : Job) (told late es : List Event) → events.came t late ≡ false → events.came t (tell j told late es).late ≡ false
+  none_late j told late [] e = e
+  none_late j told late (x ∷ es) e = tell_by (λ c. events.came t c.late ≡ false) j told late x es (λ h. refl) e (none_late j (x ∷ told) late es e)
 
   -- ---- what an entry gives
 
@@ -125,39 +130,70 @@ module _ (t : Event → Bool) where
   none_core j entry past f g h =
       none_then (came_for j (last_request 0 (requests j past)) entry past) _ false (none_coming _ f g (coming_for j (last_request 0 (requests j past)) entry past)) (none_when _ event.Ready h)
 
--- ---- what waits for a look
+-- ---- while the job hasn't stopped
 
 late_is : (j : Job) (told late es : List Event) → has_stopped j.task (heard j.task (tell j told late es).told) ≡ false → (tell j told late es).late ≡ late
 late_is j told late [] h = refl
 late_is j told late (e ∷ es) h =
-    cond_both (has_stopped j.task (heard j.task told)) (record { told = told; held = []; late = [] })
-    (cond (awaits_saved j.task told) (record { told = told; held = e ∷ es; late = late }) (tell j (e ∷ told) late es))
-    (λ (c : Course). has_stopped j.task (heard j.task c.told) ≡ false → c.late ≡ late)
-    (λ h k. absurd (not_both (has_stopped j.task (heard j.task told)) h k))
-    (λ h. cond_both (awaits_saved j.task told) (record { told = told; held = e ∷ es; late = late }) (tell j (e ∷ told) late es)
-    (λ (c : Course). has_stopped j.task (heard j.task c.told) ≡ false → c.late ≡ late)
-    (λ k g. refl)
-    (λ k. late_is j (e ∷ told) late es)) h
+    tell_by (λ c. has_stopped j.task (heard j.task c.told) ≡ false → c.late ≡ late) j told late e es
+    (λ h k. absurd (not_both (has_stopped j.task (heard j.task told)) h k)) (λ k. refl) (late_is j (e ∷ told) late es) h
 
--- what hasn't stopped at a moment of a course that flows
-going : (j : Job) (entry : Entry) (past : List Entry) → Flows j (entry ∷ past) → (has_stopped j.task (heard j.task (course j (entry ∷ past)).told) ≡ false) × Flows j past
-going j entry past e =
-    let p = and_parts (is_told j (entry ∷ past)) (all_along (is_told j) past) e in
-    (not_false _ (and_parts _ (not (has_stopped j.task (heard j.task (course j (entry ∷ past)).told))) p.0).1, p.1)
+unheard_is : (j : Job) (told late es : List Event) → has_stopped j.task (heard j.task (tell j told late es).told) ≡ false → (tell j told late es).unheard ≡ []
+unheard_is j told late [] h = refl
+unheard_is j told late (e ∷ es) h =
+    tell_by (λ c. has_stopped j.task (heard j.task c.told) ≡ false → c.unheard ≡ []) j told late e es
+    (λ h k. absurd (not_both (has_stopped j.task (heard j.task told)) h k)) (λ k. refl) (unheard_is j (e ∷ told) late es) h
 
--- after an entry, what waits for a look
-late_now : (j : Job) (entry : Entry) (past : List Entry) → Flows j (entry ∷ past) → (course j (entry ∷ past)).late ≡ late_then j entry past (course j past).late
-late_now j entry past e = late_is j _ (late_then j entry past (course j past).late) _ (going j entry past e).0
+-- once stopped, it stays so
+stopped_on : (j : Job) (xs told : List Event) → has_stopped j.task (heard j.task told) ≡ true → has_stopped j.task (heard j.task (told_on xs told)) ≡ true
+stopped_on j [] told e = e
+stopped_on j (x ∷ xs) told e =
+    stopped_on j xs (x ∷ told)
+    (ap (has_stopped j.task) (cond-true (has_stopped j.task (heard j.task told)) (heard j.task told) (x ∷ heard j.task told) e) ∙ e)
+
+-- what hasn't stopped now hadn't before
+going : (j : Job) (entry : Entry) (past : List Entry) → has_stopped j.task (heard j.task (course j (entry ∷ past)).told) ≡ false
+    → has_stopped j.task (heard j.task (course j past).told) ≡ false
+going j entry past e = by (cases_Bool (has_stopped j.task (heard j.task c.told))) (tell_front j (told_saved j entry past c.told) (late_then j entry past c.late) (c.held ++ events_at j entry past c.late))
+  where
+    c : Course
+    c = course j past
+
+    saved_on : (acks : Bool) → has_stopped j.task (heard j.task c.told) ≡ true → has_stopped j.task (heard j.task (cond acks (event.Saved ∷ c.told) c.told)) ≡ true
+    saved_on true h = stopped_on j (event.Saved ∷ []) c.told h
+    saved_on false h = h
+
+    by : (has_stopped j.task (heard j.task c.told) ≡ true) ⊎ (has_stopped j.task (heard j.task c.told) ≡ false)
+        → Tells j (told_saved j entry past c.told) (c.held ++ events_at j entry past c.late) (course j (entry ∷ past)) → has_stopped j.task (heard j.task c.told) ≡ false
+    by (inr h) t = h
+    by (inl h) (front xs f g) =
+        absurd (not_both (has_stopped j.task (heard j.task (course j (entry ∷ past)).told))
+        (ap (λ v. has_stopped j.task (heard j.task v)) g ∙ stopped_on j xs (told_saved j entry past c.told) (saved_on (is_acknowledging j (entry ∷ past)) h)) e)
 
 -- ---- broken streams
 
--- no broken stream waits for a look
-late_unbroken : (j : Job) (past : List Entry) → Flows j past → events.came events.is_broken (course j past).late ≡ false
-late_unbroken j [] e = refl
-late_unbroken j (entry ∷ past) e =
-    ap (events.came events.is_broken) (late_now j entry past e)
-    ∙ cond_both (ends_look j entry past) [] ((course j past).late ++ when_so (is_late j entry past) event.Lost) (λ es. events.came events.is_broken es ≡ false) (λ h. refl)
-    (λ h. add_none events.is_broken (course j past).late _ false (late_unbroken j past (going j entry past e).1) (none_when events.is_broken (is_late j entry past) event.Lost refl))
+-- none came after the stop
+all_broken_heard : (es : List Event) → list_all is_of_looks es ≡ true → events.came events.is_broken es ≡ false
+all_broken_heard [] e = refl
+all_broken_heard (x ∷ es) e = let p = and_parts (is_of_looks x) (list_all is_of_looks es) e in ap (λ b. b || events.came events.is_broken es) (by x p.0) ∙ all_broken_heard es p.1
+  where
+    by : (x : Event) → is_of_looks x ≡ true → events.is_broken x ≡ false
+    by (event.Moment ms) h = refl
+    by event.Looked h = refl
+    by event.Lost h = refl
+    by event.Broken h = cc
+    by event.Saved h = refl
+    by event.Ready h = refl
+    by (event.Io b) h = refl
+    by (event.Reply f) h = refl
+
+-- and none waits for a look
+late_unbroken : (j : Job) (past : List Entry) → events.came events.is_broken (course j past).late ≡ false
+late_unbroken j [] = refl
+late_unbroken j (entry ∷ past) =
+    none_late events.is_broken j _ (late_then j entry past (course j past).late) _
+    (cond_both (ends_look j entry past) [] ((course j past).late ++ when_so (is_late j entry past) event.Lost) (λ es. events.came events.is_broken es ≡ false) (λ h. refl)
+    (λ h. add_none events.is_broken (course j past).late _ false (late_unbroken j past) (none_when events.is_broken (is_late j entry past) event.Lost refl)))
 
 broken_when : (b : Bool) → events.came events.is_broken (when_so b event.Broken) ≡ b
 broken_when true = refl
@@ -223,11 +259,11 @@ unread_before j entry past u =
 among_broken : (j : Job) → IsDecoding j.codec → (past : List Entry) → BeginsUnread j past → Flows j past → is_among events.is_broken (course j past) ≡ is_broken j past
 among_broken j d [] u e = sym (unbroken_first j d)
 among_broken j d (entry ∷ past) u e =
-    let g = going j entry past e in
+    let p = told_parts j entry past e in
     let v = unread_before j entry past u in
-    among_next events.is_broken j entry past refl g.0
-    ∙ ap (λ b. is_among events.is_broken (course j past) || b) (gives_broken j entry past (course j past).late (late_unbroken j past g.1))
-    ∙ ap (λ b. b || (is_broken j (entry ∷ past) && not (is_broken j past))) (among_broken j d past v.1 g.1)
+    among_next events.is_broken j entry past refl (all_broken_heard (course j (entry ∷ past)).unheard p.1)
+    ∙ ap (λ b. is_among events.is_broken (course j past) || b) (gives_broken j entry past (course j past).late (late_unbroken j past))
+    ∙ ap (λ b. b || (is_broken j (entry ∷ past) && not (is_broken j past))) (among_broken j d past v.1 p.2)
     ∙ broken_or (is_broken j past) (is_broken j (entry ∷ past)) (stays_broken j d entry past v.0)
 
 -- where nothing waits for a save, the core knows of a broken stream exactly where a stream is broken
@@ -306,22 +342,25 @@ losses_join false false false i n true = refl
 losses_join false false false i n false = refl
 
 -- a loss was told, or waits for a save or a look, exactly where an entry showed one
-among_lost : (j : Job) (past : List Entry) → Flows j past → (is_among is_loss (course j past) || events.came is_loss (course j past).late) ≡ ever (shows_lost j) past
+among_lost : (j : Job) (past : List Entry) → has_stopped j.task (heard j.task (course j past).told) ≡ false
+    → (is_among is_loss (course j past) || events.came is_loss (course j past).late) ≡ ever (shows_lost j) past
 among_lost j [] e = refl
 among_lost j (entry ∷ past) e =
-    let g = going j entry past e in
     let c : Course = course j past in
     let l : Bool = is_late j entry past in
     let given : Bool = (shows_lost j (entry ∷ past) && not l) || cond (ends_look j entry past) (events.came is_loss c.late || l) false in
-    ap (λ b. b || events.came is_loss (course j (entry ∷ past)).late) (among_next is_loss j entry past refl g.0)
-    ∙ ap (λ es. (is_among is_loss c || events.came is_loss (events_at j entry past c.late)) || events.came is_loss es) (late_now j entry past e)
+    let unheard = unheard_is j (told_saved j entry past c.told) (late_then j entry past c.late) (c.held ++ events_at j entry past c.late) e in
+    let late = late_is j (told_saved j entry past c.told) (late_then j entry past c.late) (c.held ++ events_at j entry past c.late) e in
+    ap (λ b. b || events.came is_loss (course j (entry ∷ past)).late) (among_next is_loss j entry past refl (ap (events.came is_loss) unheard))
+    ∙ ap (λ es. (is_among is_loss c || events.came is_loss (events_at j entry past c.late)) || events.came is_loss es) late
     ∙ ap (λ b. (is_among is_loss c || b) || events.came is_loss (late_then j entry past c.late)) (gives_lost j entry past c.late)
     ∙ ap (λ b. (is_among is_loss c || given) || b) (then_lost (ends_look j entry past) l c.late)
     ∙ losses_join (is_among is_loss c) (events.came is_loss c.late) (shows_lost j (entry ∷ past)) (in_look j past) (not (looked j past)) (ends_look j entry past)
-    ∙ ap (λ b. shows_lost j (entry ∷ past) || b) (among_lost j past g.1)
+    ∙ ap (λ b. shows_lost j (entry ∷ past) || b) (among_lost j past (going j entry past e))
 
 -- where nothing waits, the core knows of a loss exactly where an entry showed one
-pub lost_told : (j : Job) (past : List Entry) → Flows j past → (course j past).held ≡ [] → (course j past).late ≡ [] → events.held events.is_lost (course j past).told ≡ ever (shows_lost j) past
+pub lost_told : (j : Job) (past : List Entry) → has_stopped j.task (heard j.task (course j past).told) ≡ false → (course j past).held ≡ [] → (course j past).late ≡ []
+    → events.held events.is_lost (course j past).told ≡ ever (shows_lost j) past
 lost_told j past e none on_time =
     let c : Course = course j past in
     loss_is c.told

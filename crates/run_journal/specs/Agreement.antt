@@ -1,5 +1,5 @@
 -- The requests that the core of a job knows by its events, and those of the journal, agree.
-use Rattle.std.specs.Prelude.{◌≡◌, ℕ, ◌<◌, ◌≤◌, ◌&&◌, List, [], ◌∷◌, length, Bool, true, false, not, Option, option_map, slice_get, IsSomeAnd, None, Some, if◌then◌else◌}
+use Rattle.std.specs.Prelude.{◌≡◌, ℕ, ◌<◌, ◌≤◌, ◌&&◌, List, [], ◌∷◌, length, Bool, true, false, Option, option_map, slice_get, IsSomeAnd, None, Some, if◌then◌else◌}
 use Rattle.std.specs.List.{list_all}
 use Rattle.world.specs.declared.chan.Chan.{Chan}
 use Rattle.world.specs.declared.entry.Entry.{Entry}
@@ -8,7 +8,6 @@ use Rattle.cell_core.specs.declared.why.Why.TheVariants as cause
 use Rattle.cell_core.specs.declared.event.Event.{Event}
 use Rattle.cell_core.specs.declared.event.Event.TheVariants as event
 use Rattle.cell_core.specs.Events as events
-use Rattle.cell_core.specs.Acts.{has_stopped, heard}
 use Rattle.cell_core.specs.Requests as core
 use Rattle.run_journal.specs.Job.{Job}
 use Rattle.run_journal.specs.Parts.{bytes_got, acked}
@@ -56,9 +55,16 @@ is_other event.Lost = true
 is_other event.Broken = true
 is_other _ = false
 
--- by now the job hasn't stopped, and no acknowledgement, readiness, message or reply waits to be told
+-- an event of the clock, a look or a loss
+abbrev pub is_of_looks : Event → Bool
+is_of_looks (event.Moment ms) = true
+is_of_looks event.Looked = true
+is_of_looks event.Lost = true
+is_of_looks _ = false
+
+-- only events of the clock, looks, losses and broken streams wait to be told, and only the first three came after the stop
 abbrev pub is_told : Job → List Entry → Bool
-is_told j past = list_all is_other (course j past).held && not (has_stopped j.task (heard j.task (course j past).told))
+is_told j past = list_all is_other (course j past).held && list_all is_of_looks (course j past).unheard
 
 -- so at every moment
 abbrev pub Flows : Job → List Entry → Type 0

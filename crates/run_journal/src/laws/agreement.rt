@@ -71,8 +71,8 @@ pub fn passed_requests_agree()
         core.is_passed_in (core.after j.task k told) ≡ is_passed j k r }
 {}
 
-/// What the core is told over a journal agrees with it, as long as the job hasn't stopped and no
-/// acknowledgement, readiness, message or reply waits to be told.
+/// What the core is told over a journal agrees with it, as long as no readiness, message or reply
+/// waits to be told or comes after the stop.
 pub fn courses_agree()
     ensures { (j : Job) (past : List Entry) → Flows j past → Agrees j (course j past).told past }
 {}

@@ -1,8 +1,7 @@
-//! What stops a job at once stops its core, and what shows in a look is told. The journal's course
-//! flows: by no moment the job has stopped, or an acknowledgement, readiness, a message or a reply
-//! waits to be told.
-ghost use Rattle.std.specs.Prelude.{◌≡◌, ◌<◌, List, [], length};
+//! What stops a job at once stops its core, and broken streams and losses are told.
+ghost use Rattle.std.specs.Prelude.{◌≡◌, ◌<◌, false, List, [], length};
 ghost use Rattle.world.specs.declared.entry.Entry.{Entry};
+ghost use Rattle.cell_core.specs.Acts.{has_stopped, heard};
 ghost use Rattle.cell_core.specs.Events as events;
 ghost use Rattle.cell_core.specs.Saves as core_saves;
 ghost use Rattle.run_journal.specs.Job.{Job};
@@ -20,11 +19,12 @@ pub fn broken_streams_are_told()
         events.came events.is_broken (course j past).told ≡ is_broken j past }
 {}
 
-/// Where nothing waits for a save or a look, the core knows of a loss exactly where an entry has
-/// shown one.
+/// While a job hasn't stopped, and where nothing waits for a save or a look, the core knows of a
+/// loss exactly where an entry has shown one.
 pub fn losses_are_told()
-    ensures { (j : Job) (past : List Entry) → Flows j past → (course j past).held ≡ [] →
-        (course j past).late ≡ [] →
+    ensures { (j : Job) (past : List Entry) →
+        has_stopped j.task (heard j.task (course j past).told) ≡ false →
+        (course j past).held ≡ [] → (course j past).late ≡ [] →
         events.held events.is_lost (course j past).told ≡ ever (shows_lost j) past }
 {}
 
