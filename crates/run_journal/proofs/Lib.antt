@@ -29,3 +29,4 @@ pub mod Asking
 pub mod ExampleEnds
 pub mod ExampleJupyter
 pub mod Telling
+pub mod Finding

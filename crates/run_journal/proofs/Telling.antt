@@ -35,35 +35,35 @@ use Rattle.run_journal.proofs.Asking.{done_same, error_same}
 
 -- ---- whether an event is among others
 
-or_swap : (a b c : Bool) → (b || (a || c)) ≡ ((a || b) || c)
+pub or_swap : (a b c : Bool) → (b || (a || c)) ≡ ((a || b) || c)
 or_swap true true c = refl
 or_swap true false c = refl
 or_swap false b c = refl
 
-or_join : (a b c : Bool) → (a || (b || c)) ≡ ((a || b) || c)
+pub or_join : (a b c : Bool) → (a || (b || c)) ≡ ((a || b) || c)
 or_join true b c = refl
 or_join false b c = refl
 
 module _ (t : Event → Bool) where
-  came_append : (xs ys : List Event) → events.came t (xs ++ ys) ≡ (events.came t xs || events.came t ys)
+  pub came_append : (xs ys : List Event) → events.came t (xs ++ ys) ≡ (events.came t xs || events.came t ys)
   came_append [] ys = refl
   came_append (x ∷ xs) ys = ap (λ b. t x || b) (came_append xs ys) ∙ or_join (t x) (events.came t xs) (events.came t ys)
 
-  came_on : (xs told : List Event) → events.came t (told_on xs told) ≡ (events.came t xs || events.came t told)
+  pub came_on : (xs told : List Event) → events.came t (told_on xs told) ≡ (events.came t xs || events.came t told)
   came_on [] told = refl
   came_on (x ∷ xs) told = came_on xs (x ∷ told) ∙ or_swap (t x) (events.came t xs) (events.came t told)
 
-  add_none : (xs ys : List Event) (b : Bool) → events.came t xs ≡ b → events.came t ys ≡ false → events.came t (xs ++ ys) ≡ b
+  pub add_none : (xs ys : List Event) (b : Bool) → events.came t xs ≡ b → events.came t ys ≡ false → events.came t (xs ++ ys) ≡ b
   add_none xs ys b e f = came_append xs ys ∙ ap (λ v. events.came t xs || v) f ∙ or-false (events.came t xs) ∙ e
 
-  none_then : (xs ys : List Event) (b : Bool) → events.came t xs ≡ false → events.came t ys ≡ b → events.came t (xs ++ ys) ≡ b
+  pub none_then : (xs ys : List Event) (b : Bool) → events.came t xs ≡ false → events.came t ys ≡ b → events.came t (xs ++ ys) ≡ b
   none_then xs ys b e f = came_append xs ys ∙ ap (λ v. v || events.came t ys) e ∙ f
 
   -- such an event is among those that were told or wait for a save
-  abbrev is_among : Course → Bool
+  abbrev pub is_among : Course → Bool
   is_among c = events.came t c.told || events.came t c.held
 
-  came_saved : (acks : Bool) (told : List Event) → t event.Saved ≡ false → events.came t (cond acks (event.Saved ∷ told) told) ≡ events.came t told
+  pub came_saved : (acks : Bool) (told : List Event) → t event.Saved ≡ false → events.came t (cond acks (event.Saved ∷ told) told) ≡ events.came t told
   came_saved true told e = ap (λ b. b || events.came t told) e
   came_saved false told e = refl
 
@@ -93,7 +93,7 @@ module _ (t : Event → Bool) where
             ∙ ap (λ b. (b || events.came t c.held) || events.came t (events_at j entry past c.late)) (came_saved (is_acknowledging j (entry ∷ past)) c.told e)
 
   -- none waits for a look where none did
-  none_late : (j : Job) (told late es : List Event) → events.came t late ≡ false → events.came t (tell j told late es).late ≡ false
+  pub none_late : (j : Job) (told late es : List Event) → events.came t late ≡ false → events.came t (tell j told late es).late ≡ false
   none_late j told late [] e = e
   none_late j told late (x ∷ es) e = tell_by (λ c. events.came t c.late ≡ false) j told late x es (λ h. refl) e (none_late j (x ∷ told) late es e)
 
@@ -107,7 +107,7 @@ module _ (t : Event → Bool) where
   none_coming [] f g c = refl
   none_coming (e ∷ es) f g c = ap (λ b. b || events.came t es) (came_coming f g c.0) ∙ none_coming es f g c.1
 
-  none_when : (b : Bool) (e : Event) → t e ≡ false → events.came t (when_so b e) ≡ false
+  pub none_when : (b : Bool) (e : Event) → t e ≡ false → events.came t (when_so b e) ≡ false
   none_when true e h = ap (λ v. v || false) h
   none_when false e h = refl
 
@@ -115,17 +115,17 @@ module _ (t : Event → Bool) where
   none_clock None f = refl
   none_clock (Some ms) f = ap (λ v. v || false) (f ms)
 
-  none_begins : (j : Job) (entry : Entry) (past : List Entry) → ((ms : ℕ) → t (event.Moment ms) ≡ false) → events.came t (begins_at j entry past) ≡ false
+  pub none_begins : (j : Job) (entry : Entry) (past : List Entry) → ((ms : ℕ) → t (event.Moment ms) ≡ false) → events.came t (begins_at j entry past) ≡ false
   none_begins j (made.Ports job ports) past f =
       cond_both _ (event.Moment (time past) ∷ []) [] (λ es. events.came t es ≡ false) (λ e. ap (λ v. v || false) (f (time past))) (λ e. refl)
   none_begins j _ past f = refl
 
-  none_turn : (b : Bool) (o : Option ℕ) → ((ms : ℕ) → t (event.Moment ms) ≡ false) → events.came t (cond b (clock_event o) []) ≡ false
+  pub none_turn : (b : Bool) (o : Option ℕ) → ((ms : ℕ) → t (event.Moment ms) ≡ false) → events.came t (cond b (clock_event o) []) ≡ false
   none_turn true o f = none_clock o f
   none_turn false o f = refl
 
   -- messages and readiness are none of these
-  none_core : (j : Job) (entry : Entry) (past : List Entry) → ((b : Brief) → t (event.Io b) ≡ false) → ((f : Bool) → t (event.Reply f) ≡ false) → t event.Ready ≡ false
+  pub none_core : (j : Job) (entry : Entry) (past : List Entry) → ((b : Brief) → t (event.Io b) ≡ false) → ((f : Bool) → t (event.Reply f) ≡ false) → t event.Ready ≡ false
       → events.came t (core_at j entry past) ≡ false
   none_core j entry past f g h =
       none_then (came_for j (last_request 0 (requests j past)) entry past) _ false (none_coming _ f g (coming_for j (last_request 0 (requests j past)) entry past)) (none_when _ event.Ready h)
@@ -275,7 +275,7 @@ broken_told j d past u e none =
 
 -- ---- losses
 
-abbrev is_loss : Event → Bool
+abbrev pub is_loss : Event → Bool
 is_loss event.Lost = true
 is_loss event.Saved = false
 is_loss event.Ready = false
@@ -285,7 +285,7 @@ is_loss (event.Moment ms) = false
 is_loss event.Looked = false
 is_loss event.Broken = false
 
-loss_is : (es : List Event) → events.held events.is_lost es ≡ events.came is_loss es
+pub loss_is : (es : List Event) → events.held events.is_lost es ≡ events.came is_loss es
 loss_is [] = refl
 loss_is (event.Lost ∷ es) = refl
 loss_is (event.Saved ∷ es) = loss_is es
@@ -296,7 +296,7 @@ loss_is (event.Moment ms ∷ es) = loss_is es
 loss_is (event.Looked ∷ es) = loss_is es
 loss_is (event.Broken ∷ es) = loss_is es
 
-lost_when : (b : Bool) → events.came is_loss (when_so b event.Lost) ≡ b
+pub lost_when : (b : Bool) → events.came is_loss (when_so b event.Lost) ≡ b
 lost_when true = refl
 lost_when false = refl
 
@@ -310,7 +310,7 @@ then_lost : (b l : Bool) (late : List Event) → events.came is_loss (cond b [] 
 then_lost true l late = refl
 then_lost false l late = came_append is_loss late (when_so l event.Lost) ∙ ap (λ v. events.came is_loss late || v) (lost_when l)
 
-gives_lost : (j : Job) (entry : Entry) (past : List Entry) (late : List Event)
+pub gives_lost : (j : Job) (entry : Entry) (past : List Entry) (late : List Event)
     → events.came is_loss (events_at j entry past late)
     ≡ ((shows_lost j (entry ∷ past) && not (is_late j entry past)) || cond (ends_look j entry past) (events.came is_loss late || is_late j entry past) false)
 gives_lost j entry past late =
