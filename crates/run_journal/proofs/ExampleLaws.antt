@@ -7,13 +7,14 @@ use Rattle.world.specs.declared.entry.Entry.{Entry}
 use Rattle.world.specs.declared.entry.Entry.TheVariants as made
 use Rattle.world.specs.declared.left.Left.TheVariants.{Whole}
 use Rattle.world.specs.Disk.{leaves}
+use Rattle.world.specs.Waits.{before_wait}
 use Rattle.cell_core.specs.declared.why.Why.TheVariants as cause
 use Rattle.cell_core.specs.Events as events
 use Rattle.cell_core.specs.Acts.{has_stopped, heard}
 use Rattle.cell_core.specs.Requests as core
 use Rattle.cell_core.specs.Saves as core_saves
 use Rattle.run_journal.specs.Job.{Job}
-use Rattle.run_journal.specs.Parts.{bytes_got, acked, before_shut}
+use Rattle.run_journal.specs.Parts.{bytes_got, acked, before_shut, is_running}
 use Rattle.run_journal.specs.OfJob.{is_of}
 use Rattle.run_journal.specs.Arrivals.{arrive, is_shaken, can_ask, ask_on, is_ready, arrivals}
 use Rattle.run_journal.specs.Looks.{ever, shows_lost, looked, can_ping, ping_on, is_silent, is_lost, ran_out}
@@ -24,7 +25,7 @@ use Rattle.run_journal.specs.Due.{all_along}
 use Rattle.run_journal.specs.Course.{course}
 use Rattle.run_journal.specs.Literal.{start_at}
 use Rattle.run_journal.specs.Order.{begins_unread}
-use Rattle.run_journal.specs.Agreement.{Flows, at_once}
+use Rattle.run_journal.specs.Agreement.{EndsLooks, Flows, IsHeard, at_once}
 use Rattle.run_journal.proofs.Toy.{job, saved, saved_as, got, wait, turn, made_ready, printed}
 use Rattle.run_journal.proofs.ExampleAwake.{one, journal}
 use Rattle.run_journal.proofs.ExampleDies.{three, dying}
@@ -178,9 +179,33 @@ loss_shown : ever (shows_lost three) dies ≡ true
 unfolding arrive is_shaken can_ask ask_on looked can_ping ping_on is_silent is_lost ran_out is_broken is_interrupted bad_stream
 loss_shown = refl
 
-not_stopped : has_stopped three.task (heard three.task (course three dies).told) ≡ false
+all_heard : IsHeard three dies
 unfolding arrive is_shaken can_ask ask_on looked can_ping ping_on is_silent is_lost ran_out is_broken is_interrupted bad_stream
-not_stopped = refl
+all_heard = refl
+
+looks_end : EndsLooks three dies
+unfolding arrive is_shaken can_ask ask_on looked can_ping ping_on is_silent is_lost ran_out is_broken is_interrupted bad_stream
+looks_end = refl
+
+runs : is_running three (before_wait dies) ≡ true
+unfolding arrive is_shaken can_ask ask_on looked can_ping ping_on is_silent is_lost ran_out is_broken is_interrupted bad_stream
+runs = refl
+
+is_lost_then : is_lost three dies ≡ true
+unfolding arrive is_shaken can_ask ask_on looked can_ping ping_on is_silent is_lost ran_out is_broken is_interrupted bad_stream
+is_lost_then = refl
+
+dies_flows : Flows three dies
+unfolding arrive is_shaken can_ask ask_on looked can_ping ping_on is_silent is_lost ran_out is_broken is_interrupted bad_stream
+dies_flows = refl
+
+found_lost : events.looked events.is_lost (course three dies).told ≡ true
+unfolding arrive is_shaken can_ask ask_on looked can_ping ping_on is_silent is_lost ran_out is_broken is_interrupted bad_stream
+found_lost = refl
+
+why_lost : why three dies ≡ Some cause.KernelLost
+unfolding arrive is_shaken can_ask ask_on looked can_ping ping_on is_silent is_lost ran_out is_broken is_interrupted bad_stream
+why_lost = refl
 
 nothing_waits : (course three dies).held ++ (course three dies).late ≡ []
 unfolding arrive is_shaken can_ask ask_on looked can_ping ping_on is_silent is_lost ran_out is_broken is_interrupted bad_stream

@@ -13,16 +13,18 @@ use Rattle.world.specs.Places.{Status, is_at, status_after, connected_after, tim
 use Rattle.world.specs.Waits.{is_wait, has_wait, before_wait, to_wait, since_wait}
 use Rattle.cell_core.specs.declared.event.Event.{Event}
 use Rattle.cell_core.specs.declared.event.Event.TheVariants as event
+use Rattle.cell_core.specs.Acts.{is_empty_list}
 use Rattle.cell_core.specs.Events as events
 use Rattle.run_journal.specs.Job.{Job}
 use Rattle.run_journal.specs.Parts.{channels, place, connection, turn_clock, is_acknowledging, is_running}
 use Rattle.run_journal.specs.Looks.{is_short_wait, ends_reading, is_drained, looked, ever, is_silent, shows_lost, is_lost}
 use Rattle.run_journal.specs.Requests.{is_broken}
+use Rattle.run_journal.specs.Due.{all_along}
 use Rattle.run_journal.specs.Course.{begins_at, clock_event, when_so, in_look, ends_look, is_late, events_at, Course, tell, late_then, told_saved, course}
-use Rattle.run_journal.specs.Agreement.{told_on}
+use Rattle.run_journal.specs.Agreement.{told_on, IsHeard, ends_looks, EndsLooks}
 use Rattle.run_journal.specs.Awake.{is_called_for}
 use Rattle.run_journal.proofs.Flowing.{Tells, front, tell_by, tell_front, rest_at, core_at, events_are, not_both}
-use Rattle.run_journal.proofs.Telling.{or_swap, or_join, came_append, came_on, add_none, none_then, came_saved, none_when, none_begins, none_turn, none_core, none_late, is_loss, loss_is, lost_when, gives_lost}
+use Rattle.run_journal.proofs.Telling.{heard_parts, empty_is, among_next, among_lost, or_swap, or_join, came_append, came_on, add_none, none_then, came_saved, none_when, none_begins, none_turn, none_core, none_late, is_loss, loss_is, lost_when, gives_lost}
 
 -- ---- tests
 
@@ -237,10 +239,10 @@ module _ (j : Job) (entry : Entry) (past : List Entry) where
           ∙ ap (λ b. b || ((events.came is_loss xs || events.came is_loss now.held) || events.came is_loss now.unheard)) (sym (came_saved is_loss (is_acknowledging j (entry ∷ past)) c.told refl))
           ∙ or_more (events.came is_loss t) (events.came is_loss xs || events.came is_loss now.held) (events.came is_loss now.unheard) a
 
-  -- what is found then was found before, or the entry gives it
-  finds_next : finds (course j (entry ∷ past)) ≡ true
-      → (finds (course j past) || found_in (knows (course j past)) (events_at j entry past (course j past).late)) ≡ true
-  finds_next e = by told_then
+  -- what is found then, and in what came after the stop, was found before, or the entry gives it
+  finds_whole : (b : Bool)
+      × ((finds (course j past) || found_in (knows (course j past)) (events_at j entry past (course j past).late)) ≡ (finds (course j (entry ∷ past)) || found_in b (course j (entry ∷ past)).unheard))
+  finds_whole = by told_then
     where
       c : Course
       c = course j past
@@ -255,27 +257,44 @@ module _ (j : Job) (entry : Entry) (past : List Entry) where
       lost = events.came is_loss t
 
       by : Tells j (told_saved j entry past c.told) (c.held ++ events_at j entry past c.late) (course j (entry ∷ past))
-          → (finds (course j past) || found_in (knows (course j past)) (events_at j entry past (course j past).late)) ≡ true
+          → (b : Bool) × ((finds (course j past) || found_in (knows (course j past)) (events_at j entry past (course j past).late)) ≡ (finds (course j (entry ∷ past)) || found_in b (course j (entry ∷ past)).unheard))
       by (front xs f g) =
-          let a : (events.looked events.is_lost t || found_in lost (xs ++ now.held)) ≡ true =
+          let a : (events.looked events.is_lost t || found_in lost (xs ++ now.held)) ≡ finds now =
           ap (λ b. events.looked events.is_lost t || b) (found_append lost xs now.held)
           ∙ or_join (events.looked events.is_lost t) (found_in lost xs) (found_in (events.came is_loss xs || lost) now.held)
           ∙ ap (λ b. b || found_in (events.came is_loss xs || lost) now.held) (sym (found_on xs t))
           ∙ ap (λ b. events.looked events.is_lost (told_on xs t) || found_in b now.held) (sym (came_on is_loss xs t))
           ∙ ap (λ v. events.looked events.is_lost v || found_in (events.came is_loss v) now.held) (sym g)
-          ∙ e
           in
-          let whole : found_in lost (c.held ++ events_at j entry past c.late) ≡ (found_in lost (xs ++ now.held) || found_in (events.came is_loss (xs ++ now.held) || lost) now.unheard) =
+          let last : Bool = events.came is_loss (xs ++ now.held) || lost in
+          let whole : found_in lost (c.held ++ events_at j entry past c.late) ≡ (found_in lost (xs ++ now.held) || found_in last now.unheard) =
           ap (found_in lost) (sym f ∙ sym (append_assoc xs now.held now.unheard)) ∙ found_append lost (xs ++ now.held) now.unheard
           in
-          let same : lost ≡ events.came is_loss c.told = came_saved is_loss (is_acknowledging j (entry ∷ past)) c.told refl in
-          sym (or_join (events.looked events.is_lost c.told) (found_in (events.came is_loss c.told) c.held) (found_in (knows c) (events_at j entry past c.late)))
-          ∙ ap (λ b. events.looked events.is_lost c.told || (found_in (events.came is_loss c.told) c.held || found_in b (events_at j entry past c.late))) (or_comm (events.came is_loss c.told) (events.came is_loss c.held))
-          ∙ ap (λ b. events.looked events.is_lost c.told || b) (sym (found_append (events.came is_loss c.told) c.held (events_at j entry past c.late)))
-          ∙ ap (λ b. events.looked events.is_lost c.told || found_in b (c.held ++ events_at j entry past c.late)) (sym same)
-          ∙ ap (λ b. b || found_in lost (c.held ++ events_at j entry past c.late)) (sym (found_saved (is_acknowledging j (entry ∷ past)) c.told))
-          ∙ ap (λ b. events.looked events.is_lost t || b) whole
-          ∙ or_more (events.looked events.is_lost t) (found_in lost (xs ++ now.held)) (found_in (events.came is_loss (xs ++ now.held) || lost) now.unheard) a
+          let same : lost ≡ events.came is_loss c.told = came_saved is_loss (is_acknowledging j (entry ∷ past)) c.told refl in (
+            last,
+            sym (or_join (events.looked events.is_lost c.told) (found_in (events.came is_loss c.told) c.held) (found_in (knows c) (events_at j entry past c.late)))
+                ∙ ap (λ b. events.looked events.is_lost c.told || (found_in (events.came is_loss c.told) c.held || found_in b (events_at j entry past c.late))) (or_comm (events.came is_loss c.told) (events.came is_loss c.held))
+                ∙ ap (λ b. events.looked events.is_lost c.told || b) (sym (found_append (events.came is_loss c.told) c.held (events_at j entry past c.late)))
+                ∙ ap (λ b. events.looked events.is_lost c.told || found_in b (c.held ++ events_at j entry past c.late)) (sym same)
+                ∙ ap (λ b. b || found_in lost (c.held ++ events_at j entry past c.late)) (sym (found_saved (is_acknowledging j (entry ∷ past)) c.told))
+                ∙ ap (λ b. events.looked events.is_lost t || b) whole
+                ∙ or_join (events.looked events.is_lost t) (found_in lost (xs ++ now.held)) (found_in last now.unheard)
+                ∙ ap (λ b. b || found_in last now.unheard) a,
+          )
+
+  -- what is found then was found before, or the entry gives it
+  finds_next : finds (course j (entry ∷ past)) ≡ true
+      → (finds (course j past) || found_in (knows (course j past)) (events_at j entry past (course j past).late)) ≡ true
+  finds_next e = finds_whole.1 ∙ or_left (finds (course j (entry ∷ past))) (found_in finds_whole.0 (course j (entry ∷ past)).unheard) e
+
+  -- and so the other way, where nothing came after the stop
+  finds_back : (course j (entry ∷ past)).unheard ≡ []
+      → (finds (course j past) || found_in (knows (course j past)) (events_at j entry past (course j past).late)) ≡ true → finds (course j (entry ∷ past)) ≡ true
+  finds_back none e =
+      sym (or-false (finds (course j (entry ∷ past))))
+      ∙ ap (λ es. finds (course j (entry ∷ past)) || found_in finds_whole.0 es) (sym none)
+      ∙ sym finds_whole.1
+      ∙ e
 
 -- ---- what holds along a journal
 
@@ -435,3 +454,107 @@ along j (entry ∷ past) = next j entry past (along j past)
 -- where the core has seen a look after a loss, the kernel is lost by the journal
 pub lost_found : (j : Job) (past : List Entry) → events.looked events.is_lost (course j past).told ≡ true → ever (is_lost j) past ≡ true
 lost_found j past e = (along j past).found (or_left (events.looked events.is_lost (course j past).told) _ e)
+
+-- ---- and the other way
+
+before_none : (past : List Entry) → has_wait past ≡ false → before_wait past ≡ []
+before_none [] e = refl
+before_none (entry ∷ past) e =
+    let p = or_parts (is_wait entry) (has_wait past) e in
+    cond-false (is_wait entry) past (before_wait past) p.0 ∙ before_none past p.1
+
+-- where something was shown before the last wait, there was one
+wait_was : (j : Job) (past : List Entry) → ever (shows_lost j) (before_wait past) ≡ true → has_wait past ≡ true
+wait_was j past e = by (cases_Bool (has_wait past))
+  where
+    by : (has_wait past ≡ true) ⊎ (has_wait past ≡ false) → has_wait past ≡ true
+    by (inl h) = h
+    by (inr h) = absurd (not_both (ever (shows_lost j) (before_wait past)) e (ap (ever (shows_lost j)) (before_none past h)))
+
+-- a loss shown before the last wait is known of, and a kernel that is lost is found so
+record Back (j : Job) (past : List Entry) : Type 0 where
+  known : ever (shows_lost j) (before_wait past) ≡ true → knows (course j past) ≡ true
+  found : is_running j (before_wait past) ≡ true → is_lost j past ≡ true → finds (course j past) ≡ true
+
+lost_parts : (j : Job) (past : List Entry) → is_lost j past ≡ true → (looked j past ≡ true) × (ever (shows_lost j) (before_wait past) ≡ true)
+unfolding is_lost
+lost_parts j past e = and_parts (looked j past) (ever (shows_lost j) (before_wait past)) e
+
+module _ (j : Job) (entry : Entry) (past : List Entry) (h : IsHeard j (entry ∷ past)) (s : EndsLooks j (entry ∷ past)) (i : Back j past) where
+  stays_known : knows (course j past) ≡ true → knows (course j (entry ∷ past)) ≡ true
+  stays_known k =
+      among_next is_loss j entry past refl (ap (events.came is_loss) (heard_parts j entry past h).0)
+      ∙ or_left (knows (course j past)) (events.came is_loss (events_at j entry past (course j past).late)) k
+
+  -- at a wait nothing waits for a look
+  on_time : is_wait entry ≡ true → (course j past).late ≡ []
+  on_time w = by (or_either (not (is_wait entry)) (is_empty_list (course j past).late) (and_parts (ends_looks j (entry ∷ past)) (all_along (ends_looks j) past) s).0)
+    where
+      by : (not (is_wait entry) ≡ true) ⊎ (is_empty_list (course j past).late ≡ true) → (course j past).late ≡ []
+      by (inl k) = absurd (not_both (is_wait entry) w (not_true (is_wait entry) k))
+      by (inr k) = empty_is (course j past).late k
+
+  -- what was shown before the wait was known of before this entry
+  known_before : ever (shows_lost j) (before_wait (entry ∷ past)) ≡ true → knows (course j past) ≡ true
+  known_before e = by (cases_Bool (is_wait entry))
+    where
+      by : (is_wait entry ≡ true) ⊎ (is_wait entry ≡ false) → knows (course j past) ≡ true
+      by (inl w) =
+          sym (or-false (knows (course j past)))
+          ∙ ap (λ es. knows (course j past) || events.came is_loss es) (sym (on_time w))
+          ∙ among_lost j past (heard_parts j entry past h).1
+          ∙ ap (ever (shows_lost j)) (sym (cond-true (is_wait entry) past (before_wait past) w))
+          ∙ e
+      by (inr w) = i.known (ap (ever (shows_lost j)) (sym (cond-false (is_wait entry) past (before_wait past) w)) ∙ e)
+
+  -- the look that shows the kernel lost ends with this entry
+  found_now : is_running j (before_wait (entry ∷ past)) ≡ true → is_lost j (entry ∷ past) ≡ true → (is_wait entry ≡ true) ⊎ (looked j past ≡ false) → finds (course j (entry ∷ past)) ≡ true
+  found_now runs lost new =
+      finds_back j entry past (heard_parts j entry past h).0
+      (or_right (finds (course j past)) _
+      (gives_found j entry past (knows (course j past)) (course j past).late (late_unlooked j past)
+      ∙ and_from (ends_look j entry past) _ ended (or_right (shows_lost j (entry ∷ past) && not (is_late j entry past)) (knows (course j past)) (known_before p.1))))
+    where
+      p : (looked j (entry ∷ past) ≡ true) × (ever (shows_lost j) (before_wait (entry ∷ past)) ≡ true)
+      p = lost_parts j (entry ∷ past) lost
+
+      is_new : (is_wait entry ≡ true) ⊎ (looked j past ≡ false) → (is_wait entry || not (looked j past)) ≡ true
+      is_new (inl w) = or_left (is_wait entry) (not (looked j past)) w
+      is_new (inr k) = or_right (is_wait entry) (not (looked j past)) (true_not (looked j past) k)
+
+      called : is_called_for j (before_wait (entry ∷ past)) ≡ true
+      called = and_from (is_running j (before_wait (entry ∷ past))) _ runs (or_left (ever (shows_lost j) (before_wait (entry ∷ past))) _ p.1)
+
+      ended : ends_look j entry past ≡ true
+      ended =
+          and_from (in_look j (entry ∷ past) && looked j (entry ∷ past)) (is_wait entry || not (looked j past))
+          (and_from (in_look j (entry ∷ past)) (looked j (entry ∷ past)) (and_from (has_wait (entry ∷ past)) (is_called_for j (before_wait (entry ∷ past))) (wait_was j (entry ∷ past) p.1) called) p.0)
+          (is_new new)
+
+  back_found : is_running j (before_wait (entry ∷ past)) ≡ true → is_lost j (entry ∷ past) ≡ true → finds (course j (entry ∷ past)) ≡ true
+  back_found runs lost = by (cases_Bool (is_wait entry)) (cases_Bool (looked j past))
+    where
+      p : (looked j (entry ∷ past) ≡ true) × (ever (shows_lost j) (before_wait (entry ∷ past)) ≡ true)
+      p = lost_parts j (entry ∷ past) lost
+
+      by : (is_wait entry ≡ true) ⊎ (is_wait entry ≡ false) → (looked j past ≡ true) ⊎ (looked j past ≡ false) → finds (course j (entry ∷ past)) ≡ true
+      by (inl w) k = found_now runs lost (inl w)
+      by (inr w) (inr k) = found_now runs lost (inr k)
+      by (inr w) (inl k) =
+          let same : before_wait (entry ∷ past) ≡ before_wait past = cond-false (is_wait entry) past (before_wait past) w in
+          finds_back j entry past (heard_parts j entry past h).0
+          (or_left (finds (course j past)) _ (i.found (ap (is_running j) (sym same) ∙ runs) (lost_is j past k (ap (ever (shows_lost j)) (sym same) ∙ p.1))))
+
+back : (j : Job) (past : List Entry) → IsHeard j past → EndsLooks j past → Back j past
+back j [] h s = record { known = λ e. cc; found = λ r e. absurd (not_both (ever (shows_lost j) []) (lost_parts j [] e).1 refl) }
+back j (entry ∷ past) h s =
+    let i = back j past (heard_parts j entry past h).1 (and_parts (ends_looks j (entry ∷ past)) (all_along (ends_looks j) past) s).1 in
+    record { known = λ e. stays_known j entry past h s i (known_before j entry past h s i e); found = back_found j entry past h s i }
+
+-- where the kernel is lost by the journal, the core has seen a look after a loss
+pub found_lost : (j : Job) (past : List Entry) → IsHeard j past → EndsLooks j past → (course j past).held ≡ [] → is_running j (before_wait past) ≡ true → is_lost j past ≡ true
+    → events.looked events.is_lost (course j past).told ≡ true
+found_lost j past h s none runs lost =
+    sym (or-false (events.looked events.is_lost (course j past).told))
+    ∙ ap (λ es. events.looked events.is_lost (course j past).told || found_in (events.came is_loss (course j past).told) es) (sym none)
+    ∙ (back j past h s).found runs lost

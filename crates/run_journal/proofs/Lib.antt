@@ -30,3 +30,4 @@ pub mod ExampleEnds
 pub mod ExampleJupyter
 pub mod Telling
 pub mod Finding
+pub mod Stopping

@@ -1,9 +1,9 @@
 -- Broken streams and losses are told, and what stops a job at once stops its core.
-use Rattle.std.proofs.Common.{◌≡◌, ◌⊎◌, inl, inr, ℕ, ◌<◌, List, [], ◌∷◌, ◌++◌, length, Bool, true, false, ◌&&◌, ◌||◌, not, cond, Option, Some, None, refl, sym, ◌∙◌, ap}
+use Rattle.std.proofs.Common.{◌≡◌, ℕ, ◌<◌, List, [], ◌∷◌, ◌++◌, length, Bool, true, false, ◌&&◌, ◌||◌, not, cond, Option, Some, None, refl, sym, ◌∙◌, ap}
 use Rattle.std.specs.Prelude.{is_some, option_map, if◌then◌else◌}
 use Rattle.std.specs.List.{list_any, list_all}
 use Rattle.std.proofs.Math.Bool.{or-false}
-use Rattle.std.proofs.lemmas.Bool.{and_parts, cond-true, cond_both, cases_Bool}
+use Rattle.std.proofs.lemmas.Bool.{and_parts, cond_both}
 use Rattle.world.specs.declared.chan.Chan.{Chan}
 use Rattle.world.specs.declared.chan.Chan.TheVariants.{Shell, Control, Iopub, Heart}
 use Rattle.world.specs.declared.entry.Entry.{Entry}
@@ -14,7 +14,7 @@ use Rattle.cell_core.specs.declared.event.Event.{Event}
 use Rattle.cell_core.specs.declared.event.Event.TheVariants as event
 use Rattle.cell_core.specs.declared.why.Why.{Why}
 use Rattle.cell_core.specs.declared.why.Why.TheVariants as cause
-use Rattle.cell_core.specs.Acts.{has_stopped, heard}
+use Rattle.cell_core.specs.Acts.{is_empty_list}
 use Rattle.cell_core.specs.Events as events
 use Rattle.cell_core.specs.Requests as core
 use Rattle.cell_core.specs.Saves as core_saves
@@ -27,10 +27,10 @@ use Rattle.run_journal.specs.Decoding.{IsDecoding}
 use Rattle.run_journal.specs.Due.{all_along}
 use Rattle.run_journal.specs.Order.{begins_unread}
 use Rattle.run_journal.specs.Course.{came_for, begins_at, clock_event, when_so, in_look, ends_look, is_late, events_at, Course, tell, late_then, told_saved, course}
-use Rattle.run_journal.specs.Agreement.{Agrees, told_on, is_of_looks, Flows, at_once, BeginsUnread}
+use Rattle.run_journal.specs.Agreement.{is_heard, IsHeard, Agrees, told_on, is_of_looks, Flows, at_once, BeginsUnread}
 use Rattle.run_journal.proofs.Ordering.{bytes_more}
 use Rattle.run_journal.proofs.Hearing.{IsComing, io, replied, AreComing, coming_for}
-use Rattle.run_journal.proofs.Flowing.{Tells, front, tell_by, tell_front, rest_at, core_at, events_are, not_both, told_parts, course_agrees}
+use Rattle.run_journal.proofs.Flowing.{Tells, front, tell_by, tell_front, rest_at, core_at, events_are, told_parts, course_agrees}
 use Rattle.run_journal.proofs.Asking.{done_same, error_same}
 
 -- ---- whether an event is among others
@@ -79,7 +79,7 @@ module _ (t : Event → Bool) where
       ∙ or_join (events.came t told) (events.came t held) (events.came t es)
 
   module _ (j : Job) (entry : Entry) (past : List Entry) where
-    among_next : t event.Saved ≡ false → events.came t (course j (entry ∷ past)).unheard ≡ false
+    pub among_next : t event.Saved ≡ false → events.came t (course j (entry ∷ past)).unheard ≡ false
         → is_among (course j (entry ∷ past)) ≡ (is_among (course j past) || events.came t (events_at j entry past (course j past).late))
     among_next e none = by (tell_front j (told_saved j entry past c.told) (late_then j entry past c.late) (c.held ++ events_at j entry past c.late))
       where
@@ -130,45 +130,19 @@ module _ (t : Event → Bool) where
   none_core j entry past f g h =
       none_then (came_for j (last_request 0 (requests j past)) entry past) _ false (none_coming _ f g (coming_for j (last_request 0 (requests j past)) entry past)) (none_when _ event.Ready h)
 
--- ---- while the job hasn't stopped
+-- ---- where nothing came after the stop
 
-late_is : (j : Job) (told late es : List Event) → has_stopped j.task (heard j.task (tell j told late es).told) ≡ false → (tell j told late es).late ≡ late
+late_is : (j : Job) (told late es : List Event) → (tell j told late es).unheard ≡ [] → (tell j told late es).late ≡ late
 late_is j told late [] h = refl
-late_is j told late (e ∷ es) h =
-    tell_by (λ c. has_stopped j.task (heard j.task c.told) ≡ false → c.late ≡ late) j told late e es
-    (λ h k. absurd (not_both (has_stopped j.task (heard j.task told)) h k)) (λ k. refl) (late_is j (e ∷ told) late es) h
+late_is j told late (e ∷ es) h = tell_by (λ c. c.unheard ≡ [] → c.late ≡ late) j told late e es (λ h k. cc) (λ k. refl) (late_is j (e ∷ told) late es) h
 
-unheard_is : (j : Job) (told late es : List Event) → has_stopped j.task (heard j.task (tell j told late es).told) ≡ false → (tell j told late es).unheard ≡ []
-unheard_is j told late [] h = refl
-unheard_is j told late (e ∷ es) h =
-    tell_by (λ c. has_stopped j.task (heard j.task c.told) ≡ false → c.unheard ≡ []) j told late e es
-    (λ h k. absurd (not_both (has_stopped j.task (heard j.task told)) h k)) (λ k. refl) (unheard_is j (e ∷ told) late es) h
+pub empty_is : (es : List Event) → is_empty_list es ≡ true → es ≡ []
+empty_is [] e = refl
+empty_is (x ∷ es) e = cc
 
--- once stopped, it stays so
-stopped_on : (j : Job) (xs told : List Event) → has_stopped j.task (heard j.task told) ≡ true → has_stopped j.task (heard j.task (told_on xs told)) ≡ true
-stopped_on j [] told e = e
-stopped_on j (x ∷ xs) told e =
-    stopped_on j xs (x ∷ told)
-    (ap (has_stopped j.task) (cond-true (has_stopped j.task (heard j.task told)) (heard j.task told) (x ∷ heard j.task told) e) ∙ e)
-
--- what hasn't stopped now hadn't before
-going : (j : Job) (entry : Entry) (past : List Entry) → has_stopped j.task (heard j.task (course j (entry ∷ past)).told) ≡ false
-    → has_stopped j.task (heard j.task (course j past).told) ≡ false
-going j entry past e = by (cases_Bool (has_stopped j.task (heard j.task c.told))) (tell_front j (told_saved j entry past c.told) (late_then j entry past c.late) (c.held ++ events_at j entry past c.late))
-  where
-    c : Course
-    c = course j past
-
-    saved_on : (acks : Bool) → has_stopped j.task (heard j.task c.told) ≡ true → has_stopped j.task (heard j.task (cond acks (event.Saved ∷ c.told) c.told)) ≡ true
-    saved_on true h = stopped_on j (event.Saved ∷ []) c.told h
-    saved_on false h = h
-
-    by : (has_stopped j.task (heard j.task c.told) ≡ true) ⊎ (has_stopped j.task (heard j.task c.told) ≡ false)
-        → Tells j (told_saved j entry past c.told) (c.held ++ events_at j entry past c.late) (course j (entry ∷ past)) → has_stopped j.task (heard j.task c.told) ≡ false
-    by (inr h) t = h
-    by (inl h) (front xs f g) =
-        absurd (not_both (has_stopped j.task (heard j.task (course j (entry ∷ past)).told))
-        (ap (λ v. has_stopped j.task (heard j.task v)) g ∙ stopped_on j xs (told_saved j entry past c.told) (saved_on (is_acknowledging j (entry ∷ past)) h)) e)
+-- after the newest entry, and before it
+pub heard_parts : (j : Job) (entry : Entry) (past : List Entry) → IsHeard j (entry ∷ past) → ((course j (entry ∷ past)).unheard ≡ []) × IsHeard j past
+heard_parts j entry past e = let p = and_parts (is_heard j (entry ∷ past)) (all_along (is_heard j) past) e in (empty_is (course j (entry ∷ past)).unheard p.0, p.1)
 
 -- ---- broken streams
 
@@ -342,24 +316,24 @@ losses_join false false false i n true = refl
 losses_join false false false i n false = refl
 
 -- a loss was told, or waits for a save or a look, exactly where an entry showed one
-among_lost : (j : Job) (past : List Entry) → has_stopped j.task (heard j.task (course j past).told) ≡ false
+pub among_lost : (j : Job) (past : List Entry) → IsHeard j past
     → (is_among is_loss (course j past) || events.came is_loss (course j past).late) ≡ ever (shows_lost j) past
 among_lost j [] e = refl
 among_lost j (entry ∷ past) e =
     let c : Course = course j past in
     let l : Bool = is_late j entry past in
     let given : Bool = (shows_lost j (entry ∷ past) && not l) || cond (ends_look j entry past) (events.came is_loss c.late || l) false in
-    let unheard = unheard_is j (told_saved j entry past c.told) (late_then j entry past c.late) (c.held ++ events_at j entry past c.late) e in
-    let late = late_is j (told_saved j entry past c.told) (late_then j entry past c.late) (c.held ++ events_at j entry past c.late) e in
-    ap (λ b. b || events.came is_loss (course j (entry ∷ past)).late) (among_next is_loss j entry past refl (ap (events.came is_loss) unheard))
+    let p = heard_parts j entry past e in
+    let late = late_is j (told_saved j entry past c.told) (late_then j entry past c.late) (c.held ++ events_at j entry past c.late) p.0 in
+    ap (λ b. b || events.came is_loss (course j (entry ∷ past)).late) (among_next is_loss j entry past refl (ap (events.came is_loss) p.0))
     ∙ ap (λ es. (is_among is_loss c || events.came is_loss (events_at j entry past c.late)) || events.came is_loss es) late
     ∙ ap (λ b. (is_among is_loss c || b) || events.came is_loss (late_then j entry past c.late)) (gives_lost j entry past c.late)
     ∙ ap (λ b. (is_among is_loss c || given) || b) (then_lost (ends_look j entry past) l c.late)
     ∙ losses_join (is_among is_loss c) (events.came is_loss c.late) (shows_lost j (entry ∷ past)) (in_look j past) (not (looked j past)) (ends_look j entry past)
-    ∙ ap (λ b. shows_lost j (entry ∷ past) || b) (among_lost j past (going j entry past e))
+    ∙ ap (λ b. shows_lost j (entry ∷ past) || b) (among_lost j past p.1)
 
 -- where nothing waits, the core knows of a loss exactly where an entry showed one
-pub lost_told : (j : Job) (past : List Entry) → has_stopped j.task (heard j.task (course j past).told) ≡ false → (course j past).held ≡ [] → (course j past).late ≡ []
+pub lost_told : (j : Job) (past : List Entry) → IsHeard j past → (course j past).held ≡ [] → (course j past).late ≡ []
     → events.held events.is_lost (course j past).told ≡ ever (shows_lost j) past
 lost_told j past e none on_time =
     let c : Course = course j past in
@@ -398,10 +372,10 @@ bad_is j past =
     fault c = some_map _ (j.codec.fault c (bytes_got j c past))
 
 -- the first of the three rows that hold
-abbrev first_rows : Bool → Bool → Bool → Option Why
+abbrev pub first_rows : Bool → Bool → Bool → Option Why
 first_rows done error broken = cond done (Some cause.Done) (cond error (Some cause.CellError) (cond broken (Some cause.BadPeer) None))
 
-core_rows : (d e b l n i t : Bool)
+pub core_rows : (d e b l n i t : Bool)
     → at_once (cond d (Some cause.Done) (cond e (Some cause.CellError) (cond b (Some cause.BadPeer) (cond l (Some cause.KernelLost) (cond n (Some cause.NotReady) (cond i (Some cause.NoIdle) (cond t (Some cause.TimedOut) None)))))))
     ≡ first_rows d e b
 core_rows true e b l n i t = refl
@@ -413,7 +387,7 @@ core_rows false false false false false true t = refl
 core_rows false false false false false false true = refl
 core_rows false false false false false false false = refl
 
-journal_rows : (d e b l n i t : Bool)
+pub journal_rows : (d e b l n i t : Bool)
     → at_once (or_later (when d cause.Done) (or_later (when e cause.CellError) (or_later (when b cause.BadPeer) (or_later (when l cause.KernelLost) (or_later (when n cause.NotReady) (or_later (when i cause.NoIdle) (when t cause.TimedOut)))))))
     ≡ first_rows d e b
 journal_rows true e b l n i t = refl
