@@ -20,7 +20,8 @@ use Rattle.run_journal.specs.Parts.{bytes_got, acked, is_acknowledging}
 use Rattle.run_journal.specs.Arrivals.{arrive, asked, is_ready, ask_on, has_some, tells}
 use Rattle.run_journal.specs.Requests.{Request, has_idle, first, reply, is_passed, is_fatal, is_last_passed, is_parent, is_exec_reply, with_interrupt, goes_on, fresh, count_queued, is_next, requests}
 use Rattle.run_journal.specs.Agreement.{AgreesOn, Agrees, IsOther, moment, looked, lost, broken}
-use Rattle.run_journal.proofs.Isolation.{arrive_nothing, no_next}
+use Rattle.run_journal.proofs.AlikeLooks.{arrive_nothing}
+use Rattle.run_journal.proofs.Isolation.{no_next}
 
 -- ---- the core's tests
 

@@ -22,7 +22,7 @@ use Rattle.run_journal.specs.Course.{brief_of, ios, replies, came_for, begins_at
 use Rattle.run_journal.specs.Agreement.{Agrees, IsOther, moment, looked, lost, broken, BringsNothing, told_on, is_other, is_of_looks, is_told, Flows}
 use Rattle.run_journal.proofs.Growth.{ready_stays}
 use Rattle.run_journal.proofs.Agreeing.{agree_first, agree_other, agree_saved, ready_unheard}
-use Rattle.run_journal.proofs.Isolation.{arrive_nothing}
+use Rattle.run_journal.proofs.AlikeLooks.{arrive_nothing}
 use Rattle.run_journal.proofs.Hearing.{IsComing, io, replied, AreComing, coming_for, told_append, none_unready, agree_ready, agree_came}
 
 -- ---- events that aren't of requests

@@ -1,5 +1,6 @@
 pub mod Growth
 pub mod Alike
+pub mod AlikeLooks
 pub mod Isolation
 pub mod Status
 pub mod Reading
@@ -29,5 +30,6 @@ pub mod Asking
 pub mod ExampleEnds
 pub mod ExampleJupyter
 pub mod Telling
+pub mod Sighting
 pub mod Finding
 pub mod Stopping
