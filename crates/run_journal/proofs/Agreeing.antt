@@ -20,7 +20,8 @@ use Rattle.run_journal.specs.Parts.{bytes_got, acked, is_acknowledging}
 use Rattle.run_journal.specs.Arrivals.{arrive, asked, is_ready, ask_on, has_some, tells}
 use Rattle.run_journal.specs.Requests.{Request, has_idle, first, reply, is_passed, is_fatal, is_last_passed, is_parent, is_exec_reply, with_interrupt, goes_on, fresh, count_queued, is_next, requests}
 use Rattle.run_journal.specs.Agreement.{AgreesOn, Agrees, IsOther, moment, looked, lost, broken}
-use Rattle.run_journal.proofs.Isolation.{arrive_nothing, no_next}
+use Rattle.run_journal.proofs.AlikeLooks.{arrive_nothing}
+use Rattle.run_journal.proofs.Isolation.{no_next}
 
 -- ---- the core's tests
 
@@ -221,7 +222,7 @@ agree_unheard j entry told past same acks a =
 -- ---- an acknowledged save
 
 -- whether a request is passed, by the core's events and by the journal
-passed_agrees : (j : Job) (k : ℕ) (later : List Event) (r : Request) → AgreesOn j k later r → core.is_passed later ≡ is_passed j k r
+pub passed_agrees : (j : Job) (k : ℕ) (later : List Event) (r : Request) → AgreesOn j k later r → core.is_passed later ≡ is_passed j k r
 passed_agrees j k later r a =
     ap (λ b. (is_some (core.reply later) && b) && not (core.is_true_in (core.reply later))) a.idle
     ∙ ap (λ (o : Option Bool). (is_some o && has_idle r.io) && not (core.is_true_in o)) a.reply
@@ -234,7 +235,7 @@ passed_agrees j k later r a =
     by_parts false (Some m) = refl
 
 -- the last of a list is the one with the last number
-last_at : (j : Job) (k m : ℕ) (rs : List Request) (r : Request) → slice_get rs m ≡ Some r → length rs ≡ suc m → is_last_passed j k rs ≡ is_passed j (k + m) r
+pub last_at : (j : Job) (k m : ℕ) (rs : List Request) (r : Request) → slice_get rs m ≡ Some r → length rs ≡ suc m → is_last_passed j k rs ≡ is_passed j (k + m) r
 last_at j k m [] r e l = cc
 last_at j k zero (x ∷ []) r e l = let n : k ≡ k + 0 = omega arith in ap (λ i. is_passed j i x) n ∙ ap (is_passed j (k + 0)) (inside e)
   where

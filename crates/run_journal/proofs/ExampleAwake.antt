@@ -164,7 +164,7 @@ tried_for_a_look : all_along (begins_again jobs) (reverse (begins ++ (wait 500 (
 unfolding arrive is_shaken can_ask ask_on looked can_ping ping_on is_silent is_lost ran_out is_broken is_interrupted bad_stream
 tried_for_a_look = refl
 
--- up to the last save nothing of the requests waits to be told
-flows : Flows one (reverse (asks ++ (wait 500 (true ∷ false ∷ true ∷ []) ∷ made.Moment 50 ∷ made.Looked 0 None ∷ got one Shell (3 ∷ 2 ∷ []) ∷ dry one Shell ∷ got one Iopub (0 ∷ 2 ∷ 21 ∷ 2 ∷ 1 ∷ 2 ∷ []) ∷ [])))
+-- nothing of the requests waits to be told, nor comes after the stop
+flows : Flows one journal
 unfolding arrive is_shaken can_ask ask_on looked can_ping ping_on is_silent is_lost ran_out is_broken is_interrupted bad_stream
 flows = refl

@@ -19,11 +19,11 @@ use Rattle.run_journal.specs.Course.{course}
 use Rattle.run_journal.proofs.Toy.{job, saved, got, wait, turn, made_ready, printed}
 
 -- three cells
-abbrev three : Job
+abbrev pub three : Job
 three = record job { task = record { plan = 0 ∷ 1 ∷ 2 ∷ []; cells = 3; times = job.task.times } }
 
 -- the first cell prints; in the second the kernel prints and dies
-abbrev dying : List Entry
+abbrev pub dying : List Entry
 dying = made_ready three ++ turn 50 ++ printed three 2 21 ++ saved three ++ turn 60
     ++ (got three Iopub (0 ∷ 3 ∷ 22 ∷ 3 ∷ []) ∷ made.Ended (record { job = 0; chan = Iopub }) side.Read ∷ made.Ended (record { job = 0; chan = Shell }) side.Read ∷ [])
 

@@ -7,14 +7,17 @@ use Rattle.world.specs.declared.entry.Entry.{Entry}
 use Rattle.world.specs.declared.entry.Entry.TheVariants as made
 use Rattle.world.specs.declared.left.Left.TheVariants.{Whole}
 use Rattle.world.specs.Disk.{leaves}
+use Rattle.world.specs.Waits.{before_wait}
 use Rattle.cell_core.specs.declared.why.Why.TheVariants as cause
 use Rattle.cell_core.specs.Events as events
+use Rattle.cell_core.specs.Acts.{has_stopped, heard}
 use Rattle.cell_core.specs.Requests as core
+use Rattle.cell_core.specs.Saves as core_saves
 use Rattle.run_journal.specs.Job.{Job}
-use Rattle.run_journal.specs.Parts.{bytes_got, acked, before_shut}
+use Rattle.run_journal.specs.Parts.{bytes_got, acked, before_shut, is_running}
 use Rattle.run_journal.specs.OfJob.{is_of}
 use Rattle.run_journal.specs.Arrivals.{arrive, is_shaken, can_ask, ask_on, is_ready, arrivals}
-use Rattle.run_journal.specs.Looks.{looked, can_ping, ping_on, is_silent, is_lost, ran_out}
+use Rattle.run_journal.specs.Looks.{ever, shows_lost, looked, can_ping, ping_on, is_silent, is_lost, ran_out}
 use Rattle.run_journal.specs.Requests.{Request, is_broken, is_interrupted, is_over, requests}
 use Rattle.run_journal.specs.Why.{bad_stream, why}
 use Rattle.run_journal.specs.Saves.{saves, texts}
@@ -22,8 +25,11 @@ use Rattle.run_journal.specs.Due.{all_along}
 use Rattle.run_journal.specs.Course.{course}
 use Rattle.run_journal.specs.Literal.{start_at}
 use Rattle.run_journal.specs.Order.{begins_unread}
-use Rattle.run_journal.proofs.Toy.{job, saved, saved_as, got, turn, made_ready, printed}
+use Rattle.run_journal.specs.Agreement.{EndsLooks, Flows, IsHeard, at_once}
+use Rattle.run_journal.proofs.Toy.{job, saved, saved_as, got, wait, turn, made_ready, printed}
 use Rattle.run_journal.proofs.ExampleAwake.{one, journal}
+use Rattle.run_journal.proofs.ExampleDies.{three, dying}
+use Rattle.run_journal.proofs.ExampleUnready.{broken}
 
 -- ---- growth
 
@@ -145,3 +151,62 @@ told_saves = refl
 told_passed : core.is_passed_in (core.after one.task 0 (course one journal).told) ≡ true
 unfolding arrive is_shaken can_ask ask_on looked can_ping ping_on is_silent is_lost ran_out is_broken is_interrupted bad_stream
 told_passed = refl
+
+-- ---- causes
+
+-- a broken stream stops the core at once, and nothing came after that
+broken_flows : Flows job (reverse broken)
+unfolding arrive is_shaken can_ask ask_on looked can_ping ping_on is_silent is_lost ran_out is_broken is_interrupted bad_stream
+broken_flows = refl
+
+core_stops : at_once (core_saves.why job.task (course job (reverse broken)).told) ≡ Some cause.BadPeer
+unfolding arrive is_shaken can_ask ask_on looked can_ping ping_on is_silent is_lost ran_out is_broken is_interrupted bad_stream
+core_stops = refl
+
+core_has_stopped : has_stopped job.task (heard job.task (course job (reverse broken)).told) ≡ true
+unfolding arrive is_shaken can_ask ask_on looked can_ping ping_on is_silent is_lost ran_out is_broken is_interrupted bad_stream
+core_has_stopped = refl
+
+-- the end of a connection was told, a look at the job is done, and the save of the stop is due
+abbrev dies : List Entry
+dies = reverse (dying ++ wait 0 [] ∷ [])
+
+loss_told : events.held events.is_lost (course three dies).told ≡ true
+unfolding arrive is_shaken can_ask ask_on looked can_ping ping_on is_silent is_lost ran_out is_broken is_interrupted bad_stream
+loss_told = refl
+
+loss_shown : ever (shows_lost three) dies ≡ true
+unfolding arrive is_shaken can_ask ask_on looked can_ping ping_on is_silent is_lost ran_out is_broken is_interrupted bad_stream
+loss_shown = refl
+
+all_heard : IsHeard three dies
+unfolding arrive is_shaken can_ask ask_on looked can_ping ping_on is_silent is_lost ran_out is_broken is_interrupted bad_stream
+all_heard = refl
+
+looks_end : EndsLooks three dies
+unfolding arrive is_shaken can_ask ask_on looked can_ping ping_on is_silent is_lost ran_out is_broken is_interrupted bad_stream
+looks_end = refl
+
+runs : is_running three (before_wait dies) ≡ true
+unfolding arrive is_shaken can_ask ask_on looked can_ping ping_on is_silent is_lost ran_out is_broken is_interrupted bad_stream
+runs = refl
+
+is_lost_then : is_lost three dies ≡ true
+unfolding arrive is_shaken can_ask ask_on looked can_ping ping_on is_silent is_lost ran_out is_broken is_interrupted bad_stream
+is_lost_then = refl
+
+dies_flows : Flows three dies
+unfolding arrive is_shaken can_ask ask_on looked can_ping ping_on is_silent is_lost ran_out is_broken is_interrupted bad_stream
+dies_flows = refl
+
+found_lost : events.looked events.is_lost (course three dies).told ≡ true
+unfolding arrive is_shaken can_ask ask_on looked can_ping ping_on is_silent is_lost ran_out is_broken is_interrupted bad_stream
+found_lost = refl
+
+why_lost : why three dies ≡ Some cause.KernelLost
+unfolding arrive is_shaken can_ask ask_on looked can_ping ping_on is_silent is_lost ran_out is_broken is_interrupted bad_stream
+why_lost = refl
+
+nothing_waits : (course three dies).held ++ (course three dies).late ≡ []
+unfolding arrive is_shaken can_ask ask_on looked can_ping ping_on is_silent is_lost ran_out is_broken is_interrupted bad_stream
+nothing_waits = refl

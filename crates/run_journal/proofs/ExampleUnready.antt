@@ -15,7 +15,7 @@ use Rattle.run_journal.specs.Due.{due}
 use Rattle.run_journal.proofs.Toy.{job, saved, got, put, dry, wait, turn, start}
 
 -- shell begins with another byte
-abbrev broken : List Entry
+abbrev pub broken : List Entry
 broken = saved job ++ start job ++ turn 20 ++ (got job Shell (254 ∷ []) ∷ [])
 
 -- a second to be ready

@@ -19,10 +19,10 @@ use Rattle.run_journal.specs.Looks.{shows_lost}
 use Rattle.run_journal.specs.Requests.{Request, is_broken, is_exec_reply, is_over, is_parent, has_idle, reply, requests, last_request}
 use Rattle.run_journal.specs.Due.{all_along}
 use Rattle.run_journal.specs.Course.{brief_of, ios, replies, came_for, begins_at, clock_event, when_so, ends_look, is_late, events_at, Course, tell, late_then, told_saved, course}
-use Rattle.run_journal.specs.Agreement.{Agrees, IsOther, moment, looked, lost, broken, BringsNothing, told_on, is_other, is_told, Flows}
+use Rattle.run_journal.specs.Agreement.{Agrees, IsOther, moment, looked, lost, broken, BringsNothing, told_on, is_other, is_of_looks, is_told, Flows}
 use Rattle.run_journal.proofs.Growth.{ready_stays}
 use Rattle.run_journal.proofs.Agreeing.{agree_first, agree_other, agree_saved, ready_unheard}
-use Rattle.run_journal.proofs.Isolation.{arrive_nothing}
+use Rattle.run_journal.proofs.AlikeLooks.{arrive_nothing}
 use Rattle.run_journal.proofs.Hearing.{IsComing, io, replied, AreComing, coming_for, told_append, none_unready, agree_ready, agree_came}
 
 -- ---- events that aren't of requests
@@ -145,34 +145,32 @@ told_all xs rs hs cs os e o c = by (cuts xs rs (hs ++ cs) os (e ∙ sym (append_
 
 -- ---- what is told
 
--- the job has stopped, or what was told is a front of what was to be told, and the rest waits
-data Tells (j : Job) (told to_tell : List Event) (c : Course) : Type 0 where
-  stopped : has_stopped j.task (heard j.task c.told) ≡ true → Tells j told to_tell c
-  front : (xs : List Event) → xs ++ c.held ≡ to_tell → c.told ≡ told_on xs told → Tells j told to_tell c
+-- what was told is a front of what was to be told, and the rest waits or came after the stop
+pub data Tells (j : Job) (told to_tell : List Event) (c : Course) : Type 0 where
+  front : (xs : List Event) → xs ++ (c.held ++ c.unheard) ≡ to_tell → c.told ≡ told_on xs told → Tells j told to_tell c
 
 tells_more : (j : Job) (e : Event) (told es : List Event) (c : Course) → Tells j (e ∷ told) es c → Tells j told (e ∷ es) c
-tells_more j e told es c (stopped h) = stopped h
 tells_more j e told es c (front xs f g) = front (e ∷ xs) (ap (λ v. e ∷ v) f) g
 
-tell_front : (j : Job) (told late es : List Event) → Tells j told es (tell j told late es)
+-- what is told by cases, where something is to be told
+pub tell_by : (P : Course → Type 0) (j : Job) (told late : List Event) (e : Event) (es : List Event)
+    → (has_stopped j.task (heard j.task told) ≡ true → P (record { told = told; held = []; late = []; unheard = e ∷ es }))
+    → P (record { told = told; held = e ∷ es; late = late; unheard = [] })
+    → P (tell j (e ∷ told) late es) → P (tell j told late (e ∷ es))
+tell_by P j told late e es stopped waits goes_on =
+    cond_both (has_stopped j.task (heard j.task told)) (record { told = told; held = []; late = []; unheard = e ∷ es })
+    (cond (awaits_saved j.task told) (record { told = told; held = e ∷ es; late = late; unheard = [] }) (tell j (e ∷ told) late es)) P stopped
+    (λ h. cond_both (awaits_saved j.task told) (record { told = told; held = e ∷ es; late = late; unheard = [] }) (tell j (e ∷ told) late es) P (λ k. waits) (λ k. goes_on))
+
+pub tell_front : (j : Job) (told late es : List Event) → Tells j told es (tell j told late es)
 tell_front j told late [] = front [] refl refl
 tell_front j told late (e ∷ es) =
-    cond_both (has_stopped j.task (heard j.task told)) (record { told = told; held = []; late = [] })
-    (cond (awaits_saved j.task told) (record { told = told; held = e ∷ es; late = late }) (tell j (e ∷ told) late es)) (λ c. Tells j told (e ∷ es) c)
-    (λ h. stopped h)
-    (λ h. cond_both (awaits_saved j.task told) (record { told = told; held = e ∷ es; late = late }) (tell j (e ∷ told) late es) (λ c. Tells j told (e ∷ es) c)
-    (λ k. front [] refl refl)
-    (λ k. tells_more j e told es (tell j (e ∷ told) late es) (tell_front j (e ∷ told) late es)))
+    tell_by (λ c. Tells j told (e ∷ es) c) j told late e es (λ h. front [] refl refl) (front [] (append-nil (e ∷ es)) refl)
+    (tells_more j e told es (tell j (e ∷ told) late es) (tell_front j (e ∷ told) late es))
 
 tell_late : (j : Job) (told late es : List Event) → AreOther late → AreOther (tell j told late es).late
 tell_late j told late [] o = o
-tell_late j told late (e ∷ es) o =
-    cond_both (has_stopped j.task (heard j.task told)) (record { told = told; held = []; late = [] })
-    (cond (awaits_saved j.task told) (record { told = told; held = e ∷ es; late = late }) (tell j (e ∷ told) late es)) (λ (c : Course). AreOther c.late)
-    (λ h. tt)
-    (λ h. cond_both (awaits_saved j.task told) (record { told = told; held = e ∷ es; late = late }) (tell j (e ∷ told) late es) (λ (c : Course). AreOther c.late)
-    (λ k. o)
-    (λ k. tell_late j (e ∷ told) late es o))
+tell_late j told late (e ∷ es) o = tell_by (λ c. AreOther c.late) j told late e es (λ h. tt) o (tell_late j (e ∷ told) late es o)
 
 -- what waits for a look is no event of requests
 late_other : (j : Job) (past : List Entry) → AreOther (course j past).late
@@ -185,7 +183,7 @@ late_other j (entry ∷ past) =
 -- ---- what an entry gives
 
 -- what it gives besides messages and readiness
-abbrev rest_at : Job → Entry → List Entry → List Event → List Event
+abbrev pub rest_at : Job → Entry → List Entry → List Event → List Event
 rest_at j entry past late =
     when_so (is_broken j (entry ∷ past) && not (is_broken j past)) event.Broken
     ++ begins_at j entry past
@@ -194,7 +192,7 @@ rest_at j entry past late =
     ++ (if ends_look j entry past then event.Looked ∷ late ++ when_so (is_late j entry past) event.Lost else [])
 
 -- messages and readiness
-abbrev core_at : Job → Entry → List Entry → List Event
+abbrev pub core_at : Job → Entry → List Entry → List Event
 core_at j entry past = came_for j (last_request 0 (requests j past)) entry past ++ when_so (is_ready j (entry ∷ past) && not (is_ready j past)) event.Ready
 
 five : (cs as_ bs ds es fs : List Event) → cs ++ as_ ++ bs ++ ds ++ es ++ fs ≡ cs ++ (as_ ++ bs ++ ds ++ es ++ fs)
@@ -202,7 +200,7 @@ five [] as_ bs ds es fs = refl
 five (c ∷ cs) as_ bs ds es fs = ap (λ v. c ∷ v) (five cs as_ bs ds es fs)
 
 -- all that it gives
-events_are : (j : Job) (entry : Entry) (past : List Entry) (late : List Event) → events_at j entry past late ≡ core_at j entry past ++ rest_at j entry past late
+pub events_are : (j : Job) (entry : Entry) (past : List Entry) (late : List Event) → events_at j entry past late ≡ core_at j entry past ++ rest_at j entry past late
 events_are j entry past late = five (core_at j entry past) _ _ _ _ _
 
 clock_other : (o : Option ℕ) → AreOther (clock_event o)
@@ -251,7 +249,7 @@ core_are j entry past =
 
 -- ---- one entry
 
-not_both : (b : Bool) → b ≡ true → b ≡ false → ⊥
+pub not_both : (b : Bool) → b ≡ true → b ≡ false → ⊥
 not_both true e f = cc
 not_both false e f = cc
 
@@ -347,20 +345,37 @@ core_nothing j entry past same =
     ∙ ap (λ b. when_so (b && not (is_ready j past)) event.Ready) (ready_unheard j entry past same)
     ∙ ap (λ b. when_so b event.Ready) (same_none (is_ready j past))
 
-held_other : (j : Job) (past : List Entry) → all_along (is_told j) past ≡ true → AreOther (course j past).held
+looks_are : (es : List Event) → list_all is_of_looks es ≡ true → AreOther es
+looks_are [] h = tt
+looks_are (e ∷ es) h = let p = and_parts (is_of_looks e) (list_all is_of_looks es) h in (by e p.0, looks_are es p.1)
+  where
+    by : (e : Event) → is_of_looks e ≡ true → IsOther e
+    by (event.Moment ms) h = moment ms
+    by event.Looked h = looked
+    by event.Lost h = lost
+    by event.Broken h = cc
+    by event.Saved h = cc
+    by event.Ready h = cc
+    by (event.Io b) h = cc
+    by (event.Reply f) h = cc
+
+-- what waits, and what came after the stop
+pub told_parts : (j : Job) (entry : Entry) (past : List Entry) → Flows j (entry ∷ past)
+    → (list_all is_other (course j (entry ∷ past)).held ≡ true) × (list_all is_of_looks (course j (entry ∷ past)).unheard ≡ true) × Flows j past
+told_parts j entry past e =
+    let p = and_parts (is_told j (entry ∷ past)) (all_along (is_told j) past) e in
+    let q = and_parts (list_all is_other (course j (entry ∷ past)).held) (list_all is_of_looks (course j (entry ∷ past)).unheard) p.0 in
+    (q.0, q.1, p.1)
+
+held_other : (j : Job) (past : List Entry) → Flows j past → AreOther (course j past).held
 held_other j [] e = tt
-held_other j (entry ∷ past) e =
-    others_are (course j (entry ∷ past)).held (and_parts (list_all is_other (course j (entry ∷ past)).held) _ (and_parts (is_told j (entry ∷ past)) (all_along (is_told j) past) e).0).0
+held_other j (entry ∷ past) e = others_are (course j (entry ∷ past)).held (told_parts j entry past e).0
 
-not_false : (b : Bool) → not b ≡ true → b ≡ false
-not_false true e = cc
-not_false false e = refl
-
--- What the core was told agrees with the journal, while the job hasn't stopped and nothing of its requests waits.
+-- What the core was told agrees with the journal, while nothing of its requests waits or comes after the stop.
 pub course_agrees : (j : Job) (past : List Entry) → Flows j past → Agrees j (course j past).told past
 course_agrees j [] e = agree_first j
 course_agrees j (entry ∷ past) e =
-    by (course_agrees j past p.1) (tell_front j (told_saved j entry past c.told) (late_then j entry past c.late) (c.held ++ events_at j entry past c.late))
+    by (course_agrees j past p.2) (tell_front j (told_saved j entry past c.told) (late_then j entry past c.late) (c.held ++ events_at j entry past c.late))
   where
     c : Course
     c = course j past
@@ -368,33 +383,29 @@ course_agrees j (entry ∷ past) e =
     now : Course
     now = course j (entry ∷ past)
 
-    p : (is_told j (entry ∷ past) ≡ true) × (all_along (is_told j) past ≡ true)
-    p = and_parts (is_told j (entry ∷ past)) (all_along (is_told j) past) e
+    p : (list_all is_other now.held ≡ true) × (list_all is_of_looks now.unheard ≡ true) × Flows j past
+    p = told_parts j entry past e
 
-    held_now : AreOther now.held
-    held_now = held_other j (entry ∷ past) e
+    left_other : AreOther (now.held ++ now.unheard)
+    left_other = other_append now.held now.unheard (others_are now.held p.0) (looks_are now.unheard p.1)
 
-    going : has_stopped j.task (heard j.task now.told) ≡ false
-    going = not_false _ (and_parts (list_all is_other now.held) (not (has_stopped j.task (heard j.task now.told))) p.0).1
-
-    told_by : Agrees j c.told past → (xs : List Event) → xs ++ now.held ≡ c.held ++ (core_at j entry past ++ rest_at j entry past c.late)
+    told_by : Agrees j c.told past → (xs : List Event) → xs ++ (now.held ++ now.unheard) ≡ c.held ++ (core_at j entry past ++ rest_at j entry past c.late)
         → Agrees j (told_on xs (told_saved j entry past c.told)) (entry ∷ past)
     told_by a xs f = elim (cases_Bool (is_acknowledging j (entry ∷ past))) [
       | inl acks ↦
           let same = sync_brings_nothing j entry past acks in
           subst (λ v. Agrees j (told_on xs v) (entry ∷ past)) (sym (cond-true (is_acknowledging j (entry ∷ past)) (event.Saved ∷ c.told) c.told acks))
-          (on_saved j entry past c.held c.late c.told (held_other j past p.1) (late_other j past) a xs now.held f (core_nothing j entry past same) same acks)
+          (on_saved j entry past c.held c.late c.told (held_other j past p.2) (late_other j past) a xs (now.held ++ now.unheard) f (core_nothing j entry past same) same acks)
       | inr acks ↦
           subst (λ v. Agrees j (told_on xs v) (entry ∷ past)) (sym (cond-false (is_acknowledging j (entry ∷ past)) (event.Saved ∷ c.told) c.told acks))
           (elim (cases_Bool (is_ready j past)) [
-            | inl was ↦ on_came j entry past c.held c.late c.told (held_other j past p.1) (late_other j past) a acks xs now.held f held_now (ready_stays j entry past was ∙ sym was)
+            | inl was ↦ on_came j entry past c.held c.late c.told (held_other j past p.2) (late_other j past) a acks xs (now.held ++ now.unheard) f left_other (ready_stays j entry past was ∙ sym was)
             | inr was ↦ elim (cases_Bool (is_ready j (entry ∷ past))) [
-              | inl is ↦ on_ready j entry past c.held c.late c.told (held_other j past p.1) (late_other j past) a acks xs now.held f held_now was is
-              | inr is ↦ on_came j entry past c.held c.late c.told (held_other j past p.1) (late_other j past) a acks xs now.held f held_now (is ∙ sym was)
+              | inl is ↦ on_ready j entry past c.held c.late c.told (held_other j past p.2) (late_other j past) a acks xs (now.held ++ now.unheard) f left_other was is
+              | inr is ↦ on_came j entry past c.held c.late c.told (held_other j past p.2) (late_other j past) a acks xs (now.held ++ now.unheard) f left_other (is ∙ sym was)
             ]
           ])
     ]
 
     by : Agrees j c.told past → Tells j (told_saved j entry past c.told) (c.held ++ events_at j entry past c.late) now → Agrees j now.told (entry ∷ past)
-    by a (stopped h) = absurd (not_both (has_stopped j.task (heard j.task now.told)) h going)
     by a (front xs f g) = subst (λ v. Agrees j v (entry ∷ past)) (sym g) (told_by a xs (f ∙ ap (λ v. c.held ++ v) (events_are j entry past c.late)))

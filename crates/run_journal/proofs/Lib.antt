@@ -1,5 +1,6 @@
 pub mod Growth
 pub mod Alike
+pub mod AlikeLooks
 pub mod Isolation
 pub mod Status
 pub mod Reading
@@ -25,3 +26,10 @@ pub mod AskedLemmas
 pub mod Turns
 pub mod ExampleLaws
 pub mod Flowing
+pub mod Asking
+pub mod ExampleEnds
+pub mod ExampleJupyter
+pub mod Telling
+pub mod Sighting
+pub mod Finding
+pub mod Stopping

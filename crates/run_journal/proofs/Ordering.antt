@@ -37,7 +37,7 @@ nothing_is [] e = refl
 nothing_is (b ∷ bytes) e = cc
 
 -- the bytes are those before, and more
-abbrev Adds : List ℕ → List ℕ → Type 0
+abbrev pub Adds : List ℕ → List ℕ → Type 0
 Adds old new = (more : List ℕ) × (new ≡ old ++ more)
 
 adds_none : (old : List ℕ) → Adds old old
@@ -68,7 +68,7 @@ implied : (b x : Bool) → cond b x true ≡ true → b ≡ true → x ≡ true
 implied true x e f = e
 implied false x e f = cc
 
-bytes_more : (j : Job) (c : Chan) (entry : Entry) (past : List Entry) → begins_unread j c (entry ∷ past) ≡ true → Adds (bytes_got j c past) (bytes_got j c (entry ∷ past))
+pub bytes_more : (j : Job) (c : Chan) (entry : Entry) (past : List Entry) → begins_unread j c (entry ∷ past) ≡ true → Adds (bytes_got j c past) (bytes_got j c (entry ∷ past))
 bytes_more j c (made.Connected conn port how) past e =
     adds_by (is_at (place j c) conn) (connected_after how port (time past) (connection j c past)) (connection j c past) (bytes_got j c past)
     (λ here. connect_adds how port (time past) (connection j c past) (implied (is_at (place j c) conn) (is_nothing (bytes_got j c past)) e here)) (adds_none (bytes_got j c past))

@@ -21,7 +21,8 @@ use Rattle.run_journal.specs.Why.{why}
 use Rattle.run_journal.specs.Saves.{Save, last_cell, saves}
 use Rattle.run_journal.specs.Ends.{End, NotStarted, NotSaved, CellError, TimedOut, NoIdle, Ended, index_or_zero, name_of, peer_end, end_if, file_end, input_end, spec_end, fault_at, end_by, stop_of, ended_now, ended, end_alone, status_or_spent, status_of}
 use Rattle.run_journal.proofs.Alike.{Alike, own_onto, own_alike, alike_foreign}
-use Rattle.run_journal.proofs.Isolation.{acked_alike, requests_alike, bad_stream_alike, why_alike, saves_alike, before_shut_alike}
+use Rattle.run_journal.proofs.AlikeLooks.{acked_alike}
+use Rattle.run_journal.proofs.Isolation.{requests_alike, bad_stream_alike, why_alike, saves_alike, before_shut_alike}
 use Rattle.run_journal.proofs.Alike.{near}
 
 -- ---- truth values

@@ -1,18 +1,22 @@
 -- The requests that the core of a job knows by its events, and those of the journal, agree.
-use Rattle.std.specs.Prelude.{◌≡◌, ℕ, ◌<◌, ◌≤◌, ◌&&◌, List, [], ◌∷◌, length, Bool, true, false, not, option_map, slice_get, IsSomeAnd, None, Some}
+use Rattle.std.specs.Prelude.{◌≡◌, ℕ, ◌<◌, ◌≤◌, ◌&&◌, ◌||◌, not, List, [], ◌∷◌, length, Bool, true, false, Option, option_map, slice_get, IsSomeAnd, None, Some, if◌then◌else◌}
 use Rattle.std.specs.List.{list_all}
 use Rattle.world.specs.declared.chan.Chan.{Chan}
 use Rattle.world.specs.declared.entry.Entry.{Entry}
+use Rattle.world.specs.Waits.{is_wait}
+use Rattle.cell_core.specs.declared.why.Why.{Why}
+use Rattle.cell_core.specs.declared.why.Why.TheVariants as cause
 use Rattle.cell_core.specs.declared.event.Event.{Event}
 use Rattle.cell_core.specs.declared.event.Event.TheVariants as event
 use Rattle.cell_core.specs.Events as events
-use Rattle.cell_core.specs.Acts.{has_stopped, heard}
+use Rattle.cell_core.specs.Acts.{is_empty_list}
 use Rattle.cell_core.specs.Requests as core
 use Rattle.run_journal.specs.Job.{Job}
 use Rattle.run_journal.specs.Parts.{bytes_got, acked}
 use Rattle.run_journal.specs.Arrivals.{is_ready}
 use Rattle.run_journal.specs.Requests.{Request, has_idle, reply, requests}
 use Rattle.run_journal.specs.Due.{all_along}
+use Rattle.run_journal.specs.Order.{begins_unread}
 use Rattle.run_journal.specs.Course.{course}
 
 -- What the core was told since request k came to stand is what came for it: whether its idle did, and whether its reply did
@@ -53,10 +57,58 @@ is_other event.Lost = true
 is_other event.Broken = true
 is_other _ = false
 
--- by now the job hasn't stopped, and no acknowledgement, readiness, message or reply waits to be told
+-- an event of the clock, a look or a loss
+abbrev pub is_of_looks : Event → Bool
+is_of_looks (event.Moment ms) = true
+is_of_looks event.Looked = true
+is_of_looks event.Lost = true
+is_of_looks _ = false
+
+-- only events of the clock, looks, losses and broken streams wait to be told, and only the first three came after the stop
 abbrev pub is_told : Job → List Entry → Bool
-is_told j past = list_all is_other (course j past).held && not (has_stopped j.task (heard j.task (course j past).told))
+is_told j past = list_all is_other (course j past).held && list_all is_of_looks (course j past).unheard
 
 -- so at every moment
 abbrev pub Flows : Job → List Entry → Type 0
 Flows j past = all_along (is_told j) past ≡ true
+
+-- nothing came after the stop
+abbrev pub is_heard : Job → List Entry → Bool
+is_heard j past = is_empty_list (course j past).unheard
+
+-- so at every moment
+abbrev pub IsHeard : Job → List Entry → Type 0
+IsHeard j past = all_along (is_heard j) past ≡ true
+
+-- where the newest entry is a wait, nothing waits for the end of a look
+abbrev pub ends_looks : Job → List Entry → Bool
+ends_looks j [] = true
+ends_looks j (entry ∷ past) = not (is_wait entry) || is_empty_list (course j past).late
+
+-- so at every moment: each look is over before the next wait
+abbrev pub EndsLooks : Job → List Entry → Type 0
+EndsLooks j past = all_along (ends_looks j) past ≡ true
+
+-- a cause that needs neither the clock nor a look: an executed plan, a fatal reply or a broken stream
+abbrev pub is_at_once : Why → Bool
+is_at_once cause.Done = true
+is_at_once cause.CellError = true
+is_at_once cause.BadPeer = true
+is_at_once _ = false
+
+-- such a cause, where there is one
+abbrev pub at_once : Option Why → Option Why
+at_once None = None
+at_once (Some why) = if is_at_once why then Some why else None
+
+-- a cause that no deadline brings
+abbrev pub is_undated : Why → Bool
+is_undated cause.Done = true
+is_undated cause.CellError = true
+is_undated cause.BadPeer = true
+is_undated cause.KernelLost = true
+is_undated _ = false
+
+-- no connection of the job was begun again after bytes were got on it
+abbrev pub BeginsUnread : Job → List Entry → Type 0
+BeginsUnread j past = (c : Chan) → all_along (begins_unread j c) past ≡ true

@@ -84,18 +84,20 @@ events_at j entry past late =
     ++ when_so (shows_lost j (entry ∷ past) && not (is_late j entry past)) event.Lost
     ++ (if ends_look j entry past then event.Looked ∷ late ++ when_so (is_late j entry past) event.Lost else [])
 
--- what was told so far, the newest first; what waits for a save; and what waits for a look
+-- what was told so far, the newest first; what waits for a save; what waits for a look; and what the newest entry gave after
+-- the stop
 pub record Course : Type 0 where
   pub told : List Event
   pub held : List Event
   pub late : List Event
+  pub unheard : List Event
 
 -- while a save is asked for, nothing but its acknowledgement is told; after a stop nothing is
 abbrev pub tell : Job → List Event → List Event → List Event → Course
-tell j told late [] = record { told = told; held = []; late = late }
+tell j told late [] = record { told = told; held = []; late = late; unheard = [] }
 tell j told late (event ∷ held) =
-    if has_stopped j.task (heard j.task told) then record { told = told; held = []; late = [] }
-    else if awaits_saved j.task told then record { told = told; held = event ∷ held; late = late }
+    if has_stopped j.task (heard j.task told) then record { told = told; held = []; late = []; unheard = event ∷ held }
+    else if awaits_saved j.task told then record { told = told; held = event ∷ held; late = late; unheard = [] }
     else tell j (event ∷ told) late held
 
 -- the losses that wait for a look after this entry
@@ -112,5 +114,5 @@ goes j entry past c = tell j (told_saved j entry past c.told) (late_then j entry
 
 -- the events of a journal
 abbrev pub course : Job → List Entry → Course
-course j [] = record { told = []; held = []; late = [] }
+course j [] = record { told = []; held = []; late = []; unheard = [] }
 course j (entry ∷ past) = goes j entry past (course j past)

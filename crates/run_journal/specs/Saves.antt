@@ -78,6 +78,10 @@ saves_by j past = saves_for j j.given (requests j past) (why j past)
 abbrev pub saves : Job → List Entry → List Save
 saves j past = saves_by j (before_shut j past)
 
+-- how many cells each of these settles
+abbrev pub settled_by : List Save → List ℕ
+settled_by ss = map (λ (s : Save). s.settled) ss
+
 -- their texts
 abbrev pub texts : Job → List Entry → List (List ℕ)
 texts j past = map (λ (s : Save). s.text) (saves j past)

@@ -2,6 +2,7 @@
 
 pub mod agreement;
 pub mod asked;
+pub mod causes;
 pub mod growth;
 pub mod isolation;
 pub mod order;

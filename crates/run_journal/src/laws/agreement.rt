@@ -2,16 +2,20 @@
 //! and on from entry to entry, where each event is told that the entry gives. A loss or a broken
 //! stream may be told later, and a look's end too, since they keep the agreement whenever they are
 //! told.
-ghost use Rattle.std.specs.Prelude.{◌≡◌, ℕ, true, false, List, [], ◌∷◌, Some, IsSomeAnd};
+ghost use Rattle.std.specs.Prelude.{◌≡◌, ℕ, ◌<◌, true, false, List, [], ◌∷◌, Some, length};
 ghost use Rattle.std.specs.Prelude.{slice_get};
 ghost use Rattle.world.specs.declared.entry.Entry.{Entry};
 ghost use Rattle.cell_core.specs.declared.event.Event.{Event};
 ghost use Rattle.cell_core.specs.declared.event.Event.TheVariants.{Saved, Ready};
+ghost use Rattle.cell_core.specs.Laws.{settles};
 ghost use Rattle.cell_core.specs.Requests as core;
+ghost use Rattle.cell_core.specs.Saves as core_saves;
 ghost use Rattle.run_journal.specs.Job.{Job};
-ghost use Rattle.run_journal.specs.Parts.{is_acknowledging};
+ghost use Rattle.run_journal.specs.Parts.{acked, is_acknowledging};
 ghost use Rattle.run_journal.specs.Arrivals.{is_ready};
 ghost use Rattle.run_journal.specs.Requests.{Request, requests, last_request, is_passed};
+ghost use Rattle.run_journal.specs.Why.{is_done, is_error, why};
+ghost use Rattle.run_journal.specs.Saves.{run_saves, settled_by};
 ghost use Rattle.run_journal.specs.Course.{came_for, course};
 ghost use Rattle.run_journal.specs.Agreement.{Agrees, BringsNothing, Flows, IsOther, told_on};
 
@@ -67,8 +71,28 @@ pub fn passed_requests_agree()
         core.is_passed_in (core.after j.task k told) ≡ is_passed j k r }
 {}
 
-/// What the core is told over a journal agrees with it, as long as the job hasn't stopped and no
-/// acknowledgement, readiness, message or reply waits to be told.
+/// What the core is told over a journal agrees with it, as long as no readiness, message or reply
+/// waits to be told or comes after the stop.
 pub fn courses_agree()
     ensures { (j : Job) (past : List Entry) → Flows j past → Agrees j (course j past).told past }
+{}
+
+/// Where they agree, an executed plan and a fatal reply stop the core exactly where they stop the
+/// job by the journal.
+pub fn ends_of_requests_agree()
+    ensures done { (j : Job) (told : List Event) (past : List Entry) → Agrees j told past →
+        0 < length j.task.plan →
+        core_saves.is_done j.task told ≡ is_done j (acked j past) (requests j past) }
+    ensures error { (j : Job) (told : List Event) (past : List Entry) → Agrees j told past →
+        core_saves.is_cell_error (core.standing j.task told) ≡
+        is_error j (last_request 0 (requests j past)) }
+{}
+
+/// Where they agree, and on the cause too, the saves that the core asks for settle what those that
+/// are due settle, in order.
+pub fn saves_agree()
+    ensures { (j : Job) (told : List Event) (past : List Entry) → Agrees j told past →
+        core_saves.why j.task told ≡ why j past →
+        settles (core_saves.saves j.task told) ≡
+        settled_by (run_saves j (requests j past) (why j past)) }
 {}

@@ -1,0 +1,284 @@
+-- A kernel that the core calls lost is lost by the journal.
+use Rattle.std.proofs.Common.{◌≡◌, ◌⊎◌, inl, inr, List, [], ◌∷◌, ◌++◌, Bool, true, false, ◌&&◌, ◌||◌, not, cond, refl, sym, ◌∙◌, ap}
+use Rattle.std.proofs.Math.Bool.{or-false}
+use Rattle.std.proofs.lemmas.Bool.{and_parts, or_parts, and_from, or_left, or_right, cond-true, cond-false, cases_Bool}
+use Rattle.world.specs.declared.entry.Entry.{Entry}
+use Rattle.world.specs.declared.entry.Entry.TheVariants as made
+use Rattle.world.specs.Waits.{is_wait, has_wait, before_wait}
+use Rattle.cell_core.specs.declared.event.Event.{Event}
+use Rattle.cell_core.specs.declared.event.Event.TheVariants as event
+use Rattle.cell_core.specs.Acts.{is_empty_list}
+use Rattle.cell_core.specs.Events as events
+use Rattle.run_journal.specs.Job.{Job}
+use Rattle.run_journal.specs.Parts.{is_running}
+use Rattle.run_journal.specs.Looks.{looked, ever, is_silent, shows_lost, is_lost}
+use Rattle.run_journal.specs.Due.{all_along}
+use Rattle.run_journal.specs.Course.{when_so, in_look, ends_look, is_late, events_at, tell, late_then, course}
+use Rattle.run_journal.specs.Agreement.{IsHeard, ends_looks, EndsLooks}
+use Rattle.run_journal.specs.Awake.{is_called_for}
+use Rattle.run_journal.proofs.Flowing.{tell_by, not_both}
+use Rattle.run_journal.proofs.Telling.{heard_parts, empty_is, among_next, among_lost, came_append, is_loss, lost_when, gives_lost}
+use Rattle.run_journal.proofs.Sighting.{or_either, true_not, looked_stays, found_in, gives_found, knows, finds, late_unlooked, knows_next, finds_next, finds_back}
+
+-- ---- what holds along a journal
+
+record Along (j : Job) (past : List Entry) : Type 0 where
+  known : knows (course j past) ≡ true → ever (shows_lost j) past ≡ true
+  late : events.came is_loss (course j past).late ≡ true → ever (shows_lost j) past ≡ true
+  before : in_look j past ≡ true → looked j past ≡ false → knows (course j past) ≡ true → ever (shows_lost j) (before_wait past) ≡ true
+  found : finds (course j past) ≡ true → ever (is_lost j) past ≡ true
+
+-- a wait shows no loss
+wait_shows_none : (j : Job) (entry : Entry) (past : List Entry) → is_wait entry ≡ true → shows_lost j (entry ∷ past) ≡ false
+unfolding is_silent
+wait_shows_none j (made.Waited ms reports how) past e = refl
+wait_shows_none j _ past e = cc
+
+-- since the last wait, a loss in a look is late
+late_in_look : (s i l : Bool) → i ≡ true → l ≡ false → (s && not ((s && i) && not l)) ≡ false
+late_in_look true true false e f = refl
+late_in_look true true true e f = cc
+late_in_look true false l e f = cc
+late_in_look false i l e f = refl
+
+-- what comes late of these, then
+late_next : (j : Job) (entry : Entry) (past : List Entry) → events.came is_loss (course j (entry ∷ past)).late ≡ true → (events.came is_loss (course j past).late || is_late j entry past) ≡ true
+late_next j entry past = by_tell _ (late_then j entry past (course j past).late) _ (by_then (ends_look j entry past))
+  where
+    by_then : (b : Bool) → events.came is_loss (cond b [] ((course j past).late ++ when_so (is_late j entry past) event.Lost)) ≡ true → (events.came is_loss (course j past).late || is_late j entry past) ≡ true
+    by_then true e = cc
+    by_then false e = ap (λ b. events.came is_loss (course j past).late || b) (sym (lost_when (is_late j entry past))) ∙ sym (came_append is_loss (course j past).late (when_so (is_late j entry past) event.Lost)) ∙ e
+
+    by_tell : (told late es : List Event) → (events.came is_loss late ≡ true → (events.came is_loss (course j past).late || is_late j entry past) ≡ true)
+        → events.came is_loss (tell j told late es).late ≡ true → (events.came is_loss (course j past).late || is_late j entry past) ≡ true
+    by_tell told late [] f = f
+    by_tell told late (x ∷ es) f =
+        tell_by (λ c. events.came is_loss c.late ≡ true → (events.came is_loss (course j past).late || is_late j entry past) ≡ true) j told late x es (λ h e. cc) f (by_tell (x ∷ told) late es f)
+
+both_of : (b x : Bool) → cond b x false ≡ true → (b ≡ true) × (x ≡ true)
+both_of true x e = (refl, e)
+both_of false x e = cc
+
+not_true : (b : Bool) → not b ≡ true → b ≡ false
+not_true true e = cc
+not_true false e = refl
+
+lost_is : (j : Job) (past : List Entry) → looked j past ≡ true → ever (shows_lost j) (before_wait past) ≡ true → is_lost j past ≡ true
+unfolding is_lost
+lost_is j past e f = and_from (looked j past) (ever (shows_lost j) (before_wait past)) e f
+
+module _ (j : Job) (entry : Entry) (past : List Entry) (i : Along j past) where
+  -- a loss that is known of in a look, before its end, was shown before its wait
+  settled : in_look j (entry ∷ past) ≡ true → (is_wait entry ≡ true) ⊎ (looked j past ≡ false)
+      → ((shows_lost j (entry ∷ past) && not (is_late j entry past)) || knows (course j past)) ≡ true → ever (shows_lost j) (before_wait (entry ∷ past)) ≡ true
+  settled e open_ h = by (cases_Bool (is_wait entry)) (or_either (shows_lost j (entry ∷ past) && not (is_late j entry past)) (knows (course j past)) h)
+    where
+      in_past : is_wait entry ≡ false → in_look j past ≡ true
+      in_past w =
+          sym (ap (λ b. (b || has_wait past) && is_called_for j (before_wait past)) w)
+          ∙ sym (ap (λ at. (is_wait entry || has_wait past) && is_called_for j at) (cond-false (is_wait entry) past (before_wait past) w))
+          ∙ e
+
+      unlooked : is_wait entry ≡ false → (is_wait entry ≡ true) ⊎ (looked j past ≡ false) → looked j past ≡ false
+      unlooked w (inl v) = absurd (not_both (is_wait entry) v w)
+      unlooked w (inr k) = k
+
+      by : (is_wait entry ≡ true) ⊎ (is_wait entry ≡ false) → ((shows_lost j (entry ∷ past) && not (is_late j entry past)) ≡ true) ⊎ (knows (course j past) ≡ true)
+          → ever (shows_lost j) (before_wait (entry ∷ past)) ≡ true
+      by (inl w) (inl k) = absurd (not_both (shows_lost j (entry ∷ past)) (and_parts (shows_lost j (entry ∷ past)) (not (is_late j entry past)) k).0 (wait_shows_none j entry past w))
+      by (inl w) (inr k) = ap (ever (shows_lost j)) (cond-true (is_wait entry) past (before_wait past) w) ∙ i.known k
+      by (inr w) (inl k) =
+          absurd (not_both (shows_lost j (entry ∷ past) && not (is_late j entry past)) k
+          (late_in_look (shows_lost j (entry ∷ past)) (in_look j past) (looked j past) (in_past w) (unlooked w open_)))
+      by (inr w) (inr k) = ap (ever (shows_lost j)) (cond-false (is_wait entry) past (before_wait past) w) ∙ i.before (in_past w) (unlooked w open_) k
+
+  -- one that waited for a look, or does so now, was shown
+  shown_late : (events.came is_loss (course j past).late || is_late j entry past) ≡ true → ever (shows_lost j) (entry ∷ past) ≡ true
+  shown_late h = by (or_either (events.came is_loss (course j past).late) (is_late j entry past) h)
+    where
+      by : (events.came is_loss (course j past).late ≡ true) ⊎ (is_late j entry past ≡ true) → ever (shows_lost j) (entry ∷ past) ≡ true
+      by (inl k) = or_right (shows_lost j (entry ∷ past)) (ever (shows_lost j) past) (i.late k)
+      by (inr k) =
+          or_left (shows_lost j (entry ∷ past)) (ever (shows_lost j) past)
+          (and_parts (shows_lost j (entry ∷ past)) (in_look j past) (and_parts (shows_lost j (entry ∷ past) && in_look j past) (not (looked j past)) k).0).0
+
+  -- one that the entry gives: now, or at the end of a look
+  given : events.came is_loss (events_at j entry past (course j past).late) ≡ true
+      → ((shows_lost j (entry ∷ past) && not (is_late j entry past)) ≡ true) ⊎ ((ends_look j entry past ≡ true) × ((events.came is_loss (course j past).late || is_late j entry past) ≡ true))
+  given h = by (or_either (shows_lost j (entry ∷ past) && not (is_late j entry past)) _ (sym (gives_lost j entry past (course j past).late) ∙ h))
+    where
+      by : ((shows_lost j (entry ∷ past) && not (is_late j entry past)) ≡ true) ⊎ (cond (ends_look j entry past) (events.came is_loss (course j past).late || is_late j entry past) false ≡ true)
+          → ((shows_lost j (entry ∷ past) && not (is_late j entry past)) ≡ true) ⊎ ((ends_look j entry past ≡ true) × ((events.came is_loss (course j past).late || is_late j entry past) ≡ true))
+      by (inl k) = inl k
+      by (inr k) = inr (both_of (ends_look j entry past) _ k)
+
+  -- the parts of a look's end
+  ends_parts : ends_look j entry past ≡ true → (in_look j (entry ∷ past) ≡ true) × (looked j (entry ∷ past) ≡ true) × ((is_wait entry ≡ true) ⊎ (looked j past ≡ false))
+  ends_parts h =
+      let p = and_parts (in_look j (entry ∷ past) && looked j (entry ∷ past)) (is_wait entry || not (looked j past)) h in
+      let q = and_parts (in_look j (entry ∷ past)) (looked j (entry ∷ past)) p.0 in
+      (q.0, q.1, by (or_either (is_wait entry) (not (looked j past)) p.1))
+    where
+      by : (is_wait entry ≡ true) ⊎ (not (looked j past) ≡ true) → (is_wait entry ≡ true) ⊎ (looked j past ≡ false)
+      by (inl w) = inl w
+      by (inr k) = inr (not_true (looked j past) k)
+
+  next_known : knows (course j (entry ∷ past)) ≡ true → ever (shows_lost j) (entry ∷ past) ≡ true
+  next_known e = by (or_either (knows (course j past)) _ (knows_next j entry past e))
+    where
+      by_given : ((shows_lost j (entry ∷ past) && not (is_late j entry past)) ≡ true) ⊎ ((ends_look j entry past ≡ true) × ((events.came is_loss (course j past).late || is_late j entry past) ≡ true))
+          → ever (shows_lost j) (entry ∷ past) ≡ true
+      by_given (inl k) = or_left (shows_lost j (entry ∷ past)) (ever (shows_lost j) past) (and_parts (shows_lost j (entry ∷ past)) (not (is_late j entry past)) k).0
+      by_given (inr k) = shown_late k.1
+
+      by : (knows (course j past) ≡ true) ⊎ (events.came is_loss (events_at j entry past (course j past).late) ≡ true) → ever (shows_lost j) (entry ∷ past) ≡ true
+      by (inl k) = or_right (shows_lost j (entry ∷ past)) (ever (shows_lost j) past) (i.known k)
+      by (inr k) = by_given (given k)
+
+  next_before : in_look j (entry ∷ past) ≡ true → looked j (entry ∷ past) ≡ false → knows (course j (entry ∷ past)) ≡ true → ever (shows_lost j) (before_wait (entry ∷ past)) ≡ true
+  next_before e unlooked h = settled e (by (cases_Bool (is_wait entry)) (cases_Bool (looked j past))) (known (or_either (knows (course j past)) _ (knows_next j entry past h)))
+    where
+      by : (is_wait entry ≡ true) ⊎ (is_wait entry ≡ false) → (looked j past ≡ true) ⊎ (looked j past ≡ false) → (is_wait entry ≡ true) ⊎ (looked j past ≡ false)
+      by (inl w) k = inl w
+      by (inr w) (inl k) = absurd (not_both (looked j (entry ∷ past)) (looked_stays j entry past w k) unlooked)
+      by (inr w) (inr k) = inr k
+
+      by_given : ((shows_lost j (entry ∷ past) && not (is_late j entry past)) ≡ true) ⊎ ((ends_look j entry past ≡ true) × ((events.came is_loss (course j past).late || is_late j entry past) ≡ true))
+          → ((shows_lost j (entry ∷ past) && not (is_late j entry past)) || knows (course j past)) ≡ true
+      by_given (inl k) = or_left _ (knows (course j past)) k
+      by_given (inr k) = absurd (not_both (looked j (entry ∷ past)) (ends_parts k.0).1 unlooked)
+
+      known : (knows (course j past) ≡ true) ⊎ (events.came is_loss (events_at j entry past (course j past).late) ≡ true)
+          → ((shows_lost j (entry ∷ past) && not (is_late j entry past)) || knows (course j past)) ≡ true
+      known (inl k) = or_right (shows_lost j (entry ∷ past) && not (is_late j entry past)) (knows (course j past)) k
+      known (inr k) = by_given (given k)
+
+  next_found : finds (course j (entry ∷ past)) ≡ true → ever (is_lost j) (entry ∷ past) ≡ true
+  next_found e = by (or_either (finds (course j past)) _ (finds_next j entry past e))
+    where
+      by : (finds (course j past) ≡ true) ⊎ (found_in (knows (course j past)) (events_at j entry past (course j past).late) ≡ true) → ever (is_lost j) (entry ∷ past) ≡ true
+      by (inl k) = or_right (is_lost j (entry ∷ past)) (ever (is_lost j) past) (i.found k)
+      by (inr k) =
+          let p = and_parts (ends_look j entry past) _ (sym (gives_found j entry past (knows (course j past)) (course j past).late (late_unlooked j past)) ∙ k) in
+          let q = ends_parts p.0 in
+          or_left (is_lost j (entry ∷ past)) (ever (is_lost j) past) (lost_is j (entry ∷ past) q.1 (settled q.0 q.2 p.1))
+
+  next : Along j (entry ∷ past)
+  next = record {
+    known = next_known;
+    late = λ e. shown_late (late_next j entry past e);
+    before = next_before;
+    found = next_found;
+  }
+
+along : (j : Job) (past : List Entry) → Along j past
+along j [] = record { known = λ e. e; late = λ e. e; before = λ e k h. h; found = λ e. e }
+along j (entry ∷ past) = next j entry past (along j past)
+
+-- where the core has seen a look after a loss, the kernel is lost by the journal
+pub lost_found : (j : Job) (past : List Entry) → events.looked events.is_lost (course j past).told ≡ true → ever (is_lost j) past ≡ true
+lost_found j past e = (along j past).found (or_left (events.looked events.is_lost (course j past).told) _ e)
+
+-- ---- and the other way
+
+before_none : (past : List Entry) → has_wait past ≡ false → before_wait past ≡ []
+before_none [] e = refl
+before_none (entry ∷ past) e =
+    let p = or_parts (is_wait entry) (has_wait past) e in
+    cond-false (is_wait entry) past (before_wait past) p.0 ∙ before_none past p.1
+
+-- where something was shown before the last wait, there was one
+wait_was : (j : Job) (past : List Entry) → ever (shows_lost j) (before_wait past) ≡ true → has_wait past ≡ true
+wait_was j past e = by (cases_Bool (has_wait past))
+  where
+    by : (has_wait past ≡ true) ⊎ (has_wait past ≡ false) → has_wait past ≡ true
+    by (inl h) = h
+    by (inr h) = absurd (not_both (ever (shows_lost j) (before_wait past)) e (ap (ever (shows_lost j)) (before_none past h)))
+
+-- a loss shown before the last wait is known of, and a kernel that is lost is found so
+record Back (j : Job) (past : List Entry) : Type 0 where
+  known : ever (shows_lost j) (before_wait past) ≡ true → knows (course j past) ≡ true
+  found : is_running j (before_wait past) ≡ true → is_lost j past ≡ true → finds (course j past) ≡ true
+
+lost_parts : (j : Job) (past : List Entry) → is_lost j past ≡ true → (looked j past ≡ true) × (ever (shows_lost j) (before_wait past) ≡ true)
+unfolding is_lost
+lost_parts j past e = and_parts (looked j past) (ever (shows_lost j) (before_wait past)) e
+
+module _ (j : Job) (entry : Entry) (past : List Entry) (h : IsHeard j (entry ∷ past)) (s : EndsLooks j (entry ∷ past)) (i : Back j past) where
+  stays_known : knows (course j past) ≡ true → knows (course j (entry ∷ past)) ≡ true
+  stays_known k =
+      among_next is_loss j entry past refl (ap (events.came is_loss) (heard_parts j entry past h).0)
+      ∙ or_left (knows (course j past)) (events.came is_loss (events_at j entry past (course j past).late)) k
+
+  -- at a wait nothing waits for a look
+  on_time : is_wait entry ≡ true → (course j past).late ≡ []
+  on_time w = by (or_either (not (is_wait entry)) (is_empty_list (course j past).late) (and_parts (ends_looks j (entry ∷ past)) (all_along (ends_looks j) past) s).0)
+    where
+      by : (not (is_wait entry) ≡ true) ⊎ (is_empty_list (course j past).late ≡ true) → (course j past).late ≡ []
+      by (inl k) = absurd (not_both (is_wait entry) w (not_true (is_wait entry) k))
+      by (inr k) = empty_is (course j past).late k
+
+  -- what was shown before the wait was known of before this entry
+  known_before : ever (shows_lost j) (before_wait (entry ∷ past)) ≡ true → knows (course j past) ≡ true
+  known_before e = by (cases_Bool (is_wait entry))
+    where
+      by : (is_wait entry ≡ true) ⊎ (is_wait entry ≡ false) → knows (course j past) ≡ true
+      by (inl w) =
+          sym (or-false (knows (course j past)))
+          ∙ ap (λ es. knows (course j past) || events.came is_loss es) (sym (on_time w))
+          ∙ among_lost j past (heard_parts j entry past h).1
+          ∙ ap (ever (shows_lost j)) (sym (cond-true (is_wait entry) past (before_wait past) w))
+          ∙ e
+      by (inr w) = i.known (ap (ever (shows_lost j)) (sym (cond-false (is_wait entry) past (before_wait past) w)) ∙ e)
+
+  -- the look that shows the kernel lost ends with this entry
+  found_now : is_running j (before_wait (entry ∷ past)) ≡ true → is_lost j (entry ∷ past) ≡ true → (is_wait entry ≡ true) ⊎ (looked j past ≡ false) → finds (course j (entry ∷ past)) ≡ true
+  found_now runs lost new =
+      finds_back j entry past (heard_parts j entry past h).0
+      (or_right (finds (course j past)) _
+      (gives_found j entry past (knows (course j past)) (course j past).late (late_unlooked j past)
+      ∙ and_from (ends_look j entry past) _ ended (or_right (shows_lost j (entry ∷ past) && not (is_late j entry past)) (knows (course j past)) (known_before p.1))))
+    where
+      p : (looked j (entry ∷ past) ≡ true) × (ever (shows_lost j) (before_wait (entry ∷ past)) ≡ true)
+      p = lost_parts j (entry ∷ past) lost
+
+      is_new : (is_wait entry ≡ true) ⊎ (looked j past ≡ false) → (is_wait entry || not (looked j past)) ≡ true
+      is_new (inl w) = or_left (is_wait entry) (not (looked j past)) w
+      is_new (inr k) = or_right (is_wait entry) (not (looked j past)) (true_not (looked j past) k)
+
+      called : is_called_for j (before_wait (entry ∷ past)) ≡ true
+      called = and_from (is_running j (before_wait (entry ∷ past))) _ runs (or_left (ever (shows_lost j) (before_wait (entry ∷ past))) _ p.1)
+
+      ended : ends_look j entry past ≡ true
+      ended =
+          and_from (in_look j (entry ∷ past) && looked j (entry ∷ past)) (is_wait entry || not (looked j past))
+          (and_from (in_look j (entry ∷ past)) (looked j (entry ∷ past)) (and_from (has_wait (entry ∷ past)) (is_called_for j (before_wait (entry ∷ past))) (wait_was j (entry ∷ past) p.1) called) p.0)
+          (is_new new)
+
+  back_found : is_running j (before_wait (entry ∷ past)) ≡ true → is_lost j (entry ∷ past) ≡ true → finds (course j (entry ∷ past)) ≡ true
+  back_found runs lost = by (cases_Bool (is_wait entry)) (cases_Bool (looked j past))
+    where
+      p : (looked j (entry ∷ past) ≡ true) × (ever (shows_lost j) (before_wait (entry ∷ past)) ≡ true)
+      p = lost_parts j (entry ∷ past) lost
+
+      by : (is_wait entry ≡ true) ⊎ (is_wait entry ≡ false) → (looked j past ≡ true) ⊎ (looked j past ≡ false) → finds (course j (entry ∷ past)) ≡ true
+      by (inl w) k = found_now runs lost (inl w)
+      by (inr w) (inr k) = found_now runs lost (inr k)
+      by (inr w) (inl k) =
+          let same : before_wait (entry ∷ past) ≡ before_wait past = cond-false (is_wait entry) past (before_wait past) w in
+          finds_back j entry past (heard_parts j entry past h).0
+          (or_left (finds (course j past)) _ (i.found (ap (is_running j) (sym same) ∙ runs) (lost_is j past k (ap (ever (shows_lost j)) (sym same) ∙ p.1))))
+
+back : (j : Job) (past : List Entry) → IsHeard j past → EndsLooks j past → Back j past
+back j [] h s = record { known = λ e. cc; found = λ r e. absurd (not_both (ever (shows_lost j) []) (lost_parts j [] e).1 refl) }
+back j (entry ∷ past) h s =
+    let i = back j past (heard_parts j entry past h).1 (and_parts (ends_looks j (entry ∷ past)) (all_along (ends_looks j) past) s).1 in
+    record { known = λ e. stays_known j entry past h s i (known_before j entry past h s i e); found = back_found j entry past h s i }
+
+-- where the kernel is lost by the journal, the core has seen a look after a loss
+pub found_lost : (j : Job) (past : List Entry) → IsHeard j past → EndsLooks j past → (course j past).held ≡ [] → is_running j (before_wait past) ≡ true → is_lost j past ≡ true
+    → events.looked events.is_lost (course j past).told ≡ true
+found_lost j past h s none runs lost =
+    sym (or-false (events.looked events.is_lost (course j past).told))
+    ∙ ap (λ es. events.looked events.is_lost (course j past).told || found_in (events.came is_loss (course j past).told) es) (sym none)
+    ∙ (back j past h s).found runs lost

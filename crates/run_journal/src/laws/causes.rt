@@ -1,0 +1,64 @@
+//! What stops a job at once stops its core, and broken streams and losses are told.
+ghost use Rattle.std.specs.Prelude.{◌≡◌, ◌<◌, true, Some, List, [], length};
+ghost use Rattle.world.specs.declared.entry.Entry.{Entry};
+ghost use Rattle.cell_core.specs.declared.why.Why.{Why};
+ghost use Rattle.cell_core.specs.Events as events;
+ghost use Rattle.cell_core.specs.Saves as core_saves;
+ghost use Rattle.world.specs.Waits.{before_wait};
+ghost use Rattle.run_journal.specs.Job.{Job};
+ghost use Rattle.run_journal.specs.Parts.{is_running};
+ghost use Rattle.run_journal.specs.Looks.{ever, is_lost, shows_lost};
+ghost use Rattle.run_journal.specs.Requests.{is_broken};
+ghost use Rattle.run_journal.specs.Why.{why};
+ghost use Rattle.run_journal.specs.Decoding.{IsDecoding};
+ghost use Rattle.run_journal.specs.Course.{course};
+ghost use Rattle.run_journal.specs.Agreement.{BeginsUnread, EndsLooks, Flows, IsHeard, at_once, is_undated};
+
+/// Where nothing waits for a save, the core knows of a broken stream exactly where one is broken.
+pub fn broken_streams_are_told()
+    ensures { (j : Job) → IsDecoding j.codec → (past : List Entry) → BeginsUnread j past →
+        Flows j past → (course j past).held ≡ [] →
+        events.came events.is_broken (course j past).told ≡ is_broken j past }
+{}
+
+/// Where nothing came after the stop, and nothing waits for a save or a look, the core knows of a
+/// loss exactly where an entry has shown one.
+pub fn losses_are_told()
+    ensures { (j : Job) (past : List Entry) → IsHeard j past →
+        (course j past).held ≡ [] → (course j past).late ≡ [] →
+        events.held events.is_lost (course j past).told ≡ ever (shows_lost j) past }
+{}
+
+/// Where nothing waits for a save, an executed plan, a fatal reply and a broken stream stop the
+/// core exactly where they stop the job by the journal.
+pub fn causes_at_once_agree()
+    ensures { (j : Job) → IsDecoding j.codec → 0 < length j.task.plan → (past : List Entry) →
+        BeginsUnread j past → Flows j past → (course j past).held ≡ [] →
+        at_once (core_saves.why j.task (course j past).told) ≡ at_once (why j past) }
+{}
+
+/// Where the core has been told of a look after a loss, the journal has shown the kernel lost.
+pub fn losses_found_are_shown()
+    ensures { (j : Job) (past : List Entry) →
+        events.looked events.is_lost (course j past).told ≡ true → ever (is_lost j) past ≡ true }
+{}
+
+/// Where the journal shows the kernel lost, the core has been told of a look after a loss: where the
+/// job was running at the last wait, each look was over before the next wait, and nothing waits for
+/// a save or came after the stop.
+pub fn losses_shown_are_found()
+    ensures { (j : Job) (past : List Entry) → IsHeard j past → EndsLooks j past →
+        (course j past).held ≡ [] → is_running j (before_wait past) ≡ true →
+        is_lost j past ≡ true → events.looked events.is_lost (course j past).told ≡ true }
+{}
+
+/// A cause that no deadline brings and that stops the job by the journal stops the core, where the
+/// job was running at the last wait, each look was over before the next wait, and nothing waits for
+/// a save or came after the stop.
+pub fn undated_causes_agree()
+    ensures { (j : Job) → IsDecoding j.codec → 0 < length j.task.plan → (past : List Entry) →
+        BeginsUnread j past → Flows j past → IsHeard j past → EndsLooks j past →
+        (course j past).held ≡ [] → is_running j (before_wait past) ≡ true → (cause : Why) →
+        is_undated cause ≡ true → why j past ≡ Some cause →
+        core_saves.why j.task (course j past).told ≡ Some cause }
+{}
