@@ -33,3 +33,4 @@ pub mod Telling
 pub mod Sighting
 pub mod Finding
 pub mod Stopping
+pub mod ExampleAsked
