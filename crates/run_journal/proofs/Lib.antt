@@ -34,3 +34,5 @@ pub mod Sighting
 pub mod Finding
 pub mod Stopping
 pub mod ExampleAsked
+pub mod Moments
+pub mod Clocks
