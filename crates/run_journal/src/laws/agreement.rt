@@ -1,7 +1,7 @@
-//! The requests that a job's core knows by its events agree with those of the journal: at the start,
-//! and on from entry to entry, where each event is told that the entry gives. A loss or a broken
-//! stream may be told later, and a look's end too, since they keep the agreement whenever they are
-//! told.
+//! The requests that a job's core knows by its events agree with those of the journal: at the
+//! start, and on from entry to entry, where each event is told that the entry gives. A loss or a
+//! broken stream may be told later, and a look's end too, since they keep the agreement whenever
+//! they are told.
 ghost use Rattle.std.specs.Prelude.{◌≡◌, ℕ, ◌<◌, true, false, List, [], ◌∷◌, Some, length};
 ghost use Rattle.std.specs.Prelude.{slice_get};
 ghost use Rattle.world.specs.declared.entry.Entry.{Entry};
