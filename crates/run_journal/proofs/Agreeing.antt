@@ -94,15 +94,15 @@ get_mapped f (x ∷ rs) zero r e = (x, refl, inside e)
 get_mapped f (x ∷ rs) (suc i) r e = get_mapped f rs i r e
 
 -- a request of a list with one more is one of the list, or the one more
-data IsIn (rs : List Request) (q : Request) (i : ℕ) (r : Request) : Type 0 where
+pub data IsIn (rs : List Request) (q : Request) (i : ℕ) (r : Request) : Type 0 where
   before : slice_get rs i ≡ Some r → IsIn rs q i r
   last : i ≡ length rs → r ≡ q → IsIn rs q i r
 
-in_more : (x : Request) (rs : List Request) (q : Request) (i : ℕ) (r : Request) → IsIn rs q i r → IsIn (x ∷ rs) q (suc i) r
+pub in_more : (x : Request) (rs : List Request) (q : Request) (i : ℕ) (r : Request) → IsIn rs q i r → IsIn (x ∷ rs) q (suc i) r
 in_more x rs q i r (before e) = before e
 in_more x rs q i r (last e f) = last (ap suc e) f
 
-get_pushed : (rs : List Request) (q : Request) (i : ℕ) (r : Request) → slice_get (rs ++ q ∷ []) i ≡ Some r → IsIn rs q i r
+pub get_pushed : (rs : List Request) (q : Request) (i : ℕ) (r : Request) → slice_get (rs ++ q ∷ []) i ≡ Some r → IsIn rs q i r
 get_pushed [] q zero r e = last refl (inside e)
   where
     inside : {a b : Request} → Some a ≡ Some b → b ≡ a
@@ -125,13 +125,13 @@ no_reply looked later = refl
 no_reply lost later = refl
 no_reply broken later = refl
 
-no_saved : {e : Event} → IsOther e → events.is_saved e ≡ false
+pub no_saved : {e : Event} → IsOther e → events.is_saved e ≡ false
 no_saved (moment ms) = refl
 no_saved looked = refl
 no_saved lost = refl
 no_saved broken = refl
 
-no_ready : {e : Event} → IsOther e → events.is_ready e ≡ false
+pub no_ready : {e : Event} → IsOther e → events.is_ready e ≡ false
 no_ready (moment ms) = refl
 no_ready looked = refl
 no_ready lost = refl

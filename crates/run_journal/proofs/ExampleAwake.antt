@@ -16,7 +16,7 @@ use Rattle.run_journal.specs.Due.{all_along, is_sent}
 use Rattle.run_journal.specs.Starts.{connects_rightly}
 use Rattle.run_journal.specs.Awake.{in_order, waits_last, waits_short, reads_all, reads_few, keeps_up, reads_clock, looks_once, begins_again, begins_refused, begins_early, has_room}
 use Rattle.run_journal.specs.Course.{course}
-use Rattle.run_journal.specs.Agreement.{Flows}
+use Rattle.run_journal.specs.Agreement.{Flows, KeepsTime}
 use Rattle.world.specs.declared.chan.Chan.{Chan}
 use Rattle.world.specs.declared.connected.Connected.TheVariants as connected
 use Rattle.world.specs.declared.did.Did.TheVariants.{Done as done}
@@ -168,3 +168,8 @@ tried_for_a_look = refl
 flows : Flows one journal
 unfolding arrive is_shaken can_ask ask_on looked can_ping ping_on is_silent is_lost ran_out is_broken is_interrupted bad_stream
 flows = refl
+
+-- the core's clock is the journal's where it matters
+keeps_time : KeepsTime one journal
+unfolding arrive is_shaken can_ask ask_on looked can_ping ping_on is_silent is_lost ran_out is_broken is_interrupted bad_stream
+keeps_time = refl

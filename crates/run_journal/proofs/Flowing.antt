@@ -28,7 +28,7 @@ use Rattle.run_journal.proofs.Hearing.{IsComing, io, replied, AreComing, coming_
 -- ---- events that aren't of requests
 
 -- so of each
-abbrev AreOther : List Event → Type 0
+abbrev pub AreOther : List Event → Type 0
 AreOther [] = Unit {0}
 AreOther (e ∷ es) = IsOther e × AreOther es
 
@@ -42,11 +42,11 @@ other_is event.Ready h = cc
 other_is (event.Io b) h = cc
 other_is (event.Reply f) h = cc
 
-others_are : (es : List Event) → list_all is_other es ≡ true → AreOther es
+pub others_are : (es : List Event) → list_all is_other es ≡ true → AreOther es
 others_are [] h = tt
 others_are (e ∷ es) h = let p = and_parts (is_other e) (list_all is_other es) h in (other_is e p.0, others_are es p.1)
 
-other_append : (es fs : List Event) → AreOther es → AreOther fs → AreOther (es ++ fs)
+pub other_append : (es fs : List Event) → AreOther es → AreOther fs → AreOther (es ++ fs)
 other_append [] fs a b = b
 other_append (e ∷ es) fs a b = (a.0, other_append es fs a.1 b)
 
@@ -173,7 +173,7 @@ tell_late j told late [] o = o
 tell_late j told late (e ∷ es) o = tell_by (λ c. AreOther c.late) j told late e es (λ h. tt) o (tell_late j (e ∷ told) late es o)
 
 -- what waits for a look is no event of requests
-late_other : (j : Job) (past : List Entry) → AreOther (course j past).late
+pub late_other : (j : Job) (past : List Entry) → AreOther (course j past).late
 late_other j [] = tt
 late_other j (entry ∷ past) =
     tell_late j _ (late_then j entry past (course j past).late) _
@@ -215,7 +215,7 @@ five_other : (as_ bs cs ds es : List Event) → AreOther as_ → AreOther bs →
 five_other as_ bs cs ds es a b c d e =
     other_append (as_ ++ bs ++ cs ++ ds) es (other_append (as_ ++ bs ++ cs) ds (other_append (as_ ++ bs) cs (other_append as_ bs a b) c) d) e
 
-rest_other : (j : Job) (entry : Entry) (past : List Entry) (late : List Event) → AreOther late → AreOther (rest_at j entry past late)
+pub rest_other : (j : Job) (entry : Entry) (past : List Entry) (late : List Event) → AreOther late → AreOther (rest_at j entry past late)
 rest_other j entry past late o =
     five_other
     (when_so (is_broken j (entry ∷ past) && not (is_broken j past)) event.Broken)
@@ -318,7 +318,7 @@ module _ (j : Job) (entry : Entry) (past : List Entry) (held late told : List Ev
 -- ---- the course of a journal
 
 -- an acknowledging sync brings no byte
-sync_brings_nothing : (j : Job) (entry : Entry) (past : List Entry) → is_acknowledging j (entry ∷ past) ≡ true → BringsNothing j entry past
+pub sync_brings_nothing : (j : Job) (entry : Entry) (past : List Entry) → is_acknowledging j (entry ∷ past) ≡ true → BringsNothing j entry past
 sync_brings_nothing j (made.DirSynced dir did) past e = λ c. refl
 sync_brings_nothing j _ past e = cc
 
@@ -338,14 +338,14 @@ came_nothing j (Some r) entry past e f =
     none false false = refl
 
 -- an entry by which no byte comes gives no message and no readiness
-core_nothing : (j : Job) (entry : Entry) (past : List Entry) → BringsNothing j entry past → core_at j entry past ≡ []
+pub core_nothing : (j : Job) (entry : Entry) (past : List Entry) → BringsNothing j entry past → core_at j entry past ≡ []
 core_nothing j entry past same =
     ap (λ es. es ++ when_so (is_ready j (entry ∷ past) && not (is_ready j past)) event.Ready)
     (came_nothing j (last_request 0 (requests j past)) entry past (arrive_nothing j entry past Iopub (same Iopub)) (arrive_nothing j entry past Shell (same Shell)))
     ∙ ap (λ b. when_so (b && not (is_ready j past)) event.Ready) (ready_unheard j entry past same)
     ∙ ap (λ b. when_so b event.Ready) (same_none (is_ready j past))
 
-looks_are : (es : List Event) → list_all is_of_looks es ≡ true → AreOther es
+pub looks_are : (es : List Event) → list_all is_of_looks es ≡ true → AreOther es
 looks_are [] h = tt
 looks_are (e ∷ es) h = let p = and_parts (is_of_looks e) (list_all is_of_looks es) h in (by e p.0, looks_are es p.1)
   where
@@ -367,7 +367,7 @@ told_parts j entry past e =
     let q = and_parts (list_all is_other (course j (entry ∷ past)).held) (list_all is_of_looks (course j (entry ∷ past)).unheard) p.0 in
     (q.0, q.1, p.1)
 
-held_other : (j : Job) (past : List Entry) → Flows j past → AreOther (course j past).held
+pub held_other : (j : Job) (past : List Entry) → Flows j past → AreOther (course j past).held
 held_other j [] e = tt
 held_other j (entry ∷ past) e = others_are (course j (entry ∷ past)).held (told_parts j entry past e).0
 

@@ -157,11 +157,11 @@ coming_for j (Some r) entry past =
     cond_both (is_over r.1) [] _ AreComing (λ e. tt)
     (λ e. coming_append (ios r.1 _) (replies j r.0 r.1 _) (coming_ios _) (coming_replies j r.0 _))
 
-coming_saved : {e : Event} → IsComing e → events.is_saved e ≡ false
+pub coming_saved : {e : Event} → IsComing e → events.is_saved e ≡ false
 coming_saved (io b) = refl
 coming_saved (replied f) = refl
 
-coming_ready : {e : Event} → IsComing e → events.is_ready e ≡ false
+pub coming_ready : {e : Event} → IsComing e → events.is_ready e ≡ false
 coming_ready (io b) = refl
 coming_ready (replied f) = refl
 
@@ -175,7 +175,7 @@ ready_on [] told c = refl
 ready_on (e ∷ es) told c = ready_on es (e ∷ told) c.1 ∙ ap (λ b. b || events.came events.is_ready told) (coming_ready c.0)
 
 -- what came since a request stood, with them
-after_on : (task : Task) (k : ℕ) (es told later : List Event) → core.after task k told ≡ Some later → core.after task k (told_on es told) ≡ Some (told_on es later)
+pub after_on : (task : Task) (k : ℕ) (es told later : List Event) → core.after task k told ≡ Some later → core.after task k (told_on es told) ≡ Some (told_on es later)
 after_on task k [] told later e = e
 after_on task k (x ∷ es) told later e =
     after_on task k es (x ∷ told) (x ∷ later) (after_more task k x told ∙ ap (events.since_more (stands_at task k) x told) e)

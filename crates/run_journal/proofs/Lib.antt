@@ -33,3 +33,6 @@ pub mod Telling
 pub mod Sighting
 pub mod Finding
 pub mod Stopping
+pub mod ExampleAsked
+pub mod Moments
+pub mod Clocks

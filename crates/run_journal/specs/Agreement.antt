@@ -1,8 +1,9 @@
 -- The requests that the core of a job knows by its events, and those of the journal, agree.
-use Rattle.std.specs.Prelude.{◌≡◌, ℕ, ◌<◌, ◌≤◌, ◌&&◌, ◌||◌, not, List, [], ◌∷◌, length, Bool, true, false, Option, option_map, slice_get, IsSomeAnd, None, Some, if◌then◌else◌}
+use Rattle.std.specs.Prelude.{◌≡◌, ℕ, ◌<◌, ◌≤◌, ◌==◌, ◌&&◌, ◌||◌, not, List, [], ◌∷◌, length, Bool, true, false, Option, option_map, slice_get, IsSomeAnd, None, Some, if◌then◌else◌}
 use Rattle.std.specs.List.{list_all}
 use Rattle.world.specs.declared.chan.Chan.{Chan}
 use Rattle.world.specs.declared.entry.Entry.{Entry}
+use Rattle.world.specs.Places.{time}
 use Rattle.world.specs.Waits.{is_wait}
 use Rattle.cell_core.specs.declared.why.Why.{Why}
 use Rattle.cell_core.specs.declared.why.Why.TheVariants as cause
@@ -11,13 +12,15 @@ use Rattle.cell_core.specs.declared.event.Event.TheVariants as event
 use Rattle.cell_core.specs.Events as events
 use Rattle.cell_core.specs.Acts.{is_empty_list}
 use Rattle.cell_core.specs.Requests as core
+use Rattle.cell_core.specs.Deadlines.{stood_at, replied_at}
+use Rattle.run_journal.specs.Codec.{Arrival}
 use Rattle.run_journal.specs.Job.{Job}
-use Rattle.run_journal.specs.Parts.{bytes_got, acked}
+use Rattle.run_journal.specs.Parts.{bytes_got, acked, is_acknowledging}
 use Rattle.run_journal.specs.Arrivals.{is_ready}
-use Rattle.run_journal.specs.Requests.{Request, has_idle, reply, requests}
+use Rattle.run_journal.specs.Requests.{Request, has_idle, reply, requests, last_request}
 use Rattle.run_journal.specs.Due.{all_along}
 use Rattle.run_journal.specs.Order.{begins_unread}
-use Rattle.run_journal.specs.Course.{course}
+use Rattle.run_journal.specs.Course.{came_for, course}
 
 -- What the core was told since request k came to stand is what came for it: whether its idle did, and whether its reply did
 -- and is fatal.
@@ -88,6 +91,31 @@ ends_looks j (entry ∷ past) = not (is_wait entry) || is_empty_list (course j p
 -- so at every moment: each look is over before the next wait
 abbrev pub EndsLooks : Job → List Entry → Type 0
 EndsLooks j past = all_along (ends_looks j) past ≡ true
+
+-- The core has the clock at which request k came to stand, and that at its reply.
+pub record ClocksOn (k : ℕ) (told later : List Event) (r : Request) : Type 0 where
+  pub stood : stood_at (record { request = k; later = later }) told ≡ r.clock
+  pub replied : (m : Arrival × ℕ) → reply r ≡ Some m → replied_at (record { request = k; later = later }) told ≡ m.1
+
+-- so of each request that stands
+abbrev pub Clocks : Job → List Event → List Entry → Type 0
+Clocks j told past = (k : ℕ) (r : Request) → slice_get (requests j past) k ≡ Some r → IsSomeAnd (core.after j.task k told) (λ later. ClocksOn k told later r)
+
+-- an entry brings a message or a reply for the last request, or makes the kernel ready
+abbrev pub brings : Job → Entry → List Entry → Bool
+brings j entry past = not (is_empty_list (came_for j (last_request 0 (requests j past)) entry past)) || (is_ready j (entry ∷ past) && not (is_ready j past))
+
+-- where the newest entry acknowledges a save, the clock that was told last is the journal's; where it brings something for the
+-- requests, so is that which is told once nothing waits
+abbrev pub keeps_time : Job → List Entry → Bool
+keeps_time j [] = true
+keeps_time j (entry ∷ past) =
+    (not (is_acknowledging j (entry ∷ past)) || events.time (course j past).told == time past)
+    && (not (brings j entry past) || events.time (told_on (course j past).held (course j past).told) == time past)
+
+-- so at every moment
+abbrev pub KeepsTime : Job → List Entry → Type 0
+KeepsTime j past = all_along (keeps_time j) past ≡ true
 
 -- a cause that needs neither the clock nor a look: an executed plan, a fatal reply or a broken stream
 abbrev pub is_at_once : Why → Bool

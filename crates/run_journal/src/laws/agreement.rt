@@ -1,7 +1,7 @@
-//! The requests that a job's core knows by its events agree with those of the journal: at the start,
-//! and on from entry to entry, where each event is told that the entry gives. A loss or a broken
-//! stream may be told later, and a look's end too, since they keep the agreement whenever they are
-//! told.
+//! The requests that a job's core knows by its events agree with those of the journal: at the
+//! start, and on from entry to entry, where each event is told that the entry gives. A loss or a
+//! broken stream may be told later, and a look's end too, since they keep the agreement whenever
+//! they are told.
 ghost use Rattle.std.specs.Prelude.{◌≡◌, ℕ, ◌<◌, true, false, List, [], ◌∷◌, Some, length};
 ghost use Rattle.std.specs.Prelude.{slice_get};
 ghost use Rattle.world.specs.declared.entry.Entry.{Entry};
@@ -17,7 +17,8 @@ ghost use Rattle.run_journal.specs.Requests.{Request, requests, last_request, is
 ghost use Rattle.run_journal.specs.Why.{is_done, is_error, why};
 ghost use Rattle.run_journal.specs.Saves.{run_saves, settled_by};
 ghost use Rattle.run_journal.specs.Course.{came_for, course};
-ghost use Rattle.run_journal.specs.Agreement.{Agrees, BringsNothing, Flows, IsOther, told_on};
+ghost use Rattle.run_journal.specs.Agreement.{Agrees, BringsNothing, Clocks, Flows, IsOther};
+ghost use Rattle.run_journal.specs.Agreement.{KeepsTime, told_on};
 
 /// Before anything is told and before any entry they agree.
 pub fn agree_at_first()
@@ -95,4 +96,11 @@ pub fn saves_agree()
         core_saves.why j.task told ≡ why j past →
         settles (core_saves.saves j.task told) ≡
         settled_by (run_saves j (requests j past) (why j past)) }
+{}
+
+/// The core has the clock at which each request came to stand, and that at its reply, where its
+/// clock is the journal's at each entry that acknowledges a save or brings something for a request.
+pub fn clocks_agree()
+    ensures { (j : Job) (past : List Entry) → Flows j past → KeepsTime j past →
+        Clocks j (course j past).told past }
 {}

@@ -12,7 +12,8 @@ ghost use Rattle.run_journal.specs.Requests.{is_broken};
 ghost use Rattle.run_journal.specs.Why.{why};
 ghost use Rattle.run_journal.specs.Decoding.{IsDecoding};
 ghost use Rattle.run_journal.specs.Course.{course};
-ghost use Rattle.run_journal.specs.Agreement.{BeginsUnread, EndsLooks, Flows, IsHeard, at_once, is_undated};
+ghost use Rattle.run_journal.specs.Agreement.{BeginsUnread, EndsLooks, Flows, IsHeard};
+ghost use Rattle.run_journal.specs.Agreement.{at_once, is_undated};
 
 /// Where nothing waits for a save, the core knows of a broken stream exactly where one is broken.
 pub fn broken_streams_are_told()
@@ -43,9 +44,9 @@ pub fn losses_found_are_shown()
         events.looked events.is_lost (course j past).told ≡ true → ever (is_lost j) past ≡ true }
 {}
 
-/// Where the journal shows the kernel lost, the core has been told of a look after a loss: where the
-/// job was running at the last wait, each look was over before the next wait, and nothing waits for
-/// a save or came after the stop.
+/// Where the journal shows the kernel lost, the core has been told of a look after a loss: where
+/// the job was running at the last wait, each look was over before the next wait, and nothing waits
+/// for a save or came after the stop.
 pub fn losses_shown_are_found()
     ensures { (j : Job) (past : List Entry) → IsHeard j past → EndsLooks j past →
         (course j past).held ≡ [] → is_running j (before_wait past) ≡ true →
