@@ -21,7 +21,8 @@ use Rattle.run_journal.specs.Job.{Job}
 use Rattle.run_journal.specs.Parts.{bytes_got}
 use Rattle.run_journal.specs.Arrivals.{heard, arrive}
 use Rattle.run_journal.specs.Decoding.{IsDecoding}
-use Rattle.run_journal.specs.Jupyter.{Speaker, role_on, bodies_in, signed_item, signed_items, echo, messages_on, numbered_place, jupyter_codec}
+use Rattle.kernel_lines.specs.Lines.{role_on}
+use Rattle.run_journal.specs.Jupyter.{Speaker, bodies_in, signed_item, signed_items, echo, messages_on, numbered_place, jupyter_codec}
 use Rattle.run_journal.proofs.Growth.{begins_self, begins_then}
 
 -- ---- lists that begin others

@@ -18,6 +18,7 @@ use Rattle.world.specs.Waits.{wait_count}
 use Rattle.words.specs.Paths.{temporary_of, connection_of}
 use Rattle.save_disk.specs.declared.save_fault.SaveFault.TheVariants as save_fault
 use Rattle.save_disk.specs.Messages as save_fault_text
+use Rattle.job_end.specs.Reasons.{name_of as chan_name}
 use Rattle.cell_core.specs.declared.why.Why.{Why}
 use Rattle.cell_core.specs.declared.why.Why.TheVariants as cause
 use Rattle.run_journal.specs.Codec.{Arrival}
@@ -211,13 +212,6 @@ abbrev pub status_of : Job → List Entry → ℕ
 status_of j past = status_or_spent (end_alone j past)
 
 -- ---- what is said of an end
-
--- a channel's name
-abbrev pub chan_name : Chan → List ℕ
-chan_name chan.Shell = codes "shell"
-chan_name chan.Control = codes "control"
-chan_name chan.Iopub = codes "iopub"
-chan_name chan.Heart = codes "heart"
 
 -- a cell and what became of it
 abbrev pub of_cell : ℕ → List ℕ → List ℕ

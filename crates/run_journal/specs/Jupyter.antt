@@ -16,6 +16,7 @@ use Rattle.jmsg.specs.declared.message.Message.{Message}
 use Rattle.jmsg.specs.Decoding.{after_delimiter, decoded}
 use Rattle.jmsg.specs.Encoded.{encoded}
 use Rattle.kernel_talk.specs.Requests.{request}
+use Rattle.kernel_lines.specs.Lines.{role_on}
 use Rattle.jcontent.specs.declared.content.Content.TheVariants as content
 use Rattle.jcontent.specs.Contents.{content_of}
 use Rattle.jcontent.specs.Requests as contents
@@ -27,13 +28,6 @@ pub record Speaker : Type 0 where
   pub key : List ℕ
   pub code : ℕ → List ℕ
   pub stop_on_error : ℕ → Bool
-
--- our side's role on a channel
-abbrev pub role_on : Chan → Role
-role_on chan.Shell = role.Dealer
-role_on chan.Control = role.Dealer
-role_on chan.Iopub = role.Sub
-role_on chan.Heart = role.Req
 
 -- ---- what is read
 

@@ -9,8 +9,9 @@ use Rattle.world.specs.declared.chan.Chan.{Chan}
 use Rattle.world.specs.declared.chan.Chan.TheVariants as chan
 use Rattle.world.specs.declared.entry.Entry.{Entry}
 use Rattle.world.specs.declared.entry.Entry.TheVariants as made
-use Rattle.world.specs.Disk.{is_slash, place}
+use Rattle.world.specs.Disk.{place}
 use Rattle.words.specs.Paths.{connection_of}
+use Rattle.kernel_start.specs.Launch.{from_root}
 use Rattle.run_journal.specs.Job.{Job}
 use Rattle.run_journal.specs.Due.{all_along}
 
@@ -58,19 +59,10 @@ GoesToPorts j journal = IsTrue (all_along (connects_rightly j) journal)
 
 -- ---- the child
 
--- the path begins at the root (POSIX.1, absolute pathname)
-abbrev pub is_absolute : List ℕ → Bool
-is_absolute [] = false
-is_absolute (c ∷ path) = is_slash c
-
--- the path of the connection file as the child is told it: from the root
-abbrev pub told_path : List ℕ → List ℕ → List ℕ
-told_path here path = if is_absolute path then path else here ++ codes "/" ++ path
-
 -- A start of the job's child: the arguments of the spec with its names replaced, the environment of the spec, the job's
 -- folder; and before it the connection file had been written, of the job's ports and its key.
 pub record StartsBy (launch : Launch) (j : Job) (argv : List (List ℕ)) (env : List (List ℕ × Json)) (dir : List ℕ) (past : List Entry) : Type 0 where
-  pub arguments : AreFilled (told_path launch.here (connection_of j.output)) launch.folder launch.spec.argv argv
+  pub arguments : AreFilled (from_root launch.here (connection_of j.output)) launch.folder launch.spec.argv argv
   pub environment : env ≡ launch.spec.env
   pub folder : dir ≡ launch.cwd
   pub ports : List ℕ

@@ -12,9 +12,9 @@ ghost use Rattle.progress_save.specs.Saved.{SavesAs};
 ghost use Rattle.save_course.specs.Course.{PrefixSave, prefix_text, Course, IsSavedSo};
 ghost use Rattle.save_course.specs.Course.{open_after, settled_after};
 
-/// Over a course of saves of an output that nothing had touched, a crash leaves there at each moment
-/// what was there before, or the text that was acknowledged last, or the next one. Each text is that
-/// of a prefix of the notebook, and no prefix settles fewer cells than one before it.
+/// Over a course of saves of an output that nothing had touched, a crash leaves there at each
+/// moment what was there before, or the text that was acknowledged last, or the next one. Each text
+/// is that of a prefix of the notebook, and no prefix settles fewer cells than one before it.
 pub fn courses_are_safe()
     ensures { (output : List ℕ) (merge : Bool) (first : Notebook) (from settled : ℕ)
         (is_open : Bool) (before after : List Entry) →
@@ -38,7 +38,8 @@ pub fn courses_go_on()
         (says : ℕ) (result : Result (Unit {0}) ProgressFault) (s : PrefixSave)
         (before past after : List Entry) →
         Course output merge first from before true settled past → settled ≤ s.settled →
-        AreRead s.us → SavesAs output (prefix_text merge first s) line (0 < says) result past after →
+        AreRead s.us →
+        SavesAs output (prefix_text merge first s) line (0 < says) result past after →
         Course output merge first from before (open_after result)
         (settled_after result settled s.settled) after }
     ensures others { (output : List ℕ) (merge : Bool) (first : Notebook) (from settled : ℕ)
