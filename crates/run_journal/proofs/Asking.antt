@@ -362,7 +362,7 @@ saves_agree j told past a w =
 -- ---- the causes that requests tell
 
 -- the last request of the journal with its number
-last_numbered : (k m : ℕ) (rs : List Request) (q : Request) → length rs ≡ suc m → slice_get rs m ≡ Some q → last_request k rs ≡ Some (k + m, q)
+pub last_numbered : (k m : ℕ) (rs : List Request) (q : Request) → length rs ≡ suc m → slice_get rs m ≡ Some q → last_request k rs ≡ Some (k + m, q)
 last_numbered k m [] q l e = cc
 last_numbered k zero (x ∷ []) q l e = let n : k ≡ k + 0 = omega arith in ap (λ i. Some (i, x)) n ∙ ap (λ y. Some (k + 0, y)) (inside e)
   where

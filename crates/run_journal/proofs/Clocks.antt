@@ -31,7 +31,7 @@ use Rattle.run_journal.proofs.Moments.{none_some, inside, stood_on, kept_on, is_
 
 -- ---- one entry
 
-first_new : (xs : List (Arrival × ℕ)) (clock : ℕ) (ns : List Arrival) (m : Arrival × ℕ) → first xs ≡ None → first (xs ++ map (λ a. (a, clock)) ns) ≡ Some m → clock ≡ m.1
+pub first_new : (xs : List (Arrival × ℕ)) (clock : ℕ) (ns : List Arrival) (m : Arrival × ℕ) → first xs ≡ None → first (xs ++ map (λ a. (a, clock)) ns) ≡ Some m → clock ≡ m.1
 first_new [] clock [] m e h = cc
 first_new [] clock (n ∷ ns) m e h = ap (λ (x : Arrival × ℕ). x.1) (of_some h)
   where
@@ -39,7 +39,7 @@ first_new [] clock (n ∷ ns) m e h = ap (λ (x : Arrival × ℕ). x.1) (of_some
     of_some e = cc
 first_new (x ∷ xs) clock ns m e h = cc
 
-is_some_and : {P : List Event → Type 0} (o : Option (List Event)) → IsSomeAnd o P → (later : List Event) × (o ≡ Some later) × P later
+pub is_some_and : {P : List Event → Type 0} (o : Option (List Event)) → IsSomeAnd o P → (later : List Event) × (o ≡ Some later) × P later
 is_some_and None h = absurd h
 is_some_and (Some later) h = (later, refl, h)
 

@@ -29,7 +29,7 @@ record Along (j : Job) (past : List Entry) : Type 0 where
   found : finds (course j past) ≡ true → ever (is_lost j) past ≡ true
 
 -- a wait shows no loss
-wait_shows_none : (j : Job) (entry : Entry) (past : List Entry) → is_wait entry ≡ true → shows_lost j (entry ∷ past) ≡ false
+pub wait_shows_none : (j : Job) (entry : Entry) (past : List Entry) → is_wait entry ≡ true → shows_lost j (entry ∷ past) ≡ false
 unfolding is_silent
 wait_shows_none j (made.Waited ms reports how) past e = refl
 wait_shows_none j _ past e = cc
@@ -63,7 +63,7 @@ not_true : (b : Bool) → not b ≡ true → b ≡ false
 not_true true e = cc
 not_true false e = refl
 
-lost_is : (j : Job) (past : List Entry) → looked j past ≡ true → ever (shows_lost j) (before_wait past) ≡ true → is_lost j past ≡ true
+pub lost_is : (j : Job) (past : List Entry) → looked j past ≡ true → ever (shows_lost j) (before_wait past) ≡ true → is_lost j past ≡ true
 unfolding is_lost
 lost_is j past e f = and_from (looked j past) (ever (shows_lost j) (before_wait past)) e f
 
@@ -188,8 +188,8 @@ before_none (entry ∷ past) e =
     cond-false (is_wait entry) past (before_wait past) p.0 ∙ before_none past p.1
 
 -- where something was shown before the last wait, there was one
-wait_was : (j : Job) (past : List Entry) → ever (shows_lost j) (before_wait past) ≡ true → has_wait past ≡ true
-wait_was j past e = by (cases_Bool (has_wait past))
+pub lost_waited : (j : Job) (past : List Entry) → ever (shows_lost j) (before_wait past) ≡ true → has_wait past ≡ true
+lost_waited j past e = by (cases_Bool (has_wait past))
   where
     by : (has_wait past ≡ true) ⊎ (has_wait past ≡ false) → has_wait past ≡ true
     by (inl h) = h
@@ -200,7 +200,7 @@ record Back (j : Job) (past : List Entry) : Type 0 where
   known : ever (shows_lost j) (before_wait past) ≡ true → knows (course j past) ≡ true
   found : is_running j (before_wait past) ≡ true → is_lost j past ≡ true → finds (course j past) ≡ true
 
-lost_parts : (j : Job) (past : List Entry) → is_lost j past ≡ true → (looked j past ≡ true) × (ever (shows_lost j) (before_wait past) ≡ true)
+pub lost_parts : (j : Job) (past : List Entry) → is_lost j past ≡ true → (looked j past ≡ true) × (ever (shows_lost j) (before_wait past) ≡ true)
 unfolding is_lost
 lost_parts j past e = and_parts (looked j past) (ever (shows_lost j) (before_wait past)) e
 
@@ -252,7 +252,7 @@ module _ (j : Job) (entry : Entry) (past : List Entry) (h : IsHeard j (entry ∷
       ended : ends_look j entry past ≡ true
       ended =
           and_from (in_look j (entry ∷ past) && looked j (entry ∷ past)) (is_wait entry || not (looked j past))
-          (and_from (in_look j (entry ∷ past)) (looked j (entry ∷ past)) (and_from (has_wait (entry ∷ past)) (is_called_for j (before_wait (entry ∷ past))) (wait_was j (entry ∷ past) p.1) called) p.0)
+          (and_from (in_look j (entry ∷ past)) (looked j (entry ∷ past)) (and_from (has_wait (entry ∷ past)) (is_called_for j (before_wait (entry ∷ past))) (lost_waited j (entry ∷ past) p.1) called) p.0)
           (is_new new)
 
   back_found : is_running j (before_wait (entry ∷ past)) ≡ true → is_lost j (entry ∷ past) ≡ true → finds (course j (entry ∷ past)) ≡ true

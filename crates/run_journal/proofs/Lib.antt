@@ -36,3 +36,13 @@ pub mod Stopping
 pub mod ExampleAsked
 pub mod Moments
 pub mod Clocks
+pub mod Dating
+pub mod Turning
+pub mod Lapse
+pub mod Earlier
+pub mod Interrupting
+pub mod Rowing
+pub mod Deciding
+pub mod Beginning
+pub mod Rereading
+pub mod Finishing

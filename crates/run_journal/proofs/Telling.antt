@@ -188,7 +188,7 @@ gives_broken j entry past late none =
     (cond_both (ends_look j entry past) (event.Looked ∷ late ++ when_so (is_late j entry past) event.Lost) [] (λ es. events.came events.is_broken es ≡ false)
     (λ h. add_none events.is_broken late _ false none (none_when events.is_broken (is_late j entry past) event.Lost refl)) (λ h. refl)))
 
-some_is : {A : Type 0} (o : Option A) → is_some o ≡ true → (x : A) × (o ≡ Some x)
+pub some_is : {A : Type 0} (o : Option A) → is_some o ≡ true → (x : A) × (o ≡ Some x)
 some_is (Some x) e = (x, refl)
 some_is None e = cc
 
@@ -210,7 +210,7 @@ unbroken_first : (j : Job) → IsDecoding j.codec → is_broken j [] ≡ false
 unfolding is_broken
 unbroken_first j d = any_none _ (λ c. ap (λ (o : Option (ℕ × ℕ)). is_some o) (d.no_fault c)) channels
 
-stays_broken : (j : Job) → IsDecoding j.codec → (entry : Entry) (past : List Entry) → ((c : Chan) → begins_unread j c (entry ∷ past) ≡ true) → is_broken j past ≡ true → is_broken j (entry ∷ past) ≡ true
+pub stays_broken : (j : Job) → IsDecoding j.codec → (entry : Entry) (past : List Entry) → ((c : Chan) → begins_unread j c (entry ∷ past) ≡ true) → is_broken j past ≡ true → is_broken j (entry ∷ past) ≡ true
 unfolding is_broken
 stays_broken j d entry past f = any_more _ _ by channels
   where
@@ -225,7 +225,7 @@ broken_or true now f = sym (f refl)
 broken_or false true f = refl
 broken_or false false f = refl
 
-unread_before : (j : Job) (entry : Entry) (past : List Entry) → BeginsUnread j (entry ∷ past) → ((c : Chan) → begins_unread j c (entry ∷ past) ≡ true) × BeginsUnread j past
+pub unread_before : (j : Job) (entry : Entry) (past : List Entry) → BeginsUnread j (entry ∷ past) → ((c : Chan) → begins_unread j c (entry ∷ past) ≡ true) × BeginsUnread j past
 unread_before j entry past u =
     ((λ c. (and_parts (begins_unread j c (entry ∷ past)) (all_along (begins_unread j c) past) (u c)).0), (λ c. (and_parts (begins_unread j c (entry ∷ past)) (all_along (begins_unread j c) past) (u c)).1))
 
@@ -360,7 +360,7 @@ four_or a b c d e f g h p q r s =
     ∙ ap (λ v. e || v) (ap (λ v. v || (c || d)) q ∙ ap (λ v. f || v) (ap (λ v. v || d) r ∙ ap (λ v. g || v) (s ∙ sym (or-false h))))
 
 -- a broken stream is named exactly where there is one
-bad_is : (j : Job) (past : List Entry) → is_some (bad_stream j past) ≡ is_broken j past
+pub bad_is : (j : Job) (past : List Entry) → is_some (bad_stream j past) ≡ is_broken j past
 unfolding is_broken bad_stream
 bad_is j past =
     some_or (fault_on j past Shell) _

@@ -1,10 +1,12 @@
 -- The requests that the core of a job knows by its events, and those of the journal, agree.
-use Rattle.std.specs.Prelude.{◌≡◌, ℕ, ◌<◌, ◌≤◌, ◌==◌, ◌&&◌, ◌||◌, not, List, [], ◌∷◌, length, Bool, true, false, Option, option_map, slice_get, IsSomeAnd, None, Some, if◌then◌else◌}
+use Rattle.std.specs.Prelude.{◌≡◌, ◌⊎◌, ℕ, ◌<◌, ◌≤◌, ◌==◌, ◌&&◌, ◌||◌, not, List, [], ◌∷◌, length, Bool, true, false, Option, is_some, option_map, slice_get, nat_lt, nat_le, IsSomeAnd, None, Some, if◌then◌else◌}
 use Rattle.std.specs.List.{list_all}
 use Rattle.world.specs.declared.chan.Chan.{Chan}
+use Rattle.world.specs.declared.did.Did.TheVariants as did
 use Rattle.world.specs.declared.entry.Entry.{Entry}
-use Rattle.world.specs.Places.{time}
-use Rattle.world.specs.Waits.{is_wait}
+use Rattle.world.specs.declared.entry.Entry.TheVariants as made
+use Rattle.world.specs.Places.{is_at, is_reported, time}
+use Rattle.world.specs.Waits.{is_wait, has_wait, to_wait}
 use Rattle.cell_core.specs.declared.why.Why.{Why}
 use Rattle.cell_core.specs.declared.why.Why.TheVariants as cause
 use Rattle.cell_core.specs.declared.event.Event.{Event}
@@ -15,11 +17,13 @@ use Rattle.cell_core.specs.Requests as core
 use Rattle.cell_core.specs.Deadlines.{stood_at, replied_at}
 use Rattle.run_journal.specs.Codec.{Arrival}
 use Rattle.run_journal.specs.Job.{Job}
-use Rattle.run_journal.specs.Parts.{bytes_got, acked, is_acknowledging}
+use Rattle.run_journal.specs.Parts.{place, connection, bytes_got, acked, is_acknowledging, begins}
 use Rattle.run_journal.specs.Arrivals.{is_ready}
-use Rattle.run_journal.specs.Requests.{Request, has_idle, reply, requests, last_request}
+use Rattle.run_journal.specs.Requests.{Request, has_idle, reply, or_later, requests, last_request}
+use Rattle.run_journal.specs.Why.{starts, child_clock}
 use Rattle.run_journal.specs.Due.{all_along}
-use Rattle.run_journal.specs.Order.{begins_unread}
+use Rattle.run_journal.specs.Order.{is_nothing, begins_unread}
+use Rattle.run_journal.specs.Awake.{Awake}
 use Rattle.run_journal.specs.Course.{came_for, course}
 
 -- What the core was told since request k came to stand is what came for it: whether its idle did, and whether its reply did
@@ -140,3 +144,70 @@ is_undated _ = false
 -- no connection of the job was begun again after bytes were got on it
 abbrev pub BeginsUnread : Job → List Entry → Type 0
 BeginsUnread j past = (c : Chan) → all_along (begins_unread j c) past ≡ true
+
+-- ---- what the causes by a deadline need
+
+-- a job is one of these
+abbrev pub IsAmong : Job → List Job → Type 0
+IsAmong j [] = ⊥
+IsAmong j (k ∷ jobs) = (j ≡ k) ⊎ IsAmong j jobs
+
+-- the newest entry doesn't take the clock back
+abbrev pub rises : List Entry → Bool
+rises [] = true
+rises (entry ∷ past) = nat_le (time past) (time (entry ∷ past))
+
+-- an entry draws the job's ports
+abbrev pub draws : Job → Entry → Bool
+draws j (made.Ports job ports) = job == j.number
+draws j _ = false
+
+-- the clock before they were drawn first
+abbrev pub drawn_clock : Job → List Entry → Option ℕ
+drawn_clock j [] = None
+drawn_clock j (entry ∷ past) = or_later (drawn_clock j past) (if draws j entry then Some (time past) else None)
+
+-- it was this one
+abbrev pub is_clock : ℕ → Option ℕ → Bool
+is_clock ms None = false
+is_clock ms (Some clock) = clock == ms
+
+-- The job's ports are drawn once, after its first save was acknowledged; its child is started by the same clock; and its
+-- connections are begun after that.
+abbrev pub starts_in_turn : Job → List Entry → Bool
+starts_in_turn j [] = true
+starts_in_turn j (entry ∷ past) =
+    (not (draws j entry) || (not (is_some (drawn_clock j past)) && nat_lt 0 (acked j past)))
+    && ((not (starts j entry) || is_clock (time past) (drawn_clock j past))
+    && (not (begins j entry) || is_some (child_clock j past)))
+
+-- The loop keeps its rules over these jobs, of which this is one; the clock doesn't fall, the job starts in turn, and nothing
+-- of it came after its stop.
+pub record KeepsRules (jobs : List Job) (j : Job) (past : List Entry) : Type 0 where
+  pub among : IsAmong j jobs
+  pub awake : Awake jobs past
+  pub rising : all_along rises past ≡ true
+  pub start : all_along (starts_in_turn j) past ≡ true
+  pub heard : IsHeard j past
+
+-- ---- what follows from the loop's rules
+
+-- the newest entry is a done wait
+abbrev pub is_done_wait : List Entry → Bool
+is_done_wait (made.Waited ms reports did.Done ∷ past) = true
+is_done_wait _ = false
+
+-- a wait comes only after done ones
+abbrev pub waits_on : List Entry → Bool
+waits_on [] = true
+waits_on (entry ∷ past) = not (is_wait entry && has_wait past) || is_done_wait (to_wait past)
+
+-- a wait reports the connection only while it is up, and it is refused only before a byte was got on it
+abbrev pub tells_rightly : Job → Chan → List Entry → Bool
+tells_rightly j c (made.Waited ms reports did ∷ past) = not (is_reported (place j c) reports.ready) || (connection j c past).up
+tells_rightly j c (made.Refused conn by ∷ past) = not (is_at (place j c) conn) || is_nothing (bytes_got j c past)
+tells_rightly j c _ = true
+
+-- so of each connection of the job, at every moment
+abbrev pub TellsRightly : Job → List Entry → Type 0
+TellsRightly j past = (c : Chan) → all_along (tells_rightly j c) past ≡ true

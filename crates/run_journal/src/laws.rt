@@ -7,5 +7,6 @@ pub mod growth;
 pub mod isolation;
 pub mod order;
 pub mod reading;
+pub mod rules;
 pub mod safety;
 pub mod turns;

@@ -2,23 +2,32 @@
 //! start, and on from entry to entry, where each event is told that the entry gives. A loss or a
 //! broken stream may be told later, and a look's end too, since they keep the agreement whenever
 //! they are told.
-ghost use Rattle.std.specs.Prelude.{◌≡◌, ℕ, ◌<◌, true, false, List, [], ◌∷◌, Some, length};
+ghost use Rattle.std.specs.Prelude.{◌≡◌, ℕ, ◌<◌, true, false, List, [], ◌∷◌, None, Some, length};
 ghost use Rattle.std.specs.Prelude.{slice_get};
 ghost use Rattle.world.specs.declared.entry.Entry.{Entry};
+ghost use Rattle.world.specs.Waits.{before_wait, has_wait};
+ghost use Rattle.cell_core.specs.declared.act.Act.TheVariants.{Start};
 ghost use Rattle.cell_core.specs.declared.event.Event.{Event};
 ghost use Rattle.cell_core.specs.declared.event.Event.TheVariants.{Saved, Ready};
+ghost use Rattle.cell_core.specs.Acts.{act_of};
+ghost use Rattle.cell_core.specs.Deadlines.{queued};
+ghost use Rattle.cell_core.specs.Events.{started};
 ghost use Rattle.cell_core.specs.Laws.{settles};
 ghost use Rattle.cell_core.specs.Requests as core;
 ghost use Rattle.cell_core.specs.Saves as core_saves;
 ghost use Rattle.run_journal.specs.Job.{Job};
-ghost use Rattle.run_journal.specs.Parts.{acked, is_acknowledging};
+ghost use Rattle.run_journal.specs.Parts.{acked, is_acknowledging, is_running};
 ghost use Rattle.run_journal.specs.Arrivals.{is_ready};
+ghost use Rattle.run_journal.specs.Looks.{is_lost};
 ghost use Rattle.run_journal.specs.Requests.{Request, requests, last_request, is_passed};
-ghost use Rattle.run_journal.specs.Why.{is_done, is_error, why};
+ghost use Rattle.run_journal.specs.Requests.{deadline, is_broken, reply};
+ghost use Rattle.run_journal.specs.Why.{child_clock, is_done, is_error, why};
+ghost use Rattle.run_journal.specs.Decoding.{IsDecoding};
 ghost use Rattle.run_journal.specs.Saves.{run_saves, settled_by};
 ghost use Rattle.run_journal.specs.Course.{came_for, course};
 ghost use Rattle.run_journal.specs.Agreement.{Agrees, BringsNothing, Clocks, Flows, IsOther};
-ghost use Rattle.run_journal.specs.Agreement.{KeepsTime, told_on};
+ghost use Rattle.run_journal.specs.Agreement.{BeginsUnread, EndsLooks, KeepsRules, KeepsTime};
+ghost use Rattle.run_journal.specs.Agreement.{told_on};
 
 /// Before anything is told and before any entry they agree.
 pub fn agree_at_first()
@@ -103,4 +112,31 @@ pub fn saves_agree()
 pub fn clocks_agree()
     ensures { (j : Job) (past : List Entry) → Flows j past → KeepsTime j past →
         Clocks j (course j past).told past }
+{}
+
+/// The core asks for the kernel's start exactly at the first acknowledged save of a job with cells
+/// to run; and what it takes for the clock of that start is the clock at which the child was
+/// started.
+pub fn starts_agree()
+    ensures asked { (j : Job) (past : List Entry) → Flows j past →
+        act_of j.task Saved (course j past).told ≡ Start → acked j past ≡ 0 }
+    ensures first { (j : Job) (past : List Entry) → 0 < length j.task.plan → acked j past ≡ 0 →
+        act_of j.task Saved (course j past).told ≡ Start }
+    ensures clock { (jobs : List Job) (j : Job) (past : List Entry) → KeepsRules jobs j past →
+        (has_wait past ≡ true → is_running j (before_wait past) ≡ true) →
+        (course j past).held ≡ [] → (clock : ℕ) → child_clock j past ≡ Some clock →
+        started (course j past).told ≡ Some clock }
+{}
+
+/// Of a request without a reply, while no stream is broken and the kernel isn't lost, the core has
+/// queued the interrupt exactly where the journal has it queued.
+pub fn interrupts_agree()
+    ensures { (jobs : List Job) (j : Job) (past : List Entry) → IsDecoding j.codec →
+        0 < length j.task.plan → ((ms : ℕ) → j.task.times.limit_ms ≡ Some ms → 0 < ms) →
+        KeepsRules jobs j past → (has_wait past ≡ true → is_running j (before_wait past) ≡ true) →
+        BeginsUnread j past → Flows j past → KeepsTime j past → EndsLooks j past →
+        (course j past).held ≡ [] → is_broken j past ≡ false → is_lost j past ≡ false →
+        j.task.times.interrupt ≡ true → (k : ℕ) (r : Request) (at : ℕ) →
+        last_request 0 (requests j past) ≡ Some (k, r) → reply r ≡ None →
+        deadline j r ≡ Some at → queued j.task k at (course j past).told ≡ r.interrupted }
 {}

@@ -1,10 +1,10 @@
 //! What stops a job at once stops its core, and broken streams and losses are told.
-ghost use Rattle.std.specs.Prelude.{◌≡◌, ◌<◌, true, Some, List, [], length};
+ghost use Rattle.std.specs.Prelude.{◌≡◌, ◌<◌, ℕ, true, Some, List, [], length};
 ghost use Rattle.world.specs.declared.entry.Entry.{Entry};
 ghost use Rattle.cell_core.specs.declared.why.Why.{Why};
 ghost use Rattle.cell_core.specs.Events as events;
 ghost use Rattle.cell_core.specs.Saves as core_saves;
-ghost use Rattle.world.specs.Waits.{before_wait};
+ghost use Rattle.world.specs.Waits.{before_wait, has_wait};
 ghost use Rattle.run_journal.specs.Job.{Job};
 ghost use Rattle.run_journal.specs.Parts.{is_running};
 ghost use Rattle.run_journal.specs.Looks.{ever, is_lost, shows_lost};
@@ -13,7 +13,7 @@ ghost use Rattle.run_journal.specs.Why.{why};
 ghost use Rattle.run_journal.specs.Decoding.{IsDecoding};
 ghost use Rattle.run_journal.specs.Course.{course};
 ghost use Rattle.run_journal.specs.Agreement.{BeginsUnread, EndsLooks, Flows, IsHeard};
-ghost use Rattle.run_journal.specs.Agreement.{at_once, is_undated};
+ghost use Rattle.run_journal.specs.Agreement.{at_once, is_undated, KeepsRules, KeepsTime};
 
 /// Where nothing waits for a save, the core knows of a broken stream exactly where one is broken.
 pub fn broken_streams_are_told()
@@ -62,4 +62,15 @@ pub fn undated_causes_agree()
         (course j past).held ≡ [] → is_running j (before_wait past) ≡ true → (cause : Why) →
         is_undated cause ≡ true → why j past ≡ Some cause →
         core_saves.why j.task (course j past).told ≡ Some cause }
+{}
+
+/// Where the loop keeps its rules, and nothing waits for a save, the core stops exactly where the
+/// job does by the journal, and for the same cause: at once, by a lost kernel, or by a deadline.
+pub fn causes_agree()
+    ensures { (jobs : List Job) (j : Job) (past : List Entry) → IsDecoding j.codec →
+        0 < length j.task.plan → ((ms : ℕ) → j.task.times.limit_ms ≡ Some ms → 0 < ms) →
+        KeepsRules jobs j past → (has_wait past ≡ true → is_running j (before_wait past) ≡ true) →
+        BeginsUnread j past → Flows j past → KeepsTime j past → EndsLooks j past →
+        (course j past).held ≡ [] →
+        core_saves.why j.task (course j past).told ≡ why j past }
 {}

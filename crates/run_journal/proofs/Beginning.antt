@@ -1,0 +1,159 @@
+-- The core asks for the kernel's start where the first save is acknowledged.
+use Rattle.std.proofs.Common.{◌≡◌, ◌⊎◌, inl, inr, ℕ, zero, suc, ◌+◌, ◌<◌, List, [], ◌∷◌, ◌++◌, length, Bool, true, false, ◌&&◌, ◌||◌, not, cond, Option, Some, None, refl, sym, ◌∙◌, ap, subst, arith}
+use Rattle.std.specs.Prelude.{is_some, nat_lt, if◌then◌else◌, ◌==◌}
+use Rattle.std.proofs.lemmas.Bool.{cond-true, cond-false, cond_both, cases_Bool, eqb-true, eq-eqb}
+use Rattle.world.specs.declared.entry.Entry.{Entry}
+use Rattle.cell_core.specs.declared.act.Act.{Act}
+use Rattle.cell_core.specs.declared.act.Act.TheVariants as act
+use Rattle.cell_core.specs.declared.event.Event.{Event}
+use Rattle.cell_core.specs.declared.event.Event.TheVariants as event
+use Rattle.cell_core.specs.declared.why.Why.{Why}
+use Rattle.cell_core.specs.declared.why.Why.TheVariants as cause
+use Rattle.cell_core.specs.Task.{Task, cell_of}
+use Rattle.cell_core.specs.Acts.{is_empty_list, has_stopped, heard, is_empty, answers, act_by, act_of, awaits_saved}
+use Rattle.cell_core.specs.Events as events
+use Rattle.cell_core.specs.Requests as core
+use Rattle.cell_core.specs.Saves as core_saves
+use Rattle.run_journal.specs.Job.{Job}
+use Rattle.run_journal.specs.Parts.{acked, is_acknowledging}
+use Rattle.run_journal.specs.Course.{events_at, Course, tell, late_then, told_saved, course}
+use Rattle.run_journal.specs.Why.{child_clock}
+use Rattle.run_journal.specs.Agreement.{Flows, KeepsRules}
+use Rattle.run_journal.proofs.Flowing.{not_both, course_agrees, told_parts}
+use Rattle.run_journal.proofs.Dating.{Seen, start_is, told_whole}
+use Rattle.run_journal.proofs.Turning.{RanAtWait, dates, child_drawn}
+use Rattle.run_journal.proofs.Rowing.{false_by}
+
+and_none : (b : Bool) → (b && false) ≡ false
+and_none true = refl
+and_none false = refl
+
+-- ---- nothing is told before the first save
+
+-- the first save is awaited
+module _ (j : Job) where
+  unstopped_first : has_stopped j.task [] ≡ false
+  unstopped_first = and_none (is_some (core_saves.why j.task []))
+
+  told_first : (late es : List Event) → (tell j [] late es).told ≡ []
+  told_first late [] = refl
+  told_first late (e ∷ es) =
+      cond_both (has_stopped j.task (heard j.task [])) (record { told = []; held = []; late = []; unheard = e ∷ es })
+      (cond (awaits_saved j.task []) (record { told = []; held = e ∷ es; late = late; unheard = [] }) (tell j (e ∷ []) late es)) (λ (c : Course). c.told ≡ []) (λ h. refl) (λ h. refl)
+
+  none_acked : (b : Bool) (n : ℕ) → cond b (n + 1) n ≡ 0 → (b ≡ false) × (n ≡ 0)
+  none_acked true n e = absurd (omega (arith, e))
+  none_acked false n e = (refl, e)
+
+  pub untold_first : (past : List Entry) → acked j past ≡ 0 → (course j past).told ≡ []
+  untold_first [] e = refl
+  untold_first (entry ∷ past) e =
+      let c : Course = course j past in
+      let p = none_acked (is_acknowledging j (entry ∷ past)) (acked j past) e in
+      ap (λ v. (tell j v (late_then j entry past c.late) (c.held ++ events_at j entry past c.late)).told)
+      (cond-false (is_acknowledging j (entry ∷ past)) (event.Saved ∷ c.told) c.told p.0 ∙ untold_first past p.1)
+      ∙ told_first (late_then j entry past c.late) (c.held ++ events_at j entry past c.late)
+
+-- ---- the core at its first acknowledgement
+
+abbrev first : List Event
+first = event.Saved ∷ []
+
+module _ (task : Task) where
+  none_after : (k : ℕ) → core.after task k first ≡ None
+  none_after zero = refl
+  none_after (suc k) =
+      cond-false (core.is_next task k (core.after task k) first) (Some []) None
+      (ap (λ b. b && core.is_passed_in (core.after task k []) && nat_lt_plan k) (false_by (0 == k + 1) (λ e. let z = eqb-true 0 (k + 1) e in omega (arith, z))))
+    where
+      nat_lt_plan : ℕ → Bool
+      nat_lt_plan k = nat_lt (k + 1) (length task.plan)
+
+  none_below : (n : ℕ) → core.last_below task n first ≡ None
+  none_below zero = refl
+  none_below (suc n) = ap (λ o. core.or_before n o (core.last_below task n first)) (none_after n) ∙ none_below n
+
+  none_passes : (n : ℕ) → core_saves.passes task n first ≡ []
+  none_passes zero = refl
+  none_passes (suc n) =
+      ap (λ ps. ps ++ (if core.is_passed_in (core.after task n first) then record { settled = cell_of task n + 1; stopping_cell = None } ∷ [] else [])) (none_passes n)
+      ∙ ap (λ o. if core.is_passed_in o then record { settled = cell_of task n + 1; stopping_cell = None } ∷ [] else []) (none_after n)
+
+  module _ (plan : 0 < length task.plan) where
+    some_plan : (length task.plan == 0) ≡ false
+    some_plan = false_by (length task.plan == 0) (λ e. let z = eqb-true (length task.plan) 0 e in omega (arith, z, plan))
+
+    not_whole : core_saves.is_whole task (core.standing task first) ≡ false
+    not_whole = ap (core_saves.is_whole task) (none_below (length task.plan)) ∙ some_plan
+
+    none_why : core_saves.why task first ≡ None
+    none_why =
+        ap (λ b. if b && (nat_lt 0 (length task.plan) || length (core_saves.planned task first) == events.acked first) then Some cause.Done else core_saves.why_not_done task (core.standing task first) first) not_whole
+        ∙ ap (λ o. core_saves.why_not_done task o first) (none_below (length task.plan))
+
+    none_due : core_saves.unacked task first ≡ []
+    none_due =
+        ap (λ o. (core_saves.passes task (length task.plan) first ++ core_saves.stopping task o (core_saves.why task first)) ++ core_saves.closing_after task (core.standing task first) (core_saves.passes task (length task.plan) first)) (none_below (length task.plan))
+        ∙ ap (λ ps. (ps ++ []) ++ core_saves.closing_after task (core.standing task first) ps) (none_passes (length task.plan))
+        ∙ ap (λ b. if b && nat_lt (core_saves.last_settled 0 []) task.cells then record { settled = task.cells; stopping_cell = None } ∷ [] else []) not_whole
+
+    pub starts_first : act_of task event.Saved [] ≡ act.Start
+    starts_first =
+        cond-false (has_stopped task (heard task [])) act.Nothing _ (and_none (is_some (core_saves.why task [])))
+        ∙ ap (λ ps. act_by task first ps (core_saves.why task first)) none_due
+        ∙ ap (act_by task first []) none_why
+        ∙ ap (λ o. answers task o first) (none_below (length task.plan))
+
+  -- ---- and only there
+
+  -- what was heard is all, where nothing stopped it
+  all_heard : (told : List Event) → has_stopped task (heard task told) ≡ false → heard task told ≡ told
+  all_heard [] e = refl
+  all_heard (x ∷ told) e = by (λ f. all_heard told f) (cases_Bool (has_stopped task (heard task told)))
+    where
+      by : (has_stopped task (heard task told) ≡ false → heard task told ≡ told) → (has_stopped task (heard task told) ≡ true) ⊎ (has_stopped task (heard task told) ≡ false) → heard task (x ∷ told) ≡ x ∷ told
+      by ih (inl f) = absurd (not_both (has_stopped task (heard task told)) f (ap (has_stopped task) (sym (cond-true (has_stopped task (heard task told)) (heard task told) (x ∷ heard task told) f)) ∙ e))
+      by ih (inr f) = cond-false (has_stopped task (heard task told)) (heard task told) (x ∷ heard task told) f ∙ ap (λ es. x ∷ es) (ih f)
+
+  no_start : act.Nothing ≡ act.Start → ⊥
+  no_start e = cc
+
+  answered : (o : Option core.Standing) (told : List Event) → answers task o (event.Saved ∷ told) ≡ act.Start → events.acked told ≡ 0
+  answered (Some last) told e = by (is_empty_list last.later) e
+    where
+      by : (b : Bool) → (if b then act.Send (cell_of task last.request) else act.Nothing) ≡ act.Start → events.acked told ≡ 0
+      by true f = cc
+      by false f = cc
+  answered None told e = by (events.acked told == 0) refl e
+    where
+      by : (b : Bool) → (events.acked told == 0) ≡ b → (if b then act.Start else act.Nothing) ≡ act.Start → events.acked told ≡ 0
+      by true f g = eqb-true (events.acked told) 0 f
+      by false f g = cc
+
+  acted : (told : List Event) (ps : List core_saves.Prefix) (o : Option Why) → act_by task (event.Saved ∷ told) ps o ≡ act.Start → events.acked told ≡ 0
+  acted told (p ∷ ps) o e = cc
+  acted told [] (Some cause) e = cc
+  acted told [] None e = answered (core.standing task (event.Saved ∷ told)) told e
+
+  pub start_acked : (told : List Event) → act_of task event.Saved told ≡ act.Start → events.acked told ≡ 0
+  start_acked told e = by (cases_Bool (has_stopped task (heard task told)))
+    where
+      by : (has_stopped task (heard task told) ≡ true) ⊎ (has_stopped task (heard task told) ≡ false) → events.acked told ≡ 0
+      by (inl f) = absurd (no_start (sym (cond-true (has_stopped task (heard task told)) act.Nothing _ f) ∙ e))
+      by (inr f) =
+          ap events.acked (sym (all_heard told f))
+          ∙ acted (heard task told) (core_saves.unacked task (event.Saved ∷ heard task told)) (core_saves.why task (event.Saved ∷ heard task told)) (sym (cond-false (has_stopped task (heard task told)) act.Nothing _ f) ∙ e)
+
+-- ---- by the journal
+
+pub started_first : (j : Job) (past : List Entry) → 0 < length j.task.plan → acked j past ≡ 0 → act_of j.task event.Saved (course j past).told ≡ act.Start
+started_first j past plan e = ap (act_of j.task event.Saved) (untold_first j past e) ∙ starts_first j.task plan
+
+pub first_started : (j : Job) (past : List Entry) → Flows j past → act_of j.task event.Saved (course j past).told ≡ act.Start → acked j past ≡ 0
+first_started j past f e = sym (course_agrees j past f).acked ∙ start_acked j.task (course j past).told e
+
+-- ---- the clock of the start
+
+pub start_clock : (jobs : List Job) (j : Job) (past : List Entry) → KeepsRules jobs j past → RanAtWait j past → (course j past).held ≡ [] → (clock : ℕ) → child_clock j past ≡ Some clock → events.started (course j past).told ≡ Some clock
+start_clock jobs j past k h none clock e =
+    start_is 0 (course j past).told ∙ ap (λ (s : Seen). s.start) (sym (told_whole 0 j past none)) ∙ (dates 0 jobs j past k h).start ∙ child_drawn j past k.start clock e

@@ -1,0 +1,525 @@
+-- Each row of the causes holds for the core where it holds by the journal.
+use Rattle.std.proofs.Common.{◌≡◌, ◌⊎◌, inl, inr, ℕ, zero, suc, ◌+◌, ◌<◌, ◌≤◌, List, [], ◌∷◌, ◌++◌, length, map, drop, Bool, true, false, ◌&&◌, ◌||◌, not, cond, Option, Some, None, refl, sym, ◌∙◌, ap, subst, arith}
+use Rattle.std.specs.Prelude.{is_some, is_none, option_map, option_to_list, slice_get, nat_le, if◌then◌else◌, IsSomeAnd}
+use Rattle.std.specs.List.{list_any}
+use Rattle.std.proofs.lemmas.Bool.{and_parts, and_from, or_left, or_right, cond-true, cond-false, cases_Bool, leb-true, le-leb}
+use Rattle.world.specs.declared.chan.Chan.TheVariants.{Shell, Iopub}
+use Rattle.world.specs.declared.entry.Entry.{Entry}
+use Rattle.world.specs.declared.entry.Entry.TheVariants as made
+use Rattle.world.specs.Places.{time}
+use Rattle.world.specs.Waits.{has_wait, before_wait, moment_of}
+use Rattle.cell_core.specs.declared.event.Event.{Event}
+use Rattle.cell_core.specs.declared.why.Why.{Why}
+use Rattle.cell_core.specs.declared.why.Why.TheVariants as cause
+use Rattle.cell_core.specs.Task.{Task}
+use Rattle.cell_core.specs.Deadlines.{idle_ms, interrupt_ms, stood_at, replied_at, first_deadline, second_deadline, entry_and_more, start_from, start_deadline as core_start, is_unanswered, queued, looked_by}
+use Rattle.cell_core.specs.Events as events
+use Rattle.cell_core.specs.Requests as core
+use Rattle.cell_core.specs.Saves as core_saves
+use Rattle.run_journal.specs.Codec.{Arrival}
+use Rattle.run_journal.specs.Job.{Job}
+use Rattle.run_journal.specs.Parts.{acked, turn_clock, begins, is_running}
+use Rattle.run_journal.specs.Arrivals.{arrive, asked, is_ready}
+use Rattle.run_journal.specs.Looks.{looked, ever, is_lost, is_at_least, is_past, ran_out}
+use Rattle.run_journal.specs.Requests.{Request, has_idle, reply, is_over, or_later, first_clock, before_clock, just_ran_out, deadline, is_just_out, is_broken, is_interrupted, with_news, fresh, count_queued, goes_on, requests, last_request}
+use Rattle.run_journal.specs.Why.{child_clock, starts, is_out, is_not_ready, is_no_idle, is_timed_out, last_deadline, why}
+use Rattle.run_journal.specs.Due.{all_along}
+use Rattle.run_journal.specs.Decoding.{IsDecoding}
+use Rattle.run_journal.specs.Grow.{GoesOn}
+use Rattle.run_journal.specs.Awake.{start_deadline, request_deadline, wait_deadline, reply_deadline, is_called_for}
+use Rattle.run_journal.specs.Course.{course}
+use Rattle.run_journal.specs.Agreement.{AgreesOn, Agrees, ClocksOn, Clocks, BeginsUnread, Flows, KeepsTime, drawn_clock, rises, KeepsRules}
+use Rattle.run_journal.proofs.AlikeLooks.{or_none}
+use Rattle.run_journal.proofs.Growth.{goes, goes_self, ready_stays, reply_stays, over_stays}
+use Rattle.run_journal.proofs.Flowing.{not_both, course_agrees}
+use Rattle.run_journal.proofs.Asking.{Stands, nothing, last, stands, last_numbered}
+use Rattle.run_journal.proofs.Clocks.{clocks_agree}
+use Rattle.run_journal.proofs.Sighting.{or_either, true_not}
+use Rattle.run_journal.proofs.Dating.{Seen, seen, start_is, first_is, found_is, queued_is, whole, told_whole, clock_in}
+use Rattle.run_journal.proofs.Turning.{not_true, first_kept, later_some, running_parts, any_before, RanAtWait, child_drawn, begun_child, drawn_acked, first_waited, first_none, still, turn_none, Dates, dates}
+use Rattle.run_journal.proofs.Lapse.{Before, here, earlier, wait_was, before_then, ever_before, rules_at, clock_from, first_ever, first_before, ran_parts, Left, found_ran, ran_found}
+use Rattle.run_journal.proofs.Earlier.{CameBy, stood, anew, came_by, Was, stood_before, replied_before, last_before, ready_stands, go_before, none_on, goes_then}
+use Rattle.run_journal.proofs.Interrupting.{none_holds, called_start, called_request, no_reply_before, interrupted_parts, interrupted_queued, queued_interrupted}
+
+-- ---- tests
+
+pub both : (a b : Bool) → (a ≡ true → b ≡ true) → (b ≡ true → a ≡ true) → a ≡ b
+both true b f g = sym (f refl)
+both false true f g = absurd (false_true (g refl))
+  where
+    false_true : false ≡ true → ⊥
+    false_true e = cc
+both false false f g = refl
+
+pub false_by : (a : Bool) → (a ≡ true → ⊥) → a ≡ false
+false_by true f = absurd (f refl)
+false_by false f = refl
+
+and_false : (b : Bool) → (b && false) ≡ false
+and_false true = refl
+and_false false = refl
+
+some_is : {A : Type 0} (o : Option A) → is_some o ≡ true → (x : A) × (o ≡ Some x)
+some_is (Some x) e = (x, refl)
+some_is None e = cc
+
+-- ---- moments
+
+ready_before : (j : Job) {q past : List Entry} → Before q past → is_ready j q ≡ true → is_ready j past ≡ true
+ready_before j here e = e
+ready_before j {q} (earlier {past} entry b) e = ready_stays j entry past (ready_before j b e)
+
+child_before : (j : Job) {q past : List Entry} → Before q past → is_some (child_clock j q) ≡ true → child_clock j past ≡ child_clock j q
+child_before j here e = refl
+child_before j {q} (earlier {past} entry b) e =
+    let same = child_before j b e in
+    first_kept (child_clock j past) (if starts j entry then Some (time past) else None) (ap (λ (o : Option ℕ). is_some o) same ∙ e) ∙ same
+
+least_past : (c d : ℕ) → c ≤ d → (o : Option ℕ) → is_at_least d o ≡ true → is_at_least c o ≡ true
+least_past c d h None e = cc
+least_past c d h (Some ms) e = let g = leb-true d ms e in le-leb c ms (omega (arith, h, g))
+
+ever_past : (c d : ℕ) → c ≤ d → (past : List Entry) → ever (is_past d) past ≡ true → ever (is_past c) past ≡ true
+ever_past c d h [] e = cc
+ever_past c d h (entry ∷ past) e = elim (or_either (is_past d (entry ∷ past)) (ever (is_past d) past) e) [
+  | inl f ↦ or_left (is_past c (entry ∷ past)) (ever (is_past c) past) (least_past c d h (turn_clock (entry ∷ past)) f)
+  | inr f ↦ or_right (is_past c (entry ∷ past)) (ever (is_past c) past) (ever_past c d h past f)
+]
+
+module _ (d : ℕ) where
+  -- the first clock entry is one
+  first_least : (past : List Entry) (ms : ℕ) → first_clock d past ≡ Some ms → d ≤ ms
+  first_least [] ms e = cc
+  first_least (entry ∷ past) ms e = by (λ x. first_least past ms x) (first_clock d past) refl
+    where
+      new : (o : Option ℕ) → (if is_at_least d o then o else None) ≡ Some ms → d ≤ ms
+      new None f = cc
+      new (Some t) f = by_test (nat_le d t) refl f
+        where
+          by_test : (b : Bool) → nat_le d t ≡ b → (if b then Some t else None) ≡ Some ms → d ≤ ms
+          by_test true g f = subst (λ n. d ≤ n) (inside f) (leb-true d t g)
+            where
+              inside : Some t ≡ Some ms → t ≡ ms
+              inside i = cc
+          by_test false g f = cc
+
+      by : (first_clock d past ≡ Some ms → d ≤ ms) → (o : Option ℕ) → first_clock d past ≡ o → d ≤ ms
+      by ih (Some x) f = ih (f ∙ sym (ap (λ v. or_later v (if is_past d (entry ∷ past) then turn_clock (entry ∷ past) else None)) f) ∙ e)
+      by ih None f = new (turn_clock (entry ∷ past)) (sym (ap (λ v. or_later v (if is_past d (entry ∷ past) then turn_clock (entry ∷ past) else None)) f) ∙ e)
+
+  moment_time : (entry : Entry) (past : List Entry) (t : ℕ) → moment_of entry ≡ Some t → time (entry ∷ past) ≡ t
+  moment_time (made.Moment ms) past t e = inside e
+    where
+      inside : Some ms ≡ Some t → ms ≡ t
+      inside i = cc
+  moment_time _ past t e = cc
+
+  -- it stands before the last clock entry, or is that
+  first_last : (past : List Entry) (ms : ℕ) → first_clock d past ≡ Some ms → (is_some (first_clock d (before_clock past)) ≡ true) ⊎ (time past ≡ ms)
+  first_last [] ms e = cc
+  first_last (entry ∷ past) ms e = by (λ x. first_last past ms x) (moment_of entry) refl
+    where
+      newest : (t : ℕ) → moment_of entry ≡ Some t → (o : Option ℕ) → first_clock d past ≡ o → (is_some (first_clock d (before_clock (entry ∷ past))) ≡ true) ⊎ (time (entry ∷ past) ≡ ms)
+      newest t f (Some x) g = inl (ap (λ (o : Option ℕ). is_some (first_clock d (if is_some o then past else before_clock past))) f ∙ ap (λ (o : Option ℕ). is_some o) g)
+      newest t f None g = inr (moment_time entry past t f ∙ one (has_wait past) (sym (ap (λ o. or_later o (if is_past d (entry ∷ past) then turn_clock (entry ∷ past) else None)) g) ∙ e))
+        where
+          test : (b : Bool) → (if b then Some t else None) ≡ Some ms → t ≡ ms
+          test true i = cc
+          test false i = cc
+
+          at_moment : (o : Option ℕ) → o ≡ Some t → (if is_at_least d o then o else None) ≡ Some ms → t ≡ ms
+          at_moment None i l = cc
+          at_moment (Some x) i l = subst (λ n. (if nat_le d n then Some n else None) ≡ Some ms → t ≡ ms) (sym (inside i)) (test (nat_le d t)) l
+            where
+              inside : Some x ≡ Some t → x ≡ t
+              inside i = cc
+
+          one : (w : Bool) → (if is_at_least d (if w then moment_of entry else None) then (if w then moment_of entry else None) else None) ≡ Some ms → t ≡ ms
+          one true l = at_moment (moment_of entry) f l
+          one false l = cc
+
+      by : (first_clock d past ≡ Some ms → (is_some (first_clock d (before_clock past)) ≡ true) ⊎ (time past ≡ ms)) → (o : Option ℕ) → moment_of entry ≡ o → (is_some (first_clock d (before_clock (entry ∷ past))) ≡ true) ⊎ (time (entry ∷ past) ≡ ms)
+      by ih (Some t) f = newest t f (first_clock d past) refl
+      by ih None f =
+          let s = still d entry past f in
+          elim (ih (sym s.first ∙ e)) [
+            | inl g ↦ inl (ap (λ v. is_some (first_clock d v)) s.before ∙ g)
+            | inr g ↦ inr (s.clock ∙ g)
+          ]
+
+  clock_was : (past : List Entry) → Before (before_clock past) past
+  clock_was [] = here
+  clock_was (entry ∷ past) = elim (cases_Bool (is_some (moment_of entry))) [
+    | inl f ↦ subst (λ v. Before v (entry ∷ past)) (sym (cond-true (is_some (moment_of entry)) past (before_clock past) f)) (earlier entry here)
+    | inr f ↦ subst (λ v. Before v (entry ∷ past)) (sym (cond-false (is_some (moment_of entry)) past (before_clock past) f)) (earlier entry (clock_was past))
+  ]
+
+  -- more clock entries don't change that
+  two_more : {q past : List Entry} → Before q past → is_some (first_clock d (before_clock q)) ≡ true → is_some (first_clock d (before_clock past)) ≡ true
+  two_more here e = e
+  two_more {q} (earlier {past} entry b) e = by (two_more b e) (cases_Bool (is_some (moment_of entry)))
+    where
+      by : is_some (first_clock d (before_clock past)) ≡ true → (is_some (moment_of entry) ≡ true) ⊎ (is_some (moment_of entry) ≡ false) → is_some (first_clock d (before_clock (entry ∷ past))) ≡ true
+      by was (inl f) = ap (λ v. is_some (first_clock d v)) (cond-true (is_some (moment_of entry)) past (before_clock past) f) ∙ ap (λ (o : Option ℕ). is_some o) (first_before d (clock_was past) was) ∙ was
+      by was (inr f) = ap (λ v. is_some (first_clock d v)) (cond-false (is_some (moment_of entry)) past (before_clock past) f) ∙ was
+
+-- an interrupt that is queued now was queued before a second clock entry past the deadline
+flagged_before : (j : Job) (c d : ℕ) {q past : List Entry} → Before q past → all_along rises past ≡ true → ever (is_past d) q ≡ true → is_some (first_clock c (before_clock q)) ≡ true → (i : ℕ) (r : Request)
+    → slice_get (requests j past) i ≡ Some r → r.clock < d → deadline j r ≡ Some c → r.interrupted ≡ true → (w : Was j q i r) × (w.old.interrupted ≡ true)
+flagged_before j c d here e f two i r g l dead int = (record { old = r; stands = g; on = goes_self r }, int)
+flagged_before j c d {q} (earlier {past} entry b) e f two i r g l dead int = by (λ o x y z w. flagged_before j c d b p.1 f two i o x y z w) (came_by j entry past i r g)
+  where
+    p : (rises (entry ∷ past) ≡ true) × (all_along rises past ≡ true)
+    p = and_parts (rises (entry ∷ past)) (all_along rises past) e
+
+    not_now : (v : Request) → deadline j v ≡ Some c → is_interrupted j (entry ∷ past) v ≡ true → ⊥
+    not_now v x y =
+        let z : just_ran_out j c (entry ∷ past) ≡ true = sym (ap (is_just_out j (entry ∷ past)) x) ∙ interrupted_parts j (entry ∷ past) v y in
+        not_both (is_some (first_clock c (before_clock (entry ∷ past)))) (two_more c (earlier entry b) two)
+        (not_true (is_some (first_clock c (before_clock (entry ∷ past)))) (and_parts (looked j (entry ∷ past) && is_some (first_clock c (before_wait (entry ∷ past)))) (not (is_some (first_clock c (before_clock (entry ∷ past))))) z).1)
+
+    by : ((o : Request) → slice_get (requests j past) i ≡ Some o → o.clock < d → deadline j o ≡ Some c → o.interrupted ≡ true → (w : Was j q i o) × (w.old.interrupted ≡ true)) → CameBy j entry past i r
+        → (w : Was j q i r) × (w.old.interrupted ≡ true)
+    by ih (stood o s n) =
+        let at : o.clock ≡ r.clock = ap (λ (v : Request). v.clock) (sym n) in
+        let on = goes j entry past o in
+        let dead_o : deadline j o ≡ Some c = ap (λ t. option_map (λ limit. t + limit) j.task.times.limit_ms) at ∙ dead in
+        let flag : o.interrupted ≡ true = elim (or_either o.interrupted _ (ap (λ (v : Request). v.interrupted) (sym n) ∙ int)) [
+          | inl x ↦ x
+          | inr x ↦ absurd (not_now _ dead_o x)
+        ] in
+        let w = ih o s (subst (λ t. t < d) (sym at) l) dead_o flag in
+        (record { old = w.0.old; stands = w.0.stands; on = subst (GoesOn w.0.old) (sym n) (goes_then w.0.on on) }, w.1)
+    by ih (anew n) = absurd (late d (time past) r.clock (clock_from d past p.1 (ever_before (is_past d) b f)) (ap (λ (v : Request). v.clock) n) l)
+      where
+        late : (d t c : ℕ) → d ≤ t → c ≡ t → c < d → ⊥
+        late d t c a b e = absurd (omega (arith, a, b, e))
+
+-- no interrupt is queued where none is asked for
+uninterrupted : (j : Job) → j.task.times.interrupt ≡ false → (past : List Entry) (i : ℕ) (r : Request) → slice_get (requests j past) i ≡ Some r → r.interrupted ≡ false
+unfolding is_interrupted
+uninterrupted j e [] i r g = cc
+uninterrupted j e (entry ∷ past) i r g = by (λ o x. uninterrupted j e past i o x) (came_by j entry past i r g)
+  where
+    no : (v : Request) → is_interrupted j (entry ∷ past) v ≡ false
+    no v = ap (λ b. b && not (is_some (reply v)) && is_just_out j (entry ∷ past) (deadline j v) && not (is_broken j (entry ∷ past)) && not (is_lost j (entry ∷ past))) e
+
+    or_both : (a b : Bool) → a ≡ false → b ≡ false → (a || b) ≡ false
+    or_both true b x y = cc
+    or_both false b x y = y
+
+    by : ((o : Request) → slice_get (requests j past) i ≡ Some o → o.interrupted ≡ false) → CameBy j entry past i r → r.interrupted ≡ false
+    by ih (stood o s n) = ap (λ (v : Request). v.interrupted) n ∙ or_both o.interrupted _ (ih o s) (no (with_news j o (arrive j Iopub entry past) (arrive j Shell entry past) (time past)))
+    by ih (anew n) = ap (λ (v : Request). v.interrupted) n ∙ no (fresh (count_queued (length (asked j (entry ∷ past)).ids) (map (goes_on j entry past) (requests j past)) + 1) (time past))
+
+-- ---- the core's last request
+
+pub standing_after : (task : Task) (n : ℕ) (told : List Event) (s : core.Standing) → core.last_below task n told ≡ Some s → core.after task s.request told ≡ Some s.later
+standing_after task zero told s e = cc
+standing_after task (suc n) told s e = by (λ x. standing_after task n told s x) (core.after task n told) refl
+  where
+    inside : {x y : core.Standing} → Some x ≡ Some y → x ≡ y
+    inside i = cc
+
+    by : (core.last_below task n told ≡ Some s → core.after task s.request told ≡ Some s.later) → (o : Option (List Event)) → core.after task n told ≡ o → core.after task s.request told ≡ Some s.later
+    by ih (Some later) f =
+        let same : record { request = n; later = later } ≡ s = inside (sym (ap (λ v. core.or_before n v (core.last_below task n told)) f) ∙ e) in
+        ap (λ (v : core.Standing). core.after task v.request told) (sym same) ∙ f ∙ ap (λ (v : core.Standing). Some v.later) same
+    by ih None f = ih (sym (ap (λ v. core.or_before n v (core.last_below task n told)) f) ∙ e)
+
+some_and_at : (P : List Event → Type 0) (o : Option (List Event)) (later : List Event) → o ≡ Some later → IsSomeAnd o P → P later
+some_and_at P None later e h = cc
+some_and_at P (Some v) later e h = subst P (inside e) h
+  where
+    inside : Some v ≡ Some later → v ≡ later
+    inside i = cc
+
+over_same : (j : Job) (k : ℕ) (later : List Event) (r : Request) → AgreesOn j k later r → core.is_over later ≡ is_over r
+over_same j k later r a =
+    ap (λ b. is_some (core.reply later) && b) a.idle
+    ∙ ap (λ (o : Option Bool). is_some o && has_idle r.io) a.reply
+    ∙ by (has_idle r.io) (reply r)
+  where
+    by : (i : Bool) (o : Option (Arrival × ℕ)) → (is_some (option_map (λ m. j.fatal k m.0.content) o) && i) ≡ (i && is_some o)
+    by true None = refl
+    by true (Some m) = refl
+    by false None = refl
+    by false (Some m) = refl
+
+pub plus_more : (x n : ℕ) → 0 < n → x < x + n
+plus_more x n h = omega (arith, h)
+
+module _ (jobs : List Job) (j : Job) (past : List Entry) (k : KeepsRules jobs j past) (h : RanAtWait j past) (f : Flows j past) (t : KeepsTime j past) (none : (course j past).held ≡ []) (plan : 0 < length j.task.plan) where
+  abbrev told : List Event
+  told = (course j past).told
+
+  agrees : Agrees j told past
+  agrees = course_agrees j past f
+
+  clocks : Clocks j told past
+  clocks = clocks_agree j past f t
+
+  -- what was found
+  found_told : (d : ℕ) → events.looked (events.is_turn_at d) told ≡ (whole d j past).found
+  found_told d = found_is d told ∙ ap (λ (s : Seen). s.found) (sym (told_whole d j past none))
+
+  -- where a look after such a clock entry was found by one of them, there was such an entry at some moment
+  found_past : (d : ℕ) → (whole d j past).found ≡ true → ever (is_past d) past ≡ true
+  found_past d e = elim (found_ran d jobs j past k h e) [
+    | inl r ↦ ever_before (is_past d) (wait_was past) (ran_parts j d past r).1
+    | inr l ↦ ever_before (is_past d) l.before (ever_before (is_past d) (wait_was l.at) (ran_parts j d l.at l.held).1)
+  ]
+
+  left_past : (d : ℕ) (l : Left (ran_out j d) j past) → ever (is_past d) l.at ≡ true
+  left_past d l = ever_before (is_past d) (wait_was l.at) (ran_parts j d l.at l.held).1
+
+  ran_waited : (d : ℕ) → ran_out j d past ≡ true → has_wait past ≡ true
+  ran_waited d e = first_waited d past (first_ever d past ∙ ever_before (is_past d) (wait_was past) (ran_parts j d past e).1)
+
+  -- a look is found by both, where it was called for, and where it held at no wait
+  found_same : (d : ℕ) → (ran_out j d past ≡ true → is_called_for j (before_wait past) ≡ true) → (Left (ran_out j d) j past → ⊥) → events.looked (events.is_turn_at d) told ≡ ran_out j d past
+  found_same d called left =
+      found_told d
+      ∙ both (whole d j past).found (ran_out j d past)
+      (λ e. elim (found_ran d jobs j past k h e) [
+        | inl r ↦ r
+        | inr l ↦ absurd (left l)
+      ])
+      (λ e. ran_found d jobs j past k h e (called e))
+
+  -- ---- no readiness
+
+  start_told : events.started told ≡ drawn_clock j past
+  start_told = start_is 0 told ∙ ap (λ (s : Seen). s.start) (sym (told_whole 0 j past none)) ∙ (dates 0 jobs j past k h).start
+
+  child_at : {q : List Entry} → Before q past → is_running j q ≡ true → child_clock j q ≡ child_clock j past
+  child_at {q} b r = sym (child_before j b (begun_child j q (rules_at jobs j b k h).0.start (running_parts j q r).0))
+
+  not_ready_open : requests j past ≡ [] → looked_by (core_start j.task told) told ≡ is_out j j.task.times.start_ms (child_clock j past) past
+  not_ready_open e =
+      ap (λ o. looked_by (start_from j.task o) told) start_told
+      ∙ by (child_clock j past) refl
+    where
+      undrawn : child_clock j past ≡ None → (o : Option ℕ) → looked_by (start_from j.task o) told ≡ false
+      undrawn g None = refl
+      undrawn g (Some c) =
+          let d = c + j.task.times.start_ms in
+          false_by (events.looked (events.is_turn_at d) told) (λ y.
+          let w = first_waited d past (first_ever d past ∙ found_past d (sym (found_told d) ∙ y)) in
+          not_both (is_some (child_clock j past)) (begun_child j past k.start (any_before j past (running_parts j (before_wait past) (h w)).0)) (ap (λ (o : Option ℕ). is_some o) g))
+
+      unready : 0 < acked j past → is_ready j (before_wait past) ≡ false
+      unready a = false_by (is_ready j (before_wait past)) (λ r. ready_stands j past (ready_before j (wait_was past) r) a plan e)
+
+      by : (o : Option ℕ) → child_clock j past ≡ o → looked_by (start_from j.task (drawn_clock j past)) told ≡ is_out j j.task.times.start_ms o past
+      by None g = undrawn g (drawn_clock j past)
+      by (Some c) g =
+          let d = c + j.task.times.start_ms in
+          let drawn = child_drawn j past k.start c g in
+          let acks = drawn_acked j past k.start (ap (λ (o : Option ℕ). is_some o) drawn) in
+          ap (λ o. looked_by (start_from j.task o) told) drawn
+          ∙ found_same d
+          (λ r. let runs = h (ran_waited d r) in
+          called_start j d (before_wait past) runs
+          (cond-false (is_ready j (before_wait past)) [] _ (unready acks)
+          ∙ ap (λ o. option_to_list (option_map (λ ms. ms + j.task.times.start_ms) o)) (child_at (wait_was past) runs ∙ g)) (ran_parts j d past r).1)
+          (λ l. not_both (is_not_ready j (requests j l.at) l.at)
+          (ap (λ rs. is_not_ready j rs l.at) (none_on (go_before j l.before) e)
+          ∙ ap (λ o. is_out j j.task.times.start_ms o l.at) (child_at l.before l.runs ∙ g) ∙ l.held) (none_holds j l.at l.unstopped).1)
+
+  no_items : {A : Type 0} (xs : List A) → length xs ≡ 0 → xs ≡ []
+  no_items [] e = refl
+  no_items (x ∷ xs) e = cc
+
+  pub not_ready_same : core_saves.is_not_ready j.task (core.standing j.task told) told ≡ is_not_ready j (requests j past) past
+  not_ready_same = by (core.standing j.task told) (stands j told past agrees)
+    where
+      some_items : (rs : List Request) (m : ℕ) → length rs ≡ suc m → false ≡ is_not_ready j rs past
+      some_items [] m e = cc
+      some_items (r ∷ rs) m e = refl
+
+      by : (o : Option core.Standing) → Stands j told past o → core_saves.is_not_ready j.task o told ≡ is_not_ready j (requests j past) past
+      by None (nothing l) = let e = no_items (requests j past) l in not_ready_open e ∙ sym (ap (λ rs. is_not_ready j rs past) e)
+      by (Some _) (last m q later l e a) = some_items (requests j past) m l
+
+  -- ---- the last request
+
+  pub last_is : (m : ℕ) (q : Request) → length (requests j past) ≡ suc m → slice_get (requests j past) m ≡ Some q → last_request 0 (requests j past) ≡ Some (m, q)
+  last_is m q l e = let z : 0 + m ≡ m = omega arith in last_numbered 0 m (requests j past) q l e ∙ ap (λ i. Some (i, q)) z
+
+  pub none_last : length (requests j past) ≡ 0 → last_request 0 (requests j past) ≡ None
+  none_last l = ap (last_request 0) (no_items (requests j past) l)
+
+  module _ (m : ℕ) (q : Request) (later : List Event) (l : length (requests j past) ≡ suc m) (e : slice_get (requests j past) m ≡ Some q) (a : AgreesOn j m later q) (s : core.after j.task m told ≡ Some later) where
+    pub on : ClocksOn m told later q
+    on = some_and_at (λ v. ClocksOn m told v q) (core.after j.task m told) later s (clocks m q e)
+
+    -- ---- no idle
+
+    no_idle_open : (x : Arrival × ℕ) → reply q ≡ Some x → is_over q ≡ false → events.looked (events.is_turn_at (x.1 + idle_ms)) told ≡ ran_out j (x.1 + idle_ms) past
+    no_idle_open x r over =
+        found_same d
+        (λ y. called_request j d (before_wait past) (h (ran_waited d y)) (deadline_then (wait_was past) (ran_parts j d past y).1) (ran_parts j d past y).1)
+        (λ y. not_both (is_no_idle j (last_request 0 (requests j y.at)) y.at) (row_then y.before (left_past d y) y.held) (none_holds j y.at y.unstopped).2)
+      where
+        d : ℕ
+        d = x.1 + idle_ms
+
+        under : x.1 < d
+        under = omega arith
+
+        was : {p : List Entry} → Before p past → ever (is_past d) p ≡ true → (w : Was j p m q) × (reply w.old ≡ Some x)
+        was b y = replied_before j d b k.rising y m q x e r under
+
+        not_over : {p : List Entry} (w : Was j p m q) → is_over w.old ≡ false
+        not_over w = false_by (is_over w.old) (λ y. not_both (is_over q) (over_stays w.old q w.on y) over)
+
+        deadline_then : {p : List Entry} → Before p past → ever (is_past d) p ≡ true → request_deadline j p (last_request 0 (requests j p)) ≡ d ∷ []
+        deadline_then {p} b y =
+            let w = was b y in
+            ap (request_deadline j p) (last_before j b m q l w.0).1
+            ∙ ap (λ o. wait_deadline j p w.0.old (option_map (λ v. v.1) o)) w.1
+            ∙ cond-false (is_over w.0.old) [] (d ∷ []) (not_over w.0)
+
+        row_then : {p : List Entry} → Before p past → ever (is_past d) p ≡ true → ran_out j d p ≡ true → is_no_idle j (last_request 0 (requests j p)) p ≡ true
+        row_then {p} b y z =
+            let w = was b y in
+            ap (λ o. is_no_idle j o p) (last_before j b m q l w.0).1
+            ∙ ap (λ o. not (is_over w.0.old) && is_out j idle_ms (option_map (λ v. v.1) o) p) w.1
+            ∙ and_from (not (is_over w.0.old)) (ran_out j d p) (true_not (is_over w.0.old) (not_over w.0)) z
+
+    pub no_idle_last : core_saves.is_no_idle (Some (record { request = m; later = later })) told ≡ is_no_idle j (Some (m, q)) past
+    no_idle_last =
+        ap (λ o. (is_some o && not (core.is_over later)) && looked_at) a.reply
+        ∙ ap (λ b. (is_some (option_map (λ v. j.fatal m v.0.content) (reply q)) && not b) && looked_at) (over_same j m later q a)
+        ∙ by (reply q) refl (is_over q) refl
+      where
+        looked_at : Bool
+        looked_at = events.looked (events.is_turn_at (replied_at (record { request = m; later = later }) told + idle_ms)) told
+
+        by : (o : Option (Arrival × ℕ)) → reply q ≡ o → (b : Bool) → is_over q ≡ b
+            → ((is_some (option_map (λ v. j.fatal m v.0.content) o) && not b) && looked_at) ≡ (not b && is_out j idle_ms (option_map (λ v. v.1) o) past)
+        by None r b c = sym (and_false (not b))
+        by (Some x) r true c = refl
+        by (Some x) r false c = ap (λ n. events.looked (events.is_turn_at (n + idle_ms)) told) (on.replied x r) ∙ no_idle_open x r c
+
+    -- ---- no reply
+
+    module _ (dec : IsDecoding j.codec) (u : BeginsUnread j past) (b : is_broken j past ≡ false) (lost : is_lost j past ≡ false) (bc : events.came events.is_broken told ≡ false) (lc : events.looked events.is_lost told ≡ false)
+        (r : reply q ≡ None) (c : ℕ) (dead : deadline j q ≡ Some c) (under : q.clock < c) where
+      -- the request at an earlier moment past a deadline
+      was : (d : ℕ) → c ≤ d → {p : List Entry} → Before p past → ever (is_past d) p ≡ true → Was j p m q
+      was d n x y = stood_before j d x k.rising y m q e (less q.clock c d under n)
+        where
+          less : (x y z : ℕ) → x < y → y ≤ z → x < z
+          less x y z f g = omega (arith, f, g)
+
+      was_none : {p : List Entry} (w : Was j p m q) → reply w.old ≡ None
+      was_none w = no_reply_before w.old q (reply_stays w.old q w.on) r
+
+      was_dead : {p : List Entry} (w : Was j p m q) → deadline j w.old ≡ Some c
+      was_dead w = ap (λ n. option_map (λ limit. n + limit) j.task.times.limit_ms) (sym w.on.clock) ∙ dead
+
+      -- what its row is at such a moment
+      row_at : {p : List Entry} → Before p past → (w : Was j p m q) → is_timed_out j (last_request 0 (requests j p)) p ≡ is_out j 0 (last_deadline j w.old p (Some c)) p
+      row_at {p} x w =
+          ap (λ o. is_timed_out j o p) (last_before j x m q l w).1
+          ∙ ap (λ (o : Option (Arrival × ℕ)). not (is_some o) && is_out j 0 (last_deadline j w.old p (deadline j w.old)) p) (was_none w)
+          ∙ ap (λ o. is_out j 0 (last_deadline j w.old p o) p) (was_dead w)
+
+      deadline_at : {p : List Entry} → Before p past → (w : Was j p m q) → request_deadline j p (last_request 0 (requests j p)) ≡ reply_deadline j p w.old (Some c)
+      deadline_at {p} x w =
+          ap (request_deadline j p) (last_before j x m q l w).1
+          ∙ ap (λ o. wait_deadline j p w.old (option_map (λ v. v.1) o)) (was_none w)
+          ∙ ap (reply_deadline j p w.old) (was_dead w)
+
+      plus_none : (d : ℕ) (p : List Entry) → ran_out j (d + 0) p ≡ ran_out j d p
+      plus_none d p = let z : d + 0 ≡ d = omega arith in ap (λ n. ran_out j n p) z
+
+      -- without an interrupt
+      plain_out : j.task.times.interrupt ≡ false → events.looked (events.is_turn_at c) told ≡ ran_out j c past
+      plain_out i =
+          found_same c
+          (λ y. let p = (ran_parts j c past y).1 in let w = was c (omega arith) (wait_was past) p in
+          called_request j c (before_wait past) (h (ran_waited c y))
+          (deadline_at (wait_was past) w ∙ cond-false w.old.interrupted _ (c ∷ []) (uninterrupted j i (before_wait past) m w.old w.stands)) p)
+          (λ y. let w = was c (omega arith) y.before (left_past c y) in
+          not_both (is_timed_out j (last_request 0 (requests j y.at)) y.at)
+          (row_at y.before w ∙ ap (λ v. is_out j 0 v y.at) (cond-false j.task.times.interrupt _ (Some c) i) ∙ plus_none c y.at ∙ y.held) (none_holds j y.at y.unstopped).3)
+
+      -- with one, which is queued
+      second_out : j.task.times.interrupt ≡ true → q.interrupted ≡ true → (ms : ℕ) → first_clock c past ≡ Some ms → events.looked (events.is_turn_at (ms + interrupt_ms)) told ≡ ran_out j (ms + interrupt_ms) past
+      second_out i flag ms first =
+          found_same d
+          (λ y. let p = (ran_parts j d past y).1 in let w = then_is (wait_was past) p in
+          called_request j d (before_wait past) (h (ran_waited d y))
+          (deadline_at (wait_was past) w.0 ∙ cond-true w.0.old.interrupted _ (c ∷ []) w.1 ∙ ap (λ o. option_to_list (option_map (λ n. n + interrupt_ms) o)) (first_then (wait_was past) p)) p)
+          (λ y. let w = then_is y.before (left_past d y) in
+          not_both (is_timed_out j (last_request 0 (requests j y.at)) y.at)
+          (row_at y.before w.0
+          ∙ ap (λ v. is_out j 0 v y.at) (cond-true j.task.times.interrupt _ (Some c) i ∙ cond-true w.0.old.interrupted _ None w.1 ∙ ap (option_map (λ n. n + interrupt_ms)) (first_then y.before (left_past d y)))
+          ∙ plus_none d y.at ∙ y.held) (none_holds j y.at y.unstopped).3)
+        where
+          d : ℕ
+          d = ms + interrupt_ms
+
+          least : c ≤ ms
+          least = first_least c past ms first
+
+          more : c ≤ d
+          more = let g = least in omega (arith, g)
+
+          first_then : {p : List Entry} → Before p past → ever (is_past d) p ≡ true → first_clock c p ≡ Some ms
+          first_then {p} x y = sym (first_before c x (first_ever c p ∙ ever_past c d more p y)) ∙ first
+
+          then_is : {p : List Entry} → Before p past → ever (is_past d) p ≡ true → (w : Was j p m q) × (w.old.interrupted ≡ true)
+          then_is {p} x y = flagged_before j c d x k.rising y (two (first_last c p ms (first_then x y))) m q e (less q.clock c d under more) dead flag
+            where
+              less : (x y z : ℕ) → x < y → y ≤ z → x < z
+              less x y z f g = omega (arith, f, g)
+
+              late : (t n : ℕ) → n + 10000 ≤ t → t ≡ n → ⊥
+              late t n f g = absurd (omega (arith, f, g))
+
+              two : (is_some (first_clock c (before_clock p)) ≡ true) ⊎ (time p ≡ ms) → is_some (first_clock c (before_clock p)) ≡ true
+              two (inl g) = g
+              two (inr g) = absurd (late (time p) ms (clock_from d p (rules_at jobs j x k h).0.rising y) g)
+
+      second_is : second_deadline c told ≡ option_map (λ n. n + interrupt_ms) (first_clock c past)
+      second_is =
+          as_map (events.since (events.is_turn_at c) told)
+          ∙ ap (option_map (λ n. n + interrupt_ms)) (first_is c told ∙ ap (λ (v : Seen). v.first) (sym (told_whole c j past none)) ∙ (dates c jobs j past k h).first)
+        where
+          as_map : (o : Option (List Event)) → entry_and_more told o ≡ option_map (λ n. n + interrupt_ms) (option_map (clock_in told) o)
+          as_map None = refl
+          as_map (Some v) = refl
+
+      -- the interrupt is queued for both
+      pub interrupt_same : j.task.times.interrupt ≡ true → queued j.task m c told ≡ q.interrupted
+      interrupt_same i =
+          queued_is c j.task m told open_ bc lc
+          ∙ ap (λ (v : Seen). v.queued) (sym (told_whole c j past none))
+          ∙ both (whole c j past).queued q.interrupted
+          (queued_interrupted c jobs j dec i past k h u b lost m q e r dead under)
+          (interrupted_queued c jobs j past k h m q e l r dead under)
+        where
+          open_ : is_unanswered (core.after j.task m told) ≡ true
+          open_ = ap is_unanswered s ∙ ap (λ (o : Option Bool). is_none o) (a.reply ∙ ap (option_map (λ v. j.fatal m v.0.content)) r)
+
+      pub out_same : core_saves.is_out_of_time j.task m (Some c) told ≡ is_out j 0 (last_deadline j q past (Some c)) past
+      out_same = by j.task.times.interrupt refl
+        where
+          second : j.task.times.interrupt ≡ true → (v : Bool) → q.interrupted ≡ v → (o : Option ℕ) → first_clock c past ≡ o
+              → (v && looked_by (option_map (λ n. n + interrupt_ms) o) told) ≡ is_out j 0 (if v then option_map (λ n. n + interrupt_ms) o else None) past
+          second i true g None f = refl
+          second i true g (Some ms) f = second_out i g ms f ∙ sym (plus_none (ms + interrupt_ms) past)
+          second i false g o f = refl
+
+          by : (i : Bool) → j.task.times.interrupt ≡ i
+              → (if i then queued j.task m c told && looked_by (second_deadline c told) told else events.looked (events.is_turn_at c) told)
+              ≡ is_out j 0 (if i then (if q.interrupted then option_map (λ ms. ms + interrupt_ms) (first_clock c past) else None) else Some c) past
+          by true g =
+              ap (λ v. v && looked_by (second_deadline c told) told) (interrupt_same g)
+              ∙ ap (λ v. q.interrupted && looked_by v told) second_is
+              ∙ second g q.interrupted refl (first_clock c past) refl
+          by false g = plain_out g ∙ sym (plus_none c past)

@@ -1,0 +1,25 @@
+//! What follows from the rules of the loop for a job of the run.
+ghost use Rattle.std.specs.Prelude.{◌≡◌, true, List};
+ghost use Rattle.world.specs.declared.entry.Entry.{Entry};
+ghost use Rattle.world.specs.Waits.{before_wait, has_wait};
+ghost use Rattle.run_journal.specs.Job.{Job};
+ghost use Rattle.run_journal.specs.Parts.{is_running};
+ghost use Rattle.run_journal.specs.Due.{all_along};
+ghost use Rattle.run_journal.specs.Awake.{Awake};
+ghost use Rattle.run_journal.specs.Agreement.{BeginsUnread, EndsLooks, IsAmong, KeepsRules};
+ghost use Rattle.run_journal.specs.Agreement.{TellsRightly, waits_on};
+
+/// Where the loop keeps its rules and waits only after done waits, each look at a job that was
+/// running at the last wait is over before the next wait.
+pub fn looks_end()
+    ensures { (jobs : List Job) (j : Job) (past : List Entry) → KeepsRules jobs j past →
+        (has_wait past ≡ true → is_running j (before_wait past) ≡ true) →
+        all_along waits_on past ≡ true → EndsLooks j past }
+{}
+
+/// Where the loop keeps its rules, and what the world reports of a connection is as it must be, no
+/// connection is begun again after it was read.
+pub fn none_is_read_again()
+    ensures { (jobs : List Job) (j : Job) (past : List Entry) → IsAmong j jobs →
+        Awake jobs past → TellsRightly j past → BeginsUnread j past }
+{}
