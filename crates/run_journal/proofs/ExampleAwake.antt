@@ -31,13 +31,13 @@ abbrev connect : Chan → ℕ → Entry
 connect c port = made.Connected (record { job = 0; chan = c }) port connected.Begun
 
 -- up to the first wait
-abbrev begins : List Entry
+abbrev pub begins : List Entry
 begins =
     saved one ++ (made.Moment 10 ∷ made.Ports 0 (Some (1 ∷ 2 ∷ 3 ∷ 4 ∷ 5 ∷ [])) ∷ made.Started 0 (codes "k" ∷ []) [] (codes ".") done
     ∷ connect Shell 1 ∷ connect Control 4 ∷ connect Iopub 2 ∷ put one Shell (100 ∷ []) ∷ put one Control (100 ∷ []) ∷ put one Iopub (100 ∷ []) ∷ [])
 
 -- up to the request to execute
-abbrev asks : List Entry
+abbrev pub asks : List Entry
 asks =
     begins ++ (wait 500 (true ∷ true ∷ true ∷ []) ∷ made.Moment 20 ∷ made.Looked 0 None
     ∷ got one Shell (9 ∷ []) ∷ dry one Shell ∷ got one Control (9 ∷ []) ∷ dry one Control ∷ got one Iopub (9 ∷ []) ∷ dry one Iopub ∷ put one Iopub (101 ∷ [])

@@ -46,3 +46,4 @@ pub mod Deciding
 pub mod Beginning
 pub mod Rereading
 pub mod Finishing
+pub mod ExampleDeadlines

@@ -432,12 +432,12 @@ module _ (d : ℕ) (jobs : List Job) (j : Job) (entry : Entry) (past : List Entr
   dates_turn : (s : Seen) (ms : ℕ) → moment_of entry ≡ Some ms → has_wait past ≡ true → Dates d j past s → Dates d j (entry ∷ past) (dated d ms s)
   dates_turn s ms e w i = record {
     start = ap (λ o. or_later o (Some ms)) i.start ∙ first_kept (drawn_clock j past) (Some ms) (drawn_then w)
-    ∙ sym (first_kept (drawn_clock j past) (if draws j entry then Some (time past) else None) (drawn_then w));
+        ∙ sym (first_kept (drawn_clock j past) (if draws j entry then Some (time past) else None) (drawn_then w));
     first = ap (λ b. or_later s.first (if b && nat_le d ms then Some ms else None)) is_read ∙ ap (λ o. or_later o (if nat_le d ms then Some ms else None)) i.first ∙ sym first_now;
     passed = λ f. later_some s.first _ (i.passed f);
     fresh = λ f. by_fresh s.first (is_some s.start) (nat_le d ms) is_read f i.first;
     news = λ f g. by_news s.first (is_some s.start) (nat_le d ms) is_read (ap (λ (o : Option ℕ). is_some o) i.first ∙ ap (λ v. is_some (first_clock d v)) (sym before_now) ∙ g)
-    (ap (λ o. is_some (or_later o (if nat_le d ms then Some ms else None))) i.first ∙ ap (λ (o : Option ℕ). is_some o) (sym first_now) ∙ f);
+        (ap (λ o. is_some (or_later o (if nat_le d ms then Some ms else None))) i.first ∙ ap (λ (o : Option ℕ). is_some o) (sym first_now) ∙ f);
   }
     where
       turned : turn_clock (entry ∷ past) ≡ Some ms

@@ -1,0 +1,234 @@
+-- Runs that keep the loop's rules and end by a deadline.
+use Rattle.std.proofs.Common.{◌≡◌, inl, ℕ, ◌<◌, List, [], ◌∷◌, ◌++◌, Bool, true, false, Some, None, refl, reverse}
+use Rattle.world.specs.declared.chan.Chan.TheVariants.{Shell, Control, Iopub}
+use Rattle.world.specs.declared.entry.Entry.{Entry}
+use Rattle.world.specs.declared.entry.Entry.TheVariants as made
+use Rattle.world.specs.Waits.{before_wait}
+use Rattle.cell_core.specs.declared.times.Times.{Times}
+use Rattle.cell_core.specs.declared.why.Why.TheVariants as cause
+use Rattle.cell_core.specs.declared.act.Act.TheVariants as act
+use Rattle.cell_core.specs.declared.event.Event.TheVariants as event
+use Rattle.cell_core.specs.Acts.{act_of}
+use Rattle.cell_core.specs.Deadlines.{queued}
+use Rattle.cell_core.specs.Events.{started}
+use Rattle.cell_core.specs.Saves as core_saves
+use Rattle.run_journal.specs.Job.{Job}
+use Rattle.run_journal.specs.Parts.{is_running}
+use Rattle.run_journal.specs.Arrivals.{arrive, is_shaken, can_ask, ask_on}
+use Rattle.run_journal.specs.Looks.{looked, can_ping, ping_on, is_silent, is_lost, ran_out}
+use Rattle.run_journal.specs.Requests.{is_broken, is_interrupted}
+use Rattle.run_journal.specs.Why.{bad_stream, child_clock, why}
+use Rattle.run_journal.specs.Due.{all_along}
+use Rattle.run_journal.specs.Course.{course}
+use Rattle.run_journal.specs.Order.{begins_unread}
+use Rattle.run_journal.specs.Agreement.{EndsLooks, Flows, KeepsTime, KeepsRules, tells_rightly, waits_on}
+use Rattle.run_journal.proofs.Toy.{got, put, dry, wait}
+use Rattle.run_journal.proofs.ExampleAwake.{one, begins, asks}
+
+-- one cell, with these limits
+abbrev limited : Times → Job
+limited times = record one { task = record one.task { times = times } }
+
+-- a turn in which nothing comes
+abbrev turn : ℕ → ℕ → List Entry
+turn limit ms = wait limit [] ∷ made.Moment ms ∷ made.Looked 0 None ∷ []
+
+-- ---- no readiness
+
+-- 100 ms to become ready, and the kernel says nothing
+abbrev hasty : Job
+hasty = limited (record { start_ms = 100; limit_ms = None; interrupt = false })
+
+abbrev unready : List Entry
+unready = reverse (begins ++ turn 100 110 ++ wait 0 [] ∷ [])
+
+-- ---- no idle
+
+abbrev patient : Job
+patient = limited (record { start_ms = 60000; limit_ms = None; interrupt = false })
+
+abbrev unidle : List Entry
+unidle =
+    reverse (asks ++ (wait 500 (true ∷ []) ∷ made.Moment 50 ∷ made.Looked 0 None ∷ got one Shell (3 ∷ 2 ∷ []) ∷ dry one Shell ∷ []) ++ turn 500 4050 ++ wait 0 [] ∷ [])
+
+-- ---- no reply
+
+-- a second for each cell
+abbrev timed : Job
+timed = limited (record { start_ms = 60000; limit_ms = Some 1000; interrupt = false })
+
+abbrev late : List Entry
+late = reverse (asks ++ turn 500 1040 ++ wait 0 [] ∷ [])
+
+-- then an interrupt
+abbrev interrupting : Job
+interrupting = limited (record { start_ms = 60000; limit_ms = Some 1000; interrupt = true })
+
+abbrev later : List Entry
+later = reverse (asks ++ turn 500 1040 ++ (wait 0 [] ∷ put one Control (203 ∷ 3 ∷ 1040 ∷ []) ∷ []) ++ turn 500 11040 ++ wait 0 [] ∷ [])
+
+-- hasty: all premises of the laws hold
+unready_rules : KeepsRules (hasty ∷ []) hasty unready
+unfolding arrive is_shaken can_ask ask_on looked can_ping ping_on is_silent is_lost ran_out is_broken is_interrupted bad_stream
+unready_rules = record { among = inl refl; awake = record { only_awake = refl; waits_last_of_all = refl; short_for_a_cause = refl; reads_each = refl; reads_no_more = refl; up_to_date = refl; clock = refl; looks = refl; again = refl; only_refused = refl; early = refl; room = refl }; rising = refl; start = refl; heard = refl }
+
+unready_runs : is_running hasty (before_wait unready) ≡ true
+unfolding arrive is_shaken can_ask ask_on looked can_ping ping_on is_silent is_lost ran_out is_broken is_interrupted bad_stream
+unready_runs = refl
+
+unready_flows : Flows hasty unready
+unfolding arrive is_shaken can_ask ask_on looked can_ping ping_on is_silent is_lost ran_out is_broken is_interrupted bad_stream
+unready_flows = refl
+
+unready_keeps_time : KeepsTime hasty unready
+unfolding arrive is_shaken can_ask ask_on looked can_ping ping_on is_silent is_lost ran_out is_broken is_interrupted bad_stream
+unready_keeps_time = refl
+
+unready_waits : all_along waits_on unready ≡ true
+unfolding arrive is_shaken can_ask ask_on looked can_ping ping_on is_silent is_lost ran_out is_broken is_interrupted bad_stream
+unready_waits = refl
+
+unready_tells : ◌≡◌ {A = List Bool} (all_along (tells_rightly hasty Shell) unready ∷ all_along (tells_rightly hasty Control) unready ∷ all_along (tells_rightly hasty Iopub) unready ∷ []) (true ∷ true ∷ true ∷ [])
+unfolding arrive is_shaken can_ask ask_on looked can_ping ping_on is_silent is_lost ran_out is_broken is_interrupted bad_stream
+unready_tells = refl
+
+unready_told : (course hasty unready).held ≡ []
+unfolding arrive is_shaken can_ask ask_on looked can_ping ping_on is_silent is_lost ran_out is_broken is_interrupted bad_stream
+unready_told = refl
+
+unready_why : why hasty unready ≡ Some cause.NotReady
+unfolding arrive is_shaken can_ask ask_on looked can_ping ping_on is_silent is_lost ran_out is_broken is_interrupted bad_stream
+unready_why = refl
+
+unready_core : core_saves.why hasty.task (course hasty unready).told ≡ Some cause.NotReady
+unfolding arrive is_shaken can_ask ask_on looked can_ping ping_on is_silent is_lost ran_out is_broken is_interrupted bad_stream
+unready_core = refl
+
+-- patient: all premises of the laws hold
+unidle_rules : KeepsRules (patient ∷ []) patient unidle
+unfolding arrive is_shaken can_ask ask_on looked can_ping ping_on is_silent is_lost ran_out is_broken is_interrupted bad_stream
+unidle_rules = record { among = inl refl; awake = record { only_awake = refl; waits_last_of_all = refl; short_for_a_cause = refl; reads_each = refl; reads_no_more = refl; up_to_date = refl; clock = refl; looks = refl; again = refl; only_refused = refl; early = refl; room = refl }; rising = refl; start = refl; heard = refl }
+
+unidle_runs : is_running patient (before_wait unidle) ≡ true
+unfolding arrive is_shaken can_ask ask_on looked can_ping ping_on is_silent is_lost ran_out is_broken is_interrupted bad_stream
+unidle_runs = refl
+
+unidle_flows : Flows patient unidle
+unfolding arrive is_shaken can_ask ask_on looked can_ping ping_on is_silent is_lost ran_out is_broken is_interrupted bad_stream
+unidle_flows = refl
+
+unidle_keeps_time : KeepsTime patient unidle
+unfolding arrive is_shaken can_ask ask_on looked can_ping ping_on is_silent is_lost ran_out is_broken is_interrupted bad_stream
+unidle_keeps_time = refl
+
+unidle_waits : all_along waits_on unidle ≡ true
+unfolding arrive is_shaken can_ask ask_on looked can_ping ping_on is_silent is_lost ran_out is_broken is_interrupted bad_stream
+unidle_waits = refl
+
+unidle_tells : ◌≡◌ {A = List Bool} (all_along (tells_rightly patient Shell) unidle ∷ all_along (tells_rightly patient Control) unidle ∷ all_along (tells_rightly patient Iopub) unidle ∷ []) (true ∷ true ∷ true ∷ [])
+unfolding arrive is_shaken can_ask ask_on looked can_ping ping_on is_silent is_lost ran_out is_broken is_interrupted bad_stream
+unidle_tells = refl
+
+unidle_told : (course patient unidle).held ≡ []
+unfolding arrive is_shaken can_ask ask_on looked can_ping ping_on is_silent is_lost ran_out is_broken is_interrupted bad_stream
+unidle_told = refl
+
+unidle_why : why patient unidle ≡ Some cause.NoIdle
+unfolding arrive is_shaken can_ask ask_on looked can_ping ping_on is_silent is_lost ran_out is_broken is_interrupted bad_stream
+unidle_why = refl
+
+unidle_core : core_saves.why patient.task (course patient unidle).told ≡ Some cause.NoIdle
+unfolding arrive is_shaken can_ask ask_on looked can_ping ping_on is_silent is_lost ran_out is_broken is_interrupted bad_stream
+unidle_core = refl
+
+-- timed: all premises of the laws hold
+late_rules : KeepsRules (timed ∷ []) timed late
+unfolding arrive is_shaken can_ask ask_on looked can_ping ping_on is_silent is_lost ran_out is_broken is_interrupted bad_stream
+late_rules = record { among = inl refl; awake = record { only_awake = refl; waits_last_of_all = refl; short_for_a_cause = refl; reads_each = refl; reads_no_more = refl; up_to_date = refl; clock = refl; looks = refl; again = refl; only_refused = refl; early = refl; room = refl }; rising = refl; start = refl; heard = refl }
+
+late_runs : is_running timed (before_wait late) ≡ true
+unfolding arrive is_shaken can_ask ask_on looked can_ping ping_on is_silent is_lost ran_out is_broken is_interrupted bad_stream
+late_runs = refl
+
+late_flows : Flows timed late
+unfolding arrive is_shaken can_ask ask_on looked can_ping ping_on is_silent is_lost ran_out is_broken is_interrupted bad_stream
+late_flows = refl
+
+late_keeps_time : KeepsTime timed late
+unfolding arrive is_shaken can_ask ask_on looked can_ping ping_on is_silent is_lost ran_out is_broken is_interrupted bad_stream
+late_keeps_time = refl
+
+late_waits : all_along waits_on late ≡ true
+unfolding arrive is_shaken can_ask ask_on looked can_ping ping_on is_silent is_lost ran_out is_broken is_interrupted bad_stream
+late_waits = refl
+
+late_tells : ◌≡◌ {A = List Bool} (all_along (tells_rightly timed Shell) late ∷ all_along (tells_rightly timed Control) late ∷ all_along (tells_rightly timed Iopub) late ∷ []) (true ∷ true ∷ true ∷ [])
+unfolding arrive is_shaken can_ask ask_on looked can_ping ping_on is_silent is_lost ran_out is_broken is_interrupted bad_stream
+late_tells = refl
+
+late_told : (course timed late).held ≡ []
+unfolding arrive is_shaken can_ask ask_on looked can_ping ping_on is_silent is_lost ran_out is_broken is_interrupted bad_stream
+late_told = refl
+
+late_why : why timed late ≡ Some cause.TimedOut
+unfolding arrive is_shaken can_ask ask_on looked can_ping ping_on is_silent is_lost ran_out is_broken is_interrupted bad_stream
+late_why = refl
+
+late_core : core_saves.why timed.task (course timed late).told ≡ Some cause.TimedOut
+unfolding arrive is_shaken can_ask ask_on looked can_ping ping_on is_silent is_lost ran_out is_broken is_interrupted bad_stream
+late_core = refl
+
+-- interrupting: all premises of the laws hold
+later_rules : KeepsRules (interrupting ∷ []) interrupting later
+unfolding arrive is_shaken can_ask ask_on looked can_ping ping_on is_silent is_lost ran_out is_broken is_interrupted bad_stream
+later_rules = record { among = inl refl; awake = record { only_awake = refl; waits_last_of_all = refl; short_for_a_cause = refl; reads_each = refl; reads_no_more = refl; up_to_date = refl; clock = refl; looks = refl; again = refl; only_refused = refl; early = refl; room = refl }; rising = refl; start = refl; heard = refl }
+
+later_runs : is_running interrupting (before_wait later) ≡ true
+unfolding arrive is_shaken can_ask ask_on looked can_ping ping_on is_silent is_lost ran_out is_broken is_interrupted bad_stream
+later_runs = refl
+
+later_flows : Flows interrupting later
+unfolding arrive is_shaken can_ask ask_on looked can_ping ping_on is_silent is_lost ran_out is_broken is_interrupted bad_stream
+later_flows = refl
+
+later_keeps_time : KeepsTime interrupting later
+unfolding arrive is_shaken can_ask ask_on looked can_ping ping_on is_silent is_lost ran_out is_broken is_interrupted bad_stream
+later_keeps_time = refl
+
+later_waits : all_along waits_on later ≡ true
+unfolding arrive is_shaken can_ask ask_on looked can_ping ping_on is_silent is_lost ran_out is_broken is_interrupted bad_stream
+later_waits = refl
+
+later_tells : ◌≡◌ {A = List Bool} (all_along (tells_rightly interrupting Shell) later ∷ all_along (tells_rightly interrupting Control) later ∷ all_along (tells_rightly interrupting Iopub) later ∷ []) (true ∷ true ∷ true ∷ [])
+unfolding arrive is_shaken can_ask ask_on looked can_ping ping_on is_silent is_lost ran_out is_broken is_interrupted bad_stream
+later_tells = refl
+
+later_told : (course interrupting later).held ≡ []
+unfolding arrive is_shaken can_ask ask_on looked can_ping ping_on is_silent is_lost ran_out is_broken is_interrupted bad_stream
+later_told = refl
+
+later_why : why interrupting later ≡ Some cause.TimedOut
+unfolding arrive is_shaken can_ask ask_on looked can_ping ping_on is_silent is_lost ran_out is_broken is_interrupted bad_stream
+later_why = refl
+
+later_core : core_saves.why interrupting.task (course interrupting later).told ≡ Some cause.TimedOut
+unfolding arrive is_shaken can_ask ask_on looked can_ping ping_on is_silent is_lost ran_out is_broken is_interrupted bad_stream
+later_core = refl
+
+-- ---- the start and the interrupt
+
+starts : act_of hasty.task event.Saved [] ≡ act.Start
+unfolding arrive is_shaken can_ask ask_on looked can_ping ping_on is_silent is_lost ran_out is_broken is_interrupted bad_stream
+starts = refl
+
+child_started : child_clock hasty unready ≡ Some 10
+unfolding arrive is_shaken can_ask ask_on looked can_ping ping_on is_silent is_lost ran_out is_broken is_interrupted bad_stream
+child_started = refl
+
+core_started : started (course hasty unready).told ≡ Some 10
+unfolding arrive is_shaken can_ask ask_on looked can_ping ping_on is_silent is_lost ran_out is_broken is_interrupted bad_stream
+core_started = refl
+
+queued_then : queued interrupting.task 0 1040 (course interrupting later).told ≡ true
+unfolding arrive is_shaken can_ask ask_on looked can_ping ping_on is_silent is_lost ran_out is_broken is_interrupted bad_stream
+queued_then = refl
