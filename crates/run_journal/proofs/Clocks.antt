@@ -3,7 +3,7 @@ use Rattle.std.proofs.Common.{◌≡◌, ◌⊎◌, inl, inr, ℕ, ◌+◌, ◌<
 use Rattle.std.specs.Prelude.{is_some, option_map, slice_get, IsSomeAnd, ◌==◌}
 use Rattle.std.proofs.Math.Bool.{or-false}
 use Rattle.std.proofs.lemmas.List.{length-map}
-use Rattle.std.proofs.lemmas.Bool.{and_parts, or_left, or_right, cond-true, cond-false, cases_Bool, eqb-true}
+use Rattle.std.proofs.lemmas.Bool.{and_parts, and_from, lt-ltb, or_left, or_right, cond-true, cond-false, cases_Bool, eqb-true}
 use Rattle.world.specs.declared.entry.Entry.{Entry}
 use Rattle.world.specs.Places.{time}
 use Rattle.cell_core.specs.declared.event.Event.{Event}
@@ -19,7 +19,7 @@ use Rattle.run_journal.specs.Arrivals.{asked, is_ready}
 use Rattle.run_journal.specs.Requests.{Request, first, reply, goes_on, is_next, fresh, count_queued, with_interrupt, requests, last_request}
 use Rattle.run_journal.specs.Due.{all_along}
 use Rattle.run_journal.specs.Course.{came_for, when_so, events_at, Course, late_then, told_saved, course}
-use Rattle.run_journal.specs.Agreement.{AgreesOn, Agrees, told_on, Flows, ClocksOn, Clocks, brings, keeps_time, KeepsTime}
+use Rattle.run_journal.specs.Agreement.{AgreesOn, Agrees, told_on, Flows, ClocksOn, Clocks, brings, stands_anew, keeps_time, KeepsTime}
 use Rattle.run_journal.proofs.Growth.{ready_stays, goes, reply_stays}
 use Rattle.run_journal.proofs.Safety.{few_requests}
 use Rattle.run_journal.proofs.Isolation.{no_next}
@@ -47,7 +47,7 @@ some_and : (P : List Event → Type 0) {o : Option (List Event)} (later : List E
 some_and P later e p = subst (λ v. IsSomeAnd v P) (sym e) p
 
 module _ (j : Job) (entry : Entry) (past : List Entry) (told held late : List Event) (oh : AreOther held) (ol : AreOther late)
-    (on_ack : is_acknowledging j (entry ∷ past) ≡ true → events.time told ≡ time past) (on_news : brings j entry past ≡ true → events.time (told_on held told) ≡ time past) where
+    (on_ack : is_acknowledging j (entry ∷ past) ≡ true → stands_anew j entry past ≡ true → events.time told ≡ time past) (on_news : brings j entry past ≡ true → events.time (told_on held told) ≡ time past) where
   abbrev came : List Event
   came = came_for j (last_request 0 (requests j past)) entry past
 
@@ -57,6 +57,19 @@ module _ (j : Job) (entry : Entry) (past : List Entry) (told held late : List Ev
   -- whether the next request comes to stand
   abbrev next : Bool
   next = is_next j (is_acknowledging j (entry ∷ past)) (is_ready j (entry ∷ past)) (acked j (entry ∷ past)) (map (goes_on j entry past) (requests j past))
+
+  -- then it is one more
+  next_anew : next ≡ true → stands_anew j entry past ≡ true
+  next_anew n =
+      lt-ltb (length (requests j past)) (length (requests j (entry ∷ past)))
+      (let a : length (requests j (entry ∷ past)) ≡ length (map (goes_on j entry past) (requests j past)) + 1
+      = ap (λ (rs : List Request). length rs) (cond-true next _ (map (goes_on j entry past) (requests j past)) n) ∙ pushed (map (goes_on j entry past) (requests j past)) _ in
+      let l : length (map (goes_on j entry past) (requests j past)) ≡ length (requests j past) = length-map (requests j past) (goes_on j entry past) in
+      omega (arith, a, l))
+    where
+      pushed : (rs : List Request) (r : Request) → length (rs ++ r ∷ []) ≡ length rs + 1
+      pushed [] r = refl
+      pushed (x ∷ rs) r = let h = pushed rs r in omega (arith, h)
 
   none_ready : (b : Bool) → events.came is_reply (when_so b event.Ready) ≡ false
   none_ready true = refl
@@ -228,7 +241,7 @@ module _ (j : Job) (entry : Entry) (past : List Entry) (told held late : List Ev
           by : (is_acknowledging j (entry ∷ past) ≡ true) ⊎ (is_acknowledging j (entry ∷ past) ≡ false) → Clocks j told_now (entry ∷ past)
           by (inl acks) =
               each_clock (event.Saved ∷ xs) (ap (told_on xs) (cond-true (is_acknowledging j (entry ∷ past)) (event.Saved ∷ told) told acks)) reply_clock
-              (λ n. ((λ m. ack_unmarked acks), few_none xs (ack_unmarked acks))) (λ n h. on_ack acks)
+              (λ n. ((λ m. ack_unmarked acks), few_none xs (ack_unmarked acks))) (λ n h. on_ack acks (next_anew n))
           by (inr acks) =
               each_clock xs (ap (told_on xs) (cond-false (is_acknowledging j (entry ∷ past)) (event.Saved ∷ told) told acks)) reply_clock (ready_few acks) (ready_clock acks)
 
@@ -248,7 +261,7 @@ clocks_agree j (entry ∷ past) e t =
     times : (keeps_time j (entry ∷ past) ≡ true) × KeepsTime j past
     times = and_parts (keeps_time j (entry ∷ past)) (all_along (keeps_time j) past) t
 
-    parts : ((not (is_acknowledging j (entry ∷ past)) || events.time (course j past).told == time past) ≡ true)
+    parts : ((not (is_acknowledging j (entry ∷ past) && stands_anew j entry past) || events.time (course j past).told == time past) ≡ true)
         × ((not (brings j entry past) || events.time (told_on (course j past).held (course j past).told) == time past) ≡ true)
     parts = and_parts _ _ times.0
 
@@ -261,6 +274,6 @@ clocks_agree j (entry ∷ past) e t =
     by i (front xs f g) =
         subst (λ v. Clocks j v (entry ∷ past)) (sym g)
         (clocks_now j entry past c.told c.held c.late (held_other j past (told_parts j entry past e).2) (late_other j past)
-        (implied (is_acknowledging j (entry ∷ past)) (events.time c.told) (time past) parts.0) (implied (brings j entry past) (events.time (told_on c.held c.told)) (time past) parts.1)
+        (λ a n. implied (is_acknowledging j (entry ∷ past) && stands_anew j entry past) (events.time c.told) (time past) parts.0 (and_from (is_acknowledging j (entry ∷ past)) (stands_anew j entry past) a n)) (implied (brings j entry past) (events.time (told_on c.held c.told)) (time past) parts.1)
         xs (now.held ++ now.unheard) (f ∙ ap (λ v. c.held ++ v) (events_are j entry past c.late))
         (course_agrees j past (told_parts j entry past e).2) i (subst (λ v. Agrees j v (entry ∷ past)) g (course_agrees j (entry ∷ past) e)))

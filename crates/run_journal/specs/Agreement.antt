@@ -109,12 +109,16 @@ Clocks j told past = (k : ℕ) (r : Request) → slice_get (requests j past) k �
 abbrev pub brings : Job → Entry → List Entry → Bool
 brings j entry past = not (is_empty_list (came_for j (last_request 0 (requests j past)) entry past)) || (is_ready j (entry ∷ past) && not (is_ready j past))
 
--- where the newest entry acknowledges a save, the clock that was told last is the journal's; where it brings something for the
--- requests, so is that which is told once nothing waits
+-- a request comes to stand with an entry
+abbrev pub stands_anew : Job → Entry → List Entry → Bool
+stands_anew j entry past = nat_lt (length (requests j past)) (length (requests j (entry ∷ past)))
+
+-- where a request comes to stand with an acknowledged save, the clock that was told last is the journal's; where the newest
+-- entry brings something for the requests, so is that which is told once nothing waits
 abbrev pub keeps_time : Job → List Entry → Bool
 keeps_time j [] = true
 keeps_time j (entry ∷ past) =
-    (not (is_acknowledging j (entry ∷ past)) || events.time (course j past).told == time past)
+    (not (is_acknowledging j (entry ∷ past) && stands_anew j entry past) || events.time (course j past).told == time past)
     && (not (brings j entry past) || events.time (told_on (course j past).held (course j past).told) == time past)
 
 -- so at every moment
