@@ -4,7 +4,7 @@ use Rattle.std.specs.Prelude.{is_some, option_map, slice_get, IsSomeAnd, ◌==�
 use Rattle.std.specs.List.{list_any}
 use Rattle.std.proofs.lemmas.List.{append-nil, length-map}
 use Rattle.std.proofs.Math.Bool.{or-false}
-use Rattle.std.proofs.lemmas.Bool.{and_parts, and_left, and_right, cond-true, cond-false, cases_Bool, cases_lt, eqb-true, eq-eqb, ltb-true, lt-ltb}
+use Rattle.std.proofs.lemmas.Bool.{and_parts, and_left, and_right, cond-true, cond-false, cases_Bool, cases_lt, eqb-true, eq-eqb, ltb-true, lt-ltb, false_from_ne_true}
 use Rattle.world.specs.declared.chan.Chan.{Chan}
 use Rattle.world.specs.declared.chan.Chan.TheVariants.{Shell, Iopub}
 use Rattle.world.specs.declared.entry.Entry.{Entry}
@@ -22,6 +22,7 @@ use Rattle.run_journal.specs.Requests.{Request, has_idle, first, reply, is_passe
 use Rattle.run_journal.specs.Agreement.{AgreesOn, Agrees, IsOther, moment, looked, lost, broken}
 use Rattle.run_journal.proofs.AlikeLooks.{arrive_nothing}
 use Rattle.run_journal.proofs.Isolation.{no_next}
+use Rattle.run_journal.proofs.Truths.{not_both}
 
 -- ---- the core's tests
 
@@ -261,16 +262,8 @@ next_first j acks ready saves (r ∷ rs) l = cc
 same_number : (m n : ℕ) → (m == n + 1) ≡ (m + 1 == suc n + 1)
 same_number m n = elim (cases_Bool (m == n + 1)) [
   | inl e ↦ let h : m ≡ n + 1 = eqb-true m (n + 1) e in e ∙ sym (eq-eqb (m + 1) (suc n + 1) (omega (arith, h)))
-  | inr e ↦ e ∙ sym (not_true (m + 1 == suc n + 1) (λ f. both_ways (m == n + 1) (eq-eqb m (n + 1) (let h : m + 1 ≡ suc n + 1 = eqb-true (m + 1) (suc n + 1) f in omega (arith, h))) e))
+  | inr e ↦ e ∙ sym (false_from_ne_true (m + 1 == suc n + 1) (λ f. not_both (m == n + 1) (eq-eqb m (n + 1) (let h : m + 1 ≡ suc n + 1 = eqb-true (m + 1) (suc n + 1) f in omega (arith, h))) e))
 ]
-  where
-    not_true : (b : Bool) → (b ≡ true → ⊥) → b ≡ false
-    not_true true h = absurd (h refl)
-    not_true false h = refl
-
-    both_ways : (b : Bool) → b ≡ true → b ≡ false → ⊥
-    both_ways true e f = cc
-    both_ways false e f = cc
 
 -- a request that stands agrees with what the core knows of it
 pub known : (j : Job) (k : ℕ) (r : Request) (o : Option (List Event)) → IsSomeAnd o (λ later. AgreesOn j k later r) → core.is_passed_in o ≡ is_passed j k r

@@ -2,7 +2,7 @@
 use Rattle.std.proofs.Common.{◌≡◌, inl, inr, ℕ, zero, suc, ◌+◌, ◌*◌, ◌/◌, ◌<◌, List, [], ◌∷◌, Bool, true, false, ◌&&◌, ◌||◌, Some, None, refl, sym, ◌∙◌, ap, subst, arith, add-zero}
 use Rattle.std.specs.Prelude.{slice_get, unwrap_or, ◌==◌}
 use Rattle.std.specs.Str.{bytes_eq}
-use Rattle.std.proofs.lemmas.Bool.{and_right, or_left, or_right, cond-true, cond-false, cases_Bool, eq-eqb, eqb-true}
+use Rattle.std.proofs.lemmas.Bool.{and_right, or_left, or_right, cond-true, cond-false, cases_Bool, eq-eqb, eqb-true, false_from_ne_true}
 use Rattle.world.specs.declared.chan.Chan.{Chan}
 use Rattle.world.specs.declared.chan.Chan.TheVariants.{Shell, Control, Iopub, Heart}
 use Rattle.world.specs.declared.conn.Conn.{Conn}
@@ -20,6 +20,7 @@ use Rattle.run_journal.specs.Parts.{place, begins, is_acknowledging}
 use Rattle.run_journal.specs.OfJob.{is_own_path, renames_onto, is_onto, is_of, own_places, own_reports, of_job}
 use Rattle.run_journal.specs.Looks.{is_short_wait, ends_reading, ends}
 use Rattle.run_journal.specs.Why.{starts}
+use Rattle.run_journal.proofs.Truths.{not_both}
 
 -- an entry that changes nothing of the job, but may acknowledge a save
 pub record Quiet (j : Job) (entry : Entry) : Type 0 where
@@ -105,19 +106,11 @@ chan_small Heart = omega arith
 one_job : (a b x y : ℕ) → x < 4 → y < 4 → 4 * a + x ≡ 4 * b + y → b ≡ a
 one_job a b x y k l e = omega (arith, k, l, e)
 
-not_true : (b : Bool) → (b ≡ true → ⊥) → b ≡ false
-not_true true h = absurd (h refl)
-not_true false h = refl
-
-both_ways : (b : Bool) → b ≡ true → b ≡ false → ⊥
-both_ways true e f = cc
-both_ways false e f = cc
-
 -- a connection of another job is none of the job's
 pub away : (j : Job) (c : Chan) (conn : Conn) → (conn.job == j.number) ≡ false → is_at (place j c) conn ≡ false
 away j c conn e =
-    not_true (is_at (place j c) conn) (λ same.
-    both_ways (conn.job == j.number)
+    false_from_ne_true (is_at (place j c) conn) (λ same.
+    not_both (conn.job == j.number)
     (eq-eqb conn.job j.number (one_job j.number conn.job (chan_number c) (chan_number conn.chan) (chan_small c) (chan_small conn.chan) (eqb-true (place j c) _ same))) e)
 
 ends_away : (j : Job) (job : ℕ) (status : _) → (job == j.number) ≡ false → ends j (made.Looked job status) ≡ false

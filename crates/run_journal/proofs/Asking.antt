@@ -2,7 +2,7 @@
 use Rattle.std.proofs.Common.{◌≡◌, inl, inr, ℕ, zero, suc, ◌+◌, ◌<◌, ◌≤◌, List, [], ◌∷◌, ◌++◌, length, map, Bool, true, false, ◌&&◌, ◌||◌, not, cond, Option, Some, None, refl, sym, ◌∙◌, ap, subst, arith, append_assoc}
 use Rattle.std.specs.Prelude.{is_some, option_map, slice_get, slice_index, IsSomeAnd, ◌==◌, nat_lt, if◌then◌else◌}
 use Rattle.std.proofs.lemmas.List.{append-nil, map-append}
-use Rattle.std.proofs.lemmas.Bool.{and_parts, cond-true, cond-false, cases_Bool, eqb-true, eq-eqb, lt-ltb}
+use Rattle.std.proofs.lemmas.Bool.{and_parts, cond-true, cond-false, cases_Bool, eqb-true, eq-eqb, lt-ltb, false_from_ne_true}
 use Rattle.world.specs.declared.entry.Entry.{Entry}
 use Rattle.cell_core.specs.declared.event.Event.{Event}
 use Rattle.cell_core.specs.declared.why.Why.{Why}
@@ -22,6 +22,7 @@ use Rattle.run_journal.specs.Agreement.{AgreesOn, Agrees}
 use Rattle.run_journal.proofs.Growth.{no_stop}
 use Rattle.run_journal.proofs.Safety.{all_but_last, few_requests}
 use Rattle.run_journal.proofs.Agreeing.{passed_agrees, known, get_some, last_at}
+use Rattle.run_journal.proofs.Truths.{not_both}
 
 -- ---- the last request
 
@@ -168,10 +169,6 @@ passes_agree j told past a front k (c ∷ plan) (r ∷ rs) f o = elim (cases_Boo
     alone : (rs : List Request) → ArePassed j k (r ∷ rs) → is_passed j k r ≡ false → rs ≡ []
     alone [] o e = refl
     alone (s ∷ rs) o e = absurd (not_both (is_passed j k r) o.0 e)
-      where
-        not_both : (b : Bool) → b ≡ true → b ≡ false → ⊥
-        not_both true e f = cc
-        not_both false e f = cc
 
 index_is : (xs : List ℕ) (i x : ℕ) → slice_get xs i ≡ Some x → slice_index xs i ≡ x
 index_is [] i x e = cc
@@ -199,20 +196,12 @@ passes_same j told past a =
 
 -- ---- the whole plan
 
-not_both : (b : Bool) → b ≡ true → b ≡ false → ⊥
-not_both true e f = cc
-not_both false e f = cc
-
-not_true : (b : Bool) → (b ≡ true → ⊥) → b ≡ false
-not_true true h = absurd (h refl)
-not_true false h = refl
-
 empty_plan : (n : ℕ) → (n == 0) ≡ (0 == n && (n == 0 || false))
 empty_plan n = elim (cases_Bool (n == 0)) [
   | inl e ↦
       let z : n ≡ 0 = eqb-true n 0 e in
       e ∙ sym (ap (λ b. b && (n == 0 || false)) (eq-eqb 0 n (sym z)) ∙ ap (λ b. b || false) e)
-  | inr e ↦ e ∙ sym (ap (λ b. b && (n == 0 || false)) (not_true (0 == n) (λ f. not_both (n == 0) (eq-eqb n 0 (sym (eqb-true 0 n f))) e)))
+  | inr e ↦ e ∙ sym (ap (λ b. b && (n == 0 || false)) (false_from_ne_true (0 == n) (λ f. not_both (n == 0) (eq-eqb n 0 (sym (eqb-true 0 n f))) e)))
 ]
 
 some_plan : (m n : ℕ) (p : Bool) → (m + 1 == n && p) ≡ (suc m == n && (n == 0 || p))
@@ -222,7 +211,7 @@ some_plan m n p =
     ∙ elim (cases_Bool (suc m == n)) [
       | inl e ↦
           let z : suc m ≡ n = eqb-true (suc m) n e in
-          ap (λ b. suc m == n && (b || p)) (sym (not_true (n == 0) (λ f. let y : n ≡ 0 = eqb-true n 0 f in absurd (omega (arith, z, y)))))
+          ap (λ b. suc m == n && (b || p)) (sym (false_from_ne_true (n == 0) (λ f. let y : n ≡ 0 = eqb-true n 0 f in absurd (omega (arith, z, y)))))
       | inr e ↦ ap (λ b. b && p) e ∙ sym (ap (λ b. b && (n == 0 || p)) e)
     ]
 
@@ -280,7 +269,7 @@ complete_settles j past e =
     let l : length (requests j past) ≡ length j.task.plan = eqb-true (length (requests j past)) (length j.task.plan) p.0 in
     all_settle j [] 0 j.task.plan (requests j past) l (all_but_last j past) (λ x xs f.
     or_right (length j.task.plan == 0) (is_last_passed j 0 (requests j past)) p.1
-    (not_true (length j.task.plan == 0) (λ z. let n : length j.task.plan ≡ 0 = eqb-true (length j.task.plan) 0 z in let g : length (requests j past) ≡ suc (length xs) = ap length f in absurd (omega (arith, l, n, g)))))
+    (false_from_ne_true (length j.task.plan == 0) (λ z. let n : length j.task.plan ≡ 0 = eqb-true (length j.task.plan) 0 z in let g : length (requests j past) ≡ suc (length xs) = ap length f in absurd (omega (arith, l, n, g)))))
   where
     or_right : (x y : Bool) → (x || y) ≡ true → x ≡ false → y ≡ true
     or_right true y e f = cc
@@ -400,7 +389,7 @@ error_same j told past a = by (core.standing j.task told) (stands j told past a)
 -- an executed plan stops both
 pub done_same : (j : Job) (told : List Event) (past : List Entry) → Agrees j told past → 0 < length j.task.plan → core_saves.is_done j.task told ≡ is_done j (acked j past) (requests j past)
 done_same j told past a p =
-    let some : (length j.task.plan == 0) ≡ false = not_true (length j.task.plan == 0) (λ f. let n : length j.task.plan ≡ 0 = eqb-true (length j.task.plan) 0 f in absurd (omega (arith, p, n))) in
+    let some : (length j.task.plan == 0) ≡ false = false_from_ne_true (length j.task.plan == 0) (λ f. let n : length j.task.plan ≡ 0 = eqb-true (length j.task.plan) 0 f in absurd (omega (arith, p, n))) in
     ap (λ b. core_saves.is_whole j.task (core.standing j.task told) && (b || length (core_saves.planned j.task told) == events.acked told)) (lt-ltb 0 (length j.task.plan) p)
     ∙ and_true (core_saves.is_whole j.task (core.standing j.task told))
     ∙ whole_same j told past (core.standing j.task told) (stands j told past a)

@@ -1,7 +1,7 @@
 -- The core asks for the kernel's start where the first save is acknowledged.
 use Rattle.std.proofs.Common.{◌≡◌, ◌⊎◌, inl, inr, ℕ, zero, suc, ◌+◌, ◌<◌, List, [], ◌∷◌, ◌++◌, length, Bool, true, false, ◌&&◌, ◌||◌, not, cond, Option, Some, None, refl, sym, ◌∙◌, ap, subst, arith}
 use Rattle.std.specs.Prelude.{is_some, nat_lt, if◌then◌else◌, ◌==◌}
-use Rattle.std.proofs.lemmas.Bool.{cond-true, cond-false, cond_both, cases_Bool, eqb-true, eq-eqb}
+use Rattle.std.proofs.lemmas.Bool.{cond-true, cond-false, cond_both, cases_Bool, eqb-true, eq-eqb, false_from_ne_true}
 use Rattle.world.specs.declared.entry.Entry.{Entry}
 use Rattle.cell_core.specs.declared.act.Act.{Act}
 use Rattle.cell_core.specs.declared.act.Act.TheVariants as act
@@ -19,21 +19,18 @@ use Rattle.run_journal.specs.Parts.{acked, is_acknowledging}
 use Rattle.run_journal.specs.Course.{events_at, Course, tell, late_then, told_saved, course}
 use Rattle.run_journal.specs.Why.{child_clock}
 use Rattle.run_journal.specs.Agreement.{Flows, KeepsRules}
-use Rattle.run_journal.proofs.Flowing.{not_both, course_agrees, told_parts}
+use Rattle.run_journal.proofs.Flowing.{course_agrees, told_parts}
 use Rattle.run_journal.proofs.Dating.{Seen, start_is, told_whole}
 use Rattle.run_journal.proofs.Turning.{RanAtWait, dates, child_drawn}
-use Rattle.run_journal.proofs.Rowing.{false_by}
-
-and_none : (b : Bool) → (b && false) ≡ false
-and_none true = refl
-and_none false = refl
+use Rattle.run_journal.proofs.Truths.{not_both}
+use Rattle.std.proofs.Math.Bool.{and-false}
 
 -- ---- nothing is told before the first save
 
 -- the first save is awaited
 module _ (j : Job) where
   unstopped_first : has_stopped j.task [] ≡ false
-  unstopped_first = and_none (is_some (core_saves.why j.task []))
+  unstopped_first = and-false (is_some (core_saves.why j.task []))
 
   told_first : (late es : List Event) → (tell j [] late es).told ≡ []
   told_first late [] = refl
@@ -64,7 +61,7 @@ module _ (task : Task) where
   none_after zero = refl
   none_after (suc k) =
       cond-false (core.is_next task k (core.after task k) first) (Some []) None
-      (ap (λ b. b && core.is_passed_in (core.after task k []) && nat_lt_plan k) (false_by (0 == k + 1) (λ e. let z = eqb-true 0 (k + 1) e in omega (arith, z))))
+      (ap (λ b. b && core.is_passed_in (core.after task k []) && nat_lt_plan k) (false_from_ne_true (0 == k + 1) (λ e. let z = eqb-true 0 (k + 1) e in omega (arith, z))))
     where
       nat_lt_plan : ℕ → Bool
       nat_lt_plan k = nat_lt (k + 1) (length task.plan)
@@ -81,7 +78,7 @@ module _ (task : Task) where
 
   module _ (plan : 0 < length task.plan) where
     some_plan : (length task.plan == 0) ≡ false
-    some_plan = false_by (length task.plan == 0) (λ e. let z = eqb-true (length task.plan) 0 e in omega (arith, z, plan))
+    some_plan = false_from_ne_true (length task.plan == 0) (λ e. let z = eqb-true (length task.plan) 0 e in omega (arith, z, plan))
 
     not_whole : core_saves.is_whole task (core.standing task first) ≡ false
     not_whole = ap (core_saves.is_whole task) (none_below (length task.plan)) ∙ some_plan
@@ -99,7 +96,7 @@ module _ (task : Task) where
 
     pub starts_first : act_of task event.Saved [] ≡ act.Start
     starts_first =
-        cond-false (has_stopped task (heard task [])) act.Nothing _ (and_none (is_some (core_saves.why task [])))
+        cond-false (has_stopped task (heard task [])) act.Nothing _ (and-false (is_some (core_saves.why task [])))
         ∙ ap (λ ps. act_by task first ps (core_saves.why task first)) none_due
         ∙ ap (act_by task first []) none_why
         ∙ ap (λ o. answers task o first) (none_below (length task.plan))

@@ -25,9 +25,10 @@ use Rattle.run_journal.proofs.Safety.{few_requests}
 use Rattle.run_journal.proofs.Isolation.{no_next}
 use Rattle.run_journal.proofs.Agreeing.{get_below, get_mapped, IsIn, before, last, get_pushed, next_none}
 use Rattle.run_journal.proofs.Hearing.{coming_for, after_on, none_unready}
-use Rattle.run_journal.proofs.Flowing.{AreOther, held_other, rest_other, late_other, core_nothing, sync_brings_nothing, Tells, front, tell_front, rest_at, core_at, events_are, not_both, told_parts, course_agrees}
+use Rattle.run_journal.proofs.Flowing.{AreOther, held_other, rest_other, late_other, core_nothing, sync_brings_nothing, Tells, front, tell_front, rest_at, core_at, events_are, told_parts, course_agrees}
 use Rattle.run_journal.proofs.Telling.{came_append}
 use Rattle.run_journal.proofs.Moments.{none_some, inside, stood_on, kept_on, is_reply, at_reply, new_on, reply_came, reply_front, reply_behind, no_reply_in, reply_coming, is_mark, at_mark, AreFew, none_through, mark_time, mark_front, mark_behind, no_mark_in, few_none, few_behind, front_none, few_front}
+use Rattle.run_journal.proofs.Truths.{not_both}
 
 -- ---- one entry
 

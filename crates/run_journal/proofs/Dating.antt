@@ -2,7 +2,7 @@
 -- what waits for a save.
 use Rattle.std.proofs.Common.{◌≡◌, ◌⊎◌, inl, inr, ℕ, suc, ◌+◌, List, [], ◌∷◌, ◌++◌, length, drop, Bool, true, false, ◌&&◌, ◌||◌, not, cond, Option, Some, None, refl, sym, ◌∙◌, ap}
 use Rattle.std.specs.Prelude.{is_some, is_none, option_map, nat_le, if◌then◌else◌}
-use Rattle.std.proofs.Math.Bool.{or-false}
+use Rattle.std.proofs.Math.Bool.{or-false, and-false}
 use Rattle.std.proofs.lemmas.List.{append-nil}
 use Rattle.std.proofs.lemmas.Bool.{and_parts, or_parts, cond_both, cond-true, cond-false, cases_Bool}
 use Rattle.world.specs.declared.entry.Entry.{Entry}
@@ -24,7 +24,7 @@ use Rattle.run_journal.specs.Agreement.{told_on, IsHeard, draws}
 use Rattle.run_journal.proofs.Agreeing.{after_more, stands_at}
 use Rattle.run_journal.proofs.Moments.{reply_more}
 use Rattle.run_journal.proofs.Flowing.{Tells, front, tell_front, rest_at, core_at, events_are}
-use Rattle.run_journal.proofs.Telling.{came_append, add_none, none_then, none_late, none_core, none_when, heard_parts, empty_is}
+use Rattle.run_journal.proofs.Telling.{came_append, add_none, none_then, none_late, none_core, none_when, heard_parts, empty_is, some_map}
 
 -- ---- the fold
 
@@ -210,10 +210,6 @@ module _ (d : ℕ) where
   found_is (event.Lost ∷ told) = found_is told
   found_is (event.Broken ∷ told) = found_is told
 
-  some_map : {A B : Type 0} (f : A → B) (o : Option A) → is_some (option_map f o) ≡ is_some o
-  some_map f (Some x) = refl
-  some_map f None = refl
-
   some_first : (told : List Event) → is_some (seen d told).first ≡ is_some (events.since (events.is_turn_at d) told)
   some_first told = ap (λ (o : Option ℕ). is_some o) (sym (first_is told)) ∙ some_map (clock_in told) (events.since (events.is_turn_at d) told)
 
@@ -224,12 +220,8 @@ module _ (d : ℕ) where
       ∙ ap (λ b. not (events.came events.is_moment later) && not (b || events.came events.is_looked later)) l
   fresh_other e told None h m l = ap is_first_look (cond-false (events.is_turn_at d (e ∷ told)) (Some []) None h)
 
-  and_false : (b : Bool) → (b && false) ≡ false
-  and_false true = refl
-  and_false false = refl
-
   fresh_looked : (told : List Event) (o : Option (List Event)) → is_first_look (events.since_more (events.is_turn_at d) event.Looked told o) ≡ false
-  fresh_looked told (Some later) = and_false (not (events.came events.is_moment later))
+  fresh_looked told (Some later) = and-false (not (events.came events.is_moment later))
   fresh_looked told None = refl
 
   fresh_clock : (ms : ℕ) (told : List Event) (o : Option (List Event)) (b : Bool) → events.is_turn_at d (event.Moment ms ∷ told) ≡ b

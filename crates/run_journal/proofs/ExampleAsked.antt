@@ -44,8 +44,8 @@ use Rattle.run_journal.specs.Saves.{saves}
 use Rattle.run_journal.specs.Ends.{NotRead, status_of}
 use Rattle.run_journal.specs.Lines.{Last, lines}
 use Rattle.out_fold.proofs.ShownLemmas.{same_text}
-use Rattle.run_journal.proofs.Flowing.{not_both}
 use Rattle.run_journal.specs.Asked.{Setting, SpeaksBy, IsJobOf, not_read, accepted, read_of, job_with, task_of, running_job, stops_run}
+use Rattle.run_journal.proofs.Truths.{not_both}
 
 -- a notebook without cells
 abbrev notebook : Notebook

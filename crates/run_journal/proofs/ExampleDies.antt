@@ -16,11 +16,7 @@ use Rattle.run_journal.specs.Saves.{saves}
 use Rattle.run_journal.specs.Ends.{KernelLost, status_of}
 use Rattle.run_journal.specs.Lines.{Saved, Last, lines}
 use Rattle.run_journal.specs.Course.{course}
-use Rattle.run_journal.proofs.Toy.{job, saved, got, wait, turn, made_ready, printed}
-
--- three cells
-abbrev pub three : Job
-three = record job { task = record { plan = 0 ∷ 1 ∷ 2 ∷ []; cells = 3; times = job.task.times } }
+use Rattle.run_journal.proofs.Toy.{job, saved, got, wait, turn, made_ready, printed, three}
 
 -- the first cell prints; in the second the kernel prints and dies
 abbrev pub dying : List Entry

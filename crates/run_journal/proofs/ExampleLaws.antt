@@ -26,9 +26,9 @@ use Rattle.run_journal.specs.Course.{course}
 use Rattle.run_journal.specs.Literal.{start_at}
 use Rattle.run_journal.specs.Order.{begins_unread}
 use Rattle.run_journal.specs.Agreement.{EndsLooks, Flows, IsHeard, at_once}
-use Rattle.run_journal.proofs.Toy.{job, saved, saved_as, got, wait, turn, made_ready, printed}
+use Rattle.run_journal.proofs.Toy.{job, saved, saved_as, got, wait, turn, made_ready, printed, three}
 use Rattle.run_journal.proofs.ExampleAwake.{one, journal}
-use Rattle.run_journal.proofs.ExampleDies.{three, dying}
+use Rattle.run_journal.proofs.ExampleDies.{dying}
 use Rattle.run_journal.proofs.ExampleUnready.{broken}
 
 -- ---- growth

@@ -9,11 +9,7 @@ use Rattle.run_journal.specs.Requests.{is_broken, is_interrupted}
 use Rattle.run_journal.specs.Why.{bad_stream}
 use Rattle.run_journal.specs.Saves.{saves}
 use Rattle.run_journal.specs.Ends.{status_of}
-use Rattle.run_journal.proofs.Toy.{job, saved, got, turn, made_ready, printed}
-
--- three cells
-abbrev three : Job
-three = record job { task = record { plan = 0 ∷ 1 ∷ 2 ∷ []; cells = 3; times = job.task.times } }
+use Rattle.run_journal.proofs.Toy.{job, saved, got, turn, made_ready, printed, three}
 
 -- the first shows `x` twice, the second prints, the third updates `x`
 abbrev journal : List Entry

@@ -1,7 +1,7 @@
 -- A kernel that the core calls lost is lost by the journal.
 use Rattle.std.proofs.Common.{◌≡◌, ◌⊎◌, inl, inr, List, [], ◌∷◌, ◌++◌, Bool, true, false, ◌&&◌, ◌||◌, not, cond, refl, sym, ◌∙◌, ap}
 use Rattle.std.proofs.Math.Bool.{or-false}
-use Rattle.std.proofs.lemmas.Bool.{and_parts, or_parts, and_from, or_left, or_right, cond-true, cond-false, cases_Bool}
+use Rattle.std.proofs.lemmas.Bool.{and_parts, or_parts, and_from, or_left, or_right, cond-true, cond-false, cases_Bool, not-true, not_from_false}
 use Rattle.world.specs.declared.entry.Entry.{Entry}
 use Rattle.world.specs.declared.entry.Entry.TheVariants as made
 use Rattle.world.specs.Waits.{is_wait, has_wait, before_wait}
@@ -16,9 +16,10 @@ use Rattle.run_journal.specs.Due.{all_along}
 use Rattle.run_journal.specs.Course.{when_so, in_look, ends_look, is_late, events_at, tell, late_then, course}
 use Rattle.run_journal.specs.Agreement.{IsHeard, ends_looks, EndsLooks}
 use Rattle.run_journal.specs.Awake.{is_called_for}
-use Rattle.run_journal.proofs.Flowing.{tell_by, not_both}
+use Rattle.run_journal.proofs.Flowing.{tell_by}
 use Rattle.run_journal.proofs.Telling.{heard_parts, empty_is, among_next, among_lost, came_append, is_loss, lost_when, gives_lost}
-use Rattle.run_journal.proofs.Sighting.{or_either, true_not, looked_stays, found_in, gives_found, knows, finds, late_unlooked, knows_next, finds_next, finds_back}
+use Rattle.run_journal.proofs.Sighting.{or_either, looked_stays, found_in, gives_found, knows, finds, late_unlooked, knows_next, finds_next, finds_back}
+use Rattle.run_journal.proofs.Truths.{not_both}
 
 -- ---- what holds along a journal
 
@@ -58,10 +59,6 @@ late_next j entry past = by_tell _ (late_then j entry past (course j past).late)
 both_of : (b x : Bool) → cond b x false ≡ true → (b ≡ true) × (x ≡ true)
 both_of true x e = (refl, e)
 both_of false x e = cc
-
-not_true : (b : Bool) → not b ≡ true → b ≡ false
-not_true true e = cc
-not_true false e = refl
 
 pub lost_is : (j : Job) (past : List Entry) → looked j past ≡ true → ever (shows_lost j) (before_wait past) ≡ true → is_lost j past ≡ true
 unfolding is_lost
@@ -121,7 +118,7 @@ module _ (j : Job) (entry : Entry) (past : List Entry) (i : Along j past) where
     where
       by : (is_wait entry ≡ true) ⊎ (not (looked j past) ≡ true) → (is_wait entry ≡ true) ⊎ (looked j past ≡ false)
       by (inl w) = inl w
-      by (inr k) = inr (not_true (looked j past) k)
+      by (inr k) = inr (not-true (looked j past) k)
 
   next_known : knows (course j (entry ∷ past)) ≡ true → ever (shows_lost j) (entry ∷ past) ≡ true
   next_known e = by (or_either (knows (course j past)) _ (knows_next j entry past e))
@@ -215,7 +212,7 @@ module _ (j : Job) (entry : Entry) (past : List Entry) (h : IsHeard j (entry ∷
   on_time w = by (or_either (not (is_wait entry)) (is_empty_list (course j past).late) (and_parts (ends_looks j (entry ∷ past)) (all_along (ends_looks j) past) s).0)
     where
       by : (not (is_wait entry) ≡ true) ⊎ (is_empty_list (course j past).late ≡ true) → (course j past).late ≡ []
-      by (inl k) = absurd (not_both (is_wait entry) w (not_true (is_wait entry) k))
+      by (inl k) = absurd (not_both (is_wait entry) w (not-true (is_wait entry) k))
       by (inr k) = empty_is (course j past).late k
 
   -- what was shown before the wait was known of before this entry
@@ -244,7 +241,7 @@ module _ (j : Job) (entry : Entry) (past : List Entry) (h : IsHeard j (entry ∷
 
       is_new : (is_wait entry ≡ true) ⊎ (looked j past ≡ false) → (is_wait entry || not (looked j past)) ≡ true
       is_new (inl w) = or_left (is_wait entry) (not (looked j past)) w
-      is_new (inr k) = or_right (is_wait entry) (not (looked j past)) (true_not (looked j past) k)
+      is_new (inr k) = or_right (is_wait entry) (not (looked j past)) (not_from_false (looked j past) k)
 
       called : is_called_for j (before_wait (entry ∷ past)) ≡ true
       called = and_from (is_running j (before_wait (entry ∷ past))) _ runs (or_left (ever (shows_lost j) (before_wait (entry ∷ past))) _ p.1)

@@ -2,7 +2,7 @@
 use Rattle.std.proofs.Common.{◌≡◌, ◌⊎◌, inl, inr, ℕ, ◌+◌, ◌*◌, ◌<◌, List, [], ◌∷◌, ◌++◌, Bool, true, false, ◌&&◌, ◌||◌, not, cond, Option, Some, None, refl, sym, ◌∙◌, ap, subst, arith}
 use Rattle.std.specs.Prelude.{is_some, if◌then◌else◌, ◌==◌, count_by}
 use Rattle.std.specs.List.{list_any, list_all}
-use Rattle.std.proofs.lemmas.Bool.{and_parts, or_parts, and_from, or_left, or_right, cond-true, cond-false, cond_both, cases_Bool, eqb-true, eq-eqb}
+use Rattle.std.proofs.lemmas.Bool.{and_parts, or_parts, and_from, or_left, or_right, cond-true, cond-false, cond_both, cases_Bool, eqb-true, eq-eqb, not-true, not_from_false}
 use Rattle.world.specs.declared.chan.Chan.{Chan}
 use Rattle.world.specs.declared.chan.Chan.TheVariants.{Shell, Control, Iopub, Heart}
 use Rattle.world.specs.declared.conn.Conn.{Conn}
@@ -22,11 +22,12 @@ use Rattle.run_journal.specs.Due.{all_along}
 use Rattle.run_journal.specs.Awake.{Awake, implies, is_awake, is_closed, is_look, is_called_for, is_look_due, reads_all, looks_once}
 use Rattle.run_journal.specs.Course.{when_so, in_look, ends_look, is_late, events_at, tell, late_then, told_saved, course}
 use Rattle.run_journal.specs.Agreement.{IsAmong, EndsLooks, ends_looks, KeepsRules, is_done_wait, waits_on}
-use Rattle.run_journal.proofs.Flowing.{not_both, tell_by}
-use Rattle.run_journal.proofs.Sighting.{or_either, true_not, all_more}
+use Rattle.run_journal.proofs.Flowing.{tell_by}
+use Rattle.run_journal.proofs.Sighting.{or_either, all_more}
 use Rattle.run_journal.proofs.Finding.{wait_shows_none}
-use Rattle.run_journal.proofs.Turning.{not_true, or_off, any_of, rules_before, running_parts, RanAtWait, ran_before, runs_at_wait}
+use Rattle.run_journal.proofs.Turning.{or_off, any_of, rules_before, running_parts, RanAtWait, ran_before, runs_at_wait}
 use Rattle.run_journal.proofs.Rereading.{each_one}
+use Rattle.run_journal.proofs.Truths.{not_both}
 
 -- ---- a wait of a look that another wait follows
 
@@ -155,7 +156,7 @@ module _ (jobs : List Job) (j : Job) (entry : Entry) (past : List Entry) (k : Ke
       one f (inr g) =
           let p = and_parts (shows_lost j (entry ∷ past) && in_look j past) (not (looked j past)) g in
           let q = and_parts (shows_lost j (entry ∷ past)) (in_look j past) p.0 in
-          goes f (unwaited (is_wait entry) refl (λ x. not_both (shows_lost j (entry ∷ past)) q.0 (wait_shows_none j entry past x))) q.1 (not_true (looked j past) p.1)
+          goes f (unwaited (is_wait entry) refl (λ x. not_both (shows_lost j (entry ∷ past)) q.0 (wait_shows_none j entry past x))) q.1 (not-true (looked j past) p.1)
 
       by : (b : Bool) → ends_look j entry past ≡ b → is_empty_list (cond b [] ((course j past).late ++ when_so (is_late j entry past) event.Lost)) ≡ false → (in_look j (entry ∷ past) ≡ true) × (looked j (entry ∷ past) ≡ false)
       by true f g = cc

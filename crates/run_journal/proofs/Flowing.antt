@@ -24,6 +24,7 @@ use Rattle.run_journal.proofs.Growth.{ready_stays}
 use Rattle.run_journal.proofs.Agreeing.{agree_first, agree_other, agree_saved, ready_unheard}
 use Rattle.run_journal.proofs.AlikeLooks.{arrive_nothing}
 use Rattle.run_journal.proofs.Hearing.{IsComing, io, replied, AreComing, coming_for, told_append, none_unready, agree_ready, agree_came}
+use Rattle.run_journal.proofs.Truths.{not_both}
 
 -- ---- events that aren't of requests
 
@@ -248,10 +249,6 @@ core_are j entry past =
     core_append _ _ (coming_core _ (coming_for j (last_request 0 (requests j past)) entry past)) (core_when (is_ready j (entry ∷ past) && not (is_ready j past)))
 
 -- ---- one entry
-
-pub not_both : (b : Bool) → b ≡ true → b ≡ false → ⊥
-not_both true e f = cc
-not_both false e f = cc
 
 same_none : (b : Bool) → (b && not b) ≡ false
 same_none true = refl

@@ -28,12 +28,9 @@ use Rattle.run_journal.proofs.Growth.{goes, idle_stays, reply_stays, ready_stays
 use Rattle.run_journal.proofs.Isolation.{no_next}
 use Rattle.run_journal.proofs.Safety.{all_but_last}
 use Rattle.run_journal.proofs.Agreeing.{stands_at, after_more, not_now, stands_later, none_more, some_now, get_mapped, next_none}
+use Rattle.run_journal.proofs.Truths.{not_both}
 
 -- ---- readiness
-
-not_both : (b : Bool) → b ≡ true → b ≡ false → ⊥
-not_both true e f = cc
-not_both false e f = cc
 
 -- where the kernel isn't ready no request stands
 pub none_unready : (j : Job) (past : List Entry) → is_ready j past ≡ false → requests j past ≡ []

@@ -3,7 +3,7 @@ use Rattle.std.proofs.Common.{◌≡◌, ◌⊎◌, inl, inr, ℕ, zero, suc, �
 use Rattle.std.specs.Prelude.{is_some, option_map, option_to_list, slice_get, nat_le, if◌then◌else◌}
 use Rattle.std.specs.List.{list_any}
 use Rattle.std.proofs.lemmas.List.Folds.{list_any-append}
-use Rattle.std.proofs.lemmas.Bool.{and_parts, and_from, or_left, or_right, cond-true, cond-false, cases_Bool, leb-true, le-leb}
+use Rattle.std.proofs.lemmas.Bool.{and_parts, and_from, or_left, or_right, cond-true, cond-false, cases_Bool, leb-true, le-leb, false_from_ne_true, not-true, not_from_false}
 use Rattle.world.specs.declared.chan.Chan.{Chan}
 use Rattle.world.specs.declared.chan.Chan.TheVariants.{Shell, Iopub}
 use Rattle.world.specs.declared.entry.Entry.{Entry}
@@ -26,15 +26,15 @@ use Rattle.run_journal.specs.Awake.{start_deadline, reply_deadline, wait_deadlin
 use Rattle.run_journal.specs.Course.{ends_look}
 use Rattle.run_journal.specs.Agreement.{BeginsUnread, rises, KeepsRules}
 use Rattle.run_journal.proofs.Growth.{goes, reply_stays}
-use Rattle.run_journal.proofs.Flowing.{not_both}
 use Rattle.run_journal.proofs.Telling.{stays_broken, unread_before}
-use Rattle.run_journal.proofs.Sighting.{or_either, true_not, looked_stays}
+use Rattle.run_journal.proofs.Sighting.{or_either, looked_stays}
 use Rattle.run_journal.proofs.Finding.{lost_is, lost_parts}
 use Rattle.run_journal.proofs.Dating.{Seen, run, whole, end, clocks_at}
-use Rattle.run_journal.proofs.Turning.{not_true, rules_before, RanAtWait, ran_before, runs_at_wait, Still, still, turn_none, first_waited, Dates, dates, dates_clock}
+use Rattle.run_journal.proofs.Turning.{rules_before, RanAtWait, ran_before, runs_at_wait, Still, still, turn_none, first_waited, Dates, dates, dates_clock}
 use Rattle.run_journal.proofs.Lapse.{Before, here, earlier, wait_was, ever_before, clock_from, first_ever, first_before, wait_unstopped, ends_parts, clocks_kept, end_queues, then_seen, whole_is, still_now, just_parts, just_from, just_queued}
 use Rattle.run_journal.proofs.Earlier.{length_on, go_before, CameBy, stood, anew, came_by, Was, stood_before, last_before}
 use Rattle.run_journal.proofs.Agreeing.{get_below}
+use Rattle.run_journal.proofs.Truths.{not_both}
 
 -- ---- what has not stopped a job
 
@@ -126,7 +126,7 @@ interrupted_from j past r i n o b l =
     (and_from (j.task.times.interrupt && not (is_some (reply r)) && is_just_out j past (deadline j r)) (not (is_broken j past))
     (and_from (j.task.times.interrupt && not (is_some (reply r))) (is_just_out j past (deadline j r))
     (and_from j.task.times.interrupt (not (is_some (reply r))) i (ap (λ (v : Option (Arrival × ℕ)). not (is_some v)) n)) o)
-    (true_not (is_broken j past) b)) (true_not (is_lost j past) l)
+    (not_from_false (is_broken j past) b)) (not_from_false (is_lost j past) l)
 
 just_out : (j : Job) (d : ℕ) (past : List Entry) (o : Option ℕ) → o ≡ Some d → is_just_out j past o ≡ just_ran_out j d past
 just_out j d past o e = ap (is_just_out j past) e
@@ -241,15 +241,11 @@ module _ (d : ℕ) (jobs : List Job) (j : Job) where
       v : ((c : Chan) → begins_unread j c (entry ∷ past) ≡ true) × BeginsUnread j past
       v = unread_before j entry past u
 
-      false_by : (a : Bool) → (a ≡ true → ⊥) → a ≡ false
-      false_by true f = absurd (f refl)
-      false_by false f = refl
-
       unbroken : is_broken j past ≡ false
-      unbroken = false_by (is_broken j past) (λ f. not_both (is_broken j (entry ∷ past)) (stays_broken j dec entry past v.0 f) b)
+      unbroken = false_from_ne_true (is_broken j past) (λ f. not_both (is_broken j (entry ∷ past)) (stays_broken j dec entry past v.0 f) b)
 
       unlost : is_lost j past ≡ false
-      unlost = false_by (is_lost j past) (λ f. not_both (is_lost j (entry ∷ past)) (lost_stays jobs j entry past k h f) l)
+      unlost = false_from_ne_true (is_lost j past) (λ f. not_both (is_lost j (entry ∷ past)) (lost_stays jobs j entry past k h f) l)
 
       news : Request → Request
       news o = with_news j o (arrive j Iopub entry past) (arrive j Shell entry past) (time past)

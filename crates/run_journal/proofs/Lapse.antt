@@ -1,7 +1,7 @@
 -- A look after a clock entry at or past a deadline is found by the core where it is found by the journal, and stays so up to the next wait.
 use Rattle.std.proofs.Common.{◌≡◌, ◌⊎◌, inl, inr, ℕ, ◌+◌, ◌<◌, ◌≤◌, List, [], ◌∷◌, ◌++◌, Bool, true, false, ◌&&◌, ◌||◌, not, cond, Option, Some, None, refl, sym, ◌∙◌, ap, subst, arith}
 use Rattle.std.specs.Prelude.{is_some, nat_le, if◌then◌else◌, ◌==◌, length}
-use Rattle.std.proofs.lemmas.Bool.{and_parts, or_parts, and_from, or_left, or_right, cond-true, cond-false, cases_Bool, leb-true, le-leb}
+use Rattle.std.proofs.lemmas.Bool.{and_parts, or_parts, and_from, or_left, or_right, cond-true, cond-false, cases_Bool, leb-true, le-leb, not-true, not_from_false}
 use Rattle.world.specs.declared.entry.Entry.{Entry}
 use Rattle.world.specs.declared.entry.Entry.TheVariants as made
 use Rattle.world.specs.Places.{time}
@@ -22,11 +22,11 @@ use Rattle.run_journal.specs.Course.{begins_at, clock_event, in_look, ends_look}
 use Rattle.run_journal.specs.Agreement.{IsAmong, rises, KeepsRules}
 use Rattle.run_journal.proofs.AlikeLooks.{or_none}
 use Rattle.run_journal.proofs.Growth.{before_all}
-use Rattle.run_journal.proofs.Flowing.{not_both}
 use Rattle.run_journal.proofs.Telling.{add_none, none_begins, none_turn}
-use Rattle.run_journal.proofs.Sighting.{or_either, true_not, looked_stays}
+use Rattle.run_journal.proofs.Sighting.{or_either, looked_stays}
 use Rattle.run_journal.proofs.Dating.{Seen, sighted, run, see, whole, whole_next, end, clocks_at}
-use Rattle.run_journal.proofs.Turning.{not_true, first_kept, all_of, rules_before, running_parts, RanAtWait, ran_before, runs_at_wait, Still, quiet_entry, quiet_look, still, first_waited, Dates, dates}
+use Rattle.run_journal.proofs.Turning.{first_kept, all_of, rules_before, running_parts, RanAtWait, ran_before, runs_at_wait, Still, quiet_entry, quiet_look, still, first_waited, Dates, dates}
+use Rattle.run_journal.proofs.Truths.{not_both}
 
 -- ---- moments of a journal
 
@@ -308,12 +308,12 @@ module _ (d : ℕ) (jobs : List Job) (j : Job) where
   just_parts past e =
       let p = and_parts (looked j past && is_some (first_clock d (before_wait past))) (not (is_some (first_clock d (before_clock past)))) e in
       let q = and_parts (looked j past) (is_some (first_clock d (before_wait past))) p.0 in
-      (q.0, q.1, not_true (is_some (first_clock d (before_clock past))) p.1)
+      (q.0, q.1, not-true (is_some (first_clock d (before_clock past))) p.1)
 
   pub just_from : (past : List Entry) → looked j past ≡ true → is_some (first_clock d (before_wait past)) ≡ true → is_some (first_clock d (before_clock past)) ≡ false → just_ran_out j d past ≡ true
   just_from past e f g =
       and_from (looked j past && is_some (first_clock d (before_wait past))) (not (is_some (first_clock d (before_clock past))))
-      (and_from (looked j past) (is_some (first_clock d (before_wait past))) e f) (true_not (is_some (first_clock d (before_clock past))) g)
+      (and_from (looked j past) (is_some (first_clock d (before_wait past))) e f) (not_from_false (is_some (first_clock d (before_clock past))) g)
 
   -- the look directly after the first clock entry, where it was called for, queues for the core
   pub just_queued : (past : List Entry) → KeepsRules jobs j past → RanAtWait j past → just_ran_out j d past ≡ true → is_called_for j (before_wait past) ≡ true → (whole d j past).queued ≡ true

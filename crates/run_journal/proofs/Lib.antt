@@ -1,3 +1,4 @@
+pub mod Truths
 pub mod Growth
 pub mod Alike
 pub mod AlikeLooks

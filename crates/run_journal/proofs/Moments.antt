@@ -11,8 +11,9 @@ use Rattle.cell_core.specs.Requests as core
 use Rattle.run_journal.specs.Agreement.{IsOther, moment, looked, lost, broken, told_on}
 use Rattle.run_journal.proofs.Agreeing.{stands_at, after_more, not_now, none_more, stands_later}
 use Rattle.run_journal.proofs.Hearing.{IsComing, io, replied, AreComing, after_on}
-use Rattle.run_journal.proofs.Flowing.{AreOther, not_both}
+use Rattle.run_journal.proofs.Flowing.{AreOther}
 use Rattle.run_journal.proofs.Telling.{came_append}
+use Rattle.run_journal.proofs.Truths.{not_both}
 
 -- ---- one event after another
 

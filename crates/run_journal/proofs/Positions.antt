@@ -16,6 +16,7 @@ use Rattle.run_journal.specs.Requests.{Request, with_interrupt, goes_on, fresh, 
 use Rattle.run_journal.specs.Grow.{GoOn, no_more, one_more}
 use Rattle.run_journal.specs.Literal.{start_at, alone, later_with, is_for, is_reply_for, Literally}
 use Rattle.run_journal.proofs.Growth.{requests_go_on}
+use Rattle.run_journal.proofs.Agreeing.{get_some}
 
 -- each arrival stands at a position before this one
 abbrev AllBelow : ℕ → List (ℕ × Arrival) → Type 0
@@ -92,11 +93,6 @@ get_past : (rs : List Request) (i : ℕ) (r : Request) → length rs ≤ i → s
 get_past [] i r h e = cc
 get_past (x ∷ rs) zero r h e = omega (arith, h)
 get_past (x ∷ rs) (suc i) r h e = get_past rs i r (omega (arith, h)) e
-
-get_some : (rs : List Request) (i : ℕ) → i < length rs → (r : Request) × (slice_get rs i ≡ Some r)
-get_some [] i h = absurd (omega (arith, h))
-get_some (x ∷ rs) zero h = (x, refl)
-get_some (x ∷ rs) (suc i) h = get_some rs i (omega (arith, h))
 
 drop_clock : (clock : ℕ) (ms : List Arrival) → map {B = Arrival} (λ m. m.0) (map {B = Arrival × ℕ} (λ m. (m, clock)) ms) ≡ ms
 drop_clock clock [] = refl

@@ -19,9 +19,9 @@ use Rattle.run_journal.specs.Due.{all_along}
 use Rattle.run_journal.specs.Order.{is_nothing, begins_unread}
 use Rattle.run_journal.specs.Awake.{Awake, implies, is_its, is_connect, is_called_for, again_ms, may_begin_again, in_order, begins_refused}
 use Rattle.run_journal.specs.Agreement.{IsAmong, BeginsUnread, tells_rightly, TellsRightly}
-use Rattle.run_journal.proofs.Flowing.{not_both}
 use Rattle.run_journal.proofs.Sighting.{or_either}
 use Rattle.run_journal.proofs.Turning.{all_of, or_off}
+use Rattle.run_journal.proofs.Truths.{not_both}
 
 -- a test holds of each channel
 each_channel : (test : Chan → Bool) → list_all test channels ≡ true → (c : Chan) → test c ≡ true

@@ -2,7 +2,7 @@
 use Rattle.std.proofs.Common.{◌≡◌, ◌⊎◌, inl, inr, ℕ, zero, suc, ◌+◌, ◌<◌, ◌≤◌, List, [], ◌∷◌, ◌++◌, length, map, drop, Bool, true, false, ◌&&◌, ◌||◌, not, cond, Option, Some, None, refl, sym, ◌∙◌, ap, subst, arith}
 use Rattle.std.specs.Prelude.{is_some, is_none, option_map, option_to_list, slice_get, nat_le, if◌then◌else◌, IsSomeAnd}
 use Rattle.std.specs.List.{list_any}
-use Rattle.std.proofs.lemmas.Bool.{and_parts, and_from, or_left, or_right, cond-true, cond-false, cases_Bool, leb-true, le-leb}
+use Rattle.std.proofs.lemmas.Bool.{and_parts, and_from, or_left, or_right, cond-true, cond-false, cases_Bool, leb-true, le-leb, false_from_ne_true, not-true, not_from_false}
 use Rattle.world.specs.declared.chan.Chan.TheVariants.{Shell, Iopub}
 use Rattle.world.specs.declared.entry.Entry.{Entry}
 use Rattle.world.specs.declared.entry.Entry.TheVariants as made
@@ -31,15 +31,17 @@ use Rattle.run_journal.specs.Course.{course}
 use Rattle.run_journal.specs.Agreement.{AgreesOn, Agrees, ClocksOn, Clocks, BeginsUnread, Flows, KeepsTime, drawn_clock, rises, KeepsRules}
 use Rattle.run_journal.proofs.AlikeLooks.{or_none}
 use Rattle.run_journal.proofs.Growth.{goes, goes_self, ready_stays, reply_stays, over_stays}
-use Rattle.run_journal.proofs.Flowing.{not_both, course_agrees}
+use Rattle.run_journal.proofs.Flowing.{course_agrees}
 use Rattle.run_journal.proofs.Asking.{Stands, nothing, last, stands, last_numbered}
 use Rattle.run_journal.proofs.Clocks.{clocks_agree}
-use Rattle.run_journal.proofs.Sighting.{or_either, true_not}
+use Rattle.run_journal.proofs.Sighting.{or_either}
 use Rattle.run_journal.proofs.Dating.{Seen, seen, start_is, first_is, found_is, queued_is, whole, told_whole, clock_in}
-use Rattle.run_journal.proofs.Turning.{not_true, first_kept, later_some, running_parts, any_before, RanAtWait, child_drawn, begun_child, drawn_acked, first_waited, first_none, still, turn_none, Dates, dates}
+use Rattle.run_journal.proofs.Turning.{first_kept, later_some, running_parts, any_before, RanAtWait, child_drawn, begun_child, drawn_acked, first_waited, first_none, still, turn_none, Dates, dates}
 use Rattle.run_journal.proofs.Lapse.{Before, here, earlier, wait_was, before_then, ever_before, rules_at, clock_from, first_ever, first_before, ran_parts, Left, found_ran, ran_found}
 use Rattle.run_journal.proofs.Earlier.{CameBy, stood, anew, came_by, Was, stood_before, replied_before, last_before, ready_stands, go_before, none_on, goes_then}
 use Rattle.run_journal.proofs.Interrupting.{none_holds, called_start, called_request, no_reply_before, interrupted_parts, interrupted_queued, queued_interrupted}
+use Rattle.run_journal.proofs.Truths.{not_both}
+use Rattle.std.proofs.Math.Bool.{and-false}
 
 -- ---- tests
 
@@ -50,18 +52,6 @@ both false true f g = absurd (false_true (g refl))
     false_true : false ≡ true → ⊥
     false_true e = cc
 both false false f g = refl
-
-pub false_by : (a : Bool) → (a ≡ true → ⊥) → a ≡ false
-false_by true f = absurd (f refl)
-false_by false f = refl
-
-and_false : (b : Bool) → (b && false) ≡ false
-and_false true = refl
-and_false false = refl
-
-some_is : {A : Type 0} (o : Option A) → is_some o ≡ true → (x : A) × (o ≡ Some x)
-some_is (Some x) e = (x, refl)
-some_is None e = cc
 
 -- ---- moments
 
@@ -176,7 +166,7 @@ flagged_before j c d {q} (earlier {past} entry b) e f two i r g l dead int = by 
     not_now v x y =
         let z : just_ran_out j c (entry ∷ past) ≡ true = sym (ap (is_just_out j (entry ∷ past)) x) ∙ interrupted_parts j (entry ∷ past) v y in
         not_both (is_some (first_clock c (before_clock (entry ∷ past)))) (two_more c (earlier entry b) two)
-        (not_true (is_some (first_clock c (before_clock (entry ∷ past)))) (and_parts (looked j (entry ∷ past) && is_some (first_clock c (before_wait (entry ∷ past)))) (not (is_some (first_clock c (before_clock (entry ∷ past))))) z).1)
+        (not-true (is_some (first_clock c (before_clock (entry ∷ past)))) (and_parts (looked j (entry ∷ past) && is_some (first_clock c (before_wait (entry ∷ past)))) (not (is_some (first_clock c (before_clock (entry ∷ past))))) z).1)
 
     by : ((o : Request) → slice_get (requests j past) i ≡ Some o → o.clock < d → deadline j o ≡ Some c → o.interrupted ≡ true → (w : Was j q i o) × (w.old.interrupted ≡ true)) → CameBy j entry past i r
         → (w : Was j q i r) × (w.old.interrupted ≡ true)
@@ -304,12 +294,12 @@ module _ (jobs : List Job) (j : Job) (past : List Entry) (k : KeepsRules jobs j 
       undrawn g None = refl
       undrawn g (Some c) =
           let d = c + j.task.times.start_ms in
-          false_by (events.looked (events.is_turn_at d) told) (λ y.
+          false_from_ne_true (events.looked (events.is_turn_at d) told) (λ y.
           let w = first_waited d past (first_ever d past ∙ found_past d (sym (found_told d) ∙ y)) in
           not_both (is_some (child_clock j past)) (begun_child j past k.start (any_before j past (running_parts j (before_wait past) (h w)).0)) (ap (λ (o : Option ℕ). is_some o) g))
 
       unready : 0 < acked j past → is_ready j (before_wait past) ≡ false
-      unready a = false_by (is_ready j (before_wait past)) (λ r. ready_stands j past (ready_before j (wait_was past) r) a plan e)
+      unready a = false_from_ne_true (is_ready j (before_wait past)) (λ r. ready_stands j past (ready_before j (wait_was past) r) a plan e)
 
       by : (o : Option ℕ) → child_clock j past ≡ o → looked_by (start_from j.task (drawn_clock j past)) told ≡ is_out j j.task.times.start_ms o past
       by None g = undrawn g (drawn_clock j past)
@@ -372,7 +362,7 @@ module _ (jobs : List Job) (j : Job) (past : List Entry) (k : KeepsRules jobs j 
         was b y = replied_before j d b k.rising y m q x e r under
 
         not_over : {p : List Entry} (w : Was j p m q) → is_over w.old ≡ false
-        not_over w = false_by (is_over w.old) (λ y. not_both (is_over q) (over_stays w.old q w.on y) over)
+        not_over w = false_from_ne_true (is_over w.old) (λ y. not_both (is_over q) (over_stays w.old q w.on y) over)
 
         deadline_then : {p : List Entry} → Before p past → ever (is_past d) p ≡ true → request_deadline j p (last_request 0 (requests j p)) ≡ d ∷ []
         deadline_then {p} b y =
@@ -386,7 +376,7 @@ module _ (jobs : List Job) (j : Job) (past : List Entry) (k : KeepsRules jobs j 
             let w = was b y in
             ap (λ o. is_no_idle j o p) (last_before j b m q l w.0).1
             ∙ ap (λ o. not (is_over w.0.old) && is_out j idle_ms (option_map (λ v. v.1) o) p) w.1
-            ∙ and_from (not (is_over w.0.old)) (ran_out j d p) (true_not (is_over w.0.old) (not_over w.0)) z
+            ∙ and_from (not (is_over w.0.old)) (ran_out j d p) (not_from_false (is_over w.0.old) (not_over w.0)) z
 
     pub no_idle_last : core_saves.is_no_idle (Some (record { request = m; later = later })) told ≡ is_no_idle j (Some (m, q)) past
     no_idle_last =
@@ -399,7 +389,7 @@ module _ (jobs : List Job) (j : Job) (past : List Entry) (k : KeepsRules jobs j 
 
         by : (o : Option (Arrival × ℕ)) → reply q ≡ o → (b : Bool) → is_over q ≡ b
             → ((is_some (option_map (λ v. j.fatal m v.0.content) o) && not b) && looked_at) ≡ (not b && is_out j idle_ms (option_map (λ v. v.1) o) past)
-        by None r b c = sym (and_false (not b))
+        by None r b c = sym (and-false (not b))
         by (Some x) r true c = refl
         by (Some x) r false c = ap (λ n. events.looked (events.is_turn_at (n + idle_ms)) told) (on.replied x r) ∙ no_idle_open x r c
 

@@ -24,6 +24,7 @@ use Rattle.run_journal.proofs.Alike.{Alike, own_onto, own_alike, alike_foreign}
 use Rattle.run_journal.proofs.AlikeLooks.{acked_alike}
 use Rattle.run_journal.proofs.Isolation.{requests_alike, bad_stream_alike, why_alike, saves_alike, before_shut_alike}
 use Rattle.run_journal.proofs.Alike.{near}
+use Rattle.run_journal.proofs.Truths.{not_both}
 
 -- ---- truth values
 
@@ -50,12 +51,8 @@ reads_own j (made.Read path most found ∷ past) e = elim (cases_Bool (is_own_pa
   | inl i ↦
       ap (reads_for j) (cond-true (is_own_path j path || after_read j path (reads_for j past)) (made.Read path most found ∷ of_job j past) (of_job j past) i)
       ∙ only_of (bytes_eq j.input path) (list_any (bytes_eq path) j.inputs) (reads_for j past) (reads_for j (of_job j past)) e (reads_own j past)
-  | inr i ↦ absurd (both_ways (after_read j path (reads_for j past)) e (or_false (is_own_path j path) (after_read j path (reads_for j past)) i).1)
+  | inr i ↦ absurd (not_both (after_read j path (reads_for j past)) e (or_false (is_own_path j path) (after_read j path (reads_for j past)) i).1)
 ]
-  where
-    both_ways : (b : Bool) → b ≡ true → b ≡ false → ⊥
-    both_ways true e f = cc
-    both_ways false e f = cc
 reads_own j (entry ∷ past) e = cond_both (is_of j entry past) (own_reports j entry ∷ of_job j past) (of_job j past) (λ xs. reads_for j xs ≡ true) (λ i. reads_own j past e) (λ i. reads_own j past e)
 
 -- ---- refusals and failed calls

@@ -350,7 +350,7 @@ some_or : {A : Type 0} (a b : Option A) → is_some (or_later a b) ≡ (is_some 
 some_or (Some x) b = refl
 some_or None b = refl
 
-some_map : {A B : Type 0} (f : A → B) (o : Option A) → is_some (option_map f o) ≡ is_some o
+pub some_map : {A B : Type 0} (f : A → B) (o : Option A) → is_some (option_map f o) ≡ is_some o
 some_map f (Some x) = refl
 some_map f None = refl
 

@@ -137,6 +137,10 @@ job = record {
   turns = 1000;
 }
 
+-- the same with three cells
+abbrev pub three : Job
+three = record job { task = record { plan = 0 ∷ 1 ∷ 2 ∷ []; cells = 3; times = job.task.times } }
+
 -- ---- journals, the oldest entry first
 
 -- an acknowledged save, of which the writes are left out

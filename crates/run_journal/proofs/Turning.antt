@@ -3,7 +3,7 @@ use Rattle.std.proofs.Common.{◌≡◌, ◌⊎◌, inl, inr, ℕ, ◌+◌, ◌<
 use Rattle.std.specs.Prelude.{is_some, nat_le, nat_lt, if◌then◌else◌, ◌==◌}
 use Rattle.std.specs.List.{list_any, list_all}
 use Rattle.std.proofs.lemmas.List.{append-nil}
-use Rattle.std.proofs.lemmas.Bool.{and_parts, or_parts, and_from, or_left, or_right, cond-true, cond-false, cases_Bool, eqb-true, ltb-true, leb-true, le-leb}
+use Rattle.std.proofs.lemmas.Bool.{and_parts, or_parts, and_from, or_left, or_right, cond-true, cond-false, cases_Bool, eqb-true, ltb-true, leb-true, le-leb, not-true, not_from_false}
 use Rattle.world.specs.declared.did.Did.TheVariants.{Done, Failed}
 use Rattle.world.specs.declared.entry.Entry.{Entry}
 use Rattle.world.specs.declared.entry.Entry.TheVariants as made
@@ -23,16 +23,13 @@ use Rattle.run_journal.specs.Course.{begins_at, clock_event}
 use Rattle.run_journal.specs.Agreement.{IsHeard, is_heard, IsAmong, rises, draws, drawn_clock, is_clock, starts_in_turn, KeepsRules}
 use Rattle.run_journal.proofs.AlikeLooks.{or_none}
 use Rattle.run_journal.proofs.Growth.{acked_grows}
-use Rattle.run_journal.proofs.Flowing.{not_both}
-use Rattle.run_journal.proofs.Sighting.{or_either, true_not}
+use Rattle.run_journal.proofs.Sighting.{or_either}
 use Rattle.run_journal.proofs.Turns.{turn_is}
 use Rattle.run_journal.proofs.Dating.{Seen, passes, dated, sighted, run, whole, whole_next, end, clocks_at}
+use Rattle.run_journal.proofs.Truths.{not_both}
+use Rattle.run_journal.proofs.Telling.{some_is}
 
 -- ---- tests
-
-pub not_true : (b : Bool) → not b ≡ true → b ≡ false
-not_true true e = cc
-not_true false e = refl
 
 pub or_off : (b c : Bool) → (not b || c) ≡ true → b ≡ true → c ≡ true
 or_off true c e f = e
@@ -86,10 +83,10 @@ rules_before jobs j entry past k = record {
 -- ---- a job that runs
 
 pub running_parts : (j : Job) (past : List Entry) → is_running j past ≡ true → (list_any (begins j) past ≡ true) × (is_shut j past ≡ false)
-running_parts j past e = let p = and_parts (list_any (begins j) past) (not (is_shut j past)) e in (p.0, not_true (is_shut j past) p.1)
+running_parts j past e = let p = and_parts (list_any (begins j) past) (not (is_shut j past)) e in (p.0, not-true (is_shut j past) p.1)
 
 running_from : (j : Job) (past : List Entry) → list_any (begins j) past ≡ true → is_shut j past ≡ false → is_running j past ≡ true
-running_from j past e f = and_from (list_any (begins j) past) (not (is_shut j past)) e (true_not (is_shut j past) f)
+running_from j past e f = and_from (list_any (begins j) past) (not (is_shut j past)) e (not_from_false (is_shut j past) f)
 
 wait_begins_none : (j : Job) (entry : Entry) → is_wait entry ≡ true → begins j entry ≡ false
 wait_begins_none j (made.Waited ms reports how) e = refl
@@ -214,10 +211,6 @@ module _ (j : Job) where
         | inr f ↦ begun_child past p.1 f
       ])
 
-  some_is : (o : Option ℕ) → is_some o ≡ true → (x : ℕ) × (o ≡ Some x)
-  some_is (Some x) e = (x, refl)
-  some_is None e = cc
-
   -- and its ports were drawn
   pub begun_drawn : (past : List Entry) → all_along (starts_in_turn j) past ≡ true → list_any (begins j) past ≡ true → is_some (drawn_clock j past) ≡ true
   begun_drawn past e b =
@@ -285,7 +278,7 @@ after_none false e f = cc
 pub quiet_entry : (jobs : List Job) (j : Job) (entry : Entry) (past : List Entry) → IsAmong j jobs → reads_clock jobs (entry ∷ past) ≡ true → has_wait past ≡ true → is_called_for j (before_wait past) ≡ true
     → is_short_wait (to_wait past) ≡ true → moment_of entry ≡ None
 quiet_entry jobs j (made.Moment ms) [] m e w c s = cc
-quiet_entry jobs j (made.Moment ms) (made.Waited limit reports Done ∷ past) m e w c s = absurd (not_both (is_look_due jobs past) (any_of (λ i. is_called_for i past) jobs j m c) (not_true (is_look_due jobs past) e))
+quiet_entry jobs j (made.Moment ms) (made.Waited limit reports Done ∷ past) m e w c s = absurd (not_both (is_look_due jobs past) (any_of (λ i. is_called_for i past) jobs j m c) (not-true (is_look_due jobs past) e))
 quiet_entry jobs j (made.Moment ms) (made.Waited limit reports Failed ∷ past) m e w c s = cc
 quiet_entry jobs j (made.Moment ms) (x ∷ past) m e w c s = absurd (after_none (has_wait past) e w)
 quiet_entry jobs j _ past m e w c s = refl
@@ -418,7 +411,7 @@ module _ (d : ℕ) (jobs : List Job) (j : Job) (entry : Entry) (past : List Entr
       t = still d entry past (draws_moment j entry e)
 
       none : is_some (drawn_clock j past) ≡ false
-      none = not_true (is_some (drawn_clock j past)) (and_parts (not (is_some (drawn_clock j past))) (nat_lt 0 (acked j past)) (or_off (draws j entry) _ (start_parts j entry past start_now).0 e)).0
+      none = not-true (is_some (drawn_clock j past)) (and_parts (not (is_some (drawn_clock j past))) (nat_lt 0 (acked j past)) (or_off (draws j entry) _ (start_parts j entry past start_now).0 e)).0
 
       unread : is_some s.start ≡ false
       unread = ap (λ (o : Option ℕ). is_some o) i.start ∙ none
