@@ -1,25 +1,24 @@
 -- The core asks for the kernel's start where the first save is acknowledged.
-use Rattle.std.proofs.Common.{◌≡◌, ◌⊎◌, inl, inr, ℕ, zero, suc, ◌+◌, ◌<◌, List, [], ◌∷◌, ◌++◌, length, Bool, true, false, ◌&&◌, ◌||◌, not, cond, Option, Some, None, refl, sym, ◌∙◌, ap, subst, arith}
+use Rattle.std.proofs.Common.{◌≡◌, ◌⊎◌, inl, inr, ℕ, zero, suc, ◌+◌, ◌<◌, List, [], ◌∷◌, ◌++◌, length, Bool, true, false, ◌&&◌, ◌||◌, cond, Option, Some, None, refl, sym, ◌∙◌, ap, arith}
 use Rattle.std.specs.Prelude.{is_some, nat_lt, if◌then◌else◌, ◌==◌}
-use Rattle.std.proofs.lemmas.Bool.{cond-true, cond-false, cond_both, cases_Bool, eqb-true, eq-eqb, false_from_ne_true}
+use Rattle.std.proofs.lemmas.Bool.{cond-true, cond-false, cond_both, cases_Bool, eqb-true, false_from_ne_true}
 use Rattle.world.specs.declared.entry.Entry.{Entry}
-use Rattle.cell_core.specs.declared.act.Act.{Act}
 use Rattle.cell_core.specs.declared.act.Act.TheVariants as act
 use Rattle.cell_core.specs.declared.event.Event.{Event}
 use Rattle.cell_core.specs.declared.event.Event.TheVariants as event
 use Rattle.cell_core.specs.declared.why.Why.{Why}
 use Rattle.cell_core.specs.declared.why.Why.TheVariants as cause
 use Rattle.cell_core.specs.Task.{Task, cell_of}
-use Rattle.cell_core.specs.Acts.{is_empty_list, has_stopped, heard, is_empty, answers, act_by, act_of, awaits_saved}
+use Rattle.cell_core.specs.Acts.{is_empty_list, has_stopped, heard, answers, act_by, act_of, awaits_saved}
 use Rattle.cell_core.specs.Events as events
 use Rattle.cell_core.specs.Requests as core
 use Rattle.cell_core.specs.Saves as core_saves
 use Rattle.run_journal.specs.Job.{Job}
 use Rattle.run_journal.specs.Parts.{acked, is_acknowledging}
-use Rattle.run_journal.specs.Course.{events_at, Course, tell, late_then, told_saved, course}
+use Rattle.run_journal.specs.Course.{events_at, Course, tell, late_then, course}
 use Rattle.run_journal.specs.Why.{child_clock}
 use Rattle.run_journal.specs.Agreement.{Flows, KeepsRules}
-use Rattle.run_journal.proofs.Flowing.{course_agrees, told_parts}
+use Rattle.run_journal.proofs.Flowing.{course_agrees}
 use Rattle.run_journal.proofs.Dating.{Seen, start_is, told_whole}
 use Rattle.run_journal.proofs.Turning.{RanAtWait, dates, child_drawn}
 use Rattle.run_journal.proofs.Truths.{not_both}

@@ -1,30 +1,27 @@
 -- What the core knows of the clock and of looks, as one fold over its events that passes acknowledgements over, and so over what was told and
 -- what waits for a save.
-use Rattle.std.proofs.Common.{◌≡◌, ◌⊎◌, inl, inr, ℕ, suc, ◌+◌, List, [], ◌∷◌, ◌++◌, length, drop, Bool, true, false, ◌&&◌, ◌||◌, not, cond, Option, Some, None, refl, sym, ◌∙◌, ap}
+use Rattle.std.proofs.Common.{◌≡◌, ℕ, List, [], ◌∷◌, ◌++◌, length, drop, Bool, true, false, ◌&&◌, ◌||◌, not, cond, Option, Some, None, refl, sym, ◌∙◌, ap}
 use Rattle.std.specs.Prelude.{is_some, is_none, option_map, nat_le, if◌then◌else◌}
-use Rattle.std.proofs.Math.Bool.{or-false, and-false}
+use Rattle.std.proofs.Math.Bool.{and-false}
 use Rattle.std.proofs.lemmas.List.{append-nil}
-use Rattle.std.proofs.lemmas.Bool.{and_parts, or_parts, cond_both, cond-true, cond-false, cases_Bool}
+use Rattle.std.proofs.lemmas.Bool.{or_parts, cond_both, cond-true, cond-false}
 use Rattle.world.specs.declared.entry.Entry.{Entry}
-use Rattle.world.specs.declared.entry.Entry.TheVariants as made
-use Rattle.world.specs.Places.{time}
-use Rattle.cell_core.specs.declared.brief.Brief.{Brief}
 use Rattle.cell_core.specs.declared.event.Event.{Event}
 use Rattle.cell_core.specs.declared.event.Event.TheVariants as event
 use Rattle.cell_core.specs.Task.{Task}
-use Rattle.cell_core.specs.Deadlines.{is_first_look, is_unanswered, queues, queued}
+use Rattle.cell_core.specs.Deadlines.{is_first_look, is_unanswered, queued}
 use Rattle.cell_core.specs.Events as events
 use Rattle.cell_core.specs.Requests as core
 use Rattle.run_journal.specs.Job.{Job}
 use Rattle.run_journal.specs.Parts.{turn_clock, is_acknowledging, is_running}
 use Rattle.run_journal.specs.Looks.{shows_lost}
-use Rattle.run_journal.specs.Requests.{or_later, is_broken, requests, last_request}
-use Rattle.run_journal.specs.Course.{came_for, begins_at, clock_event, when_so, ends_look, is_late, events_at, Course, late_then, told_saved, course}
-use Rattle.run_journal.specs.Agreement.{told_on, IsHeard, draws}
+use Rattle.run_journal.specs.Requests.{or_later, is_broken}
+use Rattle.run_journal.specs.Course.{begins_at, clock_event, when_so, ends_look, is_late, events_at, Course, late_then, told_saved, course}
+use Rattle.run_journal.specs.Agreement.{told_on, IsHeard}
 use Rattle.run_journal.proofs.Agreeing.{after_more, stands_at}
 use Rattle.run_journal.proofs.Moments.{reply_more}
 use Rattle.run_journal.proofs.Flowing.{Tells, front, tell_front, rest_at, core_at, events_are}
-use Rattle.run_journal.proofs.Telling.{came_append, add_none, none_then, none_late, none_core, none_when, heard_parts, empty_is, some_map}
+use Rattle.run_journal.proofs.Telling.{add_none, none_late, none_core, none_when, heard_parts, some_map}
 
 -- ---- the fold
 

@@ -1,9 +1,8 @@
 -- Where the loop keeps its rules the core stops where the job does, and for the same cause.
-use Rattle.std.proofs.Common.{◌≡◌, inl, inr, ℕ, suc, ◌+◌, ◌<◌, List, [], length, Bool, true, false, ◌&&◌, not, cond, Option, Some, None, refl, sym, ◌∙◌, ap, subst, arith}
+use Rattle.std.proofs.Common.{◌≡◌, ℕ, suc, ◌+◌, ◌<◌, List, [], length, Bool, true, false, ◌&&◌, not, cond, Option, Some, None, refl, sym, ◌∙◌, ap, subst}
 use Rattle.std.specs.Prelude.{is_some, is_none, option_map, slice_get}
 use Rattle.world.specs.declared.entry.Entry.{Entry}
 use Rattle.cell_core.specs.declared.event.Event.{Event}
-use Rattle.cell_core.specs.declared.why.Why.{Why}
 use Rattle.cell_core.specs.declared.why.Why.TheVariants as cause
 use Rattle.cell_core.specs.Deadlines.{first_deadline, queued}
 use Rattle.cell_core.specs.Events as events

@@ -1,5 +1,5 @@
 -- The requests at an earlier moment, before which a deadline had passed.
-use Rattle.std.proofs.Common.{◌≡◌, ◌⊎◌, inl, inr, ℕ, zero, suc, ◌+◌, ◌<◌, ◌≤◌, List, [], ◌∷◌, ◌++◌, length, map, Bool, true, false, ◌&&◌, ◌||◌, not, cond, Option, Some, None, refl, sym, ◌∙◌, ap, subst, arith}
+use Rattle.std.proofs.Common.{◌≡◌, ◌⊎◌, inl, inr, ℕ, suc, ◌+◌, ◌<◌, ◌≤◌, List, [], ◌∷◌, ◌++◌, length, map, Bool, true, false, ◌&&◌, Option, Some, None, refl, sym, ◌∙◌, ap, subst, arith}
 use Rattle.std.specs.Prelude.{is_some, slice_get, nat_lt}
 use Rattle.std.proofs.lemmas.Bool.{and_parts, and_from, cond-true, cond-false, cases_Bool, lt-ltb}
 use Rattle.world.specs.declared.entry.Entry.{Entry}
@@ -9,7 +9,7 @@ use Rattle.run_journal.specs.Job.{Job}
 use Rattle.run_journal.specs.Parts.{acked, is_acknowledging}
 use Rattle.run_journal.specs.Arrivals.{asked, is_ready}
 use Rattle.run_journal.specs.Looks.{ever, is_past}
-use Rattle.run_journal.specs.Requests.{Request, first, reply, goes_on, is_next, fresh, count_queued, with_interrupt, requests, last_request}
+use Rattle.run_journal.specs.Requests.{Request, reply, goes_on, is_next, fresh, count_queued, with_interrupt, requests, last_request}
 use Rattle.run_journal.specs.Due.{all_along}
 use Rattle.run_journal.specs.Grow.{GoesOn, GoOn, no_more, one_more}
 use Rattle.run_journal.specs.Agreement.{rises}

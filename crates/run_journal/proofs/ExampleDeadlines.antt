@@ -1,5 +1,5 @@
 -- Runs that keep the loop's rules and end by a deadline.
-use Rattle.std.proofs.Common.{◌≡◌, inl, ℕ, ◌<◌, List, [], ◌∷◌, ◌++◌, Bool, true, false, Some, None, refl, reverse}
+use Rattle.std.proofs.Common.{◌≡◌, inl, ℕ, List, [], ◌∷◌, ◌++◌, Bool, true, false, Some, None, refl, reverse}
 use Rattle.world.specs.declared.chan.Chan.TheVariants.{Shell, Control, Iopub}
 use Rattle.world.specs.declared.entry.Entry.{Entry}
 use Rattle.world.specs.declared.entry.Entry.TheVariants as made
@@ -20,8 +20,7 @@ use Rattle.run_journal.specs.Requests.{is_broken, is_interrupted}
 use Rattle.run_journal.specs.Why.{bad_stream, child_clock, why}
 use Rattle.run_journal.specs.Due.{all_along}
 use Rattle.run_journal.specs.Course.{course}
-use Rattle.run_journal.specs.Order.{begins_unread}
-use Rattle.run_journal.specs.Agreement.{EndsLooks, Flows, KeepsTime, KeepsRules, tells_rightly, waits_on}
+use Rattle.run_journal.specs.Agreement.{Flows, KeepsTime, KeepsRules, tells_rightly, waits_on}
 use Rattle.run_journal.proofs.Toy.{got, put, dry, wait}
 use Rattle.run_journal.proofs.ExampleAwake.{one, begins, asks}
 

@@ -7,7 +7,6 @@ use Rattle.world.specs.declared.side.Side.TheVariants as side
 use Rattle.cell_core.specs.declared.why.Why.TheVariants as cause
 use Rattle.cell_core.specs.declared.event.Event.TheVariants as event
 use Rattle.cell_core.specs.declared.brief.Brief.TheVariants as brief
-use Rattle.run_journal.specs.Job.{Job}
 use Rattle.run_journal.specs.Arrivals.{arrive, is_shaken, can_ask, ask_on}
 use Rattle.run_journal.specs.Looks.{looked, can_ping, ping_on, is_silent, is_lost, ran_out}
 use Rattle.run_journal.specs.Requests.{is_broken, is_interrupted}
@@ -16,7 +15,7 @@ use Rattle.run_journal.specs.Saves.{saves}
 use Rattle.run_journal.specs.Ends.{KernelLost, status_of}
 use Rattle.run_journal.specs.Lines.{Saved, Last, lines}
 use Rattle.run_journal.specs.Course.{course}
-use Rattle.run_journal.proofs.Toy.{job, saved, got, wait, turn, made_ready, printed, three}
+use Rattle.run_journal.proofs.Toy.{saved, got, wait, turn, made_ready, printed, three}
 
 -- the first cell prints; in the second the kernel prints and dies
 abbrev pub dying : List Entry

@@ -11,7 +11,7 @@ use Rattle.run_journal.specs.Why.{bad_stream, why}
 use Rattle.run_journal.specs.Saves.{saves}
 use Rattle.run_journal.specs.Ends.{CellError, status_of}
 use Rattle.run_journal.specs.Lines.{Saved, Last, lines}
-use Rattle.run_journal.proofs.Toy.{job, saved, got, turn, made_ready, printed, three}
+use Rattle.run_journal.proofs.Toy.{saved, got, turn, made_ready, printed, three}
 
 -- the same, where errors are allowed
 abbrev lenient : Job

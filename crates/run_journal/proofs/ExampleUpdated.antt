@@ -2,14 +2,13 @@
 use Rattle.std.proofs.Common.{◌≡◌, ℕ, List, [], ◌∷◌, ◌++◌, refl, reverse, map}
 use Rattle.world.specs.declared.chan.Chan.TheVariants.{Shell, Iopub}
 use Rattle.world.specs.declared.entry.Entry.{Entry}
-use Rattle.run_journal.specs.Job.{Job}
 use Rattle.run_journal.specs.Arrivals.{arrive, is_shaken, can_ask, ask_on}
 use Rattle.run_journal.specs.Looks.{looked, can_ping, ping_on, is_silent, is_lost, ran_out}
 use Rattle.run_journal.specs.Requests.{is_broken, is_interrupted}
 use Rattle.run_journal.specs.Why.{bad_stream}
 use Rattle.run_journal.specs.Saves.{saves}
 use Rattle.run_journal.specs.Ends.{status_of}
-use Rattle.run_journal.proofs.Toy.{job, saved, got, turn, made_ready, printed, three}
+use Rattle.run_journal.proofs.Toy.{saved, got, turn, made_ready, printed, three}
 
 -- the first shows `x` twice, the second prints, the third updates `x`
 abbrev journal : List Entry

@@ -1,29 +1,27 @@
 -- By the loop's rules each look at a job that runs is over before the next wait.
-use Rattle.std.proofs.Common.{◌≡◌, ◌⊎◌, inl, inr, ℕ, ◌+◌, ◌*◌, ◌<◌, List, [], ◌∷◌, ◌++◌, Bool, true, false, ◌&&◌, ◌||◌, not, cond, Option, Some, None, refl, sym, ◌∙◌, ap, subst, arith}
-use Rattle.std.specs.Prelude.{is_some, if◌then◌else◌, ◌==◌, count_by}
+use Rattle.std.proofs.Common.{◌≡◌, ◌⊎◌, inl, inr, ◌+◌, ◌*◌, ◌<◌, List, [], ◌∷◌, ◌++◌, Bool, true, false, ◌&&◌, ◌||◌, not, cond, refl, sym, ◌∙◌, ap, arith}
+use Rattle.std.specs.Prelude.{◌==◌}
 use Rattle.std.specs.List.{list_any, list_all}
-use Rattle.std.proofs.lemmas.Bool.{and_parts, or_parts, and_from, or_left, or_right, cond-true, cond-false, cond_both, cases_Bool, eqb-true, eq-eqb, not-true, not_from_false}
+use Rattle.std.proofs.lemmas.Bool.{and_parts, or_parts, and_from, cond-false, cases_Bool, eqb-true, eq-eqb, not-true}
 use Rattle.world.specs.declared.chan.Chan.{Chan}
 use Rattle.world.specs.declared.chan.Chan.TheVariants.{Shell, Control, Iopub, Heart}
-use Rattle.world.specs.declared.conn.Conn.{Conn}
 use Rattle.world.specs.declared.did.Did.TheVariants as did
 use Rattle.world.specs.declared.entry.Entry.{Entry}
 use Rattle.world.specs.declared.entry.Entry.TheVariants as made
-use Rattle.world.specs.Places.{chan_number, is_at}
+use Rattle.world.specs.Places.{chan_number}
 use Rattle.world.specs.Waits.{is_wait, has_wait, before_wait, to_wait, since_wait}
 use Rattle.world.specs.Jobs.{closes}
 use Rattle.cell_core.specs.declared.event.Event.{Event}
 use Rattle.cell_core.specs.declared.event.Event.TheVariants as event
 use Rattle.cell_core.specs.Acts.{is_empty_list}
 use Rattle.run_journal.specs.Job.{Job}
-use Rattle.run_journal.specs.Parts.{channels, place, connection, is_shut, is_running}
+use Rattle.run_journal.specs.Parts.{channels, connection, is_shut}
 use Rattle.run_journal.specs.Looks.{is_short_wait, is_drained, is_read_through, looked, shows_lost}
 use Rattle.run_journal.specs.Due.{all_along}
-use Rattle.run_journal.specs.Awake.{Awake, implies, is_awake, is_closed, is_look, is_called_for, is_look_due, reads_all, looks_once}
-use Rattle.run_journal.specs.Course.{when_so, in_look, ends_look, is_late, events_at, tell, late_then, told_saved, course}
+use Rattle.run_journal.specs.Awake.{implies, is_awake, is_closed, is_called_for, is_look_due, reads_all, looks_once}
+use Rattle.run_journal.specs.Course.{when_so, in_look, ends_look, is_late, tell, late_then, told_saved, course}
 use Rattle.run_journal.specs.Agreement.{IsAmong, EndsLooks, ends_looks, KeepsRules, is_done_wait, waits_on}
 use Rattle.run_journal.proofs.Flowing.{tell_by}
-use Rattle.run_journal.proofs.Sighting.{or_either, all_more}
 use Rattle.run_journal.proofs.Finding.{wait_shows_none}
 use Rattle.run_journal.proofs.Turning.{or_off, any_of, rules_before, running_parts, RanAtWait, ran_before, runs_at_wait}
 use Rattle.run_journal.proofs.Rereading.{each_one}

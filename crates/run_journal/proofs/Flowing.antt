@@ -24,7 +24,6 @@ use Rattle.run_journal.proofs.Growth.{ready_stays}
 use Rattle.run_journal.proofs.Agreeing.{agree_first, agree_other, agree_saved, ready_unheard}
 use Rattle.run_journal.proofs.AlikeLooks.{arrive_nothing}
 use Rattle.run_journal.proofs.Hearing.{IsComing, io, replied, AreComing, coming_for, told_append, none_unready, agree_ready, agree_came}
-use Rattle.run_journal.proofs.Truths.{not_both}
 
 -- ---- events that aren't of requests
 

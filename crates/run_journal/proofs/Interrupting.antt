@@ -1,38 +1,36 @@
 -- The interrupt of the last request is queued for the core where it is by the journal, as long as nothing else has stopped the job.
-use Rattle.std.proofs.Common.{◌≡◌, ◌⊎◌, inl, inr, ℕ, zero, suc, ◌+◌, ◌<◌, ◌≤◌, List, [], ◌∷◌, ◌++◌, length, map, Bool, true, false, ◌&&◌, ◌||◌, not, cond, Option, Some, None, refl, sym, ◌∙◌, ap, subst, arith}
-use Rattle.std.specs.Prelude.{is_some, option_map, option_to_list, slice_get, nat_le, if◌then◌else◌}
+use Rattle.std.proofs.Common.{◌≡◌, ◌⊎◌, inl, inr, ℕ, suc, ◌+◌, ◌<◌, ◌≤◌, List, [], ◌∷◌, length, Bool, true, false, ◌&&◌, ◌||◌, not, Option, Some, None, refl, sym, ◌∙◌, ap, subst, arith}
+use Rattle.std.specs.Prelude.{is_some, option_map, option_to_list, slice_get, if◌then◌else◌}
 use Rattle.std.specs.List.{list_any}
 use Rattle.std.proofs.lemmas.List.Folds.{list_any-append}
-use Rattle.std.proofs.lemmas.Bool.{and_parts, and_from, or_left, or_right, cond-true, cond-false, cases_Bool, leb-true, le-leb, false_from_ne_true, not-true, not_from_false}
+use Rattle.std.proofs.lemmas.Bool.{and_parts, and_from, or_left, or_right, cond-true, cond-false, cases_Bool, false_from_ne_true, not_from_false}
 use Rattle.world.specs.declared.chan.Chan.{Chan}
 use Rattle.world.specs.declared.chan.Chan.TheVariants.{Shell, Iopub}
 use Rattle.world.specs.declared.entry.Entry.{Entry}
-use Rattle.world.specs.declared.entry.Entry.TheVariants as made
 use Rattle.world.specs.Places.{time}
-use Rattle.world.specs.Waits.{is_wait, has_wait, before_wait, moment_of}
-use Rattle.cell_core.specs.declared.why.Why.{Why}
+use Rattle.world.specs.Waits.{is_wait, has_wait, before_wait}
 use Rattle.cell_core.specs.declared.why.Why.TheVariants as cause
 use Rattle.run_journal.specs.Codec.{Arrival}
 use Rattle.run_journal.specs.Job.{Job}
-use Rattle.run_journal.specs.Parts.{acked, turn_clock, is_running}
+use Rattle.run_journal.specs.Parts.{acked, is_running}
 use Rattle.run_journal.specs.Arrivals.{arrive}
-use Rattle.run_journal.specs.Looks.{looked, ever, shows_lost, is_lost, is_at_least, is_past}
-use Rattle.run_journal.specs.Requests.{Request, reply, or_later, first_clock, before_clock, just_ran_out, deadline, is_just_out, is_broken, is_interrupted, with_news, with_interrupt, goes_on, requests, last_request}
+use Rattle.run_journal.specs.Looks.{ever, shows_lost, is_lost, is_past}
+use Rattle.run_journal.specs.Requests.{Request, reply, or_later, first_clock, just_ran_out, deadline, is_just_out, is_broken, is_interrupted, with_news, goes_on, requests, last_request}
 use Rattle.run_journal.specs.Why.{when, bad_stream, is_done, is_error, is_not_ready, is_no_idle, is_timed_out, why}
 use Rattle.run_journal.specs.Due.{all_along}
 use Rattle.run_journal.specs.Order.{begins_unread}
 use Rattle.run_journal.specs.Decoding.{IsDecoding}
 use Rattle.run_journal.specs.Awake.{start_deadline, reply_deadline, wait_deadline, request_deadline, deadlines, has_passed, is_called_for, keeps_up}
 use Rattle.run_journal.specs.Course.{ends_look}
-use Rattle.run_journal.specs.Agreement.{BeginsUnread, rises, KeepsRules}
+use Rattle.run_journal.specs.Agreement.{BeginsUnread, KeepsRules}
 use Rattle.run_journal.proofs.Growth.{goes, reply_stays}
 use Rattle.run_journal.proofs.Telling.{stays_broken, unread_before}
 use Rattle.run_journal.proofs.Sighting.{or_either, looked_stays}
 use Rattle.run_journal.proofs.Finding.{lost_is, lost_parts}
-use Rattle.run_journal.proofs.Dating.{Seen, run, whole, end, clocks_at}
-use Rattle.run_journal.proofs.Turning.{rules_before, RanAtWait, ran_before, runs_at_wait, Still, still, turn_none, first_waited, Dates, dates, dates_clock}
+use Rattle.run_journal.proofs.Dating.{Seen, whole, end}
+use Rattle.run_journal.proofs.Turning.{rules_before, RanAtWait, ran_before, runs_at_wait, first_waited, dates, dates_clock}
 use Rattle.run_journal.proofs.Lapse.{Before, here, earlier, wait_was, ever_before, clock_from, first_ever, first_before, wait_unstopped, ends_parts, clocks_kept, end_queues, then_seen, whole_is, still_now, just_parts, just_from, just_queued}
-use Rattle.run_journal.proofs.Earlier.{length_on, go_before, CameBy, stood, anew, came_by, Was, stood_before, last_before}
+use Rattle.run_journal.proofs.Earlier.{length_on, go_before, CameBy, stood, anew, came_by, stood_before, last_before}
 use Rattle.run_journal.proofs.Agreeing.{get_below}
 use Rattle.run_journal.proofs.Truths.{not_both}
 

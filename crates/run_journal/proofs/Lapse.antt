@@ -1,7 +1,7 @@
 -- A look after a clock entry at or past a deadline is found by the core where it is found by the journal, and stays so up to the next wait.
-use Rattle.std.proofs.Common.{◌≡◌, ◌⊎◌, inl, inr, ℕ, ◌+◌, ◌<◌, ◌≤◌, List, [], ◌∷◌, ◌++◌, Bool, true, false, ◌&&◌, ◌||◌, not, cond, Option, Some, None, refl, sym, ◌∙◌, ap, subst, arith}
+use Rattle.std.proofs.Common.{◌≡◌, ◌⊎◌, inl, inr, ℕ, ◌≤◌, List, [], ◌∷◌, Bool, true, false, ◌&&◌, ◌||◌, not, Option, Some, None, refl, sym, ◌∙◌, ap, subst, arith}
 use Rattle.std.specs.Prelude.{is_some, nat_le, if◌then◌else◌, ◌==◌, length}
-use Rattle.std.proofs.lemmas.Bool.{and_parts, or_parts, and_from, or_left, or_right, cond-true, cond-false, cases_Bool, leb-true, le-leb, not-true, not_from_false}
+use Rattle.std.proofs.lemmas.Bool.{and_parts, or_parts, and_from, or_left, or_right, cond-true, cond-false, cases_Bool, leb-true, not-true, not_from_false}
 use Rattle.world.specs.declared.entry.Entry.{Entry}
 use Rattle.world.specs.declared.entry.Entry.TheVariants as made
 use Rattle.world.specs.Places.{time}
@@ -20,12 +20,11 @@ use Rattle.run_journal.specs.Due.{all_along}
 use Rattle.run_journal.specs.Awake.{implies, is_called_for, keeps_up, reads_clock}
 use Rattle.run_journal.specs.Course.{begins_at, clock_event, in_look, ends_look}
 use Rattle.run_journal.specs.Agreement.{IsAmong, rises, KeepsRules}
-use Rattle.run_journal.proofs.AlikeLooks.{or_none}
 use Rattle.run_journal.proofs.Growth.{before_all}
 use Rattle.run_journal.proofs.Telling.{add_none, none_begins, none_turn}
 use Rattle.run_journal.proofs.Sighting.{or_either, looked_stays}
-use Rattle.run_journal.proofs.Dating.{Seen, sighted, run, see, whole, whole_next, end, clocks_at}
-use Rattle.run_journal.proofs.Turning.{first_kept, all_of, rules_before, running_parts, RanAtWait, ran_before, runs_at_wait, Still, quiet_entry, quiet_look, still, first_waited, Dates, dates}
+use Rattle.run_journal.proofs.Dating.{Seen, run, see, whole, whole_next, end, clocks_at}
+use Rattle.run_journal.proofs.Turning.{first_kept, all_of, rules_before, running_parts, RanAtWait, ran_before, runs_at_wait, Still, quiet_entry, quiet_look, still, first_waited, dates}
 use Rattle.run_journal.proofs.Truths.{not_both}
 
 -- ---- moments of a journal

@@ -1,23 +1,22 @@
 -- By the loop's rules no connection is begun again after it was read.
-use Rattle.std.proofs.Common.{◌≡◌, ◌⊎◌, inl, inr, ℕ, ◌+◌, List, [], ◌∷◌, ◌++◌, Bool, true, false, ◌&&◌, ◌||◌, not, cond, Option, Some, None, refl, sym, ◌∙◌, ap, subst}
-use Rattle.std.specs.Prelude.{is_some, if◌then◌else◌, nat_le}
+use Rattle.std.proofs.Common.{◌≡◌, inl, inr, ℕ, List, [], ◌∷◌, Bool, true, false, ◌&&◌, ◌||◌, not, cond, Option, Some, None, refl, ap}
+use Rattle.std.specs.Prelude.{is_some}
 use Rattle.std.specs.List.{list_any, list_all}
-use Rattle.std.proofs.lemmas.Bool.{and_parts, or_parts, and_from, or_left, or_right, cond-true, cond-false, cases_Bool}
+use Rattle.std.proofs.lemmas.Bool.{and_parts, and_from}
 use Rattle.world.specs.declared.chan.Chan.{Chan}
 use Rattle.world.specs.declared.chan.Chan.TheVariants.{Shell, Control, Iopub, Heart}
-use Rattle.world.specs.declared.conn.Conn.{Conn}
 use Rattle.world.specs.declared.connected.Connected.{Connected}
 use Rattle.world.specs.declared.connected.Connected.TheVariants as connected
 use Rattle.world.specs.declared.did.Did.{Did}
 use Rattle.world.specs.declared.did.Did.TheVariants as did
 use Rattle.world.specs.declared.entry.Entry.{Entry}
 use Rattle.world.specs.declared.entry.Entry.TheVariants as made
-use Rattle.world.specs.Places.{Status, idle_status, is_at, is_read, is_write, is_reported, status_after, connected_after, closed_after, got_after, ended_after, refused_after, waited_after, time}
+use Rattle.world.specs.Places.{Status, is_at, is_read, is_write, is_reported, connected_after, closed_after, got_after, ended_after, refused_after, waited_after, time}
 use Rattle.run_journal.specs.Job.{Job}
 use Rattle.run_journal.specs.Parts.{channels, place, connection, bytes_got}
 use Rattle.run_journal.specs.Due.{all_along}
 use Rattle.run_journal.specs.Order.{is_nothing, begins_unread}
-use Rattle.run_journal.specs.Awake.{Awake, implies, is_its, is_connect, is_called_for, again_ms, may_begin_again, in_order, begins_refused}
+use Rattle.run_journal.specs.Awake.{Awake, implies, is_its, is_connect, may_begin_again, in_order, begins_refused}
 use Rattle.run_journal.specs.Agreement.{IsAmong, BeginsUnread, tells_rightly, TellsRightly}
 use Rattle.run_journal.proofs.Sighting.{or_either}
 use Rattle.run_journal.proofs.Turning.{all_of, or_off}

@@ -1,7 +1,6 @@
 -- Each row of the causes holds for the core where it holds by the journal.
-use Rattle.std.proofs.Common.{◌≡◌, ◌⊎◌, inl, inr, ℕ, zero, suc, ◌+◌, ◌<◌, ◌≤◌, List, [], ◌∷◌, ◌++◌, length, map, drop, Bool, true, false, ◌&&◌, ◌||◌, not, cond, Option, Some, None, refl, sym, ◌∙◌, ap, subst, arith}
+use Rattle.std.proofs.Common.{◌≡◌, ◌⊎◌, inl, inr, ℕ, zero, suc, ◌+◌, ◌<◌, ◌≤◌, List, [], ◌∷◌, length, map, Bool, true, false, ◌&&◌, ◌||◌, not, Option, Some, None, refl, sym, ◌∙◌, ap, subst, arith}
 use Rattle.std.specs.Prelude.{is_some, is_none, option_map, option_to_list, slice_get, nat_le, if◌then◌else◌, IsSomeAnd}
-use Rattle.std.specs.List.{list_any}
 use Rattle.std.proofs.lemmas.Bool.{and_parts, and_from, or_left, or_right, cond-true, cond-false, cases_Bool, leb-true, le-leb, false_from_ne_true, not-true, not_from_false}
 use Rattle.world.specs.declared.chan.Chan.TheVariants.{Shell, Iopub}
 use Rattle.world.specs.declared.entry.Entry.{Entry}
@@ -9,35 +8,32 @@ use Rattle.world.specs.declared.entry.Entry.TheVariants as made
 use Rattle.world.specs.Places.{time}
 use Rattle.world.specs.Waits.{has_wait, before_wait, moment_of}
 use Rattle.cell_core.specs.declared.event.Event.{Event}
-use Rattle.cell_core.specs.declared.why.Why.{Why}
-use Rattle.cell_core.specs.declared.why.Why.TheVariants as cause
 use Rattle.cell_core.specs.Task.{Task}
-use Rattle.cell_core.specs.Deadlines.{idle_ms, interrupt_ms, stood_at, replied_at, first_deadline, second_deadline, entry_and_more, start_from, start_deadline as core_start, is_unanswered, queued, looked_by}
+use Rattle.cell_core.specs.Deadlines.{idle_ms, interrupt_ms, replied_at, second_deadline, entry_and_more, start_from, start_deadline as core_start, is_unanswered, queued, looked_by}
 use Rattle.cell_core.specs.Events as events
 use Rattle.cell_core.specs.Requests as core
 use Rattle.cell_core.specs.Saves as core_saves
 use Rattle.run_journal.specs.Codec.{Arrival}
 use Rattle.run_journal.specs.Job.{Job}
-use Rattle.run_journal.specs.Parts.{acked, turn_clock, begins, is_running}
+use Rattle.run_journal.specs.Parts.{acked, turn_clock, is_running}
 use Rattle.run_journal.specs.Arrivals.{arrive, asked, is_ready}
 use Rattle.run_journal.specs.Looks.{looked, ever, is_lost, is_at_least, is_past, ran_out}
 use Rattle.run_journal.specs.Requests.{Request, has_idle, reply, is_over, or_later, first_clock, before_clock, just_ran_out, deadline, is_just_out, is_broken, is_interrupted, with_news, fresh, count_queued, goes_on, requests, last_request}
-use Rattle.run_journal.specs.Why.{child_clock, starts, is_out, is_not_ready, is_no_idle, is_timed_out, last_deadline, why}
+use Rattle.run_journal.specs.Why.{child_clock, starts, is_out, is_not_ready, is_no_idle, is_timed_out, last_deadline}
 use Rattle.run_journal.specs.Due.{all_along}
 use Rattle.run_journal.specs.Decoding.{IsDecoding}
 use Rattle.run_journal.specs.Grow.{GoesOn}
-use Rattle.run_journal.specs.Awake.{start_deadline, request_deadline, wait_deadline, reply_deadline, is_called_for}
+use Rattle.run_journal.specs.Awake.{request_deadline, wait_deadline, reply_deadline, is_called_for}
 use Rattle.run_journal.specs.Course.{course}
 use Rattle.run_journal.specs.Agreement.{AgreesOn, Agrees, ClocksOn, Clocks, BeginsUnread, Flows, KeepsTime, drawn_clock, rises, KeepsRules}
-use Rattle.run_journal.proofs.AlikeLooks.{or_none}
 use Rattle.run_journal.proofs.Growth.{goes, goes_self, ready_stays, reply_stays, over_stays}
 use Rattle.run_journal.proofs.Flowing.{course_agrees}
 use Rattle.run_journal.proofs.Asking.{Stands, nothing, last, stands, last_numbered}
 use Rattle.run_journal.proofs.Clocks.{clocks_agree}
 use Rattle.run_journal.proofs.Sighting.{or_either}
-use Rattle.run_journal.proofs.Dating.{Seen, seen, start_is, first_is, found_is, queued_is, whole, told_whole, clock_in}
-use Rattle.run_journal.proofs.Turning.{first_kept, later_some, running_parts, any_before, RanAtWait, child_drawn, begun_child, drawn_acked, first_waited, first_none, still, turn_none, Dates, dates}
-use Rattle.run_journal.proofs.Lapse.{Before, here, earlier, wait_was, before_then, ever_before, rules_at, clock_from, first_ever, first_before, ran_parts, Left, found_ran, ran_found}
+use Rattle.run_journal.proofs.Dating.{Seen, start_is, first_is, found_is, queued_is, whole, told_whole, clock_in}
+use Rattle.run_journal.proofs.Turning.{first_kept, running_parts, any_before, RanAtWait, child_drawn, begun_child, drawn_acked, first_waited, still, dates}
+use Rattle.run_journal.proofs.Lapse.{Before, here, earlier, wait_was, ever_before, rules_at, clock_from, first_ever, first_before, ran_parts, Left, found_ran, ran_found}
 use Rattle.run_journal.proofs.Earlier.{CameBy, stood, anew, came_by, Was, stood_before, replied_before, last_before, ready_stands, go_before, none_on, goes_then}
 use Rattle.run_journal.proofs.Interrupting.{none_holds, called_start, called_request, no_reply_before, interrupted_parts, interrupted_queued, queued_interrupted}
 use Rattle.run_journal.proofs.Truths.{not_both}

@@ -1,31 +1,30 @@
 -- Where the loop's rules are kept the core is told each turn's clock, and no clock is read in a look.
-use Rattle.std.proofs.Common.{◌≡◌, ◌⊎◌, inl, inr, ℕ, ◌+◌, ◌<◌, ◌≤◌, List, [], ◌∷◌, ◌++◌, Bool, true, false, ◌&&◌, ◌||◌, not, cond, Option, Some, None, refl, sym, ◌∙◌, ap, subst, arith}
+use Rattle.std.proofs.Common.{◌≡◌, ◌⊎◌, inl, inr, ℕ, ◌<◌, List, [], ◌∷◌, ◌++◌, Bool, true, false, ◌&&◌, ◌||◌, not, Option, Some, None, refl, sym, ◌∙◌, ap, subst, arith}
 use Rattle.std.specs.Prelude.{is_some, nat_le, nat_lt, if◌then◌else◌, ◌==◌}
 use Rattle.std.specs.List.{list_any, list_all}
-use Rattle.std.proofs.lemmas.List.{append-nil}
-use Rattle.std.proofs.lemmas.Bool.{and_parts, or_parts, and_from, or_left, or_right, cond-true, cond-false, cases_Bool, eqb-true, ltb-true, leb-true, le-leb, not-true, not_from_false}
+use Rattle.std.proofs.lemmas.Bool.{and_parts, or_parts, and_from, or_left, or_right, cond-true, cond-false, cases_Bool, eqb-true, ltb-true, not-true, not_from_false}
 use Rattle.world.specs.declared.did.Did.TheVariants.{Done, Failed}
 use Rattle.world.specs.declared.entry.Entry.{Entry}
 use Rattle.world.specs.declared.entry.Entry.TheVariants as made
 use Rattle.world.specs.Places.{time}
-use Rattle.world.specs.Waits.{is_wait, has_wait, before_wait, to_wait, is_after_wait, turn_moment, moment_of}
+use Rattle.world.specs.Waits.{is_wait, has_wait, before_wait, to_wait, is_after_wait, moment_of}
 use Rattle.world.specs.Jobs.{closes}
 use Rattle.cell_core.specs.declared.event.Event.{Event}
 use Rattle.cell_core.specs.declared.event.Event.TheVariants as event
 use Rattle.run_journal.specs.Job.{Job}
 use Rattle.run_journal.specs.Parts.{turn_clock, acked, begins, is_shut, is_running}
-use Rattle.run_journal.specs.Looks.{is_short_wait, looked, ever, is_at_least, is_past}
+use Rattle.run_journal.specs.Looks.{is_short_wait, is_at_least}
 use Rattle.run_journal.specs.Requests.{or_later, first_clock, before_clock}
 use Rattle.run_journal.specs.Why.{starts, child_clock}
 use Rattle.run_journal.specs.Due.{all_along}
 use Rattle.run_journal.specs.Awake.{Awake, implies, is_called_for, is_look_due, in_order, waits_last, waits_short, reads_all, reads_few, keeps_up, reads_clock, looks_once, begins_again, begins_refused, begins_early, has_room}
 use Rattle.run_journal.specs.Course.{begins_at, clock_event}
-use Rattle.run_journal.specs.Agreement.{IsHeard, is_heard, IsAmong, rises, draws, drawn_clock, is_clock, starts_in_turn, KeepsRules}
+use Rattle.run_journal.specs.Agreement.{is_heard, IsAmong, rises, draws, drawn_clock, is_clock, starts_in_turn, KeepsRules}
 use Rattle.run_journal.proofs.AlikeLooks.{or_none}
 use Rattle.run_journal.proofs.Growth.{acked_grows}
 use Rattle.run_journal.proofs.Sighting.{or_either}
 use Rattle.run_journal.proofs.Turns.{turn_is}
-use Rattle.run_journal.proofs.Dating.{Seen, passes, dated, sighted, run, whole, whole_next, end, clocks_at}
+use Rattle.run_journal.proofs.Dating.{Seen, dated, run, whole, whole_next, end, clocks_at}
 use Rattle.run_journal.proofs.Truths.{not_both}
 use Rattle.run_journal.proofs.Telling.{some_is}
 

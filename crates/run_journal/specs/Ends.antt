@@ -6,8 +6,6 @@ use Rattle.jtext.specs.Print.{quoted}
 use Rattle.jcontent.specs.declared.content.Content.{Content}
 use Rattle.jcontent.specs.declared.content.Content.TheVariants as content
 use Rattle.jcontent.specs.declared.reply.ReplyIs.TheVariants as reply_is
-use Rattle.world.specs.declared.chan.Chan.{Chan}
-use Rattle.world.specs.declared.chan.Chan.TheVariants as chan
 use Rattle.world.specs.declared.connected.Connected.TheVariants as connected
 use Rattle.world.specs.declared.did.Did.TheVariants as did
 use Rattle.world.specs.declared.entry.Entry.{Entry}

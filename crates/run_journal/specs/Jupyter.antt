@@ -4,7 +4,6 @@ use Rattle.std.specs.Prelude.{ℕ, List, [], ◌∷◌, ◌++◌, Bool, Option, 
 use Rattle.jtext.specs.declared.json.Json.{Json}
 use Rattle.world.specs.declared.chan.Chan.{Chan}
 use Rattle.world.specs.declared.chan.Chan.TheVariants as chan
-use Rattle.zmtp_wire.specs.declared.role.Role.{Role}
 use Rattle.zmtp_wire.specs.declared.role.Role.TheVariants as role
 use Rattle.zmtp_wire.specs.Fault.{number_of}
 use Rattle.zmtp_wire.specs.Meaning.{Place, messages_in, is_shaken, fault_in}

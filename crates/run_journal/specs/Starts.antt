@@ -1,5 +1,5 @@
 -- With what a job's child is started, and where its connections go (jupyter_client, "Kernel specs" and "Connection files").
-use Rattle.std.specs.Prelude.{◌≡◌, ℕ, ◌==◌, List, [], ◌∷◌, ◌++◌, Bool, true, false, codes, Option, Some, None, if◌then◌else◌, slice_get, IsTrue}
+use Rattle.std.specs.Prelude.{◌≡◌, ℕ, ◌==◌, List, [], ◌∷◌, Bool, true, false, Option, Some, None, if◌then◌else◌, slice_get, IsTrue}
 use Rattle.jtext.specs.declared.json.Json.{Json}
 use Rattle.jtext.specs.Print.{compact}
 use Rattle.kspec.specs.declared.start.Spec.{Spec}
