@@ -25,7 +25,7 @@ use Rattle.run_journal.proofs.Telling.{add_none, none_late, none_core, none_when
 
 -- ---- the fold
 
--- Of a deadline: the clock of the start, and the first turn's clock at or past the deadline, with whether neither a clock entry
+-- Of a deadline: the clock of the start, the last clock, and the first turn's clock at or past the deadline, with whether neither a clock entry
 -- nor a look came since, whether a look did, and whether one did with no clock entry between.
 pub record Seen : Type 0 where
   pub start : Option ℕ
@@ -33,9 +33,10 @@ pub record Seen : Type 0 where
   pub fresh : Bool
   pub found : Bool
   pub queued : Bool
+  pub now : ℕ
 
 abbrev pub unseen : Seen
-unseen = record { start = None; first = None; fresh = false; found = false; queued = false }
+unseen = record { start = None; first = None; fresh = false; found = false; queued = false; now = 0 }
 
 -- a turn's clock entry is at or past the deadline
 abbrev pub passes : ℕ → ℕ → Seen → Bool
@@ -48,10 +49,11 @@ dated d ms s = record {
   fresh = not (is_some s.first) && passes d ms s;
   found = s.found;
   queued = s.queued;
+  now = ms;
 }
 
 abbrev pub sighted : Seen → Seen
-sighted s = record { start = s.start; first = s.first; fresh = false; found = is_some s.first || s.found; queued = s.fresh || s.queued }
+sighted s = record { start = s.start; first = s.first; fresh = false; found = is_some s.first || s.found; queued = s.fresh || s.queued; now = s.now }
 
 -- with one more event
 abbrev pub see : ℕ → Event → Seen → Seen
@@ -124,6 +126,18 @@ start_is d (event.Io b ∷ told) = start_is d told
 start_is d (event.Reply f ∷ told) = start_is d told
 start_is d (event.Lost ∷ told) = start_is d told
 start_is d (event.Broken ∷ told) = start_is d told
+
+-- the last clock
+pub now_is : (d : ℕ) (told : List Event) → events.time told ≡ (seen d told).now
+now_is d [] = refl
+now_is d (event.Moment ms ∷ told) = refl
+now_is d (event.Looked ∷ told) = now_is d told
+now_is d (event.Saved ∷ told) = now_is d told
+now_is d (event.Ready ∷ told) = now_is d told
+now_is d (event.Io b ∷ told) = now_is d told
+now_is d (event.Reply f ∷ told) = now_is d told
+now_is d (event.Lost ∷ told) = now_is d told
+now_is d (event.Broken ∷ told) = now_is d told
 
 some_start : (o : Option ℕ) (ms : ℕ) → true ≡ is_some (or_later o (Some ms))
 some_start (Some t) ms = refl

@@ -20,7 +20,7 @@ use Rattle.run_journal.specs.Requests.{is_broken, is_interrupted}
 use Rattle.run_journal.specs.Why.{bad_stream, child_clock, why}
 use Rattle.run_journal.specs.Due.{all_along}
 use Rattle.run_journal.specs.Course.{course}
-use Rattle.run_journal.specs.Agreement.{Flows, KeepsTime, KeepsRules, tells_rightly, waits_on}
+use Rattle.run_journal.specs.Agreement.{Flows, KeepsTime, KeepsRules, holds_no_clock, reads_late, tells_rightly, waits_on}
 use Rattle.run_journal.proofs.Toy.{got, put, dry, wait}
 use Rattle.run_journal.proofs.ExampleAwake.{one, begins, asks}
 
@@ -91,6 +91,14 @@ unready_tells : ◌≡◌ {A = List Bool} (all_along (tells_rightly hasty Shell)
 unfolding arrive is_shaken can_ask ask_on looked can_ping ping_on is_silent is_lost ran_out is_broken is_interrupted bad_stream
 unready_tells = refl
 
+unready_reads_late : all_along (reads_late hasty) unready ≡ true
+unfolding arrive is_shaken can_ask ask_on looked can_ping ping_on is_silent is_lost ran_out is_broken is_interrupted bad_stream
+unready_reads_late = refl
+
+unready_holds_no_clock : all_along (holds_no_clock hasty) unready ≡ true
+unfolding arrive is_shaken can_ask ask_on looked can_ping ping_on is_silent is_lost ran_out is_broken is_interrupted bad_stream
+unready_holds_no_clock = refl
+
 unready_told : (course hasty unready).held ≡ []
 unfolding arrive is_shaken can_ask ask_on looked can_ping ping_on is_silent is_lost ran_out is_broken is_interrupted bad_stream
 unready_told = refl
@@ -127,6 +135,14 @@ unidle_waits = refl
 unidle_tells : ◌≡◌ {A = List Bool} (all_along (tells_rightly patient Shell) unidle ∷ all_along (tells_rightly patient Control) unidle ∷ all_along (tells_rightly patient Iopub) unidle ∷ []) (true ∷ true ∷ true ∷ [])
 unfolding arrive is_shaken can_ask ask_on looked can_ping ping_on is_silent is_lost ran_out is_broken is_interrupted bad_stream
 unidle_tells = refl
+
+unidle_reads_late : all_along (reads_late patient) unidle ≡ true
+unfolding arrive is_shaken can_ask ask_on looked can_ping ping_on is_silent is_lost ran_out is_broken is_interrupted bad_stream
+unidle_reads_late = refl
+
+unidle_holds_no_clock : all_along (holds_no_clock patient) unidle ≡ true
+unfolding arrive is_shaken can_ask ask_on looked can_ping ping_on is_silent is_lost ran_out is_broken is_interrupted bad_stream
+unidle_holds_no_clock = refl
 
 unidle_told : (course patient unidle).held ≡ []
 unfolding arrive is_shaken can_ask ask_on looked can_ping ping_on is_silent is_lost ran_out is_broken is_interrupted bad_stream
@@ -165,6 +181,14 @@ late_tells : ◌≡◌ {A = List Bool} (all_along (tells_rightly timed Shell) la
 unfolding arrive is_shaken can_ask ask_on looked can_ping ping_on is_silent is_lost ran_out is_broken is_interrupted bad_stream
 late_tells = refl
 
+late_reads_late : all_along (reads_late timed) late ≡ true
+unfolding arrive is_shaken can_ask ask_on looked can_ping ping_on is_silent is_lost ran_out is_broken is_interrupted bad_stream
+late_reads_late = refl
+
+late_holds_no_clock : all_along (holds_no_clock timed) late ≡ true
+unfolding arrive is_shaken can_ask ask_on looked can_ping ping_on is_silent is_lost ran_out is_broken is_interrupted bad_stream
+late_holds_no_clock = refl
+
 late_told : (course timed late).held ≡ []
 unfolding arrive is_shaken can_ask ask_on looked can_ping ping_on is_silent is_lost ran_out is_broken is_interrupted bad_stream
 late_told = refl
@@ -201,6 +225,14 @@ later_waits = refl
 later_tells : ◌≡◌ {A = List Bool} (all_along (tells_rightly interrupting Shell) later ∷ all_along (tells_rightly interrupting Control) later ∷ all_along (tells_rightly interrupting Iopub) later ∷ []) (true ∷ true ∷ true ∷ [])
 unfolding arrive is_shaken can_ask ask_on looked can_ping ping_on is_silent is_lost ran_out is_broken is_interrupted bad_stream
 later_tells = refl
+
+later_reads_late : all_along (reads_late interrupting) later ≡ true
+unfolding arrive is_shaken can_ask ask_on looked can_ping ping_on is_silent is_lost ran_out is_broken is_interrupted bad_stream
+later_reads_late = refl
+
+later_holds_no_clock : all_along (holds_no_clock interrupting) later ≡ true
+unfolding arrive is_shaken can_ask ask_on looked can_ping ping_on is_silent is_lost ran_out is_broken is_interrupted bad_stream
+later_holds_no_clock = refl
 
 later_told : (course interrupting later).held ≡ []
 unfolding arrive is_shaken can_ask ask_on looked can_ping ping_on is_silent is_lost ran_out is_broken is_interrupted bad_stream

@@ -43,7 +43,7 @@ short_wait jobs j (made.Waited ms reports did.Done ∷ past) m e w d c =
 short_wait jobs j (made.Waited ms reports did.Failed ∷ past) m e w d c = cc
 short_wait jobs j (entry ∷ past) m e w d c = short_wait jobs j past m (and_parts (looks_once jobs (entry ∷ past)) (all_along (looks_once jobs) past) e).1 w d c
 
-number_of : (c : Chan) → chan_number c < 4
+pub number_of : (c : Chan) → chan_number c < 4
 number_of Shell = omega arith
 number_of Control = omega arith
 number_of Iopub = omega arith

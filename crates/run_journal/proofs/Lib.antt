@@ -48,3 +48,4 @@ pub mod Beginning
 pub mod Rereading
 pub mod Finishing
 pub mod ExampleDeadlines
+pub mod Timing

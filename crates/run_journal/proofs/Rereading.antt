@@ -32,7 +32,7 @@ each_channel test e Heart = (and_parts (test Heart) true (and_parts (test Iopub)
 pub each_one : (test : Job → Chan → Bool) (jobs : List Job) (j : Job) → IsAmong j jobs → list_all (λ i. list_all (test i) channels) jobs ≡ true → (c : Chan) → test j c ≡ true
 each_one test jobs j m e c = each_channel (test j) (all_of (λ i. list_all (test i) channels) jobs j m e) c
 
-nothing_is : (bytes : List ℕ) → is_nothing bytes ≡ true → bytes ≡ []
+pub nothing_is : (bytes : List ℕ) → is_nothing bytes ≡ true → bytes ≡ []
 nothing_is [] e = refl
 nothing_is (b ∷ bytes) e = cc
 

@@ -32,7 +32,7 @@ use Rattle.run_journal.proofs.Asking.{Stands, nothing, last, stands, last_number
 use Rattle.run_journal.proofs.Clocks.{clocks_agree}
 use Rattle.run_journal.proofs.Sighting.{or_either}
 use Rattle.run_journal.proofs.Dating.{Seen, start_is, first_is, found_is, queued_is, whole, told_whole, clock_in}
-use Rattle.run_journal.proofs.Turning.{first_kept, running_parts, any_before, RanAtWait, child_drawn, begun_child, drawn_acked, first_waited, still, dates}
+use Rattle.run_journal.proofs.Turning.{moment_time, first_kept, running_parts, any_before, RanAtWait, child_drawn, begun_child, drawn_acked, first_waited, still, dates}
 use Rattle.run_journal.proofs.Lapse.{Before, here, earlier, wait_was, ever_before, rules_at, clock_from, first_ever, first_before, ran_parts, Left, found_ran, ran_found}
 use Rattle.run_journal.proofs.Earlier.{CameBy, stood, anew, came_by, Was, stood_before, replied_before, last_before, ready_stands, go_before, none_on, goes_then}
 use Rattle.run_journal.proofs.Interrupting.{none_holds, called_start, called_request, no_reply_before, interrupted_parts, interrupted_queued, queued_interrupted}
@@ -92,13 +92,6 @@ module _ (d : ℕ) where
       by : (first_clock d past ≡ Some ms → d ≤ ms) → (o : Option ℕ) → first_clock d past ≡ o → d ≤ ms
       by ih (Some x) f = ih (f ∙ sym (ap (λ v. or_later v (if is_past d (entry ∷ past) then turn_clock (entry ∷ past) else None)) f) ∙ e)
       by ih None f = new (turn_clock (entry ∷ past)) (sym (ap (λ v. or_later v (if is_past d (entry ∷ past) then turn_clock (entry ∷ past) else None)) f) ∙ e)
-
-  moment_time : (entry : Entry) (past : List Entry) (t : ℕ) → moment_of entry ≡ Some t → time (entry ∷ past) ≡ t
-  moment_time (made.Moment ms) past t e = inside e
-    where
-      inside : Some ms ≡ Some t → ms ≡ t
-      inside i = cc
-  moment_time _ past t e = cc
 
   -- it stands before the last clock entry, or is that
   first_last : (past : List Entry) (ms : ℕ) → first_clock d past ≡ Some ms → (is_some (first_clock d (before_clock past)) ≡ true) ⊎ (time past ≡ ms)

@@ -321,12 +321,13 @@ first_waited d past e = elim (cases_Bool (has_wait past)) [
 pub record Dates (d : ℕ) (j : Job) (past : List Entry) (s : Seen) : Type 0 where
   pub start : s.start ≡ drawn_clock j past
   pub first : s.first ≡ first_clock d past
+  pub now : is_some (first_clock 0 past) ≡ true → s.now ≡ time past
   pub fresh : s.fresh ≡ true → (is_some s.first ≡ true) × (is_some (first_clock d (before_clock past)) ≡ false)
   pub passed : s.queued ≡ true → is_some s.first ≡ true
   pub news : is_some (first_clock d past) ≡ true → is_some (first_clock d (before_clock past)) ≡ false → (s.fresh || s.queued) ≡ true
 
 dates_end : (d : ℕ) (j : Job) (past : List Entry) (s : Seen) (b : Bool) → Dates d j past s → Dates d j past (end b s)
-dates_end d j past s true i = record { start = i.start; first = i.first; fresh = λ e. cc; passed = passed; news = i.news }
+dates_end d j past s true i = record { start = i.start; first = i.first; now = i.now; fresh = λ e. cc; passed = passed; news = i.news }
   where
     passed : (s.fresh || s.queued) ≡ true → is_some s.first ≡ true
     passed e = elim (or_either s.fresh s.queued e) [
@@ -335,10 +336,11 @@ dates_end d j past s true i = record { start = i.start; first = i.first; fresh =
     ]
 dates_end d j past s false i = i
 
-dates_same : (d : ℕ) (j : Job) (entry : Entry) (past : List Entry) (s : Seen) → draws j entry ≡ false → Still d (entry ∷ past) past → Dates d j past s → Dates d j (entry ∷ past) s
-dates_same d j entry past s e t i = record {
+dates_same : (d : ℕ) (j : Job) (entry : Entry) (past : List Entry) (s : Seen) → draws j entry ≡ false → Still d (entry ∷ past) past → Still 0 (entry ∷ past) past → Dates d j past s → Dates d j (entry ∷ past) s
+dates_same d j entry past s e t z i = record {
   start = i.start ∙ sym (drawn_same j entry past e);
   first = i.first ∙ sym t.first;
+  now = λ f. i.now (ap (λ (o : Option ℕ). is_some o) (sym z.first) ∙ f) ∙ sym t.clock;
   fresh = λ f. let p = i.fresh f in (p.0, ap (λ v. is_some (first_clock d v)) t.before ∙ p.1);
   passed = i.passed;
   news = λ f g. i.news (ap (λ (o : Option ℕ). is_some o) (sym t.first) ∙ f) (ap (λ v. is_some (first_clock d v)) (sym t.before) ∙ g);
@@ -359,6 +361,16 @@ moment_draws : (j : Job) (entry : Entry) (ms : ℕ) → moment_of entry ≡ Some
 moment_draws j (made.Moment t) ms e = refl
 moment_draws j (made.Ports job ports) ms e = cc
 moment_draws j _ ms e = refl
+
+pub moment_time : (entry : Entry) (past : List Entry) (t : ℕ) → moment_of entry ≡ Some t → time (entry ∷ past) ≡ t
+moment_time (made.Moment ms) past t e = inside e
+  where
+    inside : Some ms ≡ Some t → ms ≡ t
+    inside i = cc
+moment_time _ past t e = cc
+
+early_first : (d : ℕ) (past : List Entry) (o : Option ℕ) → o ≡ None → or_later (first_clock d past) (if is_at_least d o then o else None) ≡ first_clock d past
+early_first d past o e = ap (λ v. or_later (first_clock d past) (if is_at_least d v then v else None)) e ∙ or_none (first_clock d past)
 
 -- what a clock entry gives is a turn's, where the job runs
 turn_event : (running : Bool) (o p : Option ℕ) → o ≡ p → (if running then clock_event o else []) ≡ (if running then clock_event p else [])
@@ -401,6 +413,7 @@ module _ (d : ℕ) (jobs : List Job) (j : Job) (entry : Entry) (past : List Entr
   dates_drawn s e i = record {
     start = ap (λ o. or_later o (Some (time past))) i.start ∙ ap (or_later (drawn_clock j past)) (sym (cond-true (draws j entry) (Some (time past)) None e));
     first = ap (λ b. or_later s.first (if b && nat_le d (time past) then Some (time past) else None)) unread ∙ or_none s.first ∙ i.first ∙ sym t.first;
+    now = λ f. sym t.clock;
     passed = λ f. later_some s.first _ (i.passed f);
     fresh = λ f. absurd (off (not (is_some s.first)) (is_some s.start) (nat_le d (time past)) unread f);
     news = λ f g. absurd (not_both (is_some (drawn_clock j past)) (drawn_then (first_waited d past (ap (λ (o : Option ℕ). is_some o) (sym t.first) ∙ f))) none);
@@ -426,6 +439,7 @@ module _ (d : ℕ) (jobs : List Job) (j : Job) (entry : Entry) (past : List Entr
     start = ap (λ o. or_later o (Some ms)) i.start ∙ first_kept (drawn_clock j past) (Some ms) (drawn_then w)
         ∙ sym (first_kept (drawn_clock j past) (if draws j entry then Some (time past) else None) (drawn_then w));
     first = ap (λ b. or_later s.first (if b && nat_le d ms then Some ms else None)) is_read ∙ ap (λ o. or_later o (if nat_le d ms then Some ms else None)) i.first ∙ sym first_now;
+    now = λ f. sym (moment_time entry past ms e);
     passed = λ f. later_some s.first _ (i.passed f);
     fresh = λ f. by_fresh s.first (is_some s.start) (nat_le d ms) is_read f i.first;
     news = λ f g. by_news s.first (is_some s.start) (nat_le d ms) is_read (ap (λ (o : Option ℕ). is_some o) i.first ∙ ap (λ v. is_some (first_clock d v)) (sym before_now) ∙ g)
@@ -462,6 +476,7 @@ module _ (d : ℕ) (jobs : List Job) (j : Job) (entry : Entry) (past : List Entr
   dates_early s e w f i = record {
     start = i.start ∙ sym (ap (or_later (drawn_clock j past)) (cond-false (draws j entry) (Some (time past)) None e) ∙ or_none (drawn_clock j past));
     first = i.first ∙ sym first_now;
+    now = λ g. absurd (not_both (is_some (first_clock 0 (entry ∷ past))) g (ap (λ (o : Option ℕ). is_some o) (early_first 0 past (turn_clock (entry ∷ past)) f ∙ first_none 0 past w)));
     passed = i.passed;
     fresh = λ g. absurd (not_both (is_some s.first) (i.fresh g).0 (ap (λ (o : Option ℕ). is_some o) (i.first ∙ first_none d past w)));
     news = λ g l. absurd (not_both (is_some (first_clock d (entry ∷ past))) g (ap (λ (o : Option ℕ). is_some o) (first_now ∙ first_none d past w)));
@@ -489,7 +504,7 @@ module _ (d : ℕ) (jobs : List Job) (j : Job) (entry : Entry) (past : List Entr
 
       by : (draws j entry ≡ true) ⊎ (draws j entry ≡ false) → (o : Option ℕ) → moment_of entry ≡ o → (has_wait past ≡ true) ⊎ (has_wait past ≡ false) → Dates d j (entry ∷ past) (run d (clocks_at j entry past) s)
       by (inl e) o f w = as_run (event.Moment (time past) ∷ []) (clocks_drawn e) (dates_drawn s e i)
-      by (inr e) None f w = as_run [] (clocks_none e (turn_none entry past f)) (dates_same d j entry past s e (still d entry past f) i)
+      by (inr e) None f w = as_run [] (clocks_none e (turn_none entry past f)) (dates_same d j entry past s e (still d entry past f) (still 0 entry past f) i)
       by (inr e) (Some ms) f (inl w) =
           let turned : turn_clock (entry ∷ past) ≡ Some ms = cond-true (has_wait past) (moment_of entry) None w ∙ f in
           as_run (event.Moment ms ∷ []) (clocks_turn ms e turned (runs ms turned w)) (dates_turn s ms f w i)
@@ -499,7 +514,7 @@ module _ (d : ℕ) (jobs : List Job) (j : Job) (entry : Entry) (past : List Entr
 
 -- so along a journal
 pub dates : (d : ℕ) (jobs : List Job) (j : Job) (past : List Entry) → KeepsRules jobs j past → RanAtWait j past → Dates d j past (whole d j past)
-dates d jobs j [] k h = record { start = refl; first = refl; fresh = λ e. cc; passed = λ e. cc; news = λ e f. cc }
+dates d jobs j [] k h = record { start = refl; first = refl; now = λ e. cc; fresh = λ e. cc; passed = λ e. cc; news = λ e f. cc }
 dates d jobs j (entry ∷ past) k h =
     subst (Dates d j (entry ∷ past)) (sym (whole_next d j entry past k.heard))
     (dates_end d j (entry ∷ past) (run d (clocks_at j entry past) (whole d j past)) _

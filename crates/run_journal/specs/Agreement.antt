@@ -19,7 +19,7 @@ use Rattle.run_journal.specs.Codec.{Arrival}
 use Rattle.run_journal.specs.Job.{Job}
 use Rattle.run_journal.specs.Parts.{place, connection, bytes_got, acked, is_acknowledging, begins}
 use Rattle.run_journal.specs.Arrivals.{is_ready}
-use Rattle.run_journal.specs.Requests.{Request, has_idle, reply, or_later, requests, last_request}
+use Rattle.run_journal.specs.Requests.{Request, has_idle, reply, or_later, first_clock, requests, last_request}
 use Rattle.run_journal.specs.Why.{starts, child_clock}
 use Rattle.run_journal.specs.Due.{all_along}
 use Rattle.run_journal.specs.Order.{is_nothing, begins_unread}
@@ -195,6 +195,20 @@ pub record KeepsRules (jobs : List Job) (j : Job) (past : List Entry) : Type 0 w
   pub heard : IsHeard j past
 
 -- ---- what follows from the loop's rules
+
+-- an entry is made by bytes that were got for the job
+abbrev pub is_got : Job → Entry → Bool
+is_got j (made.Got conn room bytes) = conn.job == j.number
+is_got j _ = false
+
+-- bytes come only after a turn's clock entry
+abbrev pub reads_late : Job → List Entry → Bool
+reads_late j [] = true
+reads_late j (entry ∷ past) = not (is_got j entry) || is_some (first_clock 0 past)
+
+-- no clock entry waits for a save
+abbrev pub holds_no_clock : Job → List Entry → Bool
+holds_no_clock j past = not (events.came events.is_moment (course j past).held)
 
 -- the newest entry is a done wait
 abbrev pub is_done_wait : List Entry → Bool

@@ -7,7 +7,8 @@ ghost use Rattle.run_journal.specs.Parts.{is_running};
 ghost use Rattle.run_journal.specs.Due.{all_along};
 ghost use Rattle.run_journal.specs.Awake.{Awake};
 ghost use Rattle.run_journal.specs.Agreement.{BeginsUnread, EndsLooks, IsAmong, KeepsRules};
-ghost use Rattle.run_journal.specs.Agreement.{TellsRightly, waits_on};
+ghost use Rattle.run_journal.specs.Agreement.{KeepsTime, TellsRightly, holds_no_clock};
+ghost use Rattle.run_journal.specs.Agreement.{reads_late, waits_on};
 
 /// Where the loop keeps its rules and waits only after done waits, each look at a job that was
 /// running at the last wait is over before the next wait.
@@ -22,4 +23,13 @@ pub fn looks_end()
 pub fn none_is_read_again()
     ensures { (jobs : List Job) (j : Job) (past : List Entry) → IsAmong j jobs →
         Awake jobs past → TellsRightly j past → BeginsUnread j past }
+{}
+
+/// Where the loop keeps its rules, bytes come only after a turn's clock entry, and no clock entry
+/// waits for a save, the core's clock is the journal's wherever it counts.
+pub fn time_is_kept()
+    ensures { (jobs : List Job) (j : Job) (past : List Entry) → KeepsRules jobs j past →
+        (has_wait past ≡ true → is_running j (before_wait past) ≡ true) →
+        TellsRightly j past → all_along (reads_late j) past ≡ true →
+        all_along (holds_no_clock j) past ≡ true → KeepsTime j past }
 {}
