@@ -1,12 +1,17 @@
 //! What follows from the rules of the loop for a job of the run.
-ghost use Rattle.std.specs.Prelude.{◌≡◌, true, List};
+ghost use Rattle.std.specs.Prelude.{◌≡◌, ◌<◌, ℕ, true, Some, List, [], length};
 ghost use Rattle.world.specs.declared.entry.Entry.{Entry};
 ghost use Rattle.world.specs.Waits.{before_wait, has_wait};
+ghost use Rattle.cell_core.specs.Saves as core_saves;
 ghost use Rattle.run_journal.specs.Job.{Job};
 ghost use Rattle.run_journal.specs.Parts.{is_running};
+ghost use Rattle.run_journal.specs.Why.{why};
 ghost use Rattle.run_journal.specs.Due.{all_along};
+ghost use Rattle.run_journal.specs.Decoding.{IsDecoding};
+ghost use Rattle.run_journal.specs.Course.{course};
 ghost use Rattle.run_journal.specs.Awake.{Awake};
-ghost use Rattle.run_journal.specs.Agreement.{BeginsUnread, EndsLooks, IsAmong, KeepsRules};
+ghost use Rattle.run_journal.specs.Agreement.{BeginsUnread, EndsLooks, Flows, IsAmong};
+ghost use Rattle.run_journal.specs.Agreement.{KeepsRules};
 ghost use Rattle.run_journal.specs.Agreement.{KeepsTime, TellsRightly, holds_no_clock};
 ghost use Rattle.run_journal.specs.Agreement.{reads_late, waits_on};
 
@@ -32,4 +37,16 @@ pub fn time_is_kept()
         (has_wait past ≡ true → is_running j (before_wait past) ≡ true) →
         TellsRightly j past → all_along (reads_late j) past ≡ true →
         all_along (holds_no_clock j) past ≡ true → KeepsTime j past }
+{}
+
+/// So by these rules a job whose course flows stops its core exactly where it stops itself, and for
+/// the same cause.
+pub fn core_stops_as_the_job()
+    ensures { (jobs : List Job) (j : Job) (past : List Entry) → IsDecoding j.codec →
+        0 < length j.task.plan → ((ms : ℕ) → j.task.times.limit_ms ≡ Some ms → 0 < ms) →
+        KeepsRules jobs j past → (has_wait past ≡ true → is_running j (before_wait past) ≡ true) →
+        TellsRightly j past → all_along waits_on past ≡ true →
+        all_along (reads_late j) past ≡ true → all_along (holds_no_clock j) past ≡ true →
+        Flows j past → (course j past).held ≡ [] →
+        core_saves.why j.task (course j past).told ≡ why j past }
 {}
