@@ -4,7 +4,6 @@ use Rattle.std.specs.Prelude.{is_some, is_none, option_map, option_to_list, slic
 use Rattle.std.proofs.lemmas.Bool.{and_parts, and_from, or_left, or_right, cond-true, cond-false, cases_Bool, leb-true, le-leb, false_from_ne_true, not-true, not_from_false}
 use Rattle.world.specs.declared.chan.Chan.TheVariants.{Shell, Iopub}
 use Rattle.world.specs.declared.entry.Entry.{Entry}
-use Rattle.world.specs.declared.entry.Entry.TheVariants as made
 use Rattle.world.specs.Places.{time}
 use Rattle.world.specs.Waits.{has_wait, before_wait, moment_of}
 use Rattle.cell_core.specs.declared.event.Event.{Event}

@@ -1,6 +1,6 @@
 -- By the loop's rules the core's clock is the journal's wherever it counts.
-use Rattle.std.proofs.Common.{◌≡◌, ◌⊎◌, inl, inr, ℕ, ◌+◌, ◌*◌, ◌<◌, List, [], ◌∷◌, ◌++◌, length, Bool, true, false, ◌&&◌, ◌||◌, not, cond, Option, Some, None, refl, sym, ◌∙◌, ap, arith}
-use Rattle.std.specs.Prelude.{is_some, nat_lt, ◌==◌, if◌then◌else◌}
+use Rattle.std.proofs.Common.{◌≡◌, ◌⊎◌, inl, inr, ℕ, ◌+◌, ◌*◌, List, [], ◌∷◌, ◌++◌, length, Bool, true, false, ◌&&◌, ◌||◌, not, cond, Option, refl, sym, ◌∙◌, ap, arith}
+use Rattle.std.specs.Prelude.{is_some, ◌==◌}
 use Rattle.std.proofs.lemmas.Bool.{and_parts, or_parts, and_from, or_right, cond-true, cond-false, cases_Bool, eqb-true, eq-eqb, ltb-true, false_from_ne_true, not-true}
 use Rattle.world.specs.declared.chan.Chan.{Chan}
 use Rattle.world.specs.declared.connected.Connected.{Connected}
@@ -16,20 +16,19 @@ use Rattle.cell_core.specs.Events as events
 use Rattle.run_journal.specs.Job.{Job}
 use Rattle.run_journal.specs.Parts.{place, connection, bytes_got, is_acknowledging}
 use Rattle.run_journal.specs.Arrivals.{is_ready}
-use Rattle.run_journal.specs.Looks.{ever, is_past}
 use Rattle.run_journal.specs.Requests.{Request, first_clock, requests, last_request}
 use Rattle.run_journal.specs.Due.{all_along}
-use Rattle.run_journal.specs.Order.{is_nothing, begins_unread}
+use Rattle.run_journal.specs.Order.{begins_unread}
 use Rattle.run_journal.specs.Course.{came_for, when_so, course}
 use Rattle.run_journal.specs.Agreement.{BringsNothing, BeginsUnread, told_on, brings, stands_anew, keeps_time, KeepsTime, KeepsRules, TellsRightly, is_got, reads_late, holds_no_clock}
 use Rattle.run_journal.proofs.Truths.{not_both}
 use Rattle.run_journal.proofs.Agreeing.{ready_unheard}
 use Rattle.run_journal.proofs.Hearing.{none_unready}
-use Rattle.run_journal.proofs.Flowing.{core_at, core_nothing, sync_brings_nothing}
+use Rattle.run_journal.proofs.Flowing.{core_nothing, sync_brings_nothing}
 use Rattle.run_journal.proofs.Telling.{unread_before}
-use Rattle.run_journal.proofs.Dating.{Seen, seen, seen_on, now_is, whole}
-use Rattle.run_journal.proofs.Turning.{or_off, rules_before, RanAtWait, ran_before, Dates, dates}
-use Rattle.run_journal.proofs.Lapse.{Before, here, earlier, first_before}
+use Rattle.run_journal.proofs.Dating.{Seen, seen_on, now_is, whole}
+use Rattle.run_journal.proofs.Turning.{or_off, rules_before, RanAtWait, ran_before, dates}
+use Rattle.run_journal.proofs.Lapse.{here, earlier, first_before}
 use Rattle.run_journal.proofs.Finishing.{number_of}
 use Rattle.run_journal.proofs.Rereading.{nothing_is, begins_unread_by}
 
