@@ -20,7 +20,8 @@ use Rattle.run_journal.specs.Why.{child_clock}
 use Rattle.run_journal.specs.Agreement.{Flows, KeepsRules}
 use Rattle.run_journal.proofs.Flowing.{course_agrees}
 use Rattle.run_journal.proofs.Dating.{Seen, start_is, told_whole}
-use Rattle.run_journal.proofs.Turning.{RanAtWait, dates, child_drawn}
+use Rattle.run_journal.proofs.Running.{RanAtWait, child_drawn}
+use Rattle.run_journal.proofs.Turning.{dates}
 use Rattle.run_journal.proofs.Truths.{not_both}
 use Rattle.std.proofs.Math.Bool.{and-false}
 

@@ -21,7 +21,7 @@ use Rattle.run_journal.proofs.Asking.{Stands, nothing, last, stands, done_same, 
 use Rattle.run_journal.proofs.Flowing.{course_agrees}
 use Rattle.run_journal.proofs.Telling.{broken_told, bad_is}
 use Rattle.run_journal.proofs.Finding.{lost_found, found_lost, lost_parts, lost_waited}
-use Rattle.run_journal.proofs.Turning.{RanAtWait}
+use Rattle.run_journal.proofs.Running.{RanAtWait}
 use Rattle.run_journal.proofs.Interrupting.{ever_lost}
 use Rattle.run_journal.proofs.Rowing.{both, not_ready_same, no_idle_last, last_is, none_last, on, out_same, interrupt_same, standing_after, plus_more}
 

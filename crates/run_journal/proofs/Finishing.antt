@@ -23,7 +23,7 @@ use Rattle.run_journal.specs.Course.{when_so, in_look, ends_look, is_late, tell,
 use Rattle.run_journal.specs.Agreement.{IsAmong, EndsLooks, ends_looks, KeepsRules, is_done_wait, waits_on}
 use Rattle.run_journal.proofs.Flowing.{tell_by}
 use Rattle.run_journal.proofs.Finding.{wait_shows_none}
-use Rattle.run_journal.proofs.Turning.{or_off, any_of, rules_before, running_parts, RanAtWait, ran_before, runs_at_wait}
+use Rattle.run_journal.proofs.Running.{or_off, any_of, rules_before, running_parts, RanAtWait, ran_before, runs_at_wait}
 use Rattle.run_journal.proofs.Rereading.{each_one}
 use Rattle.run_journal.proofs.Truths.{not_both}
 

@@ -28,7 +28,8 @@ use Rattle.run_journal.proofs.Telling.{stays_broken, unread_before}
 use Rattle.run_journal.proofs.Sighting.{or_either, looked_stays}
 use Rattle.run_journal.proofs.Finding.{lost_is, lost_parts}
 use Rattle.run_journal.proofs.Dating.{Seen, whole, end}
-use Rattle.run_journal.proofs.Turning.{rules_before, RanAtWait, ran_before, runs_at_wait, first_waited, dates, dates_clock}
+use Rattle.run_journal.proofs.Running.{rules_before, RanAtWait, ran_before, runs_at_wait}
+use Rattle.run_journal.proofs.Turning.{first_waited, dates, dates_clock}
 use Rattle.run_journal.proofs.Lapse.{Before, here, earlier, wait_was, ever_before, clock_from, first_ever, first_before, wait_unstopped, ends_parts, clocks_kept, end_queues, then_seen, whole_is, still_now, just_parts, just_from, just_queued}
 use Rattle.run_journal.proofs.Earlier.{length_on, go_before, CameBy, stood, anew, came_by, stood_before, last_before}
 use Rattle.run_journal.proofs.Agreeing.{get_below}

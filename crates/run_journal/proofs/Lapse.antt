@@ -24,7 +24,8 @@ use Rattle.run_journal.proofs.Growth.{before_all}
 use Rattle.run_journal.proofs.Telling.{add_none, none_begins, none_turn}
 use Rattle.run_journal.proofs.Sighting.{or_either, looked_stays}
 use Rattle.run_journal.proofs.Dating.{Seen, run, see, whole, whole_next, end, clocks_at}
-use Rattle.run_journal.proofs.Turning.{first_kept, all_of, rules_before, running_parts, RanAtWait, ran_before, runs_at_wait, Still, quiet_entry, quiet_look, still, first_waited, dates}
+use Rattle.run_journal.proofs.Running.{first_kept, all_of, rules_before, running_parts, RanAtWait, ran_before, runs_at_wait}
+use Rattle.run_journal.proofs.Turning.{Still, quiet_entry, quiet_look, still, first_waited, dates}
 use Rattle.run_journal.proofs.Truths.{not_both}
 
 -- ---- moments of a journal

@@ -38,10 +38,12 @@ pub mod ExampleAsked
 pub mod Moments
 pub mod Clocks
 pub mod Dating
+pub mod Running
 pub mod Turning
 pub mod Lapse
 pub mod Earlier
 pub mod Interrupting
+pub mod Seconds
 pub mod Rowing
 pub mod Deciding
 pub mod Beginning

@@ -19,7 +19,7 @@ use Rattle.run_journal.specs.Order.{is_nothing, begins_unread}
 use Rattle.run_journal.specs.Awake.{Awake, implies, is_its, is_connect, may_begin_again, in_order, begins_refused}
 use Rattle.run_journal.specs.Agreement.{IsAmong, BeginsUnread, tells_rightly, TellsRightly}
 use Rattle.run_journal.proofs.Sighting.{or_either}
-use Rattle.run_journal.proofs.Turning.{all_of, or_off}
+use Rattle.run_journal.proofs.Running.{all_of, or_off}
 use Rattle.run_journal.proofs.Truths.{not_both}
 
 -- a test holds of each channel

@@ -27,7 +27,8 @@ use Rattle.run_journal.proofs.Hearing.{none_unready}
 use Rattle.run_journal.proofs.Flowing.{core_nothing, sync_brings_nothing}
 use Rattle.run_journal.proofs.Telling.{unread_before}
 use Rattle.run_journal.proofs.Dating.{Seen, seen_on, now_is, whole}
-use Rattle.run_journal.proofs.Turning.{or_off, rules_before, RanAtWait, ran_before, dates}
+use Rattle.run_journal.proofs.Running.{or_off, rules_before, RanAtWait, ran_before}
+use Rattle.run_journal.proofs.Turning.{dates}
 use Rattle.run_journal.proofs.Lapse.{here, earlier, first_before}
 use Rattle.run_journal.proofs.Finishing.{number_of}
 use Rattle.run_journal.proofs.Rereading.{nothing_is, begins_unread_by}
