@@ -9,3 +9,5 @@ pub mod Pourings
 pub mod Giving
 pub mod Said
 pub mod Trimming
+pub mod Keeping
+pub mod Settling

@@ -7,3 +7,4 @@ pub mod Outboxes
 pub mod Pouring
 pub mod Standing
 pub mod Toy
+pub mod Dues

@@ -1,11 +1,12 @@
 //! `Lane`, the kernel's side of one connection.
-ghost use Rattle.std.specs.Prelude.{◌≡◌, ℕ, List, [], false, IfOk, OnOk};
+ghost use Rattle.std.specs.Prelude.{◌≡◌, ℕ, List, [], false, IfOk, OnOk, OnErr};
 ghost use Rattle.world.specs.declared.chan.Chan as channel;
 ghost use Rattle.zmtp_peer.specs.Peer as side;
 ghost use Rattle.zmtp_wire.specs.Decoder.{IsUnstarved};
 ghost use Rattle.toy_core.specs.Sending.{role_on};
 ghost use Rattle.toy_core.specs.Standing as spec;
 ghost use Rattle.toy_core.specs.Toy.{IsLine};
+ghost use Rattle.toy_core.specs.Dues.{Sends};
 
 use crate::outbox::Outbox;
 use crate::roles::role_on;
@@ -70,6 +71,7 @@ impl Lane {
             IsLine chan self.old l → IsLine chan self.new (spec.heard_on piece.now l)) }
         ensures news { IfOk result (λ bodies. (l : spec.Line) →
             IsLine chan self.old l → bodies ≡ spec.news chan l.heard piece.now) }
+        ensures outbox { self.new.outbox ≡ self.old.outbox }
     {
         let mut bodies = Messages::new(alloc);
         let fed = self.peer.feed(piece, &mut bodies);
@@ -83,8 +85,10 @@ impl Lane {
 
     /// Octets are sent here, where they go out.
     pub(crate) fn send(&mut self, alloc: Global, octets: &[u8]) -> Result<(), NoMemory>
-        ensures { OnOk result ((c : channel.Chan) (l : spec.Line) →
+        ensures line { OnOk result ((c : channel.Chan) (l : spec.Line) →
             IsLine c self.old l → IsLine c self.new (spec.sent_on c octets.now l)) }
+        ensures sends { OnOk result (Sends octets.now self.old self.new) }
+        ensures err { OnErr result (Sends [] self.old self.new) }
     {
         if self.hears {
             self.outbox.post(alloc, octets)

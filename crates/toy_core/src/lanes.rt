@@ -1,7 +1,10 @@
 //! `Lanes`, the kernel's side of its four connections.
-ghost use Rattle.std.specs.Prelude.{◌≡◌, IfOk, OnOk};
+ghost use Rattle.std.specs.Prelude.{◌≡◌, ◌<◌, [], length, take, IfOk, IfErr, OnOk, OnErr};
+ghost use Rattle.toy_core.specs.declared.act.Act.TheVariants as act;
+ghost use Rattle.toy_core.specs.Acts.{octets_on, octets_of};
 ghost use Rattle.toy_core.specs.Standing as spec;
 ghost use Rattle.toy_core.specs.Toy.{AreLines, lane};
+ghost use Rattle.toy_core.specs.Dues.{SendsAll, Keeps};
 
 use crate::act::Act;
 use crate::lane::Lane;
@@ -68,6 +71,7 @@ impl Lanes {
             (spec.with_line chan (spec.heard_on piece.now (spec.line chan ls)) ls)) }
         ensures news { IfOk result (λ bodies. (ls : spec.Lines) → AreLines self.old ls →
             bodies ≡ spec.news chan (spec.line chan ls).heard piece.now) }
+        ensures keeps { Keeps self.old self.new }
     {
         match chan {
             Chan::Shell => self.shell.hear(alloc, chan, piece),
@@ -79,8 +83,12 @@ impl Lanes {
 
     /// Acts happen, in order. Without memory an `Err` says how many have happened.
     pub(crate) fn perform(&mut self, alloc: Global, acts: &[Act]) -> Result<(), usize>
-        ensures { OnOk result ((ls : spec.Lines) →
+        ensures lines { OnOk result ((ls : spec.Lines) →
             AreLines self.old ls → AreLines self.new (spec.performed acts.now ls)) }
+        ensures sends { OnOk result (SendsAll (λ c. octets_on c acts.now) self.old self.new) }
+        ensures fewer { IfErr result (λ done. done < length acts.now) }
+        ensures part { IfErr result (λ done.
+            SendsAll (λ c. octets_on c (take done acts.now)) self.old self.new) }
     {
         for (i, act) in acts.iter().enumerate() {
             match self.perform_one(alloc, act) {
@@ -92,8 +100,10 @@ impl Lanes {
     }
 
     fn perform_one(&mut self, alloc: Global, act: &Act) -> Result<(), NoMemory>
-        ensures { OnOk result ((ls : spec.Lines) →
+        ensures lines { OnOk result ((ls : spec.Lines) →
             AreLines self.old ls → AreLines self.new (spec.performed_one act.now ls)) }
+        ensures sends { OnOk result (SendsAll (λ c. octets_of c act.now) self.old self.new) }
+        ensures err { OnErr result (SendsAll (λ _. []) self.old self.new) }
     {
         match act {
             Act::Send { chan, octets } => self.send(alloc, *chan, octets.bytes()),
@@ -105,8 +115,11 @@ impl Lanes {
 
     /// Octets are sent on a channel.
     pub(crate) fn send(&mut self, alloc: Global, chan: Chan, octets: &[u8]) -> Result<(), NoMemory>
-        ensures { OnOk result ((ls : spec.Lines) →
+        ensures lines { OnOk result ((ls : spec.Lines) →
             AreLines self.old ls → AreLines self.new (spec.sent chan octets.now ls)) }
+        ensures sends { OnOk result
+            (SendsAll (λ c. octets_of c (act.Send chan octets.now)) self.old self.new) }
+        ensures err { OnErr result (SendsAll (λ _. []) self.old self.new) }
     {
         match chan {
             Chan::Shell => self.shell.send(alloc, octets),

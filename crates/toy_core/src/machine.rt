@@ -1,9 +1,10 @@
 //! `Machine`, the kernel over its connections.
-ghost use Rattle.std.specs.Prelude.{◌≡◌, ◌<◌, ◌≤◌, ◌^◌, ℕ, length, take, OnOk, IfOk};
+ghost use Rattle.std.specs.Prelude.{◌≡◌, ◌<◌, ◌≤◌, ◌^◌, ℕ, true, length, take, OnOk, IfOk};
 ghost use Rattle.world.specs.Kernel.{Gives, is_something};
 ghost use Rattle.toy_core.specs.Requests as requests;
 ghost use Rattle.toy_core.specs.Standing as spec;
 ghost use Rattle.toy_core.specs.Toy as toy;
+ghost use Rattle.toy_core.specs.Dues.{Keeps, IsAsDue, IsSettled, StaysDue};
 
 use crate::course;
 use crate::kernel::Kernel;
@@ -64,6 +65,8 @@ impl Machine {
         requires { now < 2 ^ 47 }
         ensures stands { OnOk result ((s : spec.Standing) →
             toy.Is self.old s → toy.Is self.new (spec.took now key.now chan piece.now s)) }
+        // Without memory too.
+        ensures due { StaysDue now self.old self.new }
     {
         self.settle(alloc, now)?;
         self.take_settled(alloc, now, key, chan, piece)?;
@@ -81,6 +84,8 @@ impl Machine {
         requires { now < 2 ^ 47 }
         ensures stands { OnOk result ((s : spec.Standing) →
             toy.Is self.old s → toy.Is self.new (spec.took_settled now key.now chan piece.now s)) }
+        ensures keeps { Keeps self.old.lanes self.new.lanes }
+        ensures ended { spec.has_ended self.old.kernel ≡ true → self.new ≡ self.old }
     {
         if self.kernel.has_ended() {
             return Ok(());
@@ -101,6 +106,7 @@ impl Machine {
         requires { now < 2 ^ 47 }
         ensures stands { OnOk result ((s : spec.Standing) →
             toy.Is self.old s → toy.Is self.new (spec.served_all now key.now chan bodies s)) }
+        ensures keeps { Keeps self.old.lanes self.new.lanes }
     {
         for body in bodies.into_vec() {
             self.serve(alloc, now, key, chan, &body)?;
@@ -120,6 +126,7 @@ impl Machine {
         requires { now < 2 ^ 47 }
         ensures stands { OnOk result ((s : spec.Standing) →
             toy.Is self.old s → toy.Is self.new (spec.served now key.now chan body.now s)) }
+        ensures keeps { Keeps self.old.lanes self.new.lanes }
     {
         if self.kernel.has_ended() {
             return Ok(());
@@ -139,6 +146,7 @@ impl Machine {
     ) -> Result<(), NoMemory>
         ensures stands { OnOk result ((s : spec.Standing) →
             toy.Is self.old s → toy.Is self.new (spec.served_on now key.now chan body.now s)) }
+        ensures keeps { Keeps self.old.lanes self.new.lanes }
     {
         match chan {
             Chan::Shell => self.serve_request(alloc, now, key, chan, body),
@@ -152,6 +160,7 @@ impl Machine {
     fn echo(&mut self, alloc: Global, body: &Parts) -> Result<(), NoMemory>
         ensures stands { OnOk result ((s : spec.Standing) →
             toy.Is self.old s → toy.Is self.new (spec.with_echo body.now s)) }
+        ensures keeps { Keeps self.old.lanes self.new.lanes }
     {
         if !may_be_sent(body) {
             return Ok(());
@@ -171,6 +180,7 @@ impl Machine {
     ) -> Result<(), NoMemory>
         ensures stands { OnOk result ((s : spec.Standing) → toy.Is self.old s → toy.Is self.new
             (spec.served_if now key.now (requests.request_in key.now chan body.now) s)) }
+        ensures keeps { Keeps self.old.lanes self.new.lanes }
     {
         match request_in(alloc, key, chan, body)? {
             Some(Request { parent, asked }) => {
@@ -191,6 +201,7 @@ impl Machine {
     ) -> Result<(), NoMemory>
         ensures stands { OnOk result ((s : spec.Standing) → toy.Is self.old s →
             toy.Is self.new (spec.served_as now key.now parent.now asked s)) }
+        ensures keeps { Keeps self.old.lanes self.new.lanes }
     {
         match asked {
             Asked::Execute { code } => self.kernel.queue_cell(alloc, now, key, parent, &code),
@@ -210,6 +221,7 @@ impl Machine {
     ) -> Result<(), NoMemory>
         ensures stands { OnOk result ((s : spec.Standing) → toy.Is self.old s →
             toy.Is self.new (spec.interrupted_answered now key.now parent.now s)) }
+        ensures keeps { Keeps self.old.lanes self.new.lanes }
     {
         self.interrupt_cell(alloc, now, key)?;
         let notes = course::control(alloc, interrupt_reply(alloc)?)?;
@@ -220,6 +232,7 @@ impl Machine {
     fn interrupt_cell(&mut self, alloc: Global, now: u64, key: &Text) -> Result<(), NoMemory>
         ensures stands { OnOk result ((s : spec.Standing) →
             toy.Is self.old s → toy.Is self.new (spec.interrupted now key.now s)) }
+        ensures keeps { Keeps self.old.lanes self.new.lanes }
     {
         let Some((parent, count)) = self.kernel.agenda.running() else {
             return Ok(());
@@ -241,6 +254,7 @@ impl Machine {
     ) -> Result<(), NoMemory>
         ensures stands { OnOk result ((s : spec.Standing) → toy.Is self.old s →
             toy.Is self.new (spec.shut_answered key.now parent.now restart s)) }
+        ensures keeps { Keeps self.old.lanes self.new.lanes }
     {
         let notes = course::control(alloc, shutdown_reply(alloc, restart)?)?;
         self.do_at_once(alloc, key, parent, notes)?;
@@ -258,6 +272,7 @@ impl Machine {
     ) -> Result<(), NoMemory>
         ensures stands { OnOk result ((s : spec.Standing) → toy.Is self.old s →
             toy.Is self.new (spec.done_at_once key.now parent.now notes s)) }
+        ensures keeps { Keeps self.old.lanes self.new.lanes }
     {
         let acts = self.kernel.acts(alloc, key, parent, notes)?;
         match self.lanes.perform(alloc, acts.as_slice()) {
@@ -271,6 +286,9 @@ impl Machine {
         requires { now < 2 ^ 47 }
         ensures stands { OnOk result ((s : spec.Standing) →
             toy.Is self.old s → toy.Is self.new (spec.settled now s)) }
+        ensures keeps { Keeps self.old.lanes self.new.lanes }
+        ensures due { IsAsDue now self.old self.new }
+        ensures settled { OnOk result (IsSettled now self.new.kernel.agenda) }
     {
         let acts = self.kernel.agenda.reached(now);
         if let Err(done) = self.lanes.perform(alloc, acts) {

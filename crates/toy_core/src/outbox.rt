@@ -1,5 +1,5 @@
 //! `Outbox`, what is due on one connection.
-ghost use Rattle.std.specs.Prelude.{◌≡◌, ◌^◌, ◌<◌, [], length, OnOk};
+ghost use Rattle.std.specs.Prelude.{◌≡◌, ◌^◌, ◌<◌, [], length, OnOk, OnErr};
 ghost use Rattle.toy_core.specs.Outboxes as boxes;
 
 use jtext::{Bytes, NoMemory};
@@ -51,9 +51,10 @@ impl Outbox {
         }
     }
 
-    /// These octets have become due. What was all handed out is let go.
+    /// These octets have become due. What was all handed out is let go, without memory too.
     pub(crate) fn post(&mut self, alloc: Global, octets: &[u8]) -> Result<(), NoMemory>
-        ensures { OnOk result (self.new ≡ boxes.posted octets.now self.old) }
+        ensures ok { OnOk result (self.new ≡ boxes.posted octets.now self.old) }
+        ensures err { OnErr result (self.new ≡ boxes.trimmed self.old) }
     {
         self.trim(alloc);
         self.octets.add(octets)

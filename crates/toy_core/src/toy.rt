@@ -1,5 +1,6 @@
 //! `Toy`, the far end of a job's connections.
 ghost use Rattle.std.specs.Prelude.{◌≡◌, ◌↔◌, ◌<◌, ◌≤◌, ◌^◌, [], IfOk, IsErr, false, true};
+ghost use Rattle.toy_core.specs.Dues.{KeepsDue};
 ghost use Rattle.toy_core.specs.Toy as toy;
 
 use crate::machine::Machine;
@@ -88,6 +89,9 @@ impl KernelSide for Toy {
         ensures refused { IsErr result ↔ (toy.is_starved self.new ≡ true) }
         ensures again { toy.is_starved self.old ≡ true →
             IsErr result × toy.IsStill self.old self.new }
+
+        // What was due before stays due, also where memory is wanted here for the first time.
+        ensures due { KeepsDue now self.old self.new }
     {
         self.latest = now;
         if self.starved {
