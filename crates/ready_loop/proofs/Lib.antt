@@ -1,5 +1,6 @@
 pub mod BeginLemmas
 pub mod CallLemmas
+pub mod FileLemmas
 pub mod KeyLemmas
 pub mod LookLemmas
 pub mod MapLemmas

@@ -25,6 +25,7 @@ use Rattle.world.specs.declared.entry.Entry.TheVariants as made
 use Rattle.world.specs.declared.side.Side.TheVariants as side
 use Rattle.world.specs.Jobs.{conn_of}
 use Rattle.world.specs.Moments.{Since, Told}
+use Rattle.world.specs.Parts.{OnDisk, IsNotOf}
 use Rattle.world.specs.Places.{Status, status, is_at}
 use Rattle.world.specs.Waits.{is_wait, wait_count}
 use Rattle.ready_loop.specs.declared.end.End.{End}
@@ -125,6 +126,10 @@ pub record Goes (rule : History → List Entry → Type 0) (step : History → H
 -- where a world tells its journal after a call, it told it before, and the two are related so
 abbrev pub Follows : {W : Type 0} → (W → Option (List Entry)) → W → W → (List Entry → List Entry → Type 0) → Type 0
 Follows journal old new R = Told (journal old) (journal new) R
+
+-- no call of the disk was made
+abbrev pub LeavesFiles : {W : Type 0} → (W → Option (List Entry)) → W → W → Type 0
+LeavesFiles journal old new = Follows journal old new (Since (IsNotOf OnDisk))
 
 -- an entry that is neither of a connection nor a wait
 pub record IsElsewhere (entry : Entry) : Type 0 where

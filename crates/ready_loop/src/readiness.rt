@@ -5,7 +5,8 @@ ghost use Rattle.world.specs.Places.{place_of};
 ghost use Rattle.world.specs.Waits.{wait_count};
 ghost use Rattle.ready_loop.specs.History.{History, no_history, after_queue};
 ghost use Rattle.ready_loop.specs.Standing.{StandsFor, AllShut, put_at};
-ghost use Rattle.ready_loop.specs.States.{HoldsForKnown, IsDrained, IsSound, MayWait, SameKnown, known_at, waits_left};
+ghost use Rattle.ready_loop.specs.States.{HoldsForKnown, IsDrained, IsSound, MayWait, SameKnown};
+ghost use Rattle.ready_loop.specs.States.{failed_at, known_at, waits_left};
 
 use crate::conn_place::place_at;
 use crate::links::Links;
@@ -52,6 +53,7 @@ impl Loop {
             StandsFor self.new (after_queue conn bytes result h) journal }
         ensures err { OnErr result (self.new ≡ self.old) }
         ensures drained { IsDrained self.old → IsDrained self.new }
+        ensures failed { (p : ℕ) → failed_at self.new p ≡ failed_at self.old p }
         ensures sound { IsSound self.old → IsSound self.new }
         ensures known { SameKnown self.old self.new }
         ensures left { waits_left self.new ≡ waits_left self.old }

@@ -1,5 +1,5 @@
 -- Courses of saves, step by step.
-use Rattle.std.proofs.Common.{◌≡◌, ◌≢◌, inl, ℕ, ◌+◌, ◌≤◌, Bool, true, false, List, [], ◌∷◌, ◌++◌, length, Result, Ok, Err, Some, refl, sym, ◌∙◌, ap, subst, arith, length-append}
+use Rattle.std.proofs.Common.{◌≡◌, ◌≢◌, inl, ℕ, ◌+◌, ◌≤◌, Bool, true, false, List, [], ◌∷◌, ◌++◌, length, Result, Ok, Err, Some, refl, sym, ◌∙◌, ap, subst, length-append}
 use Rattle.std.specs.Prelude.{slice_get, map}
 use Rattle.std.specs.List.{AllByRecursion}
 use Rattle.world.specs.declared.entry.Entry.{Entry}
@@ -19,8 +19,8 @@ use Rattle.said_lines.proofs.SpeechLemmas.{says_since}
 use Rattle.progress_save.specs.declared.progress_fault.ProgressFault.{ProgressFault}
 use Rattle.progress_save.specs.declared.progress_fault.ProgressFault.TheVariants as fault
 use Rattle.progress_save.specs.Safe.{IsText, IsLastOrNext, IsPlace, IsSafe, IsHeld, IsNext, StaysSafe}
-use Rattle.progress_save.specs.Saved.{SavesAs, SavesThenSays, EndsAs, done, failure}
-use Rattle.progress_save.proofs.ManySaves.{weaker_place, untouched_held, text_before, last_or_next_before, spared_stays}
+use Rattle.progress_save.specs.Saved.{SavesAs, done, failure}
+use Rattle.progress_save.proofs.ManySaves.{weaker_place, untouched_held, last_or_next_before, spared_stays}
 use Rattle.progress_save.proofs.SafeLemmas.{stays_safe}
 use Rattle.progress_save.proofs.SavedLemmas.{ended}
 use Rattle.out_fold.specs.Fit.{AreRead}

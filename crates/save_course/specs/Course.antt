@@ -6,11 +6,13 @@ use Rattle.nb_model.specs.declared.notebook.Notebook.{Notebook}
 use Rattle.out_fold.specs.declared.used.Used.{Used}
 use Rattle.out_fold.specs.Fit.{AreRead}
 use Rattle.world.specs.declared.entry.Entry.{Entry}
+use Rattle.world.specs.Acked.{is_renamed}
 use Rattle.world.specs.Moments.{Since}
 use Rattle.world.specs.Touched.{touches}
 use Rattle.save_disk.specs.declared.save_fault.SaveFault.{SaveFault}
 use Rattle.save_disk.specs.Entries.{SaveOf}
 use Rattle.save_disk.specs.Places.{acknowledged}
+use Rattle.save_disk.specs.Temporary.{temporary_of}
 use Rattle.progress_save.specs.declared.progress_fault.ProgressFault.{ProgressFault}
 use Rattle.progress_save.specs.declared.progress_fault.ProgressFault.TheVariants as fault
 use Rattle.progress_save.specs.Prefix.{prefix}
@@ -62,6 +64,10 @@ pub record IsSavedSo (output : List ℕ) (merge : Bool) (first : Notebook) (from
   pub rising : Rises from saves
   pub read : AllByRecursion (λ (s : PrefixSave). AreRead s.us) saves
   pub so : IsSavedAs output (map (prefix_text merge first) saves) is_open before after
+
+-- no rename onto the output waits for the sync of its folder, which would acknowledge a save
+abbrev pub IsRested : List ℕ → List Entry → Type 0
+IsRested output journal = is_renamed (temporary_of output) output journal ≡ false
 
 -- whether a save may follow one with this answer
 abbrev pub open_after : {U : Type 0} → Result U ProgressFault → Bool

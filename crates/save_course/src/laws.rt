@@ -10,7 +10,8 @@ ghost use Rattle.save_disk.specs.Places.{acknowledged};
 ghost use Rattle.progress_save.specs.declared.progress_fault.ProgressFault.{ProgressFault};
 ghost use Rattle.progress_save.specs.Saved.{SavesAs};
 ghost use Rattle.save_course.specs.Course.{PrefixSave, prefix_text, Course, IsSavedSo};
-ghost use Rattle.save_course.specs.Course.{open_after, settled_after};
+ghost use Rattle.save_course.specs.Course.{IsRested, open_after, settled_after};
+ghost use Rattle.world.specs.Touched.{Spares};
 
 /// Over a course of saves of an output that nothing had touched, a crash leaves there at each
 /// moment what was there before, or the text that was acknowledged last, or the next one. Each text
@@ -47,4 +48,20 @@ pub fn courses_go_on()
         Course output merge first from before is_open settled past →
         Since (IsNotOf OnDisk) past after →
         Course output merge first from before is_open settled after }
+{}
+
+/// While no rename onto the output waits for the sync of its folder, calls that don't touch the
+/// output go on with a course, whichever folders they sync. None waits after them, nor after a save.
+pub fn courses_pass()
+    ensures spared { (output : List ℕ) (merge : Bool) (first : Notebook) (from settled : ℕ)
+        (is_open : Bool) (before past after : List Entry) →
+        Course output merge first from before is_open settled past → IsRested output past →
+        Since (Spares output) past after →
+        Course output merge first from before is_open settled after }
+    ensures rested { (output : List ℕ) (past after : List Entry) → IsRested output past →
+        Since (Spares output) past after → IsRested output after }
+    ensures saved { (output text line : List ℕ) (says : ℕ)
+        (result : Result (Unit {0}) ProgressFault) (past after : List Entry) →
+        IsRested output past → SavesAs output text line (0 < says) result past after →
+        IsRested output after }
 {}

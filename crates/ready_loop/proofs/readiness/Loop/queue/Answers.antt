@@ -1,4 +1,4 @@
-use Rattle.std.proofs.Common.{arith, ◌≡◌, ◌<◌, ◌++◌, ℕ, length, set, subst, OnOk}
+use Rattle.std.proofs.Common.{arith, refl, ◌≡◌, ◌<◌, ◌++◌, ℕ, length, set, subst, OnOk}
 use Rattle.world.specs.Places.{place_of}
 use Rattle.ready_loop.specs.Queues.{rest_at, taken_at}
 use Rattle.ready_loop.proofs.NewLemmas.{queue_stands, queue_known}
@@ -15,3 +15,6 @@ pub returns-clause-known : goal.returns-clause-known
 returns-clause-known c = queue_known c.push.result (place_of c.args.conn) c.args.bytes c.args.self.now c.push.new.self c.requires.begun
     (subst (λ (q : ℕ). OnOk c.push.result (c.push.new.self ≡ set c.args.self.now.queues q (record { rest = rest_at c.args.self.now.queues q ++ c.args.bytes; taken = taken_at c.args.self.now.queues q })))
     c.place_at.ensures.place c.push.ensures.ok) c.push.ensures.err
+
+pub returns-clause-failed : goal.returns-clause-failed
+returns-clause-failed c = λ p. refl

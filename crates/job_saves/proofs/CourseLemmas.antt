@@ -1,0 +1,264 @@
+-- Saves and other calls go on with a job's course.
+use Rattle.std.proofs.Common.{◌≡◌, ℕ, ◌≤◌, Bool, true, false, List, Option, Some, None, Result, Ok, Err, refl, sym, subst, ◌∙◌, arith}
+use Rattle.std.specs.Prelude.{IfSome, OnOk}
+use Rattle.std.specs.Str.{bytes_eq}
+use Rattle.nb_model.specs.declared.notebook.Notebook.{Notebook}
+use Rattle.out_fold.specs.declared.used.Used.{Used}
+use Rattle.world.specs.declared.entry.Entry.{Entry}
+use Rattle.world.specs.Counts.{Counts, CountsGrow, Rose}
+use Rattle.world.specs.Moments.{Since, Told}
+use Rattle.world.specs.Touched.{Spares}
+use Rattle.world.proofs.CountsLemmas.{grow_then}
+use Rattle.world.proofs.MomentsLemmas.{since_then}
+use Rattle.save_disk.specs.Temporary.{temporary_of}
+use Rattle.progress_save.specs.declared.progress_fault.ProgressFault.{ProgressFault}
+use Rattle.progress_save.specs.declared.progress_fault.ProgressFault.TheVariants as fault
+use Rattle.progress_save.specs.Prefix.{prefix}
+use Rattle.progress_save.specs.Saved.{text_of, SavesAs, SaveCause, IsSaveFault}
+use Rattle.save_course.specs.Course.{PrefixSave, prefix_text}
+use Rattle.save_course.proofs.CourseLemmas.{saved_goes_on}
+use Rattle.save_course.proofs.RestLemmas.{spared_go_on, spared_rest, saved_rests}
+use Rattle.job_notebook.specs.declared.notebook.JobNotebook.{JobNotebook}
+use Rattle.job_notebook.specs.State.{notebook_of, settled_of, merge_of, output_of, is_closed, Keeps, KeepsParts, KeepsRead, OnCall, closed_after}
+use Rattle.job_saves.specs.Course.{Origin, IsFor, IsSaved, IsOnCourse, HasSaved, Begins, Stands, Ends, IsUntouched, IsSpared, stays_open, answer_of}
+
+-- ---- what is told and what was held
+
+pub told_on : (j k : Option (List Entry)) (R : List Entry → List Entry → Type 0) (P Q : List Entry → Type 0) → Told j k R → IfSome j P
+    → ((x y : List Entry) → P x → R x y → Q y) → IfSome k Q
+told_on j None R P Q told held turns = tt
+told_on None (Some y) R P Q told held turns = absurd told.so
+told_on (Some x) (Some y) R P Q told held turns = turns x y held told.so
+
+-- what holds where it is told
+pub told_as : (j : Option (List Entry)) (P Q : List Entry → Type 0) → ((x : List Entry) → P x → Q x) → IfSome j P → IfSome j Q
+told_as None P Q turns held = tt
+told_as (Some x) P Q turns held = turns x held
+
+rose_later : (a b c : ℕ) → a ≤ b → Rose b c → Rose a c
+rose_later a b c more rose = grind (arith, more, rose)
+
+rose_still : (a b c : ℕ) → Rose a b → b ≤ c → Rose a c
+rose_still a b c rose more = grind (arith, more, rose)
+
+pub save_grows : (old new : Counts) (failed : Type 0) → SaveCause old new failed → CountsGrow old new
+save_grows old new failed c =
+    subst (CountsGrow old) (sym c.others) (record {
+      disk = c.disk.later;
+      net = omega arith;
+      waits = omega arith;
+      child = omega arith;
+      rand = omega arith;
+      say = c.say.later;
+      last = omega arith;
+    })
+
+-- ---- a save
+
+not_both : {A : Type 0} (b : Bool) → b ≡ true → b ≡ false → A
+not_both b e f = let no : true ≡ false = subst (λ c. c ≡ false) e f in absurd (cc)
+
+is_open_or : (b : Bool) (A : Type 0) → (b ≡ true → A) → (b ≡ false → A) → A
+is_open_or true A t f = t refl
+is_open_or false A t f = f refl
+
+not_stopped : (stop : Option ℕ) (r : Result (Unit {0}) ProgressFault) (u : Unit {0}) → r ≡ Ok u → closed_after r stop ≡ false → stop ≡ None
+not_stopped None r u e closed = refl
+not_stopped (Some cell) r u e closed = let no : true ≡ false = subst (λ q. closed_after q (Some cell) ≡ false) e closed in absurd (cc)
+
+module _ (o : Origin) (was now : JobNotebook) (p : ℕ) (stop : Option ℕ) (line : List ℕ) (failed : Type 0) (past after : List Entry) (h : IsOnCourse o was true past)
+    (merge : merge_of was ≡ o.merge) (above : settled_of was ≤ p) where
+  -- the save that it would be
+  abbrev next_save : List Used → PrefixSave
+  next_save us = record { us = us; settled = p; stop = stop }
+
+  -- the notebook is closed: no call was made
+  still : (is_closed now ≡ true) → after ≡ past → IsOnCourse o now true after
+  still closed same = record {
+    settled = h.settled;
+    is = subst (IsSaved o true h.settled) (sym same) h.is;
+    above = λ e f. not_both (is_closed now) closed f;
+    keeps = λ e f. not_both (is_closed now) closed f;
+  }
+
+  -- its text was saved
+  went : (result : Result (Unit {0}) ProgressFault) (k : KeepsRead was o.first) → h.settled ≤ p → notebook_of now ≡ prefix (merge_of was) k.us p stop o.first
+      → SavesAs o.output (text_of (notebook_of now)) line failed result past after → SavesAs o.output (prefix_text o.merge o.first (next_save k.us)) line failed result past after
+  went result k more is did =
+      let same : notebook_of now ≡ prefix o.merge k.us p stop o.first = subst (λ m. notebook_of now ≡ prefix m k.us p stop o.first) merge is in
+      subst (λ n. SavesAs o.output (text_of n) line failed result past after) same did
+
+  pub save_goes_on : (result : Result (Unit {0}) ProgressFault)
+      → OnCall result ((first : Notebook) (us : List Used) → Keeps was first us → notebook_of now ≡ prefix (merge_of was) us p stop first)
+      → OnOk result (stop ≡ None → (first : Notebook) → KeepsRead was first → KeepsRead now first)
+      → OnCall result (settled_of now ≡ p) → is_closed now ≡ closed_after result stop
+      → (is_closed was ≡ true → result ≡ Err fault.Closed)
+      → SavesAs o.output (text_of (notebook_of now)) line failed result past after
+      → IsOnCourse o now (stays_open (answer_of result)) after
+  save_goes_on (Ok u) is keeps settles closes shut did =
+      is_open_or (is_closed was) _
+      (λ closed. let no = shut closed in absurd (cc))
+      (λ on.
+      let k : KeepsRead was o.first = h.keeps refl on in
+      let more : h.settled ≤ p = omega (arith, h.above refl on, above) in
+      let saved = went (Ok u) k more (is o.first k.us k.keeps) did in
+      record {
+        settled = p;
+        is = record {
+          course = saved_goes_on o.output o.merge o.first 0 o.before line failed h.settled (Ok u) (next_save k.us) past after h.is.course more k.read saved;
+          rested = saved_rests o.output (prefix_text o.merge o.first (next_save k.us)) line failed (Ok u) past after h.is.rested saved;
+        };
+        above = λ e f. omega (arith, settles);
+        keeps = λ e f. keeps (not_stopped stop (Ok u) u refl (sym closes ∙ f)) o.first k;
+      })
+  save_goes_on (Err (fault.Save f)) is keeps settles closes shut did =
+      is_open_or (is_closed was) _
+      (λ closed. let no = shut closed in absurd (cc))
+      (λ on.
+      let k : KeepsRead was o.first = h.keeps refl on in
+      let more : h.settled ≤ p = omega (arith, h.above refl on, above) in
+      let saved = went (Err (fault.Save f)) k more (is o.first k.us k.keeps) did in
+      record {
+        settled = p;
+        is = record {
+          course = saved_goes_on o.output o.merge o.first 0 o.before line failed h.settled (Err (fault.Save f)) (next_save k.us) past after h.is.course more k.read saved;
+          rested = saved_rests o.output (prefix_text o.merge o.first (next_save k.us)) line failed (Err (fault.Save f)) past after h.is.rested saved;
+        };
+        above = λ e f. absurd (cc);
+        keeps = λ e f. absurd (cc);
+      })
+  save_goes_on (Err fault.Closed) is keeps settles closes shut did = still closes did
+  save_goes_on (Err fault.NoMemory) is keeps settles closes shut did = still closes did
+
+-- a failed save rose
+failed_rose : (result : Result (Unit {0}) ProgressFault) (old new : ℕ) → (IsSaveFault result → Rose old new) → stays_open (answer_of result) ≡ false → Rose old new
+failed_rose (Ok u) old new rose e = absurd (cc)
+failed_rose (Err (fault.Save f)) old new rose e = rose tt
+failed_rose (Err fault.Closed) old new rose e = absurd (cc)
+failed_rose (Err fault.NoMemory) old new rose e = absurd (cc)
+
+pub save_stands : (o : Origin) (was now : JobNotebook) (p : ℕ) (stop : Option ℕ) (line : List ℕ) (failed : Type 0) (result : Result (Unit {0}) ProgressFault)
+    (j k : Option (List Entry)) (c d : Counts)
+    → settled_of was ≤ p
+    → OnCall result ((first : Notebook) (us : List Used) → Keeps was first us → notebook_of now ≡ prefix (merge_of was) us p stop first)
+    → OnOk result (stop ≡ None → (first : Notebook) → KeepsRead was first → KeepsRead now first)
+    → OnCall result (settled_of now ≡ p) → is_closed now ≡ closed_after result stop
+    → (is_closed was ≡ true → result ≡ Err fault.Closed)
+    → Told j k (SavesAs (output_of was) (text_of (notebook_of now)) line failed result)
+    → SaveCause c d (IsSaveFault result)
+    → merge_of now ≡ merge_of was → output_of now ≡ output_of was
+    → Stands o was true j c → Stands o now (stays_open (answer_of result)) k d
+save_stands o was now p stop line failed result j k c d above is keeps settles closes shut did cause merge output s = record {
+  output = output ∙ s.output;
+  merge = merge ∙ s.merge;
+  told = told_on j k (SavesAs (output_of was) (text_of (notebook_of now)) line failed result) (IsOnCourse o was true) (IsOnCourse o now (stays_open (answer_of result))) did s.told
+      (λ x y h saved. save_goes_on o was now p stop line failed x y h s.merge above result is keeps settles closes shut
+      (subst (λ q. SavesAs q (text_of (notebook_of now)) line failed result x y) s.output saved));
+  grow = grow_then s.grow (save_grows c d (IsSaveFault result) cause);
+  cause = λ e. rose_later o.counts.disk c.disk d.disk s.grow.disk (failed_rose result c.disk d.disk cause.disk.cause e);
+}
+
+-- ---- other paths
+
+pub calls_leave : (path : List ℕ) (since : List Entry) (from c d : Counts) (j k : Option (List Entry)) → Told j k (Since (Spares path)) → CountsGrow c d
+    → IsUntouched path since from j c → IsUntouched path since from k d
+calls_leave path since from c d j k told grow s = record {
+  told = told_on j k (Since (Spares path)) (Since (Spares path) since) (Since (Spares path) since) told s.told (λ x y held more. since_then held more);
+  grow = grow_then s.grow grow;
+}
+
+pub calls_spare : (path : List ℕ) (since : List Entry) (from c d : Counts) (was now : JobNotebook) (j k : Option (List Entry)) → output_of now ≡ output_of was
+    → Told j k (Since (Spares path)) → CountsGrow c d → IsSpared path since from was j c → IsSpared path since from now k d
+calls_spare path since from c d was now j k output told grow s = record {
+  output = subst (λ q. bytes_eq q path ≡ false) (sym output) s.output;
+  temporary = subst (λ q. bytes_eq (temporary_of q) path ≡ false) (sym output) s.temporary;
+  so = calls_leave path since from c d j k told grow s.so;
+}
+
+-- ---- what is used changes nothing of the course
+
+pub stays : (was now : JobNotebook) → KeepsParts was now → ((first : Notebook) → KeepsRead was first → KeepsRead now first)
+    → (o : Origin) (is_open : Bool) (j : Option (List Entry)) (c : Counts) → Stands o was is_open j c → Stands o now is_open j c
+stays was now parts reads o is_open j c s = record {
+  output = parts.output ∙ s.output;
+  merge = parts.merge ∙ s.merge;
+  told = told_as j (IsOnCourse o was is_open) (IsOnCourse o now is_open) (λ past h. record {
+    settled = h.settled;
+    is = h.is;
+    above = λ e f. subst (λ n. h.settled ≤ n) (sym parts.settled) (h.above e (sym parts.closed ∙ f));
+    keeps = λ e f. reads o.first (h.keeps e (sym parts.closed ∙ f));
+  }) s.told;
+  grow = s.grow;
+  cause = s.cause;
+}
+
+pub stays_spared : (was now : JobNotebook) (path : List ℕ) (since : List Entry) (from : Counts) (j : Option (List Entry)) (c : Counts) → KeepsParts was now
+    → IsSpared path since from was j c → IsSpared path since from now j c
+stays_spared was now path since from j c parts s = record {
+  output = subst (λ q. bytes_eq q path ≡ false) (sym parts.output) s.output;
+  temporary = subst (λ q. bytes_eq (temporary_of q) path ≡ false) (sym parts.output) s.temporary;
+  so = s.so;
+}
+
+-- ---- other calls
+
+pub others_pass : (o : Origin) (b : JobNotebook) (is_open : Bool) (j k : Option (List Entry)) (c d : Counts) → Told j k (Since (Spares o.output)) → CountsGrow c d
+    → Stands o b is_open j c → Stands o b is_open k d
+others_pass o b is_open j k c d told grow s = record {
+  output = s.output;
+  merge = s.merge;
+  told = told_on j k (Since (Spares o.output)) (IsOnCourse o b is_open) (IsOnCourse o b is_open) told s.told (λ x y h since. record {
+    settled = h.settled;
+    is = record { course = spared_go_on o.output o.merge o.first 0 o.before h.is.course h.is.rested since; rested = spared_rest o.output h.is.rested since };
+    above = h.above;
+    keeps = h.keeps;
+  });
+  grow = grow_then s.grow grow;
+  cause = λ e. rose_still o.counts.disk c.disk d.disk (s.cause e) grow.disk;
+}
+
+-- ---- begin and end
+
+pub begins_pass : (o : Origin) (j k : Option (List Entry)) (c d : Counts) → Told j k (Since (Spares o.output)) → CountsGrow c d → Begins o j c → Begins o k d
+begins_pass o j k c d told grow s = record {
+  told = told_on j k (Since (Spares o.output)) (IsSaved o true 0) (IsSaved o true 0) told s.told (λ x y h since. record {
+    course = spared_go_on o.output o.merge o.first 0 o.before h.course h.rested since;
+    rested = spared_rest o.output h.rested since;
+  });
+  grow = grow_then s.grow grow;
+}
+
+pub ends_pass : (o : Origin) (is_open : Bool) (j k : Option (List Entry)) (c d : Counts) → Told j k (Since (Spares o.output)) → CountsGrow c d → Ends o is_open j c → Ends o is_open k d
+ends_pass o is_open j k c d told grow s = record {
+  told = told_on j k (Since (Spares o.output)) (HasSaved o is_open) (HasSaved o is_open) told s.told (λ x y h since. record {
+    settled = h.settled;
+    is = record {
+      course = spared_go_on o.output o.merge o.first 0 o.before h.is.course h.is.rested since;
+      rested = spared_rest o.output h.is.rested since;
+    };
+  });
+  grow = grow_then s.grow grow;
+  cause = λ e. rose_still o.counts.disk c.disk d.disk (s.cause e) grow.disk;
+}
+
+pub job_begins : (b : JobNotebook) (first : Notebook) (o : Origin) (j : Option (List Entry)) (c : Counts) → KeepsRead b first → IsFor (output_of b) (merge_of b) first o
+    → Begins o j c → Stands o b true j c
+job_begins b first o j c keeps for s = record {
+  output = sym for.output_is;
+  merge = sym for.merge_is;
+  told = told_as j (IsSaved o true 0) (IsOnCourse o b true) (λ past h. record {
+    settled = 0;
+    is = h;
+    above = λ e f. omega arith;
+    keeps = λ e f. subst (KeepsRead b) (sym for.first_is) keeps;
+  }) s.told;
+  grow = s.grow;
+  cause = λ e. absurd (cc);
+}
+
+pub job_ends : (o : Origin) (b : JobNotebook) (is_open : Bool) (j : Option (List Entry)) (c : Counts) → Stands o b is_open j c → Ends o is_open j c
+job_ends o b is_open j c s = record {
+  told = told_as j (IsOnCourse o b is_open) (HasSaved o is_open) (λ past h. record { settled = h.settled; is = h.is }) s.told;
+  grow = s.grow;
+  cause = s.cause;
+}

@@ -1,0 +1,16 @@
+use Rattle.std.proofs.Common.{sym, subst}
+use Rattle.job_saves.specs.Course.{Stands, stays_open}
+use Rattle.job_saves.proofs.CourseLemmas.{save_stands, save_grows, calls_spare}
+use Rattle.job_saves.proofs.saving.save_next.Goals as goal
+
+pub returns-clause-course : goal.returns-clause-course
+returns-clause-course g c o s =
+    let e = c.save.ensures in
+    subst (λ r. Stands o c.save.new.self (stays_open r) (g.W.Journal.journal c.save.new.w) (g.W.Journal.counts c.save.new.w)) (sym c.end_of.ensures.answer)
+    (save_stands o c.args.book.now c.save.new.self c.args.settled c.args.stop _ _ c.save.result _ _ _ _
+    c.requires.above e.prefix e.read e.settled e.after (λ closed. e.closed.1 closed) e.entries e.cause e.merge e.output s)
+
+pub returns-clause-others : goal.returns-clause-others
+returns-clause-others g c path since from s =
+    let e = c.save.ensures in
+    calls_spare path since from _ _ c.args.book.now c.save.new.self _ _ e.output (e.others path s.output s.temporary) (save_grows _ _ _ e.cause) s
