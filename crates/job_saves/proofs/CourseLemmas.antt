@@ -7,14 +7,19 @@ use Rattle.out_fold.specs.declared.used.Used.{Used}
 use Rattle.world.specs.declared.entry.Entry.{Entry}
 use Rattle.world.specs.Counts.{Counts, CountsGrow, Rose}
 use Rattle.world.specs.Moments.{Since, Told}
+use Rattle.world.specs.Disk.{place}
 use Rattle.world.specs.Touched.{Spares}
+use Rattle.world.proofs.MomentsLemmas.{told_as as moments_as}
+use Rattle.save_disk.specs.Places.{durable_place}
+use Rattle.job_end.specs.declared.end.End.{End}
+use Rattle.job_end.specs.declared.end.End.TheVariants as end
 use Rattle.world.proofs.CountsLemmas.{grow_then}
 use Rattle.world.proofs.MomentsLemmas.{since_then}
 use Rattle.save_disk.specs.Temporary.{temporary_of}
 use Rattle.progress_save.specs.declared.progress_fault.ProgressFault.{ProgressFault}
 use Rattle.progress_save.specs.declared.progress_fault.ProgressFault.TheVariants as fault
 use Rattle.progress_save.specs.Prefix.{prefix}
-use Rattle.progress_save.specs.Saved.{text_of, SavesAs, SaveCause, IsSaveFault}
+use Rattle.progress_save.specs.Saved.{text_of, SavesAs, EndsAs, OnRefusal, SaveCause, IsSaveFault}
 use Rattle.save_course.specs.Course.{PrefixSave, prefix_text}
 use Rattle.save_course.proofs.CourseLemmas.{saved_goes_on}
 use Rattle.save_course.proofs.RestLemmas.{spared_go_on, spared_rest, saved_rests}
@@ -262,3 +267,32 @@ job_ends o b is_open j c s = record {
   grow = s.grow;
   cause = s.cause;
 }
+
+-- ---- what a save leaves, by its answer
+
+on_saved : (r : Result (Unit {0}) ProgressFault) (A : Type 0) → OnCall r A → OnOk (answer_of r) A
+on_saved (Ok u) A h = h
+on_saved (Err (fault.Save f)) A h = tt
+on_saved (Err fault.Closed) A h = tt
+on_saved (Err fault.NoMemory) A h = tt
+
+made_durable : (r : Result (Unit {0}) ProgressFault) (output text : List ℕ) (j k : Option (List Entry)) → Told j k (EndsAs output text r)
+    → OnOk (answer_of r) (Told j k (λ before after. place after output ≡ durable_place text))
+made_durable (Ok u) output text j k told = moments_as told (λ x y e. e.place_is)
+made_durable (Err (fault.Save f)) output text j k told = tt
+made_durable (Err fault.Closed) output text j k told = tt
+made_durable (Err fault.NoMemory) output text j k told = tt
+
+-- the same by the answer of the job's save
+pub on_answer : (r : Result (Unit {0}) ProgressFault) (q : Result (Unit {0}) End) (A : Type 0) → q ≡ answer_of r → OnCall r A → OnOk q A
+on_answer r q A is h = subst (λ s. OnOk s A) (sym is) (on_saved r A h)
+
+pub durable_answer : (r : Result (Unit {0}) ProgressFault) (q : Result (Unit {0}) End) (output text : List ℕ) (j k : Option (List Entry)) → q ≡ answer_of r
+    → Told j k (EndsAs output text r) → OnOk q (Told j k (λ before after. place after output ≡ durable_place text))
+durable_answer r q output text j k is told = subst (λ s. OnOk s (Told j k (λ before after. place after output ≡ durable_place text))) (sym is) (made_durable r output text j k told)
+
+pub left_alone : (r : Result (Unit {0}) ProgressFault) (A : Type 0) → OnRefusal r A → answer_of r ≡ Err end.NoMemory → A
+left_alone (Ok u) A h e = absurd (cc)
+left_alone (Err (fault.Save f)) A h e = absurd (cc)
+left_alone (Err fault.Closed) A h e = h
+left_alone (Err fault.NoMemory) A h e = h

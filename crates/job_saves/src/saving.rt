@@ -1,6 +1,15 @@
 //! `save_next`, the next save of a job.
-ghost use Rattle.std.specs.Prelude.{◌≡◌, ◌≤◌, length, IfErr, OnOk};
-ghost use Rattle.job_notebook.specs.State.{notebook_of, settled_of, begun_of};
+ghost use Rattle.std.specs.Prelude.{◌≡◌, ◌≤◌, List, length, Err, IfErr, OnOk};
+ghost use Rattle.nb_model.specs.declared.notebook.Notebook as whole;
+ghost use Rattle.out_fold.specs.declared.used.Used.{Used};
+ghost use Rattle.world.specs.Disk.{place};
+ghost use Rattle.world.specs.Moments.{Told};
+ghost use Rattle.save_disk.specs.Places.{durable_place};
+ghost use Rattle.progress_save.specs.Prefix.{prefix};
+ghost use Rattle.progress_save.specs.Saved.{text_of};
+ghost use Rattle.job_end.specs.declared.end.End.TheVariants as ending;
+ghost use Rattle.job_notebook.specs.State.{notebook_of, settled_of, begun_of, merge_of, output_of};
+ghost use Rattle.job_notebook.specs.State.{Keeps};
 ghost use Rattle.job_saves.specs.Course.{GoesOn, SparesOthers, stays_open, answer_of, IsEndOfRun};
 
 use job_end::End;
@@ -22,6 +31,17 @@ pub fn save_next<W: Disk + Say>(
     // It goes on with the course of the saves so far, and touches no other path.
     ensures course { GoesOn W.journal W.counts w.old w.new book.old book.new (stays_open result) }
     ensures others { SparesOthers W.journal W.counts w.old w.new book.old book.new }
+
+    // After Ok the notebook is that prefix of the first one, for the messages that were used, and a
+    // crash leaves its text at the output.
+    ensures prefix { OnOk result ((first : whole.Notebook) (us : List Used) →
+        Keeps book.old first us →
+        notebook_of book.new ≡ prefix (merge_of book.old) us settled stop first) }
+    ensures durable { OnOk result (Told (W.journal w.old) (W.journal w.new) (λ _ after.
+        place after (output_of book.old) ≡ durable_place (text_of (notebook_of book.new)))) }
+    // Where memory is refused nothing is asked of the world.
+    ensures idle { result ≡ Err ending.NoMemory →
+        (W.journal w.new ≡ W.journal w.old) × (W.counts w.new ≡ W.counts w.old) }
 
     // It ends the job by this save, or for want of memory.
     ensures own { IfErr result IsEndOfRun }

@@ -1,6 +1,6 @@
-use Rattle.std.proofs.Common.{sym, subst}
+use Rattle.std.proofs.Common.{sym, subst, ◌∙◌}
 use Rattle.job_saves.specs.Course.{Stands, stays_open}
-use Rattle.job_saves.proofs.CourseLemmas.{save_stands, save_grows, calls_spare}
+use Rattle.job_saves.proofs.CourseLemmas.{save_stands, save_grows, calls_spare, on_answer, durable_answer, left_alone}
 use Rattle.job_saves.proofs.saving.save_next.Goals as goal
 
 pub returns-clause-course : goal.returns-clause-course
@@ -14,3 +14,12 @@ pub returns-clause-others : goal.returns-clause-others
 returns-clause-others g c path since from s =
     let e = c.save.ensures in
     calls_spare path since from _ _ c.args.book.now c.save.new.self _ _ e.output (e.others path s.output s.temporary) (save_grows _ _ _ e.cause) s
+
+pub returns-clause-prefix : goal.returns-clause-prefix
+returns-clause-prefix g c = on_answer c.save.result c.end_of.result _ c.end_of.ensures.answer c.save.ensures.prefix
+
+pub returns-clause-durable : goal.returns-clause-durable
+returns-clause-durable g c = durable_answer c.save.result c.end_of.result _ _ _ _ c.end_of.ensures.answer c.save.ensures.end
+
+pub returns-clause-idle : goal.returns-clause-idle
+returns-clause-idle g c e = left_alone c.save.result _ c.save.ensures.idle (sym c.end_of.ensures.answer ∙ e)
