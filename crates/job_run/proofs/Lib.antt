@@ -1,0 +1,5 @@
+pub mod BeginLemmas
+pub mod CauseLemmas
+pub mod HeardLemmas
+pub mod OutcomeLemmas
+pub mod RunLemmas

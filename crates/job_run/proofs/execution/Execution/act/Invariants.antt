@@ -1,0 +1,17 @@
+use Rattle.std.proofs.Common.{true}
+use Rattle.cell_core.specs.Sending.{saves_ahead}
+use Rattle.job_saves.specs.Course.{GoesOn, SparesOthers}
+use Rattle.job_run.specs.Held.{Holds, IsToDo}
+use Rattle.job_run.proofs.execution.Execution.act.Given as goal
+
+abbrev pub invariant-loop-act : goal.invariant-loop-act
+invariant-loop-act g l =
+    record {
+      holds : Holds l.self;
+      todo : IsToDo l.self l.act;
+      course : GoesOn g.W.Journal.journal g.W.Journal.counts l.fn.w l.w l.fn.self.book l.self.book true;
+      others : SparesOthers g.W.Journal.journal g.W.Journal.counts l.fn.w l.w l.fn.self.book l.self.book;
+    }
+
+abbrev pub decreases-loop-act : goal.decreases-loop-act
+decreases-loop-act g l = saves_ahead l.self.core

@@ -1,0 +1,35 @@
+use Rattle.std.proofs.Common.{true, ◌≡◌, subst}
+use Rattle.job_saves.specs.Course.{stays_open}
+use Rattle.world.proofs.CountsLemmas.{grow_then}
+use Rattle.job_run.proofs.CauseLemmas.{causes_stay}
+use Rattle.job_run.proofs.job.Job.start_on_ports.Goals as goal
+
+pub returns-in-Ok-clause-course : goal.returns-in-Ok-clause-course
+returns-in-Ok-clause-course g c o r = c.start_child.ensures.course o (c.write_file.ensures.course o r)
+
+pub returns-in-Ok-clause-others : goal.returns-in-Ok-clause-others
+returns-in-Ok-clause-others g c path since from r = c.start_child.ensures.others path since from (c.write_file.ensures.others path since from r)
+
+pub returns-in-Err-clause-course : goal.returns-in-Err-clause-course
+returns-in-Err-clause-course g c o r = c.write_file.ensures.course o r
+
+pub returns-in-Err-clause-others : goal.returns-in-Err-clause-others
+returns-in-Err-clause-others g c path since from r = c.write_file.ensures.others path since from r
+
+pub returns-in-Ok-clause-saved : goal.returns-in-Ok-clause-saved
+returns-in-Ok-clause-saved g c = c.start_child.ensures.saved
+
+pub returns-in-Err-clause-saved : goal.returns-in-Err-clause-saved
+returns-in-Err-clause-saved g c = subst (λ q. stays_open q ≡ true) c.in-Err.is c.write_file.ensures.saved
+
+pub returns-in-Ok-clause-grow : goal.returns-in-Ok-clause-grow
+returns-in-Ok-clause-grow g c = grow_then c.write_file.ensures.grow c.start_child.ensures.grow
+
+pub returns-in-Err-clause-grow : goal.returns-in-Err-clause-grow
+returns-in-Err-clause-grow g c = c.write_file.ensures.grow
+
+pub returns-in-Ok-clause-cause : goal.returns-in-Ok-clause-cause
+returns-in-Ok-clause-cause g c = causes_stay (g.W.Journal.counts c.args.w.now) (g.W.Journal.counts c.write_file.new.w) (g.W.Journal.counts c.start_child.new.w) c.start_child.result c.write_file.ensures.grow c.start_child.ensures.cause
+
+pub returns-in-Err-clause-cause : goal.returns-in-Err-clause-cause
+returns-in-Err-clause-cause g c = c.in-Err.ensures.cause

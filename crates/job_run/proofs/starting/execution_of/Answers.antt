@@ -1,0 +1,37 @@
+use Rattle.std.proofs.Common.{◌≡◌, ◌<◌, ◌≤◌, ◌^◌, length, ℕ, AllPairs, arith, sym, ap, ◌∙◌, subst}
+use Rattle.cell_core.specs.Sending.{IsInOrder, next_of}
+use Rattle.cell_core.specs.StandsFor.{task_of}
+use Rattle.job_notebook.specs.State.{notebook_of, begun_of, settled_of}
+use Rattle.job_run.proofs.starting.execution_of.Goals as goal
+
+pub returns-clause-first : goal.returns-clause-first
+returns-clause-first c =
+    let core = c.new-core.result in
+    let book = c.in_ok-book.book in
+    let rises : AllPairs (λ i j. i < j) c.args.agenda.cells = subst (λ (p : _). AllPairs (λ i j. i < j) p) (sym c.args.agenda.plan) (c.plan_in_order.ensures.increasing c.args.agenda.notebook) in
+    let begun : begun_of book ≤ next_of core = omega (arith, c.in_ok-book.ensures.begun, c.new-core.ensures.first) in
+    let settled : settled_of book ≤ next_of core = omega (arith, c.in_ok-book.ensures.settled, c.new-core.ensures.first) in
+    let early : 0 < 2 ^ 47 = omega arith in
+    record {
+      holds = record {
+        ordered = subst IsInOrder (sym c.new-core.ensures.of) rises;
+        cells = ap (λ n. length n.cells) c.in_ok-book.ensures.notebook ∙ sym (ap (λ t. t.cells) c.new-core.ensures.of ∙ c.len-count.ensures);
+        begun = begun;
+        settled = settled;
+        asked = λ e. absurd (cc);
+        early = early;
+      };
+      begun = c.in_ok-book.ensures.begun;
+      settled = c.in_ok-book.ensures.settled;
+      next = c.new-core.ensures.first;
+      awaits = c.new-core.ensures.next;
+    }
+
+pub returns-clause-output : goal.returns-clause-output
+returns-clause-output c = c.in_ok-book.ensures.output
+
+pub returns-clause-merge : goal.returns-clause-merge
+returns-clause-merge c = c.in_ok-book.ensures.merge
+
+pub returns-clause-keeps : goal.returns-clause-keeps
+returns-clause-keeps c = c.in_ok-book.ensures.read

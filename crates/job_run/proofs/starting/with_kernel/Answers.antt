@@ -1,0 +1,25 @@
+use Rattle.std.proofs.Common.{true, ◌≡◌, sym, subst, ◌∙◌}
+use Rattle.job_saves.specs.Course.{Ends, keeps_open, stays_open}
+use Rattle.job_run.proofs.RunLemmas.{unstarted}
+use Rattle.world.proofs.CountsLemmas.{grow_start}
+use Rattle.job_run.proofs.CauseLemmas.{cause_within}
+use Rattle.job_run.proofs.starting.with_kernel.Goals as goal
+
+pub returns-in-Ok-clause-course : goal.returns-in-Ok-clause-course
+returns-in-Ok-clause-course g c o r = c.launch.ensures.course o r
+
+pub returns-in-Ok-clause-others : goal.returns-in-Ok-clause-others
+returns-in-Ok-clause-others g c path since from r = c.launch.ensures.others path since from r
+
+pub returns-in-Err-clause-course : goal.returns-in-Err-clause-course
+returns-in-Err-clause-course g c o r =
+    let kept : keeps_open c.in-Err.end ≡ true = subst (λ q. stays_open q ≡ true) c.in-Err.is c.launch.ensures.saved in
+    subst (λ b. Ends o b (g.W.Journal.journal c.end_child.new.w) (g.W.Journal.counts c.end_child.new.w)) (sym kept)
+    (unstarted o c.launch.new.self _ _ (c.launch.ensures.outcome ∙ c.requires) (c.end_child.ensures.course o (c.launch.ensures.course o r)))
+
+pub returns-in-Err-clause-others : goal.returns-in-Err-clause-others
+returns-in-Err-clause-others g c path since from r = (c.end_child.ensures.others path since from (c.launch.ensures.others path since from r)).saves.so
+
+pub returns-in-Err-clause-cause : goal.returns-in-Err-clause-cause
+returns-in-Err-clause-cause g c =
+    cause_within (g.W.Journal.counts c.args.w.now) (g.W.Journal.counts c.args.w.now) (g.W.Journal.counts c.launch.new.w) (g.W.Journal.counts c.end_child.new.w) c.in-Err.end (grow_start (g.W.Journal.counts c.args.w.now)) c.end_child.ensures.grow c.in-Err.ensures.cause

@@ -1,0 +1,51 @@
+-- How the parts of an execution agree: its core, its notebook and the request that stands.
+use Rattle.std.specs.Prelude.{◌≡◌, ℕ, ◌<◌, ◌≤◌, ◌^◌, length, Bool, true, false, is_some, List, Result}
+use Rattle.nb_model.specs.declared.notebook.Notebook.{Notebook}
+use Rattle.cell_core.specs.declared.act.Act.{Act}
+use Rattle.cell_core.specs.Holds.{is_save}
+use Rattle.cell_core.specs.Sending.{IsInOrder, SendsOn, next_of}
+use Rattle.cell_core.specs.StandsFor.{task_of, awaits_saved_of}
+use Rattle.job_notebook.specs.State.{notebook_of, settled_of, begun_of}
+use Rattle.job_run.specs.declared.execution.Execution.{Execution}
+
+-- the cells to run are in order, and no cell has begun or is settled beyond those of the core
+pub record Holds (x : Execution) : Type 0 where
+  pub ordered : IsInOrder (task_of x.core)
+  pub cells : length (notebook_of x.book).cells ≡ (task_of x.core).cells
+  pub begun : begun_of x.book ≤ next_of x.core
+  pub settled : settled_of x.book ≤ next_of x.core
+  pub asked : is_some x.request ≡ true → 0 < begun_of x.book
+  pub early : x.clock < 2 ^ 47
+
+-- the act that the core has answered last may be done: a cell's request is of one that comes after those before, and a save
+-- settles no fewer cells than the last one
+pub record IsToDo (x : Execution) (act : Act) : Type 0 where
+  pub was : ℕ
+  pub begun : begun_of x.book ≤ was
+  pub settled : settled_of x.book ≤ was
+  pub sends : SendsOn (task_of x.core) was (next_of x.core) act
+  pub awaits : awaits_saved_of x.core ≡ is_save act
+
+-- no save is awaited
+abbrev pub IsCalm : Execution → Type 0
+IsCalm x = awaits_saved_of x.core ≡ false
+
+-- a message may have been queued, and nothing else has changed
+abbrev pub IsSaid : Execution → Execution → Type 0
+IsSaid old new = new ≡ record old { session = new.session; lines = new.lines }
+
+-- a request or a ping may have been queued, and nothing else has changed
+abbrev pub IsAsked : Execution → Execution → Type 0
+IsAsked old new = new ≡ record old { session = new.session; lines = new.lines; asking = new.asking; pings = new.pings }
+
+-- what may be done stays so
+abbrev pub KeepsToDo : Execution → Execution → Type 0
+KeepsToDo old new = (act : Act) → IsToDo old act → IsToDo new act
+
+-- nothing has happened yet, and the first save is awaited
+pub record IsFirst (x : Execution) : Type 0 where
+  pub holds : Holds x
+  pub begun : begun_of x.book ≡ 0
+  pub settled : settled_of x.book ≡ 0
+  pub next : next_of x.core ≡ 0
+  pub awaits : awaits_saved_of x.core ≡ true

@@ -1,0 +1,4 @@
+pub mod Heard
+pub mod Held
+pub mod Pings
+pub mod Run

@@ -1,0 +1,58 @@
+//! `Execution`, the execution of a notebook by a kernel.
+
+use crate::request::Request;
+use crate::terms::Terms;
+use cell_core::Core;
+use job_notebook::JobNotebook;
+use jsign::Seen;
+use kernel_lines::Lines;
+use kernel_talk::{Asking, Pings, Session};
+use std::alloc::Global;
+use world::Chan;
+use zmtp_wire::WireFault;
+
+/// The execution of a notebook by a kernel that was started.
+#[derive(Drop)]
+pub(crate) struct Execution {
+    pub alloc: Global,
+    pub terms: Terms,
+    pub book: JobNotebook,
+    pub core: Core,
+    pub lines: Lines,
+    pub session: Session,
+    pub seen: Seen,
+    pub asking: Asking,
+    /// The core was told that the kernel is ready.
+    pub is_ready: bool,
+    pub pings: Pings,
+    /// The last clock entry.
+    pub clock: u64,
+    pub request: Option<Request>,
+    /// How many requests were sent.
+    pub sent: u64,
+    /// The stream that broke.
+    pub broken: Option<(Chan, WireFault)>,
+}
+
+impl Execution {
+    /// The next moment at which the clock brings something, in milliseconds since 1970-01-01 UTC.
+    pub(crate) fn due(&self) -> Option<u64> {
+        let asks = self.asking.next(self.lines.can_ask(), self.clock);
+        let pings = self.pings.next(self.can_ping(), self.clock);
+        earlier(self.core.due(), earlier(asks, pings))
+    }
+
+    /// Whether the kernel can be pinged: it is ready, and the handshake on the heartbeat is finished.
+    pub(crate) fn can_ping(&self) -> bool {
+        self.terms.heartbeat && self.is_ready && self.lines.of(Chan::Heart).is_shaken()
+    }
+}
+
+/// The earlier of two moments.
+fn earlier(a: Option<u64>, b: Option<u64>) -> Option<u64> {
+    match (a, b) {
+        (Some(a), Some(b)) => Some(a.min(b)),
+        (Some(a), None) => Some(a),
+        (None, b) => b,
+    }
+}

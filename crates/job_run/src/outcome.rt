@@ -1,0 +1,63 @@
+//! How a job has ended.
+ghost use Rattle.std.specs.Prelude.{◌≡◌, false, is_some, IfErr, OnOk};
+ghost use Rattle.job_saves.specs.Course.{StaysOn, StaysSpared, stays_open, keeps_open, IsEndOfRun};
+ghost use Rattle.job_run.specs.Held.{Holds, IsCalm};
+ghost use Rattle.job_run.specs.Run.{HasEnded, HasFailed, IsUnsaved, IsFileStatus};
+
+use crate::execution::Execution;
+use job_end::{Answer, End};
+use jtext::Text;
+use std::alloc::Global;
+
+/// How a job on this output has ended, where what was done ended it: its kernel is asked to shut down
+/// where that can be said.
+pub(crate) fn outcome_of(
+    alloc: Global,
+    output: &Text,
+    run: &mut Execution,
+    done: Result<(), End>,
+) -> Option<Answer>
+    requires holds { Holds run.old }
+    requires own { IfErr done IsEndOfRun }
+    ensures holds { Holds run.new }
+    ensures calm { is_some result ≡ false → OnOk done (IsCalm run.old) → IsCalm run.new }
+    ensures course { StaysOn run.old.book run.new.book }
+    ensures others { StaysSpared run.old.book run.new.book }
+    ensures shut { stays_open done ≡ false → HasEnded result }
+    ensures fails { HasFailed result → stays_open done ≡ false }
+{
+    match done {
+        Ok(()) => None,
+        Err(end) => Some(farewell(alloc, output, run, &end)),
+    }
+}
+
+/// How a job has ended that ends so: its kernel is asked to shut down where that can be said.
+fn farewell(alloc: Global, output: &Text, run: &mut Execution, end: &End) -> Answer
+    requires holds { Holds run.old }
+    ensures holds { Holds run.new }
+    ensures course { StaysOn run.old.book run.new.book }
+    ensures others { StaysSpared run.old.book run.new.book }
+    ensures shut { keeps_open end.now ≡ false → IsUnsaved result.status }
+    ensures fails { IsEndOfRun end.now → IsFileStatus result.status → keeps_open end.now ≡ false }
+{
+    let answer = answer_for(alloc, output, end);
+    if answer.status != 12 && run.shut_down().is_err() {
+        return starved(alloc);
+    }
+    answer
+}
+
+fn starved(alloc: Global) -> Answer
+    ensures shut { IsUnsaved result.status }
+    ensures fails { IsFileStatus result.status → ⊥ }
+{
+    Answer::starved(alloc)
+}
+
+fn answer_for(alloc: Global, output: &Text, end: &End) -> Answer
+    ensures shut { keeps_open end.now ≡ false → IsUnsaved result.status }
+    ensures fails { IsEndOfRun end.now → IsFileStatus result.status → keeps_open end.now ≡ false }
+{
+    end.answer(alloc, output)
+}

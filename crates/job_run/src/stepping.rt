@@ -1,0 +1,240 @@
+//! What the core answers is done.
+
+use crate::execution::Execution;
+use crate::request::Request;
+use cell_core::{Act, Event, Step, Why};
+use jcontent::{empty_content, execute_content, shutdown_content};
+use job_end::End;
+use job_saves::{laws, save_next};
+use jtext::{Json, NoMemory, Text};
+use nb_model::{code, tagged};
+use world::{Chan, Disk, Say};
+
+/// The tag of a cell whose errors don't stop the run (nbclient).
+const RAISES: &str = "raises-exception";
+
+impl Execution {
+    ghost use Rattle.std.specs.Prelude.{◌≡◌, ◌<◌, ◌≤◌, ◌^◌, ◌+◌, true, false, IfOk, IfErr, OnOk};
+    ghost use Rattle.cell_core.specs.Events.{is_saved};
+    ghost use Rattle.cell_core.specs.Holds.{IsSmall, is_save};
+    ghost use Rattle.cell_core.specs.Sending.{next_of, saves_ahead};
+    ghost use Rattle.cell_core.specs.StandsFor.{task_of};
+    ghost use Rattle.job_notebook.specs.State.{settled_of, begun_of};
+    ghost use Rattle.job_run.specs.Held.{Holds, IsToDo, IsCalm, IsSaid};
+    ghost use Rattle.job_saves.specs.Course.{GoesOn, SparesOthers, StaysOn, StaysSpared, stays_open, keeps_open, IsEndOfRun};
+
+    /// Tells the core of one event, and does what it answers. `Err` where the job ends so.
+    pub(crate) fn step<W: Disk + Say>(&mut self, w: &mut W, e: Event) -> Result<(), End>
+        requires holds { Holds self.old }
+        requires calm { IsCalm self.old }
+        requires other { is_saved e ≡ false }
+        requires small { IsSmall e }
+        ensures holds { Holds self.new }
+        ensures calm { OnOk result (IsCalm self.new) }
+        ensures course { GoesOn W.journal W.counts w.old w.new self.old.book self.new.book
+            (stays_open result) }
+        ensures others { SparesOthers W.journal W.counts w.old w.new self.old.book self.new.book }
+        ensures own { IfErr result IsEndOfRun }
+    {
+        let step = self.tell(e);
+        self.act(w, step.act)
+    }
+
+    /// Tells the core of one event, and answers what is to be done.
+    pub(crate) fn tell(&mut self, e: Event) -> Step
+        requires holds { Holds self.old }
+        requires calm { IsCalm self.old }
+        requires other { is_saved e ≡ false }
+        requires small { IsSmall e }
+        ensures holds { Holds self.new }
+        ensures todo { IsToDo self.new result.act }
+        ensures request { self.new.request ≡ self.old.request }
+        ensures book { self.new.book ≡ self.old.book }
+    {
+        self.core.step(e)
+    }
+
+    /// Does an act. A save that is acknowledged is told to the core, whose next act follows.
+    pub(crate) fn act<W: Disk + Say>(&mut self, w: &mut W, act: Act) -> Result<(), End>
+        requires holds { Holds self.old }
+        requires todo { IsToDo self.old act }
+        ensures holds { Holds self.new }
+        ensures calm { OnOk result (IsCalm self.new) }
+        ensures course { GoesOn W.journal W.counts w.old w.new self.old.book self.new.book
+            (stays_open result) }
+        ensures others { SparesOthers W.journal W.counts w.old w.new self.old.book self.new.book }
+        ensures own { IfErr result IsEndOfRun }
+    {
+        let mut act = act;
+        while let Act::Save(settled) = act {
+            act = self.save_on(w, settled)?;
+        }
+        self.perform(act)
+    }
+
+    /// Saves, tells the core that the save is acknowledged, and answers what is to be done next.
+    fn save_on<W: Disk + Say>(&mut self, w: &mut W, settled: u32) -> Result<Act, End>
+        requires holds { Holds self.old }
+        requires todo { IsToDo self.old (Act.Save settled) }
+        ensures holds { Holds self.new }
+        ensures todo { IfOk result (IsToDo self.new) }
+        ensures fewer { IfOk result (λ _.
+            saves_ahead self.new.core < saves_ahead self.old.core) }
+        ensures course { GoesOn W.journal W.counts w.old w.new self.old.book self.new.book
+            (stays_open result) }
+        ensures others { SparesOthers W.journal W.counts w.old w.new self.old.book self.new.book }
+        ensures own { IfErr result IsEndOfRun }
+    {
+        self.save(w, settled)?;
+        Ok(self.core.step(Event::Saved).act)
+    }
+
+    /// Does an act that is no save.
+    fn perform(&mut self, act: Act) -> Result<(), End>
+        requires holds { Holds self.old }
+        requires todo { IsToDo self.old act }
+        requires other { is_save act ≡ false }
+        ensures holds { Holds self.new }
+        ensures calm { OnOk result (IsCalm self.new) }
+        ensures course { StaysOn self.old.book self.new.book }
+        ensures others { StaysSpared self.old.book self.new.book }
+        ensures saved { stays_open result ≡ true }
+        ensures own { IfErr result IsEndOfRun }
+    {
+        match act {
+            Act::Send(cell) => self.send(cell),
+            Act::Interrupt => Ok(self.interrupt()?),
+            Act::Stop(why) => Err(self.end_by(why)?),
+            Act::Save(_) => Ok(()),
+            Act::Nothing => Ok(()),
+            Act::Start => Ok(()),
+            Act::Look => Ok(()),
+        }
+    }
+
+    /// Settles so many cells and saves the notebook.
+    pub(crate) fn save<W: Disk + Say>(&mut self, w: &mut W, settled: u32) -> Result<(), End>
+        requires holds { Holds self.old }
+        requires above { settled_of self.old.book ≤ settled }
+        requires below { settled ≤ next_of self.old.core }
+        requires within { settled ≤ (task_of self.old.core).cells }
+        ensures holds { Holds self.new }
+        ensures core { self.new.core ≡ self.old.core }
+        ensures begun { begun_of self.new.book ≡ begun_of self.old.book }
+        ensures settled { settled_of self.new.book ≤ settled }
+        ensures course { GoesOn W.journal W.counts w.old w.new self.old.book self.new.book
+            (stays_open result) }
+        ensures others { SparesOthers W.journal W.counts w.old w.new self.old.book self.new.book }
+        ensures own { IfErr result IsEndOfRun }
+    {
+        let stop = self.core.failing();
+        save_next(w, &mut self.book, settled, stop)
+    }
+
+    // Queues the request of a cell, which stands from here on.
+    fn send(&mut self, cell: u32) -> Result<(), End>
+        requires holds { Holds self.old }
+        requires below { cell < (task_of self.old.core).cells }
+        requires above { begun_of self.old.book ≤ cell }
+        requires next { next_of self.old.core ≡ cell + 1 }
+        ensures holds { Holds self.new }
+        ensures core { self.new.core ≡ self.old.core }
+        ensures course { StaysOn self.old.book self.new.book }
+        ensures others { StaysSpared self.old.book self.new.book }
+        ensures saved { stays_open result ≡ true }
+        ensures own { IfErr result IsEndOfRun }
+    {
+        laws::messages_stay_on_course();
+        let request = self.request_of(cell)?;
+        self.book.start(cell);
+        self.sent = self.sent.saturating_add(1);
+        self.request = Some(request);
+        Ok(())
+    }
+
+    fn request_of(&mut self, cell: u32) -> Result<Request, NoMemory>
+        requires holds { Holds self.old }
+        requires below { cell < (task_of self.old.core).cells }
+        ensures holds { Holds self.new }
+        ensures core { self.new.core ≡ self.old.core }
+        ensures book { self.new.book ≡ self.old.book }
+    {
+        let source = &self.book.notebook().cells.as_slice()[cell as usize];
+        let text = code(self.alloc, source)?;
+        let is_tagged = tagged(source, RAISES);
+        let stops = !(self.terms.all_errors || is_tagged);
+        let content = execute_content(self.alloc, &text, stops)?;
+        self.say(Chan::Shell, "execute_request", content)?;
+        let id = self.session.id(self.session.made())?;
+        Ok(Request {
+            id,
+            cell,
+            is_tagged,
+            error: None,
+        })
+    }
+
+    // Queues a request of this kind on the channel.
+    pub(crate) fn say(&mut self, chan: Chan, kind: &str, content: Json) -> Result<(), NoMemory>
+        requires { self.old.clock < 2 ^ 47 }
+        ensures { IsSaid self.old self.new }
+    {
+        let parts = self.session.request(self.clock, kind, content)?;
+        self.lines.send(chan, &parts)
+    }
+
+    fn interrupt(&mut self) -> Result<(), NoMemory>
+        requires { self.old.clock < 2 ^ 47 }
+        ensures { IsSaid self.old self.new }
+    {
+        let content = empty_content(self.alloc);
+        self.say(Chan::Control, "interrupt_request", content)
+    }
+
+    /// Asks the kernel to shut down, where that can be said.
+    pub(crate) fn shut_down(&mut self) -> Result<(), NoMemory>
+        requires { self.old.clock < 2 ^ 47 }
+        ensures { IsSaid self.old self.new }
+    {
+        if !self.lines.of(Chan::Control).is_shaken() {
+            return Ok(());
+        }
+        let content = shutdown_content(self.alloc)?;
+        self.say(Chan::Control, "shutdown_request", content)
+    }
+
+    fn end_by(&self, why: Why) -> Result<End, NoMemory>
+        ensures saved { IfOk result (λ e. keeps_open e ≡ true) }
+        ensures own { IfOk result IsEndOfRun }
+    {
+        let cell = match &self.request {
+            Some(request) => request.cell,
+            None => 0,
+        };
+        Ok(match why {
+            Why::Done => End::Done,
+            Why::CellError => End::CellError {
+                cell,
+                name: self.error_name()?,
+            },
+            Why::NotReady => End::NotReady,
+            Why::KernelLost => End::KernelLost,
+            Why::TimedOut => End::TimedOut { cell },
+            Why::NoIdle => End::NoIdle { cell },
+            Why::BadPeer => match self.broken {
+                Some((chan, fault)) => End::BadPeer { chan, fault },
+                None => End::KernelLost,
+            },
+        })
+    }
+
+    fn error_name(&self) -> Result<Text, NoMemory> {
+        match &self.request {
+            Some(request) => match &request.error {
+                Some(name) => name.copy(self.alloc),
+                None => Ok(Text::new(self.alloc)),
+            },
+            None => Ok(Text::new(self.alloc)),
+        }
+    }
+}

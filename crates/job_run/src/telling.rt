@@ -1,0 +1,233 @@
+//! What a job is told, what it answers, and its end.
+
+use crate::Job;
+use crate::look::Look;
+use crate::outcome::outcome_of;
+use cell_core::Event;
+use job_end::{Answer, End};
+use job_saves::laws;
+use jtext::{Bytes, NoMemory};
+use world::{Chan, Disk, Kids, Say};
+
+impl Job {
+    ghost use Rattle.std.specs.Prelude.{◌≡◌, ◌<◌, ◌^◌, ℕ, List, true, false, is_some};
+    ghost use Rattle.world.specs.declared.entry.Entry.{Entry};
+    ghost use Rattle.world.specs.Counts.{Counts, CountsGrow};
+    ghost use Rattle.job_saves.specs.Course.{Origin, IsUntouched, IsEndOfRun, keeps_open};
+    ghost use Rattle.job_run.specs.Run.{Runs, RunsOn, KeepsRun, EndsWith};
+    ghost use Rattle.job_run.specs.Run.{IsLeftAlone, LeavesOthers, KeepsAlone, outcome_of as outcome};
+
+    /// Its number among the jobs of the run.
+    pub fn number(&self) -> u8 {
+        self.number
+    }
+
+    /// The ports of its kernel: for shell, iopub, stdin, control and heartbeat.
+    pub fn ports(&self) -> [u16; 5] {
+        self.ports
+    }
+
+    /// Whether its kernel is pinged.
+    pub fn has_heartbeat(&self) -> bool {
+        self.run.terms.heartbeat
+    }
+
+    /// How it ended, once it has.
+    pub fn outcome(&self) -> Option<&Answer>
+        ensures { is_some result ≡ is_some (outcome self.now) }
+    {
+        self.outcome.as_ref()
+    }
+
+    fn is_over(&self) -> bool
+        ensures { result ≡ is_some self.now.outcome }
+    {
+        self.outcome.is_some()
+    }
+
+    /// What is queued on this channel and wasn't handed out, where there is anything.
+    pub fn queued(&mut self, chan: Chan) -> Option<Bytes>
+        ensures course { KeepsRun self.old self.new }
+        ensures others { KeepsAlone self.old self.new }
+    {
+        self.run.lines.take(chan)
+    }
+
+    /// So many octets of this channel were taken since its connection was begun.
+    pub fn on_taken(&mut self, chan: Chan, taken: u64)
+        ensures course { KeepsRun self.old self.new }
+        ensures others { KeepsAlone self.old self.new }
+    {
+        self.run.lines.on_taken(chan, taken);
+    }
+
+    /// Whether a last look of the job is to be made.
+    pub fn wants_look(&self) -> bool {
+        !self.is_over() && self.run.core.wants_look()
+    }
+
+    /// The next moment at which the clock brings something, in milliseconds since 1970-01-01 UTC.
+    pub fn due(&self) -> Option<u64> {
+        if self.is_over() {
+            return None;
+        }
+        self.run.due()
+    }
+
+    /// A piece came on this channel.
+    pub fn on_piece<W: Disk + Say>(
+        &mut self,
+        w: &mut W,
+        chan: Chan,
+        piece: &[u8],
+    ) -> Result<(), NoMemory>
+        ensures course { RunsOn W.journal W.counts w.old w.new self.old self.new }
+        ensures others { LeavesOthers W.journal W.counts w.old w.new self.old self.new }
+    {
+        if self.is_over() {
+            return Ok(());
+        }
+        let heard = self.run.on_piece(w, chan, piece);
+        self.outcome = outcome_of(self.alloc, &self.paths.output, &mut self.run, heard);
+        self.unless_starved()
+    }
+
+    /// A connection has ended.
+    pub fn on_ended(&mut self)
+        ensures course { KeepsRun self.old self.new }
+        ensures others { KeepsAlone self.old self.new }
+    {
+        if self.is_over() {
+            return;
+        }
+        match self.look {
+            Look::Waited { .. } => self.look = Look::Waited { late: true },
+            Look::Still => {
+                self.run.core.step(Event::Lost);
+            }
+        }
+    }
+
+    /// The clock of a turn was read; the child is looked at.
+    pub fn on_moment<W: Disk + Kids + Say>(&mut self, w: &mut W, ms: u64) -> Result<(), NoMemory>
+        requires { ms < 2 ^ 47 }
+        ensures course { RunsOn W.journal W.counts w.old w.new self.old self.new }
+        ensures others { LeavesOthers W.journal W.counts w.old w.new self.old self.new }
+    {
+        if self.is_over() {
+            return Ok(());
+        }
+        laws::other_calls_pass();
+        let has_ended = w.look(self.number).is_some();
+        let turned = self.run.on_moment(w, ms, has_ended);
+        self.outcome = outcome_of(self.alloc, &self.paths.output, &mut self.run, turned);
+        self.unless_starved()
+    }
+
+    /// The wait of a last look was made.
+    pub fn on_waited(&mut self)
+        ensures course { KeepsRun self.old self.new }
+        ensures others { KeepsAlone self.old self.new }
+    {
+        self.look = Look::Waited { late: false };
+    }
+
+    /// The reads of a last look are done.
+    pub fn on_looked<W: Disk + Say>(&mut self, w: &mut W) -> Result<(), NoMemory>
+        ensures course { RunsOn W.journal W.counts w.old w.new self.old self.new }
+        ensures others { LeavesOthers W.journal W.counts w.old w.new self.old self.new }
+    {
+        let late = self.is_late();
+        self.look = Look::Still;
+        if self.is_over() {
+            return Ok(());
+        }
+        let looked = self.run.on_looked(w, late);
+        self.outcome = outcome_of(self.alloc, &self.paths.output, &mut self.run, looked);
+        self.unless_starved()
+    }
+
+    // Whether a connection has ended since the wait of a last look.
+    fn is_late(&self) -> bool {
+        match self.look {
+            Look::Waited { late } => late,
+            Look::Still => false,
+        }
+    }
+
+    /// Ends the job by the network.
+    pub fn lose_network(&mut self) -> Result<(), NoMemory>
+        ensures course { KeepsRun self.old self.new }
+        ensures others { KeepsAlone self.old self.new }
+    {
+        if self.is_over() {
+            return Ok(());
+        }
+        self.end(End::NetFault)
+    }
+
+    /// Ends the job by the budget of turns.
+    pub fn spend(&mut self) -> Result<(), NoMemory>
+        ensures course { KeepsRun self.old self.new }
+        ensures others { KeepsAlone self.old self.new }
+    {
+        if self.is_over() {
+            return Ok(());
+        }
+        self.end(End::Spent)
+    }
+
+    /// Ends the child and removes the connection file.
+    pub fn end_child<W: Disk + Kids>(&self, w: &mut W)
+        ensures course { RunsOn W.journal W.counts w.old w.new self.now self.now }
+        ensures others { LeavesOthers W.journal W.counts w.old w.new self.now self.now }
+        ensures grow { CountsGrow (W.counts w.old) (W.counts w.new) }
+    {
+        laws::other_calls_pass();
+        w.end(self.number);
+        w.remove(&self.paths.connection);
+    }
+
+    /// Ends the child, removes the connection file, and gives how the job ended.
+    pub fn finish<W: Disk + Kids>(self, w: &mut W) -> Answer
+        ensures course { (o : Origin) → Runs o self (W.journal w.old) (W.counts w.old) →
+            EndsWith o result (W.journal w.new) (W.counts w.new) }
+        ensures others { (path : List ℕ) (since : List Entry) (from : Counts) →
+            IsLeftAlone path since from self (W.journal w.old) (W.counts w.old) →
+            IsUntouched path since from (W.journal w.new) (W.counts w.new) }
+    {
+        laws::jobs_begin_and_end();
+        self.end_child(w);
+        let Job { alloc, outcome, .. } = self;
+        match outcome {
+            Some(answer) => answer,
+            None => Answer::starved(alloc),
+        }
+    }
+
+    // The job ends so.
+    fn end(&mut self, end: End) -> Result<(), NoMemory>
+        requires running { is_some (outcome self.old) ≡ false }
+        requires own { IsEndOfRun end }
+        requires saved { keeps_open end ≡ true }
+        ensures course { KeepsRun self.old self.new }
+        ensures others { KeepsAlone self.old self.new }
+    {
+        self.outcome = outcome_of(self.alloc, &self.paths.output, &mut self.run, Err(end));
+        self.unless_starved()
+    }
+
+    // Whether memory was wanted, so that the job has ended.
+    fn unless_starved(&self) -> Result<(), NoMemory> {
+        match &self.outcome {
+            Some(answer) => {
+                if answer.status == 12 {
+                    Err(NoMemory)
+                } else {
+                    Ok(())
+                }
+            }
+            None => Ok(()),
+        }
+    }
+}

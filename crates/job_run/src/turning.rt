@@ -1,0 +1,160 @@
+//! What the clock brings.
+ghost use Rattle.std.specs.Prelude.{◌≡◌, ◌<◌, ◌^◌, IfOk};
+ghost use Rattle.job_run.specs.Pings.{ping_message};
+
+use crate::execution::Execution;
+use cell_core::Event;
+use jcontent::empty_content;
+use job_end::End;
+use jtext::{Bytes, NoMemory};
+use std::alloc::Global;
+use world::{Chan, Disk, Say};
+use zmtp_wire::Parts;
+
+impl Execution {
+    ghost use Rattle.std.specs.Prelude.{true, IfErr, OnOk};
+    ghost use Rattle.job_run.specs.Held.{Holds, IsCalm, IsAsked};
+    ghost use Rattle.job_saves.specs.Course.{GoesOn, SparesOthers, stays_open, IsEndOfRun};
+
+    /// The clock was read in a turn, and the child was found ended or not.
+    pub(crate) fn on_moment<W: Disk + Say>(
+        &mut self,
+        w: &mut W,
+        ms: u64,
+        has_ended: bool,
+    ) -> Result<(), End>
+        requires early { ms < 2 ^ 47 }
+        requires holds { Holds self.old }
+        requires calm { IsCalm self.old }
+        ensures holds { Holds self.new }
+        ensures calm { OnOk result (IsCalm self.new) }
+        ensures course { GoesOn W.journal W.counts w.old w.new self.old.book self.new.book
+            (stays_open result) }
+        ensures others { SparesOthers W.journal W.counts w.old w.new self.old.book self.new.book }
+        ensures own { IfErr result IsEndOfRun }
+    {
+        self.clock = ms;
+        match self.step(w, Event::Moment(ms)) {
+            Ok(()) => self.lose_or_ask(w, ms, has_ended),
+            Err(end) => Err(end),
+        }
+    }
+
+    // The kernel is gone, where it is; it is asked and pinged, where that is due.
+    fn lose_or_ask<W: Disk + Say>(&mut self, w: &mut W, ms: u64, has_ended: bool) -> Result<(), End>
+        requires holds { Holds self.old }
+        requires calm { IsCalm self.old }
+        ensures holds { Holds self.new }
+        ensures calm { OnOk result (IsCalm self.new) }
+        ensures course { GoesOn W.journal W.counts w.old w.new self.old.book self.new.book
+            (stays_open result) }
+        ensures others { SparesOthers W.journal W.counts w.old w.new self.old.book self.new.book }
+        ensures own { IfErr result IsEndOfRun }
+    {
+        let is_lost = self.is_lost(ms, has_ended);
+        match self.lose(w, is_lost) {
+            Ok(()) => self.ask_or_end(),
+            Err(end) => Err(end),
+        }
+    }
+
+    fn is_lost(&self, ms: u64, has_ended: bool) -> bool {
+        has_ended || self.is_silent(ms)
+    }
+
+    // Asks and pings the kernel, where that is due, or ends the job for want of memory.
+    fn ask_or_end(&mut self) -> Result<(), End>
+        requires { self.old.clock < 2 ^ 47 }
+        ensures asked { IsAsked self.old self.new }
+        ensures saved { stays_open result ≡ true }
+        ensures own { IfErr result IsEndOfRun }
+    {
+        match self.ask_and_ping() {
+            Ok(()) => Ok(()),
+            Err(NoMemory) => Err(End::NoMemory),
+        }
+    }
+
+    // The kernel is gone, where it is.
+    fn lose<W: Disk + Say>(&mut self, w: &mut W, is_lost: bool) -> Result<(), End>
+        requires holds { Holds self.old }
+        requires calm { IsCalm self.old }
+        ensures holds { Holds self.new }
+        ensures calm { OnOk result (IsCalm self.new) }
+        ensures course { GoesOn W.journal W.counts w.old w.new self.old.book self.new.book
+            (stays_open result) }
+        ensures others { SparesOthers W.journal W.counts w.old w.new self.old.book self.new.book }
+        ensures own { IfErr result IsEndOfRun }
+    {
+        if is_lost {
+            self.step(w, Event::Lost)
+        } else {
+            Ok(())
+        }
+    }
+
+    // Asks and pings the kernel, where that is due.
+    fn ask_and_ping(&mut self) -> Result<(), NoMemory>
+        requires { self.old.clock < 2 ^ 47 }
+        ensures { IsAsked self.old self.new }
+    {
+        self.ask()?;
+        self.ping()
+    }
+
+    fn is_silent(&self, ms: u64) -> bool {
+        self.terms.heartbeat && self.pings.is_lost(ms, self.lines.of(Chan::Heart).taken())
+    }
+
+    // Asks the kernel whether it is ready, where that is due.
+    fn ask(&mut self) -> Result<(), NoMemory>
+        requires { self.old.clock < 2 ^ 47 }
+        ensures { IsAsked self.old self.new }
+    {
+        if !self.asking.is_due(self.lines.can_ask(), self.clock) {
+            return Ok(());
+        }
+        let content = empty_content(self.alloc);
+        self.say(Chan::Shell, "kernel_info_request", content)?;
+        let id = self.session.id(self.session.made())?;
+        self.asking.on_request(id, self.clock)
+    }
+
+    fn ping(&mut self) -> Result<(), NoMemory>
+        requires { self.old.clock < 2 ^ 47 }
+        ensures { IsAsked self.old self.new }
+    {
+        if !self.pings.is_due(self.can_ping(), self.clock) {
+            return Ok(());
+        }
+        let parts = ping_parts(self.alloc)?;
+        self.lines.send(Chan::Heart, &parts)?;
+        let end = self.lines.of(Chan::Heart).due();
+        self.pings.on_ping(self.clock, end);
+        Ok(())
+    }
+
+    /// A last look is done, and a connection may have ended in its reads.
+    pub(crate) fn on_looked<W: Disk + Say>(&mut self, w: &mut W, late: bool) -> Result<(), End>
+        requires holds { Holds self.old }
+        requires calm { IsCalm self.old }
+        ensures holds { Holds self.new }
+        ensures calm { OnOk result (IsCalm self.new) }
+        ensures course { GoesOn W.journal W.counts w.old w.new self.old.book self.new.book
+            (stays_open result) }
+        ensures others { SparesOthers W.journal W.counts w.old w.new self.old.book self.new.book }
+        ensures own { IfErr result IsEndOfRun }
+    {
+        self.step(w, Event::Looked)?;
+        self.lose(w, late)
+    }
+}
+
+// A ping is the one frame `ping`.
+fn ping_parts(alloc: Global) -> Result<Parts, NoMemory>
+    ensures { IfOk result (λ parts. parts ≡ ping_message) }
+{
+    let mut parts = Parts::new(alloc);
+    parts.push(Bytes::of(alloc, b"ping")?)?;
+    Ok(parts)
+}
