@@ -1,0 +1,89 @@
+-- The causes of ends, by the counts.
+use Rattle.std.proofs.Common.{◌≡◌, ◌⊎◌, inl, inr, ℕ, ◌≤◌, List, Bool, true, false, Err, Result, Ok, refl, sym, subst, ◌∙◌, arith}
+use Rattle.std.specs.Prelude.{◌==◌, ◌||◌, IfErr}
+use Rattle.world.specs.Counts.{Counts, CountsGrow, Rose}
+use Rattle.nb_load.specs.declared.load_fault.LoadFault.TheVariants as load
+use Rattle.job_end.specs.declared.answer.Answer.{Answer}
+use Rattle.job_end.specs.declared.end.End.{End}
+use Rattle.job_end.specs.declared.end.End.TheVariants as end
+use Rattle.job_end.specs.Answers.{Answers, said, starved, starved_answer}
+use Rattle.job_end.specs.Statuses.{status_of}
+use Rattle.job_saves.specs.Course.{keeps_open}
+use Rattle.job_run.specs.Run.{EndCause}
+use Rattle.job_run.specs.declared.job.Job.{Job}
+use Rattle.job_run.proofs.CauseLemmas.{cause_stays}
+use Rattle.job_begin.specs.Begun.{AnswersAs, IsOpen}
+use Rattle.job_begin.specs.Causes.{HasCause}
+
+rose_later : (a b c : ℕ) → a ≤ b → Rose b c → Rose a c
+rose_later a b c more rose = grind (arith, more, rose)
+
+-- ---- by the status
+
+-- a status that tells of a failed call
+abbrev tells : ℕ → Bool
+tells n = n == 3 || n == 6 || n == 10
+
+module _ (old new : Counts) where
+  -- any other status
+  other : (n : ℕ) → tells n ≡ false → HasCause old new n
+  other n quiet = record {
+    read = λ e. let wrong : true ≡ false = subst (λ m. tells m ≡ false) e quiet in absurd (cc);
+    start = λ e. let wrong : true ≡ false = subst (λ m. tells m ≡ false) e quiet in absurd (cc);
+    save = λ e. let wrong : true ≡ false = subst (λ m. tells m ≡ false) e quiet in absurd (cc);
+  }
+
+  of_read : Rose old.disk new.disk → HasCause old new 3
+  of_read rose = record { read = λ e. rose; start = λ e. let wrong : ⊥ = omega (arith, e) in absurd wrong; save = λ e. omega (arith, e) }
+
+  of_start : (Rose old.rand new.rand) ⊎ (Rose old.child new.child) → HasCause old new 6
+  of_start rose = record { read = λ e. omega (arith, e); start = λ e. rose; save = λ e. omega (arith, e) }
+
+  of_save : Rose old.disk new.disk → HasCause old new 10
+  of_save rose = record { read = λ e. omega (arith, e); start = λ e. let wrong : ⊥ = omega (arith, e) in absurd wrong; save = λ e. rose }
+
+  status_caused : (e : End) → EndCause old new e → (keeps_open e ≡ false → Rose old.disk new.disk) → HasCause old new (status_of e)
+  status_caused end.Done h s = other 0 refl
+  status_caused (end.CellError cell name) h s = other 1 refl
+  status_caused (end.NotRead path) h s = of_read h
+  status_caused end.TooLarge h s = other 4 refl
+  status_caused (end.NotLoaded (load.NotJson f)) h s = other 4 refl
+  status_caused (end.NotLoaded (load.NotNotebook f)) h s = other 4 refl
+  status_caused (end.NotLoaded (load.NoTranslator language)) h s = other 5 refl
+  status_caused (end.NotLoaded load.NoMemory) h s = other 12 refl
+  status_caused end.NoKernelName h s = other 5 refl
+  status_caused end.BadKernelName h s = other 5 refl
+  status_caused (end.BadSpec f) h s = other 5 refl
+  status_caused end.NotStarted h s = of_start h
+  status_caused end.NotReady h s = other 7 refl
+  status_caused end.KernelLost h s = other 8 refl
+  status_caused (end.TimedOut cell) h s = other 9 refl
+  status_caused (end.NotSaved f) h s = of_save (s refl)
+  status_caused end.NoConnectionFile h s = of_save h
+  status_caused end.NoMemory h s = other 12 refl
+  status_caused (end.NoIdle cell) h s = other 13 refl
+  status_caused end.NetFault h s = other 14 refl
+  status_caused (end.BadPeer chan f) h s = other 15 refl
+  status_caused end.Spent h s = other 16 refl
+
+  pub answer_caused : (output : List ℕ) (e : End) (answer : Answer) → Answers output e answer → EndCause old new e
+      → (keeps_open e ≡ false → Rose old.disk new.disk) → HasCause old new answer.status
+  answer_caused output e answer said h s = status_caused e h s
+  answer_caused output e answer starved h s = other 12 refl
+
+  pub starved_caused : (answer : Answer) → answer ≡ starved_answer → HasCause old new answer.status
+  starved_caused answer is = subst (λ a. HasCause old new a.status) (sym is) (other 12 refl)
+
+  -- by the end of a begin, whose causes were seen from a later moment on
+  pub all_caused : (output : List ℕ) (mid : Counts) (begun : Result Job End) (result : Result Job Answer) → AnswersAs output begun result → CountsGrow old mid
+      → IfErr begun (EndCause mid new) → ((e : End) → begun ≡ Err e → keeps_open e ≡ false → Rose mid.disk new.disk)
+      → IfErr result (λ answer. HasCause old new answer.status)
+  all_caused output mid (Ok j) (Ok k) same grow caused rose = tt
+  all_caused output mid (Err e) (Err answer) answers grow caused rose =
+      answer_caused output e answer answers (cause_stays old mid new e grow caused) (λ shut. rose_later old.disk mid.disk new.disk grow.disk (rose e refl shut))
+  all_caused output mid (Ok j) (Err answer) wrong grow caused rose = absurd wrong
+  all_caused output mid (Err e) (Ok k) wrong grow caused rose = absurd wrong
+
+  -- by an end without a save
+  pub unsaved_caused : (output : List ℕ) (e : End) (answer : Answer) → Answers output e answer → EndCause old new e → IsOpen e → HasCause old new answer.status
+  unsaved_caused output e answer answers caused unsaved = answer_caused output e answer answers caused (λ shut. let no : true ≡ false = sym unsaved ∙ shut in absurd (cc))

@@ -1,0 +1,3 @@
+pub mod Begun
+pub mod Causes
+pub mod Steps

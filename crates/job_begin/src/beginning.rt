@@ -1,0 +1,288 @@
+//! `begin`, the begin of a job.
+ghost use Rattle.std.specs.Prelude.{◌≡◌, ◌<◌, ◌^◌, ℕ, List, false, length, IfOk, IfErr, OnOk};
+ghost use Rattle.std.specs.Str.{bytes_eq};
+ghost use Rattle.job_begin.specs.Begun.{Begun, HasRead, AnswersAs, IsOpen, first_of};
+ghost use Rattle.job_begin.specs.Causes.{HasCause};
+ghost use Rattle.job_begin.specs.Steps.{SavesFor, StartsFor, EndsApart, StartsApart};
+ghost use Rattle.job_notebook.specs.State.{notebook_of, settled_of, merge_of, output_of, KeepsRead};
+ghost use Rattle.job_saves.specs.Course.{GoesOn, SparesOthers, IsUntouched};
+ghost use Rattle.job_saves.specs.Course.{IsEndOfRun, stays_open, keeps_open};
+ghost use Rattle.job_run.specs.Run.{IsOther, StartsAlone, EndCause};
+ghost use Rattle.save_course.specs.Course.{IsRested};
+ghost use Rattle.kernel_start.specs.Finding.{IsNotRead};
+ghost use Rattle.words.specs.Runnable.{IsRunnable};
+ghost use Rattle.world.specs.declared.entry.Entry.{Entry};
+ghost use Rattle.world.specs.Counts.{Counts, CountsGrow, Rose};
+ghost use Rattle.world.specs.Moments.{Told, Since};
+ghost use Rattle.world.specs.Touched.{Spares};
+
+use crate::laws::{causes_stay, jobs_end_unsaved};
+use job_end::{Answer, End};
+use job_notebook::JobNotebook;
+use job_run::{Agenda, Job};
+use job_saves::{laws, save_next};
+use jtext::Text;
+use kernel_start::{Kernel, KernelFault};
+use nb_load::load;
+use nb_model::{Notebook, plan, prepare};
+use std::alloc::Global;
+use words::Ask;
+use world::{Disk, ReadFile, Say, World};
+
+/// The most bytes of an input.
+const MOST: u64 = 33_554_432;
+
+/// Reads the notebook, saves it with no cell settled and starts its kernel. A job that ends before
+/// its kernel runs answers how it ended; of a kernel whose start failed nothing is left. `here` is
+/// the working folder.
+pub fn begin<W: World>(
+    alloc: Global,
+    w: &mut W,
+    number: u8,
+    ask: Ask,
+    here: &Text,
+) -> Result<Job, Answer>
+    requires number { number < 16 }
+    requires ask { IsRunnable ask }
+
+    // What its saves are a course of, where no rename onto the output waited for its folder's sync.
+    ensures begun { Told (W.journal w.old) (W.journal w.new) (λ before after.
+        IsRested ask.output before →
+        Begun ask result (W.counts w.old) (W.counts w.new) before after) }
+    // No path is touched but its output, the temporary file of that and its connection file.
+    ensures others { (path : List ℕ) (since : List Entry) (from : Counts) →
+        IsOther ask.output path →
+        IsUntouched path since from (W.journal w.old) (W.counts w.old) →
+        StartsAlone path since from result (W.journal w.new) (W.counts w.new) }
+    // A status that tells of a failed call comes only where one failed.
+    ensures cause { IfErr result (λ answer.
+        HasCause (W.counts w.old) (W.counts w.new) answer.status) }
+{
+    laws::other_calls_pass();
+    let Ok(output) = ask.output.copy(alloc) else {
+        return Err(Answer::starved(alloc));
+    };
+    match input_of(alloc, w, &ask) {
+        Ok(notebook) => {
+            let begun = begin_with(alloc, w, number, ask, here, notebook);
+            answer_of(alloc, &output, begun)
+        }
+        Err(end) => Err(end.answer(alloc, &output)),
+    }
+}
+
+/// What a job on this output answers, which began so.
+fn answer_of(alloc: Global, output: &Text, begun: Result<Job, End>) -> Result<Job, Answer>
+    ensures { AnswersAs output.now begun result }
+{
+    match begun {
+        Ok(job) => Ok(job),
+        Err(end) => Err(end.answer(alloc, output)),
+    }
+}
+
+/// The notebook of the input, with its parameters.
+fn input_of<W: Disk>(alloc: Global, w: &mut W, ask: &Ask) -> Result<Notebook, End>
+    ensures read { IfOk result (λ notebook.
+        Told (W.journal w.old) (W.journal w.new) (HasRead ask.now notebook)) }
+    ensures others { (path : List ℕ) →
+        Told (W.journal w.old) (W.journal w.new) (Since (Spares path)) }
+    ensures grow { CountsGrow (W.counts w.old) (W.counts w.new) }
+    ensures cause { IfErr result (EndCause (W.counts w.old) (W.counts w.new)) }
+    ensures unsaved { IfErr result IsOpen }
+    ensures few { IfOk result (λ notebook. length notebook.cells < 2 ^ 32) }
+{
+    match w.read_file(alloc, &ask.input, MOST) {
+        ReadFile::Whole(bytes) => match load(alloc, bytes, ask) {
+            Ok(notebook) => Ok(notebook),
+            Err(fault) => Err(End::NotLoaded(fault)),
+        },
+        ReadFile::Big => Err(End::TooLarge),
+        ReadFile::Failed => Err(not_read(alloc, ask)),
+        ReadFile::NoMemory => Err(End::NoMemory),
+    }
+}
+
+/// How a job ends whose input can't be read.
+fn not_read(alloc: Global, ask: &Ask) -> End
+    ensures cause { (old new : Counts) → Rose old.disk new.disk → EndCause old new result }
+    ensures unsaved { IsOpen result }
+{
+    match ask.input.copy(alloc) {
+        Ok(path) => End::NotRead { path },
+        Err(_) => End::NoMemory,
+    }
+}
+
+/// Saves the notebook, and starts its kernel where cells are executed.
+fn begin_with<W: World>(
+    alloc: Global,
+    w: &mut W,
+    number: u8,
+    ask: Ask,
+    here: &Text,
+    notebook: Notebook,
+) -> Result<Job, End>
+    requires number { number < 16 }
+    requires ask { IsRunnable ask }
+    requires few { length notebook.cells < 2 ^ 32 }
+    ensures course { StartsFor W.journal W.counts w.old w.new ask (first_of ask notebook) result }
+    ensures others { StartsApart W.journal W.counts w.old w.new ask result }
+    ensures cause { IfErr result (EndCause (W.counts w.old) (W.counts w.new)) }
+{
+    jobs_end_unsaved();
+    if ask.prepare {
+        let saved = save_alone(alloc, w, &ask, notebook);
+        return Err(end_of(saved));
+    }
+    let Ok(notebook) = prepare(alloc, notebook) else {
+        return Err(End::NoMemory);
+    };
+    execute(alloc, w, number, ask, here, notebook)
+}
+
+/// How a job ends whose notebook was to be saved, and nothing more.
+fn end_of(saved: Result<(), End>) -> End
+    ensures open { keeps_open result ≡ stays_open saved }
+    ensures own { IfErr saved IsEndOfRun → IsEndOfRun result }
+{
+    match saved {
+        Ok(()) => End::Done,
+        Err(end) => end,
+    }
+}
+
+/// Saves the notebook as it is.
+fn save_alone<W: Disk + Say>(
+    alloc: Global,
+    w: &mut W,
+    ask: &Ask,
+    notebook: Notebook,
+) -> Result<(), End>
+    requires { length notebook.cells < 2 ^ 32 }
+    ensures course { SavesFor W.journal W.counts w.old w.new ask.now notebook (stays_open result) }
+    ensures others { EndsApart W.journal W.counts w.old w.new ask.now }
+    ensures own { IfErr result IsEndOfRun }
+{
+    laws::jobs_begin_and_end();
+    jobs_end_unsaved();
+    let mut book = book_of(alloc, ask, notebook)?;
+    save_next(w, &mut book, 0, None)
+}
+
+/// A notebook of which nothing was saved.
+fn book_of(alloc: Global, ask: &Ask, notebook: Notebook) -> Result<JobNotebook, End>
+    requires { length notebook.cells < 2 ^ 32 }
+    ensures settled { IfOk result (λ b. settled_of b ≡ 0) }
+    ensures cells { IfOk result (λ b. length (notebook_of b).cells ≡ length notebook.cells) }
+    ensures merge { IfOk result (λ b. merge_of b ≡ ask.now.merge) }
+    ensures output { IfOk result (λ b. output_of b ≡ ask.now.output) }
+    ensures keeps { IfOk result (λ b. KeepsRead b notebook) }
+    ensures unsaved { IfErr result IsOpen }
+    ensures own { IfErr result IsEndOfRun }
+{
+    Ok(JobNotebook::new(alloc, notebook, ask.merge, &ask.output)?)
+}
+
+/// Saves the notebook as it waits, and then as it is done: no cell of it is executed.
+fn save_twice<W: Disk + Say>(
+    alloc: Global,
+    w: &mut W,
+    ask: &Ask,
+    notebook: Notebook,
+) -> Result<(), End>
+    requires { length notebook.cells < 2 ^ 32 }
+    ensures course { SavesFor W.journal W.counts w.old w.new ask.now notebook (stays_open result) }
+    ensures others { EndsApart W.journal W.counts w.old w.new ask.now }
+    ensures own { IfErr result IsEndOfRun }
+{
+    laws::jobs_begin_and_end();
+    jobs_end_unsaved();
+    let mut book = book_of(alloc, ask, notebook)?;
+    match save_next(w, &mut book, 0, None) {
+        Ok(()) => save_done(w, &mut book),
+        Err(end) => Err(end),
+    }
+}
+
+/// Saves the notebook as it is done, where it has cells.
+fn save_done<W: Disk + Say>(w: &mut W, book: &mut JobNotebook) -> Result<(), End>
+    requires few { length (notebook_of book.old).cells < 2 ^ 32 }
+    requires settled { settled_of book.old ≡ 0 }
+    ensures course { GoesOn W.journal W.counts w.old w.new book.old book.new (stays_open result) }
+    ensures others { SparesOthers W.journal W.counts w.old w.new book.old book.new }
+    ensures own { IfErr result IsEndOfRun }
+{
+    let count = book.notebook().cells.len() as u32;
+    if count == 0 {
+        return Ok(());
+    }
+    save_next(w, book, count, None)
+}
+
+/// Starts the kernel of a prepared notebook; where no cell is executed, it is saved alone.
+fn execute<W: World>(
+    alloc: Global,
+    w: &mut W,
+    number: u8,
+    ask: Ask,
+    here: &Text,
+    notebook: Notebook,
+) -> Result<Job, End>
+    requires number { number < 16 }
+    requires ask { IsRunnable ask }
+    requires few { length notebook.cells < 2 ^ 32 }
+    ensures course { StartsFor W.journal W.counts w.old w.new ask notebook result }
+    ensures others { StartsApart W.journal W.counts w.old w.new ask result }
+    ensures cause { IfErr result (EndCause (W.counts w.old) (W.counts w.new)) }
+{
+    laws::other_calls_pass();
+    jobs_end_unsaved();
+    causes_stay();
+    let Ok(cells) = plan(alloc, &notebook) else {
+        return Err(End::NoMemory);
+    };
+    if cells.len() == 0 {
+        let saved = save_twice(alloc, w, &ask, notebook);
+        return Err(end_of(saved));
+    }
+    match kernel_of(alloc, w, &ask, &notebook) {
+        Ok(kernel) => {
+            let agenda = Agenda { notebook, cells };
+            Job::start(alloc, w, number, ask, agenda, &kernel, here)
+        }
+        Err(end) => Err(end),
+    }
+}
+
+/// The kernel of a job, or how the job ends where there is none.
+fn kernel_of<W: Disk>(
+    alloc: Global,
+    w: &mut W,
+    ask: &Ask,
+    notebook: &Notebook,
+) -> Result<Kernel, End>
+    ensures others { (path : List ℕ) →
+        Told (W.journal w.old) (W.journal w.new) (Since (Spares path)) }
+    ensures grow { CountsGrow (W.counts w.old) (W.counts w.new) }
+    ensures cause { IfErr result (EndCause (W.counts w.old) (W.counts w.new)) }
+    ensures unsaved { IfErr result IsOpen }
+{
+    found_or_end(Kernel::find(alloc, w, ask, notebook))
+}
+
+/// The kernel that was found, or how its job ends.
+fn found_or_end(found: Result<Kernel, KernelFault>) -> Result<Kernel, End>
+    ensures cause { (old new : Counts) → (IsNotRead found → Rose old.disk new.disk) →
+        IfErr result (EndCause old new) }
+    ensures unsaved { IfErr result IsOpen }
+{
+    match found {
+        Ok(kernel) => Ok(kernel),
+        Err(KernelFault::NoName) => Err(End::NoKernelName),
+        Err(KernelFault::BadName) => Err(End::BadKernelName),
+        Err(KernelFault::NotRead { path }) => Err(End::NotRead { path }),
+        Err(KernelFault::BadSpec(fault)) => Err(End::BadSpec(fault)),
+        Err(KernelFault::NoMemory) => Err(End::NoMemory),
+    }
+}
