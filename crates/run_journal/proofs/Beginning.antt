@@ -1,8 +1,10 @@
 -- The core asks for the kernel's start where the first save is acknowledged.
 use Rattle.std.proofs.Common.{◌≡◌, ◌⊎◌, inl, inr, ℕ, zero, suc, ◌+◌, ◌<◌, List, [], ◌∷◌, ◌++◌, length, Bool, true, false, ◌&&◌, ◌||◌, cond, Option, Some, None, refl, sym, ◌∙◌, ap, arith}
 use Rattle.std.specs.Prelude.{is_some, nat_lt, if◌then◌else◌, ◌==◌}
-use Rattle.std.proofs.lemmas.Bool.{cond-true, cond-false, cond_both, cases_Bool, eqb-true, false_from_ne_true}
+use Rattle.std.proofs.lemmas.Bool.{and_parts, cond-true, cond-false, cond_both, cases_Bool, eqb-true, false_from_ne_true}
 use Rattle.world.specs.declared.entry.Entry.{Entry}
+use Rattle.world.specs.declared.entry.Entry.TheVariants as made
+use Rattle.world.specs.Places.{time}
 use Rattle.cell_core.specs.declared.act.Act.TheVariants as act
 use Rattle.cell_core.specs.declared.event.Event.{Event}
 use Rattle.cell_core.specs.declared.event.Event.TheVariants as event
@@ -16,11 +18,15 @@ use Rattle.cell_core.specs.Saves as core_saves
 use Rattle.run_journal.specs.Job.{Job}
 use Rattle.run_journal.specs.Parts.{acked, is_acknowledging}
 use Rattle.run_journal.specs.Course.{events_at, Course, tell, late_then, course}
-use Rattle.run_journal.specs.Why.{child_clock}
-use Rattle.run_journal.specs.Agreement.{Flows, KeepsRules}
+use Rattle.run_journal.specs.Requests.{or_later}
+use Rattle.run_journal.specs.Why.{starts, child_clock}
+use Rattle.run_journal.specs.Due.{all_along}
+use Rattle.run_journal.specs.Starts.{Launch, StartsRightly, StartsAt}
+use Rattle.run_journal.specs.Agreement.{Flows, HearsLooks, drawn_clock, is_clock, starts_in_turn, KeepsRules}
 use Rattle.run_journal.proofs.Flowing.{course_agrees}
-use Rattle.run_journal.proofs.Dating.{Seen, start_is, told_whole}
-use Rattle.run_journal.proofs.Running.{RanAtWait, child_drawn}
+use Rattle.run_journal.proofs.Dating.{Seen, start_is}
+use Rattle.run_journal.proofs.Dropping.{told_whole, looks_kept}
+use Rattle.run_journal.proofs.Running.{or_off, RanAtWait, start_parts, is_clock_is, child_drawn, drawn_acked}
 use Rattle.run_journal.proofs.Turning.{dates}
 use Rattle.run_journal.proofs.Truths.{not_both}
 use Rattle.std.proofs.Math.Bool.{and-false}
@@ -151,6 +157,46 @@ first_started j past f e = sym (course_agrees j past f).acked ∙ start_acked j.
 
 -- ---- the clock of the start
 
-pub start_clock : (jobs : List Job) (j : Job) (past : List Entry) → KeepsRules jobs j past → RanAtWait j past → (course j past).held ≡ [] → (clock : ℕ) → child_clock j past ≡ Some clock → events.started (course j past).told ≡ Some clock
-start_clock jobs j past k h none clock e =
-    start_is 0 (course j past).told ∙ ap (λ (s : Seen). s.start) (sym (told_whole 0 j past none)) ∙ (dates 0 jobs j past k h).start ∙ child_drawn j past k.start clock e
+pub start_clock : (jobs : List Job) (j : Job) (past : List Entry) → KeepsRules jobs j past → HearsLooks j past → RanAtWait j past → (course j past).held ≡ [] → (clock : ℕ) → child_clock j past ≡ Some clock → events.started (course j past).told ≡ Some clock
+start_clock jobs j past k l h none clock e =
+    start_is 0 (course j past).told ∙ ap (λ (s : Seen). s.start) (sym (told_whole j 0 past none (looks_kept j past l))) ∙ (dates 0 jobs j past k h).start ∙ child_drawn j past k.start clock e
+
+-- ---- what the child was started by
+
+-- a start by the clock by which the ports were drawn, where each is a right one
+right_now : (launch : Launch) (j : Job) (entry : Entry) (past : List Entry) → StartsRightly launch j (entry ∷ past) → starts_in_turn j (entry ∷ past) ≡ true → all_along (starts_in_turn j) past ≡ true
+    → starts j entry ≡ true → (clock : ℕ) → time past ≡ clock → StartsAt launch j clock (entry ∷ past)
+right_now launch j (made.Started job argv env dir did) past s t u e clock c =
+    let n = eqb-true job j.number e in
+    let d : is_some (drawn_clock j past) ≡ true = ap (λ (o : Option ℕ). is_some o) (is_clock_is j (time past) (drawn_clock j past) (or_off (job == j.number) (is_clock (time past) (drawn_clock j past)) (start_parts j (made.Started job argv env dir did) past t).1 e)) in
+    inl (n, c, drawn_acked j past u d, s.0 n)
+right_now launch j _ past s t u e clock c = cc
+
+right_before : (launch : Launch) (j : Job) (entry : Entry) (past : List Entry) → StartsRightly launch j (entry ∷ past) → StartsRightly launch j past
+right_before launch j (made.Started job argv env dir did) past s = s.1
+right_before launch j _ past s = s
+
+right_then : (launch : Launch) (j : Job) (clock : ℕ) (entry : Entry) (past : List Entry) → StartsAt launch j clock past → StartsAt launch j clock (entry ∷ past)
+right_then launch j clock (made.Started job argv env dir did) past s = inr s
+right_then launch j clock _ past s = s
+
+right_along : (launch : Launch) (j : Job) (past : List Entry) → StartsRightly launch j past → all_along (starts_in_turn j) past ≡ true → (clock : ℕ) → child_clock j past ≡ Some clock → StartsAt launch j clock past
+right_along launch j [] s t clock e = cc
+right_along launch j (entry ∷ past) s t clock e = by (λ x. right_along launch j past (right_before launch j entry past s) p.1 clock x) (child_clock j past) refl
+  where
+    p : (starts_in_turn j (entry ∷ past) ≡ true) × (all_along (starts_in_turn j) past ≡ true)
+    p = and_parts (starts_in_turn j (entry ∷ past)) (all_along (starts_in_turn j) past) t
+
+    new : (b : Bool) → starts j entry ≡ b → (if b then Some (time past) else None) ≡ Some clock → StartsAt launch j clock (entry ∷ past)
+    new true f g = right_now launch j entry past s p.0 p.1 f clock (inside g)
+      where
+        inside : Some (time past) ≡ Some clock → time past ≡ clock
+        inside i = cc
+    new false f g = cc
+
+    by : (child_clock j past ≡ Some clock → StartsAt launch j clock past) → (o : Option ℕ) → child_clock j past ≡ o → StartsAt launch j clock (entry ∷ past)
+    by ih (Some ms) f = right_then launch j clock entry past (ih (f ∙ sym (ap (λ v. or_later v (if starts j entry then Some (time past) else None)) f) ∙ e))
+    by ih None f = new (starts j entry) refl (sym (ap (λ v. or_later v (if starts j entry then Some (time past) else None)) f) ∙ e)
+
+pub right_start : (launch : Launch) (jobs : List Job) (j : Job) (past : List Entry) → StartsRightly launch j past → KeepsRules jobs j past → (clock : ℕ) → child_clock j past ≡ Some clock → StartsAt launch j clock past
+right_start launch jobs j past s k clock e = right_along launch j past s k.start clock e

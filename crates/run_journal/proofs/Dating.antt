@@ -3,7 +3,6 @@
 use Rattle.std.proofs.Common.{◌≡◌, ℕ, List, [], ◌∷◌, ◌++◌, length, drop, Bool, true, false, ◌&&◌, ◌||◌, not, cond, Option, Some, None, refl, sym, ◌∙◌, ap}
 use Rattle.std.specs.Prelude.{is_some, is_none, option_map, nat_le, if◌then◌else◌}
 use Rattle.std.proofs.Math.Bool.{and-false}
-use Rattle.std.proofs.lemmas.List.{append-nil}
 use Rattle.std.proofs.lemmas.Bool.{or_parts, cond_both, cond-true, cond-false}
 use Rattle.world.specs.declared.entry.Entry.{Entry}
 use Rattle.cell_core.specs.declared.event.Event.{Event}
@@ -13,15 +12,15 @@ use Rattle.cell_core.specs.Deadlines.{is_first_look, is_unanswered, queued}
 use Rattle.cell_core.specs.Events as events
 use Rattle.cell_core.specs.Requests as core
 use Rattle.run_journal.specs.Job.{Job}
-use Rattle.run_journal.specs.Parts.{turn_clock, is_acknowledging, is_running}
+use Rattle.run_journal.specs.Parts.{turn_clock, is_running}
 use Rattle.run_journal.specs.Looks.{shows_lost}
 use Rattle.run_journal.specs.Requests.{or_later, is_broken}
-use Rattle.run_journal.specs.Course.{begins_at, clock_event, when_so, ends_look, is_late, events_at, Course, late_then, told_saved, course}
-use Rattle.run_journal.specs.Agreement.{told_on, IsHeard}
+use Rattle.run_journal.specs.Course.{begins_at, clock_event, when_so, ends_look, is_late, events_at, late_then, course}
+use Rattle.run_journal.specs.Agreement.{told_on, is_dated}
 use Rattle.run_journal.proofs.Agreeing.{after_more, stands_at}
 use Rattle.run_journal.proofs.Moments.{reply_more}
-use Rattle.run_journal.proofs.Flowing.{Tells, front, tell_front, rest_at, core_at, events_are}
-use Rattle.run_journal.proofs.Telling.{add_none, none_late, none_core, none_when, heard_parts, some_map}
+use Rattle.run_journal.proofs.Flowing.{rest_at, core_at, events_are}
+use Rattle.run_journal.proofs.Telling.{add_none, none_late, none_core, none_when, some_map}
 
 -- ---- the fold
 
@@ -83,17 +82,6 @@ seen_on d (e ∷ es) told = seen_on d es (e ∷ told)
 pub run_append : (d : ℕ) (xs ys : List Event) (s : Seen) → run d (xs ++ ys) s ≡ run d ys (run d xs s)
 run_append d [] ys s = refl
 run_append d (x ∷ xs) ys s = run_append d xs ys (see d x s)
-
--- an event of the clock or of a look
-abbrev pub is_dated : Event → Bool
-is_dated (event.Moment ms) = true
-is_dated event.Looked = true
-is_dated event.Saved = false
-is_dated event.Ready = false
-is_dated (event.Io b) = false
-is_dated (event.Reply f) = false
-is_dated event.Lost = false
-is_dated event.Broken = false
 
 undated : (d : ℕ) (e : Event) (s : Seen) → is_dated e ≡ false → see d e s ≡ s
 undated d (event.Moment ms) s h = cc
@@ -297,15 +285,7 @@ module _ (d : ℕ) where
 
 -- ---- the course
 
--- what was told, and what waits for a save
-abbrev pub whole : ℕ → Job → List Entry → Seen
-whole d j past = run d (course j past).held (seen d (course j past).told)
-
--- where nothing waits it is what was told
-pub told_whole : (d : ℕ) (j : Job) (past : List Entry) → (course j past).held ≡ [] → whole d j past ≡ seen d (course j past).told
-told_whole d j past none = ap (λ es. run d es (seen d (course j past).told)) none
-
-late_undated : (j : Job) (past : List Entry) → events.came is_dated (course j past).late ≡ false
+pub late_undated : (j : Job) (past : List Entry) → events.came is_dated (course j past).late ≡ false
 late_undated j [] = refl
 late_undated j (entry ∷ past) =
     none_late is_dated j _ (late_then j entry past (course j past).late) _
@@ -320,13 +300,18 @@ end b s = if b then sighted s else s
 abbrev pub clocks_at : Job → Entry → List Entry → List Event
 clocks_at j entry past = begins_at j entry past ++ (if is_running j past then clock_event (turn_clock (entry ∷ past)) else [])
 
+-- what the entries of a journal give of the clock and of looks, whatever of it is told
+abbrev pub whole : ℕ → Job → List Entry → Seen
+whole d j [] = unseen
+whole d j (entry ∷ past) = end (ends_look j entry past) (run d (clocks_at j entry past) (whole d j past))
+
 module _ (d : ℕ) (j : Job) (entry : Entry) (past : List Entry) where
-  seen_saved : (acks : Bool) (told : List Event) → seen d (cond acks (event.Saved ∷ told) told) ≡ seen d told
+  pub seen_saved : (acks : Bool) (told : List Event) → seen d (cond acks (event.Saved ∷ told) told) ≡ seen d told
   seen_saved true told = refl
   seen_saved false told = refl
 
   -- what it gives
-  run_events : (late : List Event) → events.came is_dated late ≡ false → (s : Seen) → run d (events_at j entry past late) s ≡ end (ends_look j entry past) (run d (clocks_at j entry past) s)
+  pub run_events : (late : List Event) → events.came is_dated late ≡ false → (s : Seen) → run d (events_at j entry past late) s ≡ end (ends_look j entry past) (run d (clocks_at j entry past) s)
   run_events late none s =
       ap (λ es. run d es s) (events_are j entry past late)
       ∙ run_append d (core_at j entry past) (rest_at j entry past late) s
@@ -355,23 +340,3 @@ module _ (d : ℕ) (j : Job) (entry : Entry) (past : List Entry) where
       by : (b : Bool) (v : Seen) → run d (if b then event.Looked ∷ late ++ when_so (is_late j entry past) event.Lost else []) v ≡ end b v
       by true v = run_undated d (late ++ when_so (is_late j entry past) event.Lost) (sighted v) (add_none is_dated late (when_so (is_late j entry past) event.Lost) false none (none_when is_dated (is_late j entry past) event.Lost refl))
       by false v = refl
-
-  -- after an entry, where nothing came after the stop
-  pub whole_next : IsHeard j (entry ∷ past) → whole d j (entry ∷ past) ≡ end (ends_look j entry past) (run d (clocks_at j entry past) (whole d j past))
-  whole_next h = by (tell_front j (told_saved j entry past c.told) (late_then j entry past c.late) (c.held ++ events_at j entry past c.late))
-    where
-      c : Course
-      c = course j past
-
-      now : Course
-      now = course j (entry ∷ past)
-
-      by : Tells j (told_saved j entry past c.told) (c.held ++ events_at j entry past c.late) now → whole d j (entry ∷ past) ≡ end (ends_look j entry past) (run d (clocks_at j entry past) (whole d j past))
-      by (front xs f g) =
-          ap (λ v. run d now.held (seen d v)) g
-          ∙ ap (run d now.held) (seen_on d xs (told_saved j entry past c.told) ∙ ap (run d xs) (seen_saved (is_acknowledging j (entry ∷ past)) c.told))
-          ∙ sym (run_append d xs now.held (seen d c.told))
-          ∙ ap (λ es. run d (xs ++ es) (seen d c.told)) (sym (append-nil now.held) ∙ sym (ap (λ es. now.held ++ es) (heard_parts j entry past h).0))
-          ∙ ap (λ es. run d es (seen d c.told)) f
-          ∙ run_append d c.held (events_at j entry past c.late) (seen d c.told)
-          ∙ run_events c.late (late_undated j past) (whole d j past)

@@ -1,6 +1,7 @@
 -- Where the loop keeps its rules the core stops where the job does, and for the same cause.
-use Rattle.std.proofs.Common.{◌≡◌, ℕ, suc, ◌+◌, ◌<◌, List, [], length, Bool, true, false, ◌&&◌, not, cond, Option, Some, None, refl, sym, ◌∙◌, ap, subst}
+use Rattle.std.proofs.Common.{◌≡◌, inl, inr, ℕ, suc, ◌+◌, ◌<◌, List, [], length, Bool, true, false, ◌&&◌, not, cond, Option, Some, None, refl, sym, ◌∙◌, ap, subst}
 use Rattle.std.specs.Prelude.{is_some, is_none, option_map, slice_get}
+use Rattle.std.proofs.lemmas.Bool.{cases_Bool}
 use Rattle.world.specs.declared.entry.Entry.{Entry}
 use Rattle.cell_core.specs.declared.event.Event.{Event}
 use Rattle.cell_core.specs.declared.why.Why.TheVariants as cause
@@ -16,11 +17,14 @@ use Rattle.run_journal.specs.Requests.{Request, reply, or_later, deadline, is_br
 use Rattle.run_journal.specs.Why.{bad_stream, is_done, is_error, is_not_ready, is_no_idle, is_out, is_timed_out, last_deadline, when, why}
 use Rattle.run_journal.specs.Decoding.{IsDecoding}
 use Rattle.run_journal.specs.Course.{course}
-use Rattle.run_journal.specs.Agreement.{AgreesOn, BeginsUnread, EndsLooks, Flows, KeepsTime, KeepsRules}
+use Rattle.run_journal.specs.Agreement.{AgreesOn, BeginsUnread, EndsLooks, Flows, KeepsTime, is_dated, at_once, Hears, KeepsRules}
 use Rattle.run_journal.proofs.Asking.{Stands, nothing, last, stands, done_same, error_same}
 use Rattle.run_journal.proofs.Flowing.{course_agrees}
-use Rattle.run_journal.proofs.Telling.{broken_told, bad_is}
-use Rattle.run_journal.proofs.Finding.{lost_found, found_lost, lost_parts, lost_waited}
+use Rattle.run_journal.proofs.Telling.{broken_told, bad_is, some_is, at_once_same}
+use Rattle.run_journal.proofs.Finding.{lost_found, undated_unlooked, lost_seen, lost_parts, lost_waited}
+use Rattle.run_journal.proofs.Dropping.{dropped}
+use Rattle.run_journal.proofs.Lasting.{hears_kept, unanswered_open}
+use Rattle.run_journal.proofs.Stopping.{from_at_once}
 use Rattle.run_journal.proofs.Running.{RanAtWait}
 use Rattle.run_journal.proofs.Interrupting.{ever_lost}
 use Rattle.run_journal.proofs.Rowing.{both, not_ready_same, no_idle_last, last_is, none_last, on, out_same, interrupt_same, standing_after, plus_more}
@@ -42,7 +46,7 @@ same_rows false false false false false false t u f = ap (λ v. cond v (Some cau
     by false = refl
 
 module _ (jobs : List Job) (j : Job) (past : List Entry) (dec : IsDecoding j.codec) (plan : 0 < length j.task.plan) (limits : (ms : ℕ) → j.task.times.limit_ms ≡ Some ms → 0 < ms) (k : KeepsRules jobs j past) (h : RanAtWait j past)
-    (u : BeginsUnread j past) (f : Flows j past) (t : KeepsTime j past) (s : EndsLooks j past) (none : (course j past).held ≡ []) where
+    (u : BeginsUnread j past) (f : Flows j past) (t : KeepsTime j past) (s : EndsLooks j past) (none : (course j past).held ≡ []) (un : events.came is_dated (dropped j past) ≡ false) where
   abbrev told : List Event
   told = (course j past).told
 
@@ -53,16 +57,16 @@ module _ (jobs : List Job) (j : Job) (past : List Entry) (dec : IsDecoding j.cod
   lost_same =
       both (events.looked events.is_lost told) (is_lost j past)
       (λ e. ever_lost jobs j past k h (lost_found j past e))
-      (λ e. found_lost j past k.heard s none (h (lost_waited j past (lost_parts j past e).1)) e)
+      (λ e. lost_seen j past (undated_unlooked (dropped j past) un) s none (h (lost_waited j past (lost_parts j past e).1)) e)
 
   no_idle_same : core_saves.is_no_idle standing told ≡ is_no_idle j (last_request 0 (requests j past)) past
   no_idle_same = by standing refl (stands j told past (course_agrees j past f))
     where
       by : (o : Option core.Standing) → core.standing j.task told ≡ o → Stands j told past o → core_saves.is_no_idle o told ≡ is_no_idle j (last_request 0 (requests j past)) past
-      by None g (nothing l) = sym (ap (λ o. is_no_idle j o past) (none_last jobs j past k h f t none plan l))
+      by None g (nothing l) = sym (ap (λ o. is_no_idle j o past) (none_last jobs j past k h f t plan l))
       by (Some _) g (last m q later l e a) =
-          no_idle_last jobs j past k h f t none plan m q later l e a (standing_after j.task (length j.task.plan) told (record { request = m; later = later }) g)
-          ∙ sym (ap (λ o. is_no_idle j o past) (last_is jobs j past k h f t none plan m q l e))
+          no_idle_last jobs j past k h f t plan none un m q later l e a (standing_after j.task (length j.task.plan) told (record { request = m; later = later }) g)
+          ∙ sym (ap (λ o. is_no_idle j o past) (last_is jobs j past k h f t plan m q l e))
 
   module _ (b : is_broken j past ≡ false) (lost : is_lost j past ≡ false) where
     broken_core : events.came events.is_broken told ≡ false
@@ -75,7 +79,7 @@ module _ (jobs : List Job) (j : Job) (past : List Entry) (dec : IsDecoding j.cod
         → core_saves.is_timed_out j.task (Some (record { request = m; later = later })) told ≡ is_timed_out j (Some (m, q)) past
     timed_last m q later l e a g =
         ap (λ o. is_none o && core_saves.is_out_of_time j.task m (first_deadline j.task (record { request = m; later = later }) told) told) a.reply
-        ∙ ap (λ c. is_none (option_map (λ v. j.fatal m v.0.content) (reply q)) && core_saves.is_out_of_time j.task m (option_map (λ limit. c + limit) j.task.times.limit_ms) told) (on jobs j past k h f t none plan m q later l e a g).stood
+        ∙ ap (λ c. is_none (option_map (λ v. j.fatal m v.0.content) (reply q)) && core_saves.is_out_of_time j.task m (option_map (λ limit. c + limit) j.task.times.limit_ms) told) (on jobs j past k h f t plan m q l e later g).stood
         ∙ by (reply q) refl
       where
         limited : reply q ≡ None → (o : Option ℕ) → j.task.times.limit_ms ≡ o → core_saves.is_out_of_time j.task m (deadline j q) told ≡ is_out j 0 (last_deadline j q past (deadline j q)) past
@@ -85,7 +89,7 @@ module _ (jobs : List Job) (j : Job) (past : List Entry) (dec : IsDecoding j.cod
         limited r (Some n) i =
             let dead : deadline j q ≡ Some (q.clock + n) = ap (option_map (λ limit. q.clock + limit)) i in
             ap (λ o. core_saves.is_out_of_time j.task m o told) dead
-            ∙ out_same jobs j past k h f t none plan m q later l e a g dec u b lost broken_core lost_core r (q.clock + n) dead (plus_more q.clock n (limits n i))
+            ∙ out_same jobs j past k h f t plan none un m q later l e a g dec u b lost broken_core lost_core r (q.clock + n) dead (plus_more q.clock n (limits n i))
             ∙ sym (ap (λ o. is_out j 0 (last_deadline j q past o) past) dead)
 
         by : (o : Option (Arrival × ℕ)) → reply q ≡ o
@@ -97,13 +101,13 @@ module _ (jobs : List Job) (j : Job) (past : List Entry) (dec : IsDecoding j.cod
     timed_same = by standing refl (stands j told past (course_agrees j past f))
       where
         by : (o : Option core.Standing) → core.standing j.task told ≡ o → Stands j told past o → core_saves.is_timed_out j.task o told ≡ is_timed_out j (last_request 0 (requests j past)) past
-        by None g (nothing l) = sym (ap (λ o. is_timed_out j o past) (none_last jobs j past k h f t none plan l))
+        by None g (nothing l) = sym (ap (λ o. is_timed_out j o past) (none_last jobs j past k h f t plan l))
         by (Some _) g (last m q later l e a) =
             timed_last m q later l e a (standing_after j.task (length j.task.plan) told (record { request = m; later = later }) g)
-            ∙ sym (ap (λ o. is_timed_out j o past) (last_is jobs j past k h f t none plan m q l e))
+            ∙ sym (ap (λ o. is_timed_out j o past) (last_is jobs j past k h f t plan m q l e))
 
-  pub why_same : core_saves.why j.task told ≡ why j past
-  why_same =
+  pub why_open : core_saves.why j.task told ≡ why j past
+  why_open =
       ap (λ v. cond v (Some cause.Done) (core_saves.why_not_done j.task standing told)) (done_same j told past (course_agrees j past f) plan)
       ∙ ap (λ v. cond (is_done j (acked j past) (requests j past)) (Some cause.Done) (cond v (Some cause.CellError) (cond (events.came events.is_broken told) (Some cause.BadPeer) (cond (events.looked events.is_lost told) (Some cause.KernelLost) (core_saves.late_cause j.task standing told)))))
       (error_same j told past (course_agrees j past f))
@@ -112,7 +116,7 @@ module _ (jobs : List Job) (j : Job) (past : List Entry) (dec : IsDecoding j.cod
       ∙ ap (λ v. cond (is_done j (acked j past) (requests j past)) (Some cause.Done) (cond (is_error j (last_request 0 (requests j past))) (Some cause.CellError) (cond (is_some (bad_stream j past)) (Some cause.BadPeer) (cond v (Some cause.KernelLost) (core_saves.late_cause j.task standing told)))))
       lost_same
       ∙ ap (λ v. cond (is_done j (acked j past) (requests j past)) (Some cause.Done) (cond (is_error j (last_request 0 (requests j past))) (Some cause.CellError) (cond (is_some (bad_stream j past)) (Some cause.BadPeer) (cond (is_lost j past) (Some cause.KernelLost)
-      (cond v (Some cause.NotReady) (cond (core_saves.is_no_idle standing told) (Some cause.NoIdle) (cond (core_saves.is_timed_out j.task standing told) (Some cause.TimedOut) None))))))) (not_ready_same jobs j past k h f t none plan)
+      (cond v (Some cause.NotReady) (cond (core_saves.is_no_idle standing told) (Some cause.NoIdle) (cond (core_saves.is_timed_out j.task standing told) (Some cause.TimedOut) None))))))) (not_ready_same jobs j past k h f t plan none un)
       ∙ ap (λ v. cond (is_done j (acked j past) (requests j past)) (Some cause.Done) (cond (is_error j (last_request 0 (requests j past))) (Some cause.CellError) (cond (is_some (bad_stream j past)) (Some cause.BadPeer) (cond (is_lost j past) (Some cause.KernelLost)
       (cond (is_not_ready j (requests j past) past) (Some cause.NotReady) (cond v (Some cause.NoIdle) (cond (core_saves.is_timed_out j.task standing told) (Some cause.TimedOut) None))))))) no_idle_same
       ∙ same_rows (is_done j (acked j past) (requests j past)) (is_error j (last_request 0 (requests j past))) (is_some (bad_stream j past)) (is_lost j past)
@@ -125,9 +129,9 @@ module _ (jobs : List Job) (j : Job) (past : List Entry) (dec : IsDecoding j.cod
   -- ---- the interrupt
 
   -- the last request has its interrupt queued for both
-  pub interrupts_same : is_broken j past ≡ false → is_lost j past ≡ false → j.task.times.interrupt ≡ true → (m : ℕ) (q : Request) (c : ℕ) → last_request 0 (requests j past) ≡ Some (m, q) → reply q ≡ None
+  pub interrupts_open : is_broken j past ≡ false → is_lost j past ≡ false → j.task.times.interrupt ≡ true → (m : ℕ) (q : Request) (c : ℕ) → last_request 0 (requests j past) ≡ Some (m, q) → reply q ≡ None
       → deadline j q ≡ Some c → queued j.task m c told ≡ q.interrupted
-  interrupts_same b lost i m q c e r dead = by standing refl (stands j told past (course_agrees j past f))
+  interrupts_open b lost i m q c e r dead = by standing refl (stands j told past (course_agrees j past f))
     where
       no_last : ◌≡◌ {A = Option (ℕ × Request)} None (Some (m, q)) → ⊥
       no_last g = cc
@@ -146,11 +150,27 @@ module _ (jobs : List Job) (j : Job) (past : List Entry) (dec : IsDecoding j.cod
           some_in x = cc
 
       by : (o : Option core.Standing) → core.standing j.task told ≡ o → Stands j told past o → queued j.task m c told ≡ q.interrupted
-      by None g (nothing l) = absurd (no_last (sym (none_last jobs j past k h f t none plan l) ∙ e))
+      by None g (nothing l) = absurd (no_last (sym (none_last jobs j past k h f t plan l) ∙ e))
       by (Some _) g (last n p later l x a) =
-          let same : ◌≡◌ {A = ℕ × Request} (n, p) (m, q) = inside {x = (n, p)} {y = (m, q)} (sym (last_is jobs j past k h f t none plan n p l x) ∙ e) in
+          let same : ◌≡◌ {A = ℕ × Request} (n, p) (m, q) = inside {x = (n, p)} {y = (m, q)} (sym (last_is jobs j past k h f t plan n p l x) ∙ e) in
           let p_is : p ≡ q = ap (λ (v : ℕ × Request). v.1) same in
           ap (λ (v : ℕ × Request). queued j.task v.0 c told) (sym same)
-          ∙ interrupt_same jobs j past k h f t none plan n p later l x a (standing_after j.task (length j.task.plan) told (record { request = n; later = later }) g) dec u b lost (broken_core b lost) (lost_core b lost) (ap reply p_is ∙ r) c
+          ∙ interrupt_same jobs j past k h f t plan none un n p later l x a (standing_after j.task (length j.task.plan) told (record { request = n; later = later }) g) dec u b lost (broken_core b lost) (lost_core b lost) (ap reply p_is ∙ r) c
           (ap (deadline j) p_is ∙ dead) (subst (λ (v : Request). v.clock < c) (sym p_is) (under j.task.times.limit_ms refl dead)) i
           ∙ ap (λ (v : Request). v.interrupted) p_is
+
+-- ---- where something may have come after the stop
+
+module _ (jobs : List Job) (j : Job) (past : List Entry) (dec : IsDecoding j.codec) (plan : 0 < length j.task.plan) (limits : (ms : ℕ) → j.task.times.limit_ms ≡ Some ms → 0 < ms) (k : KeepsRules jobs j past) (h : RanAtWait j past)
+    (u : BeginsUnread j past) (f : Flows j past) (t : KeepsTime j past) (s : EndsLooks j past) (l : Hears j past) (none : (course j past).held ≡ []) where
+  pub why_same : core_saves.why j.task (course j past).told ≡ why j past
+  why_same = elim (cases_Bool (is_some (at_once (why j past)))) [
+    | inl e ↦
+        let w = some_is (at_once (why j past)) e in
+        from_at_once (core_saves.why j.task (course j past).told) w.0 (at_once_same j dec plan past u f none ∙ w.1) ∙ sym (from_at_once (why j past) w.0 w.1)
+    | inr e ↦ why_open jobs j past dec plan limits k h u f t s none (hears_kept j dec plan past u l e)
+  ]
+
+  pub interrupts_same : is_broken j past ≡ false → is_lost j past ≡ false → j.task.times.interrupt ≡ true → (m : ℕ) (q : Request) (c : ℕ) → last_request 0 (requests j past) ≡ Some (m, q) → reply q ≡ None
+      → deadline j q ≡ Some c → queued j.task m c (course j past).told ≡ q.interrupted
+  interrupts_same b lost i m q c e r dead = interrupts_open jobs j past dec plan limits k h u f t s none (hears_kept j dec plan past u l (unanswered_open j past plan b m q e r)) b lost i m q c e r dead

@@ -10,15 +10,16 @@ use Rattle.cell_core.specs.declared.event.Event.TheVariants as event
 use Rattle.cell_core.specs.Acts.{is_empty_list}
 use Rattle.cell_core.specs.Events as events
 use Rattle.run_journal.specs.Job.{Job}
-use Rattle.run_journal.specs.Parts.{is_running}
+use Rattle.run_journal.specs.Parts.{is_acknowledging, is_running}
 use Rattle.run_journal.specs.Looks.{looked, ever, is_silent, shows_lost, is_lost}
 use Rattle.run_journal.specs.Due.{all_along}
-use Rattle.run_journal.specs.Course.{when_so, in_look, ends_look, is_late, events_at, tell, late_then, course}
-use Rattle.run_journal.specs.Agreement.{IsHeard, ends_looks, EndsLooks}
+use Rattle.run_journal.specs.Course.{when_so, in_look, ends_look, is_late, events_at, tell, late_then, told_saved, course}
+use Rattle.run_journal.specs.Agreement.{is_dated, HearsLooks, ends_looks, EndsLooks}
 use Rattle.run_journal.specs.Awake.{is_called_for}
-use Rattle.run_journal.proofs.Flowing.{tell_by}
-use Rattle.run_journal.proofs.Telling.{heard_parts, empty_is, among_next, among_lost, came_append, is_loss, lost_when, gives_lost}
-use Rattle.run_journal.proofs.Sighting.{or_either, looked_stays, found_in, gives_found, knows, finds, late_unlooked, knows_next, finds_next, finds_back}
+use Rattle.run_journal.proofs.Flowing.{tell_by, rest_at, core_at, events_are}
+use Rattle.run_journal.proofs.Telling.{empty_is, among_next, among_lost, came_append, is_loss, lost_when, gives_lost}
+use Rattle.run_journal.proofs.Dropping.{stops, dropped, stop_saved, stop_stays, dropped_stops, tell_mute, all_heard, looks_kept}
+use Rattle.run_journal.proofs.Sighting.{or_either, looked_stays, found_in, front_at, end_at, gives_found, knows, finds, late_unlooked, knows_next, finds_next, finds_back}
 use Rattle.run_journal.proofs.Truths.{not_both}
 
 -- ---- what holds along a journal
@@ -176,7 +177,36 @@ along j (entry ∷ past) = next j entry past (along j past)
 pub lost_found : (j : Job) (past : List Entry) → events.looked events.is_lost (course j past).told ≡ true → ever (is_lost j) past ≡ true
 lost_found j past e = (along j past).found (or_left (events.looked events.is_lost (course j past).told) _ e)
 
+-- the same of what waits for a save too
+pub finds_lost : (j : Job) (past : List Entry) → finds (course j past) ≡ true → ever (is_lost j) past ≡ true
+finds_lost j past e = (along j past).found e
+
 -- ---- and the other way
+
+-- the end of a look gives one
+gives_look : (j : Job) (entry : Entry) (past : List Entry) (late : List Event) → ends_look j entry past ≡ true → events.came events.is_looked (events_at j entry past late) ≡ true
+gives_look j entry past late e =
+    ap (events.came events.is_looked) (events_are j entry past late)
+    ∙ came_append events.is_looked (core_at j entry past) (rest_at j entry past late)
+    ∙ or_right (events.came events.is_looked (core_at j entry past)) _
+    (came_append events.is_looked (front_at j entry past) (end_at j entry past late)
+    ∙ or_right (events.came events.is_looked (front_at j entry past)) _
+    (ap (events.came events.is_looked) (cond-true (ends_look j entry past) (event.Looked ∷ late ++ when_so (is_late j entry past) event.Lost) [] e)))
+
+-- where nothing of the clock or of looks is among events, no look is
+pub undated_unlooked : (es : List Event) → events.came is_dated es ≡ false → events.came events.is_looked es ≡ false
+undated_unlooked [] e = refl
+undated_unlooked (x ∷ es) e = let p = or_parts (is_dated x) (events.came is_dated es) e in ap (λ b. b || events.came events.is_looked es) (by x p.0) ∙ undated_unlooked es p.1
+  where
+    by : (x : Event) → is_dated x ≡ false → events.is_looked x ≡ false
+    by (event.Moment ms) h = refl
+    by event.Looked h = cc
+    by event.Saved h = refl
+    by event.Ready h = refl
+    by (event.Io b) h = refl
+    by (event.Reply f) h = refl
+    by event.Lost h = refl
+    by event.Broken h = refl
 
 before_none : (past : List Entry) → has_wait past ≡ false → before_wait past ≡ []
 before_none [] e = refl
@@ -192,20 +222,31 @@ lost_waited j past e = by (cases_Bool (has_wait past))
     by (inl h) = h
     by (inr h) = absurd (not_both (ever (shows_lost j) (before_wait past)) e (ap (ever (shows_lost j)) (before_none past h)))
 
--- a loss shown before the last wait is known of, and a kernel that is lost is found so
+-- a loss shown before the last wait is known of, or the core had stopped; and a kernel that is lost is found so
 record Back (j : Job) (past : List Entry) : Type 0 where
-  known : ever (shows_lost j) (before_wait past) ≡ true → knows (course j past) ≡ true
+  known : ever (shows_lost j) (before_wait past) ≡ true → (knows (course j past) ≡ true) ⊎ (stops j (course j past).told ≡ true)
   found : is_running j (before_wait past) ≡ true → is_lost j past ≡ true → finds (course j past) ≡ true
 
 pub lost_parts : (j : Job) (past : List Entry) → is_lost j past ≡ true → (looked j past ≡ true) × (ever (shows_lost j) (before_wait past) ≡ true)
 unfolding is_lost
 lost_parts j past e = and_parts (looked j past) (ever (shows_lost j) (before_wait past)) e
 
-module _ (j : Job) (entry : Entry) (past : List Entry) (h : IsHeard j (entry ∷ past)) (s : EndsLooks j (entry ∷ past)) (i : Back j past) where
-  stays_known : knows (course j past) ≡ true → knows (course j (entry ∷ past)) ≡ true
-  stays_known k =
-      among_next is_loss j entry past refl (ap (events.came is_loss) (heard_parts j entry past h).0)
-      ∙ or_left (knows (course j past)) (events.came is_loss (events_at j entry past (course j past).late)) k
+module _ (j : Job) (entry : Entry) (past : List Entry) (u : events.came events.is_looked (dropped j (entry ∷ past)) ≡ false) (s : EndsLooks j (entry ∷ past)) (i : Back j past) where
+  -- no look came after the stop now
+  unlooked : events.came events.is_looked (course j (entry ∷ past)).unheard ≡ false
+  unlooked =
+      (or_parts (events.came events.is_looked (dropped j past)) (events.came events.is_looked (course j (entry ∷ past)).unheard)
+      (sym (came_append events.is_looked (dropped j past) (course j (entry ∷ past)).unheard) ∙ u)).1
+
+  stays_known : (knows (course j past) ≡ true) ⊎ (stops j (course j past).told ≡ true) → (knows (course j (entry ∷ past)) ≡ true) ⊎ (stops j (course j (entry ∷ past)).told ≡ true)
+  stays_known (inr k) = inr (stop_stays j entry past k)
+  stays_known (inl k) =
+      elim (dropped_stops j (told_saved j entry past (course j past).told) (late_then j entry past (course j past).late) ((course j past).held ++ events_at j entry past (course j past).late)) [
+        | inl none ↦ inl
+            (among_next is_loss j entry past refl (ap (events.came is_loss) none)
+            ∙ or_left (knows (course j past)) (events.came is_loss (events_at j entry past (course j past).late)) k)
+        | inr e ↦ inr e
+      ]
 
   -- at a wait nothing waits for a look
   on_time : is_wait entry ≡ true → (course j past).late ≡ []
@@ -216,25 +257,22 @@ module _ (j : Job) (entry : Entry) (past : List Entry) (h : IsHeard j (entry ∷
       by (inr k) = empty_is (course j past).late k
 
   -- what was shown before the wait was known of before this entry
-  known_before : ever (shows_lost j) (before_wait (entry ∷ past)) ≡ true → knows (course j past) ≡ true
-  known_before e = by (cases_Bool (is_wait entry))
+  known_before : ever (shows_lost j) (before_wait (entry ∷ past)) ≡ true → (knows (course j past) ≡ true) ⊎ (stops j (course j past).told ≡ true)
+  known_before e = by (cases_Bool (is_wait entry)) (cases_Bool (stops j (course j past).told))
     where
-      by : (is_wait entry ≡ true) ⊎ (is_wait entry ≡ false) → knows (course j past) ≡ true
-      by (inl w) =
-          sym (or-false (knows (course j past)))
+      by : (is_wait entry ≡ true) ⊎ (is_wait entry ≡ false) → (stops j (course j past).told ≡ true) ⊎ (stops j (course j past).told ≡ false) → (knows (course j past) ≡ true) ⊎ (stops j (course j past).told ≡ true)
+      by (inl w) (inl k) = inr k
+      by (inl w) (inr k) = inl
+          (sym (or-false (knows (course j past)))
           ∙ ap (λ es. knows (course j past) || events.came is_loss es) (sym (on_time w))
-          ∙ among_lost j past (heard_parts j entry past h).1
+          ∙ among_lost j past (all_heard j past k)
           ∙ ap (ever (shows_lost j)) (sym (cond-true (is_wait entry) past (before_wait past) w))
-          ∙ e
-      by (inr w) = i.known (ap (ever (shows_lost j)) (sym (cond-false (is_wait entry) past (before_wait past) w)) ∙ e)
+          ∙ e)
+      by (inr w) k = i.known (ap (ever (shows_lost j)) (sym (cond-false (is_wait entry) past (before_wait past) w)) ∙ e)
 
   -- the look that shows the kernel lost ends with this entry
   found_now : is_running j (before_wait (entry ∷ past)) ≡ true → is_lost j (entry ∷ past) ≡ true → (is_wait entry ≡ true) ⊎ (looked j past ≡ false) → finds (course j (entry ∷ past)) ≡ true
-  found_now runs lost new =
-      finds_back j entry past (heard_parts j entry past h).0
-      (or_right (finds (course j past)) _
-      (gives_found j entry past (knows (course j past)) (course j past).late (late_unlooked j past)
-      ∙ and_from (ends_look j entry past) _ ended (or_right (shows_lost j (entry ∷ past) && not (is_late j entry past)) (knows (course j past)) (known_before p.1))))
+  found_now runs lost new = by (known_before p.1)
     where
       p : (looked j (entry ∷ past) ≡ true) × (ever (shows_lost j) (before_wait (entry ∷ past)) ≡ true)
       p = lost_parts j (entry ∷ past) lost
@@ -252,6 +290,20 @@ module _ (j : Job) (entry : Entry) (past : List Entry) (h : IsHeard j (entry ∷
           (and_from (in_look j (entry ∷ past)) (looked j (entry ∷ past)) (and_from (has_wait (entry ∷ past)) (is_called_for j (before_wait (entry ∷ past))) (lost_waited j (entry ∷ past) p.1) called) p.0)
           (is_new new)
 
+      by : (knows (course j past) ≡ true) ⊎ (stops j (course j past).told ≡ true) → finds (course j (entry ∷ past)) ≡ true
+      by (inl k) =
+          finds_back j entry past unlooked
+          (or_right (finds (course j past)) _
+          (gives_found j entry past (knows (course j past)) (course j past).late (late_unlooked j past)
+          ∙ and_from (ends_look j entry past) _ ended (or_right (shows_lost j (entry ∷ past) && not (is_late j entry past)) (knows (course j past)) k)))
+      by (inr k) =
+          absurd (not_both (events.came events.is_looked (course j (entry ∷ past)).unheard)
+          (ap (events.came events.is_looked)
+          (tell_mute j (told_saved j entry past (course j past).told) (late_then j entry past (course j past).late) ((course j past).held ++ events_at j entry past (course j past).late)
+          (stop_saved j (course j past).told (is_acknowledging j (entry ∷ past)) k)).all_dropped
+          ∙ came_append events.is_looked (course j past).held (events_at j entry past (course j past).late)
+          ∙ or_right (events.came events.is_looked (course j past).held) _ (gives_look j entry past (course j past).late ended)) unlooked)
+
   back_found : is_running j (before_wait (entry ∷ past)) ≡ true → is_lost j (entry ∷ past) ≡ true → finds (course j (entry ∷ past)) ≡ true
   back_found runs lost = by (cases_Bool (is_wait entry)) (cases_Bool (looked j past))
     where
@@ -263,19 +315,25 @@ module _ (j : Job) (entry : Entry) (past : List Entry) (h : IsHeard j (entry ∷
       by (inr w) (inr k) = found_now runs lost (inr k)
       by (inr w) (inl k) =
           let same : before_wait (entry ∷ past) ≡ before_wait past = cond-false (is_wait entry) past (before_wait past) w in
-          finds_back j entry past (heard_parts j entry past h).0
+          finds_back j entry past unlooked
           (or_left (finds (course j past)) _ (i.found (ap (is_running j) (sym same) ∙ runs) (lost_is j past k (ap (ever (shows_lost j)) (sym same) ∙ p.1))))
 
-back : (j : Job) (past : List Entry) → IsHeard j past → EndsLooks j past → Back j past
-back j [] h s = record { known = λ e. cc; found = λ r e. absurd (not_both (ever (shows_lost j) []) (lost_parts j [] e).1 refl) }
-back j (entry ∷ past) h s =
-    let i = back j past (heard_parts j entry past h).1 (and_parts (ends_looks j (entry ∷ past)) (all_along (ends_looks j) past) s).1 in
-    record { known = λ e. stays_known j entry past h s i (known_before j entry past h s i e); found = back_found j entry past h s i }
+back : (j : Job) (past : List Entry) → events.came events.is_looked (dropped j past) ≡ false → EndsLooks j past → Back j past
+back j [] u s = record { known = λ e. cc; found = λ r e. absurd (not_both (ever (shows_lost j) []) (lost_parts j [] e).1 refl) }
+back j (entry ∷ past) u s =
+    let v = or_parts (events.came events.is_looked (dropped j past)) (events.came events.is_looked (course j (entry ∷ past)).unheard)
+    (sym (came_append events.is_looked (dropped j past) (course j (entry ∷ past)).unheard) ∙ u) in
+    let i = back j past v.0 (and_parts (ends_looks j (entry ∷ past)) (all_along (ends_looks j) past) s).1 in
+    record { known = λ e. stays_known j entry past u s i (known_before j entry past u s i e); found = back_found j entry past u s i }
 
--- where the kernel is lost by the journal, the core has seen a look after a loss
-pub found_lost : (j : Job) (past : List Entry) → IsHeard j past → EndsLooks j past → (course j past).held ≡ [] → is_running j (before_wait past) ≡ true → is_lost j past ≡ true
+-- where the kernel is lost by the journal, the core has seen a look after a loss, as long as no look came after its stop
+pub lost_seen : (j : Job) (past : List Entry) → events.came events.is_looked (dropped j past) ≡ false → EndsLooks j past → (course j past).held ≡ [] → is_running j (before_wait past) ≡ true → is_lost j past ≡ true
     → events.looked events.is_lost (course j past).told ≡ true
-found_lost j past h s none runs lost =
+lost_seen j past u s none runs lost =
     sym (or-false (events.looked events.is_lost (course j past).told))
     ∙ ap (λ es. events.looked events.is_lost (course j past).told || found_in (events.came is_loss (course j past).told) es) (sym none)
-    ∙ (back j past h s).found runs lost
+    ∙ (back j past u s).found runs lost
+
+pub found_lost : (j : Job) (past : List Entry) → HearsLooks j past → EndsLooks j past → (course j past).held ≡ [] → is_running j (before_wait past) ≡ true → is_lost j past ≡ true
+    → events.looked events.is_lost (course j past).told ≡ true
+found_lost j past h s none runs lost = lost_seen j past (undated_unlooked (dropped j past) (looks_kept j past h)) s none runs lost

@@ -141,7 +141,7 @@ begins_front x a = record { rest = a.rest; joined = ap (λ v. x ∷ v) a.joined 
 pub goes_self : (r : Request) → GoesOn r r
 goes_self r = record { number = refl; clock = refl; io = begins_self r.io; replies = begins_self r.replies; interrupted = λ e. e }
 
-go_map : (j : Job) (entry : Entry) (past : List Entry) (rs : List Request) → GoOn rs (map (goes_on j entry past) rs)
+pub go_map : (j : Job) (entry : Entry) (past : List Entry) (rs : List Request) → GoOn rs (map (goes_on j entry past) rs)
 go_map j entry past [] = no_more
 go_map j entry past (r ∷ rs) = one_more (goes j entry past r) (go_map j entry past rs)
 

@@ -23,7 +23,7 @@ use Rattle.run_journal.specs.Agreement.{IsAmong, rises, KeepsRules}
 use Rattle.run_journal.proofs.Growth.{before_all}
 use Rattle.run_journal.proofs.Telling.{add_none, none_begins, none_turn}
 use Rattle.run_journal.proofs.Sighting.{or_either, looked_stays}
-use Rattle.run_journal.proofs.Dating.{Seen, run, see, whole, whole_next, end, clocks_at}
+use Rattle.run_journal.proofs.Dating.{Seen, run, see, whole, end, clocks_at}
 use Rattle.run_journal.proofs.Running.{first_kept, all_of, rules_before, running_parts, RanAtWait, ran_before, runs_at_wait}
 use Rattle.run_journal.proofs.Turning.{Still, quiet_entry, quiet_look, still, first_waited, dates}
 use Rattle.run_journal.proofs.Truths.{not_both}
@@ -115,7 +115,7 @@ pub ran_from : (j : Job) (d : ℕ) (past : List Entry) → looked j past ≡ tru
 unfolding ran_out
 ran_from j d past e f = and_from (looked j past) (ever (is_past d) (before_wait past)) e f
 
-short_look : (j : Job) (past : List Entry) → looked j past ≡ true → is_short_wait (to_wait past) ≡ true
+pub short_look : (j : Job) (past : List Entry) → looked j past ≡ true → is_short_wait (to_wait past) ≡ true
 unfolding looked
 short_look j past e = (and_parts (is_short_wait (to_wait past)) (is_read_through j past) e).0
 
@@ -172,7 +172,7 @@ module _ (jobs : List Job) (j : Job) (entry : Entry) (past : List Entry) (k : Ke
 
 -- ---- what the core has found
 
-unlooked_kept : (d : ℕ) (es : List Event) (s : Seen) → events.came events.is_looked es ≡ false → ((run d es s).found ≡ s.found) × ((run d es s).queued ≡ s.queued)
+pub unlooked_kept : (d : ℕ) (es : List Event) (s : Seen) → events.came events.is_looked es ≡ false → ((run d es s).found ≡ s.found) × ((run d es s).queued ≡ s.queued)
 unlooked_kept d [] s e = (refl, refl)
 unlooked_kept d (x ∷ es) s e =
     let p = or_parts (events.is_looked x) (events.came events.is_looked es) e in
@@ -231,7 +231,7 @@ module _ (d : ℕ) (jobs : List Job) (j : Job) where
     then_seen = run d (clocks_at j entry past) (whole d j past)
 
     pub whole_is : whole d j (entry ∷ past) ≡ end (ends_look j entry past) then_seen
-    whole_is = whole_next d j entry past k.heard
+    whole_is = refl
 
     pub first_now : then_seen.first ≡ first_clock d (entry ∷ past)
     first_now = sym (end_first (ends_look j entry past) then_seen) ∙ ap (λ (s : Seen). s.first) (sym whole_is) ∙ (dates d jobs j (entry ∷ past) k h).first

@@ -38,6 +38,8 @@ pub mod ExampleAsked
 pub mod Moments
 pub mod Clocks
 pub mod Dating
+pub mod Dropping
+pub mod Lasting
 pub mod Running
 pub mod Turning
 pub mod Lapse
@@ -45,9 +47,18 @@ pub mod Earlier
 pub mod Interrupting
 pub mod Seconds
 pub mod Rowing
+pub mod Showing
+pub mod Keeping
+pub mod LookEnds
+pub mod Settling
+pub mod Clocking
+pub mod AskedClocks
+pub mod KeptTime
+pub mod Unheld
 pub mod Deciding
 pub mod Beginning
 pub mod Rereading
 pub mod Finishing
 pub mod ExampleDeadlines
 pub mod Timing
+pub mod ExampleStarts

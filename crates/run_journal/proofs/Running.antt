@@ -14,7 +14,7 @@ use Rattle.run_journal.specs.Requests.{or_later}
 use Rattle.run_journal.specs.Why.{starts, child_clock}
 use Rattle.run_journal.specs.Due.{all_along}
 use Rattle.run_journal.specs.Awake.{Awake, implies, in_order, waits_last, waits_short, reads_all, reads_few, keeps_up, reads_clock, looks_once, begins_again, begins_refused, begins_early, has_room}
-use Rattle.run_journal.specs.Agreement.{is_heard, IsAmong, rises, draws, drawn_clock, is_clock, starts_in_turn, KeepsRules}
+use Rattle.run_journal.specs.Agreement.{IsAmong, rises, draws, drawn_clock, is_clock, starts_in_turn, KeepsRules}
 use Rattle.run_journal.proofs.Growth.{acked_grows}
 use Rattle.run_journal.proofs.Sighting.{or_either}
 use Rattle.run_journal.proofs.Truths.{not_both}
@@ -68,7 +68,6 @@ rules_before jobs j entry past k = record {
   awake = awake_before jobs entry past k.awake;
   rising = (and_parts (rises (entry ∷ past)) (all_along rises past) k.rising).1;
   start = (and_parts (starts_in_turn j (entry ∷ past)) (all_along (starts_in_turn j) past) k.start).1;
-  heard = (and_parts (is_heard j (entry ∷ past)) (all_along (is_heard j) past) k.heard).1;
 }
 
 -- ---- a job that runs
@@ -168,7 +167,7 @@ start_parts j entry past e =
     (p.0, q.0, q.1)
 
 module _ (j : Job) where
-  is_clock_is : (ms : ℕ) (o : Option ℕ) → is_clock ms o ≡ true → o ≡ Some ms
+  pub is_clock_is : (ms : ℕ) (o : Option ℕ) → is_clock ms o ≡ true → o ≡ Some ms
   is_clock_is ms None e = cc
   is_clock_is ms (Some clock) e = ap (λ n. Some n) (eqb-true clock ms e)
 

@@ -281,11 +281,11 @@ module _ (j : Job) (entry : Entry) (past : List Entry) where
       → (finds (course j past) || found_in (knows (course j past)) (events_at j entry past (course j past).late)) ≡ true
   finds_next e = finds_whole.1 ∙ or_left (finds (course j (entry ∷ past))) (found_in finds_whole.0 (course j (entry ∷ past)).unheard) e
 
-  -- and so the other way, where nothing came after the stop
-  pub finds_back : (course j (entry ∷ past)).unheard ≡ []
+  -- and so the other way, where no look came after the stop
+  pub finds_back : events.came events.is_looked (course j (entry ∷ past)).unheard ≡ false
       → (finds (course j past) || found_in (knows (course j past)) (events_at j entry past (course j past).late)) ≡ true → finds (course j (entry ∷ past)) ≡ true
   finds_back none e =
       sym (or-false (finds (course j (entry ∷ past))))
-      ∙ ap (λ es. finds (course j (entry ∷ past)) || found_in finds_whole.0 es) (sym none)
+      ∙ ap (λ b. finds (course j (entry ∷ past)) || b) (sym (none_found finds_whole.0 (course j (entry ∷ past)).unheard none))
       ∙ sym finds_whole.1
       ∙ e

@@ -15,12 +15,14 @@ use Rattle.run_journal.specs.Requests.{or_later, requests, last_request}
 use Rattle.run_journal.specs.Why.{bad_stream, is_done, is_error, is_not_ready, is_no_idle, is_timed_out, when, why}
 use Rattle.run_journal.specs.Decoding.{IsDecoding}
 use Rattle.run_journal.specs.Course.{course}
-use Rattle.run_journal.specs.Agreement.{Flows, IsHeard, EndsLooks, at_once, is_undated, BeginsUnread}
+use Rattle.run_journal.specs.Agreement.{Flows, Hears, EndsLooks, at_once, is_undated, BeginsUnread}
 use Rattle.run_journal.proofs.Telling.{first_rows, core_rows, at_once_same}
-use Rattle.run_journal.proofs.Finding.{found_lost}
+use Rattle.run_journal.proofs.Finding.{undated_unlooked, lost_seen}
+use Rattle.run_journal.proofs.Dropping.{dropped}
+use Rattle.run_journal.proofs.Lasting.{hears_kept}
 
 -- what is kept is there
-from_at_once : (o : Option Why) (w : Why) → at_once o ≡ Some w → o ≡ Some w
+pub from_at_once : (o : Option Why) (w : Why) → at_once o ≡ Some w → o ≡ Some w
 from_at_once None w e = cc
 from_at_once (Some cause.Done) w e = e
 from_at_once (Some cause.CellError) w e = e
@@ -52,10 +54,13 @@ journal_lost false false false false false true t f = cc
 journal_lost false false false false false false true f = cc
 journal_lost false false false false false false false f = cc
 
-module _ (j : Job) (d : IsDecoding j.codec) (plan : 0 < length j.task.plan) (past : List Entry) (u : BeginsUnread j past) (f : Flows j past) (h : IsHeard j past) (s : EndsLooks j past)
+module _ (j : Job) (d : IsDecoding j.codec) (plan : 0 < length j.task.plan) (past : List Entry) (u : BeginsUnread j past) (f : Flows j past) (h : Hears j past) (s : EndsLooks j past)
     (none : (course j past).held ≡ []) (runs : is_running j (before_wait past) ≡ true) where
   same : at_once (core_saves.why j.task (course j past).told) ≡ at_once (why j past)
   same = at_once_same j d plan past u f none
+
+  unfound : why j past ≡ Some cause.KernelLost → is_some (at_once (why j past)) ≡ false
+  unfound e = ap (λ o. is_some (at_once o)) e
 
   lost : why j past ≡ Some cause.KernelLost → core_saves.why j.task (course j past).told ≡ Some cause.KernelLost
   lost e =
@@ -65,7 +70,7 @@ module _ (j : Job) (d : IsDecoding j.codec) (plan : 0 < length j.task.plan) (pas
       (sym (core_rows (core_saves.is_done j.task (course j past).told) (core_saves.is_cell_error stands) (events.came events.is_broken (course j past).told) (events.looked events.is_lost (course j past).told)
       (core_saves.is_not_ready j.task stands (course j past).told) (core_saves.is_no_idle stands (course j past).told) (core_saves.is_timed_out j.task stands (course j past).told))
       ∙ same ∙ ap at_once e)
-      (found_lost j past h s none runs
+      (lost_seen j past (undated_unlooked (dropped j past) (hears_kept j d plan past u h (unfound e))) s none runs
       (journal_lost (is_done j (acked j past) (requests j past)) (is_error j (last_request 0 (requests j past))) (is_some (bad_stream j past)) (is_lost j past)
       (is_not_ready j (requests j past) past) (is_no_idle j (last_request 0 (requests j past)) past) (is_timed_out j (last_request 0 (requests j past)) past) e))
 

@@ -201,7 +201,7 @@ any_more f g h (c ∷ cs) e = either (f c) (g c) (list_any f cs) (list_any g cs)
     either false true x y p q k = refl
     either false false x y p q k = q k
 
-any_none : (f : Chan → Bool) → ((c : Chan) → f c ≡ false) → (cs : List Chan) → list_any f cs ≡ false
+pub any_none : (f : Chan → Bool) → ((c : Chan) → f c ≡ false) → (cs : List Chan) → list_any f cs ≡ false
 any_none f h [] = refl
 any_none f h (c ∷ cs) = ap (λ v. v || list_any f cs) (h c) ∙ any_none f h cs
 
@@ -230,7 +230,7 @@ unread_before j entry past u =
     ((λ c. (and_parts (begins_unread j c (entry ∷ past)) (all_along (begins_unread j c) past) (u c)).0), (λ c. (and_parts (begins_unread j c (entry ∷ past)) (all_along (begins_unread j c) past) (u c)).1))
 
 -- a broken stream was told, or waits for a save, exactly where a stream is broken
-among_broken : (j : Job) → IsDecoding j.codec → (past : List Entry) → BeginsUnread j past → Flows j past → is_among events.is_broken (course j past) ≡ is_broken j past
+pub among_broken : (j : Job) → IsDecoding j.codec → (past : List Entry) → BeginsUnread j past → Flows j past → is_among events.is_broken (course j past) ≡ is_broken j past
 among_broken j d [] u e = sym (unbroken_first j d)
 among_broken j d (entry ∷ past) u e =
     let p = told_parts j entry past e in

@@ -20,13 +20,14 @@ use Rattle.run_journal.specs.Requests.{Request, first_clock, requests, last_requ
 use Rattle.run_journal.specs.Due.{all_along}
 use Rattle.run_journal.specs.Order.{begins_unread}
 use Rattle.run_journal.specs.Course.{came_for, when_so, course}
-use Rattle.run_journal.specs.Agreement.{BringsNothing, BeginsUnread, told_on, brings, stands_anew, keeps_time, KeepsTime, KeepsRules, TellsRightly, is_got, reads_late, holds_no_clock}
+use Rattle.run_journal.specs.Agreement.{BringsNothing, BeginsUnread, told_on, brings, stands_anew, keeps_time, KeepsTime, hears_looks, HearsLooks, KeepsRules, TellsRightly, is_got, reads_late, holds_no_clock}
 use Rattle.run_journal.proofs.Truths.{not_both}
 use Rattle.run_journal.proofs.Agreeing.{ready_unheard}
 use Rattle.run_journal.proofs.Hearing.{none_unready}
 use Rattle.run_journal.proofs.Flowing.{core_nothing, sync_brings_nothing}
 use Rattle.run_journal.proofs.Telling.{unread_before}
 use Rattle.run_journal.proofs.Dating.{Seen, seen_on, now_is, whole}
+use Rattle.run_journal.proofs.Dropping.{looks_kept, whole_held}
 use Rattle.run_journal.proofs.Running.{or_off, rules_before, RanAtWait, ran_before}
 use Rattle.run_journal.proofs.Turning.{dates}
 use Rattle.run_journal.proofs.Lapse.{here, earlier, first_before}
@@ -110,7 +111,7 @@ none_brought j entry past n = by (came_for j (last_request 0 (requests j past)) 
 
 module _ (jobs : List Job) (j : Job) where
   -- where something is brought, a turn's clock entry came before
-  late : (entry : Entry) (past : List Entry) → ((c : Chan) → begins_unread j c (entry ∷ past) ≡ true) → reads_late j (entry ∷ past) ≡ true → brings j entry past ≡ true → is_some (first_clock 0 past) ≡ true
+  pub late : (entry : Entry) (past : List Entry) → ((c : Chan) → begins_unread j c (entry ∷ past) ≡ true) → reads_late j (entry ∷ past) ≡ true → brings j entry past ≡ true → is_some (first_clock 0 past) ≡ true
   late entry past u r b = by (cases_Bool (is_got j entry))
     where
       by : (is_got j entry ≡ true) ⊎ (is_got j entry ≡ false) → is_some (first_clock 0 past) ≡ true
@@ -118,7 +119,7 @@ module _ (jobs : List Job) (j : Job) where
       by (inr f) = absurd (not_both (brings j entry past) b (none_brought j entry past (λ c. its_job j c entry past f (u c))))
 
   -- so before the kernel is ready
-  ready_late : (past : List Entry) → BeginsUnread j past → all_along (reads_late j) past ≡ true → is_ready j past ≡ true → is_some (first_clock 0 past) ≡ true
+  pub ready_late : (past : List Entry) → BeginsUnread j past → all_along (reads_late j) past ≡ true → is_ready j past ≡ true → is_some (first_clock 0 past) ≡ true
   ready_late [] u r e = cc
   ready_late (entry ∷ past) u r e =
       let v = unread_before j entry past u in
@@ -131,7 +132,7 @@ module _ (jobs : List Job) (j : Job) where
       ap (λ (o : Option ℕ). is_some o) (first_before 0 {q = past} {past = entry ∷ past} (earlier entry here) was) ∙ was
 
   -- a request comes to stand with an acknowledged save only once the kernel is ready
-  anew_ready : (entry : Entry) (past : List Entry) → is_acknowledging j (entry ∷ past) ≡ true → stands_anew j entry past ≡ true → is_ready j past ≡ true
+  pub anew_ready : (entry : Entry) (past : List Entry) → is_acknowledging j (entry ∷ past) ≡ true → stands_anew j entry past ≡ true → is_ready j past ≡ true
   anew_ready entry past a s = by (cases_Bool (is_ready j past))
     where
       by : (is_ready j past ≡ true) ⊎ (is_ready j past ≡ false) → is_ready j past ≡ true
@@ -142,10 +143,12 @@ module _ (jobs : List Job) (j : Job) where
           let n : length (requests j (entry ∷ past)) ≡ 0 = ap (λ (rs : List Request). length rs) none in
           absurd (omega (arith, l, n))
 
-  whole_time : (past : List Entry) → events.time (told_on (course j past).held (course j past).told) ≡ (whole 0 j past).now
-  whole_time past = now_is 0 (told_on (course j past).held (course j past).told) ∙ ap (λ (s : Seen). s.now) (seen_on 0 (course j past).held (course j past).told)
+  whole_time : (past : List Entry) → HearsLooks j past → events.time (told_on (course j past).held (course j past).told) ≡ (whole 0 j past).now
+  whole_time past l =
+      now_is 0 (told_on (course j past).held (course j past).told)
+      ∙ ap (λ (s : Seen). s.now) (seen_on 0 (course j past).held (course j past).told ∙ sym (whole_held j 0 past (looks_kept j past l)))
 
-  time_on : (es told : List Event) → events.came events.is_moment es ≡ false → events.time (told_on es told) ≡ events.time told
+  pub time_on : (es told : List Event) → events.came events.is_moment es ≡ false → events.time (told_on es told) ≡ events.time told
   time_on [] told e = refl
   time_on (x ∷ es) told e = let p = or_parts (events.is_moment x) (events.came events.is_moment es) e in time_on es (x ∷ told) p.1 ∙ one x p.0
     where
@@ -159,13 +162,14 @@ module _ (jobs : List Job) (j : Job) where
       one event.Lost f = refl
       one event.Broken f = refl
 
-  implied : (b c : Bool) → (b ≡ true → c ≡ true) → (not b || c) ≡ true
+  pub implied : (b c : Bool) → (b ≡ true → c ≡ true) → (not b || c) ≡ true
   implied true c f = f refl
   implied false c f = refl
 
-  kept : (past : List Entry) → KeepsRules jobs j past → RanAtWait j past → BeginsUnread j past → all_along (reads_late j) past ≡ true → all_along (holds_no_clock j) past ≡ true → KeepsTime j past
-  kept [] k h u r n = refl
-  kept (entry ∷ past) k h u r n =
+  kept : (past : List Entry) → KeepsRules jobs j past → HearsLooks j past → RanAtWait j past → BeginsUnread j past → all_along (reads_late j) past ≡ true → all_along (holds_no_clock j) past ≡ true → KeepsTime j past
+  kept [] k l h u r n = refl
+  kept (entry ∷ past) k l h u r n =
+      let m = (and_parts (hears_looks j (entry ∷ past)) (all_along (hears_looks j) past) l).1 in
       let v = unread_before j entry past u in
       let p = and_parts (reads_late j (entry ∷ past)) (all_along (reads_late j) past) r in
       let q = and_parts (holds_no_clock j (entry ∷ past)) (all_along (holds_no_clock j) past) n in
@@ -174,13 +178,13 @@ module _ (jobs : List Job) (j : Job) where
       (and_from _ _
       (implied (is_acknowledging j (entry ∷ past) && stands_anew j entry past) _ (λ e.
       let a = and_parts (is_acknowledging j (entry ∷ past)) (stands_anew j entry past) e in
-      eq-eqb _ _ (sym (time_on (course j past).held (course j past).told (unheld past q.1)) ∙ whole_time past ∙ i.now (ready_late past v.1 p.1 (anew_ready entry past a.0 a.1)))))
-      (implied (brings j entry past) _ (λ e. eq-eqb _ _ (whole_time past ∙ i.now (late entry past v.0 p.0 e)))))
-      (kept past (rules_before jobs j entry past k) (ran_before jobs j entry past k h) v.1 p.1 q.1)
+      eq-eqb _ _ (sym (time_on (course j past).held (course j past).told (unheld past q.1)) ∙ whole_time past m ∙ i.now (ready_late past v.1 p.1 (anew_ready entry past a.0 a.1)))))
+      (implied (brings j entry past) _ (λ e. eq-eqb _ _ (whole_time past m ∙ i.now (late entry past v.0 p.0 e)))))
+      (kept past (rules_before jobs j entry past k) m (ran_before jobs j entry past k h) v.1 p.1 q.1)
     where
       unheld : (past : List Entry) → all_along (holds_no_clock j) past ≡ true → events.came events.is_moment (course j past).held ≡ false
       unheld [] f = refl
       unheld (x ∷ past) f = not-true (events.came events.is_moment (course j (x ∷ past)).held) (and_parts (holds_no_clock j (x ∷ past)) (all_along (holds_no_clock j) past) f).0
 
-pub time_is_kept : (jobs : List Job) (j : Job) (past : List Entry) → KeepsRules jobs j past → RanAtWait j past → TellsRightly j past → all_along (reads_late j) past ≡ true → all_along (holds_no_clock j) past ≡ true → KeepsTime j past
-time_is_kept jobs j past k h t r n = kept jobs j past k h (begins_unread_by jobs j past k.among k.awake t) r n
+pub time_is_kept : (jobs : List Job) (j : Job) (past : List Entry) → KeepsRules jobs j past → HearsLooks j past → RanAtWait j past → TellsRightly j past → all_along (reads_late j) past ≡ true → all_along (holds_no_clock j) past ≡ true → KeepsTime j past
+time_is_kept jobs j past k l h t r n = kept jobs j past k l h (begins_unread_by jobs j past k.among k.awake t) r n

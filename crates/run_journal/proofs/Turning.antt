@@ -20,7 +20,7 @@ use Rattle.run_journal.specs.Agreement.{IsAmong, draws, drawn_clock, starts_in_t
 use Rattle.run_journal.proofs.AlikeLooks.{or_none}
 use Rattle.run_journal.proofs.Sighting.{or_either}
 use Rattle.run_journal.proofs.Turns.{turn_is}
-use Rattle.run_journal.proofs.Dating.{Seen, dated, run, whole, whole_next, end, clocks_at}
+use Rattle.run_journal.proofs.Dating.{Seen, dated, run, whole, end, clocks_at}
 use Rattle.run_journal.proofs.Truths.{not_both}
 use Rattle.run_journal.proofs.Running.{RanAtWait, after_running, any_before, any_of, begun_drawn, first_kept, later_some, or_off, ran_before, rules_before, running_parts, start_parts}
 
@@ -176,13 +176,13 @@ module _ (d : ℕ) (jobs : List Job) (j : Job) (entry : Entry) (past : List Entr
   rules = rules_before jobs j entry past k
 
   -- where there was a wait the ports were drawn
-  drawn_then : has_wait past ≡ true → is_some (drawn_clock j past) ≡ true
+  pub drawn_then : has_wait past ≡ true → is_some (drawn_clock j past) ≡ true
   drawn_then w = begun_drawn j past rules.start (any_before j past (running_parts j (before_wait past) (ran_before jobs j entry past k h w)).0)
 
   start_now : (starts_in_turn j (entry ∷ past) ≡ true)
   start_now = (and_parts (starts_in_turn j (entry ∷ past)) (all_along (starts_in_turn j) past) k.start).0
 
-  clocks_none : draws j entry ≡ false → turn_clock (entry ∷ past) ≡ None → clocks_at j entry past ≡ []
+  pub clocks_none : draws j entry ≡ false → turn_clock (entry ∷ past) ≡ None → clocks_at j entry past ≡ []
   clocks_none e f =
       ap (λ es. es ++ (if is_running j past then clock_event (turn_clock (entry ∷ past)) else [])) (begins_is j entry past ∙ cond-false (draws j entry) (event.Moment (time past) ∷ []) [] e)
       ∙ turn_event (is_running j past) (turn_clock (entry ∷ past)) None f
@@ -307,6 +307,5 @@ module _ (d : ℕ) (jobs : List Job) (j : Job) (entry : Entry) (past : List Entr
 pub dates : (d : ℕ) (jobs : List Job) (j : Job) (past : List Entry) → KeepsRules jobs j past → RanAtWait j past → Dates d j past (whole d j past)
 dates d jobs j [] k h = record { start = refl; first = refl; now = λ e. cc; fresh = λ e. cc; passed = λ e. cc; news = λ e f. cc }
 dates d jobs j (entry ∷ past) k h =
-    subst (Dates d j (entry ∷ past)) (sym (whole_next d j entry past k.heard))
-    (dates_end d j (entry ∷ past) (run d (clocks_at j entry past) (whole d j past)) _
-    (dates_clock d jobs j entry past k h (whole d j past) (dates d jobs j past (rules_before jobs j entry past k) (ran_before jobs j entry past k h))))
+    dates_end d j (entry ∷ past) (run d (clocks_at j entry past) (whole d j past)) _
+    (dates_clock d jobs j entry past k h (whole d j past) (dates d jobs j past (rules_before jobs j entry past k) (ran_before jobs j entry past k h)))

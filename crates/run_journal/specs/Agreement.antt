@@ -20,7 +20,7 @@ use Rattle.run_journal.specs.Job.{Job}
 use Rattle.run_journal.specs.Parts.{place, connection, bytes_got, acked, is_acknowledging, begins}
 use Rattle.run_journal.specs.Arrivals.{is_ready}
 use Rattle.run_journal.specs.Requests.{Request, has_idle, reply, or_later, first_clock, requests, last_request}
-use Rattle.run_journal.specs.Why.{starts, child_clock}
+use Rattle.run_journal.specs.Why.{starts, child_clock, why}
 use Rattle.run_journal.specs.Due.{all_along}
 use Rattle.run_journal.specs.Order.{is_nothing, begins_unread}
 use Rattle.run_journal.specs.Awake.{Awake}
@@ -87,6 +87,25 @@ is_heard j past = is_empty_list (course j past).unheard
 abbrev pub IsHeard : Job → List Entry → Type 0
 IsHeard j past = all_along (is_heard j) past ≡ true
 
+-- an event of the clock or of a look
+abbrev pub is_dated : Event → Bool
+is_dated (event.Moment ms) = true
+is_dated event.Looked = true
+is_dated event.Saved = false
+is_dated event.Ready = false
+is_dated (event.Io b) = false
+is_dated (event.Reply f) = false
+is_dated event.Lost = false
+is_dated event.Broken = false
+
+-- no clock entry and no look came after the stop; a loss may have
+abbrev pub hears_looks : Job → List Entry → Bool
+hears_looks j past = not (events.came is_dated (course j past).unheard)
+
+-- so at every moment
+abbrev pub HearsLooks : Job → List Entry → Type 0
+HearsLooks j past = all_along (hears_looks j) past ≡ true
+
 -- where the newest entry is a wait, nothing waits for the end of a look
 abbrev pub ends_looks : Job → List Entry → Bool
 ends_looks j [] = true
@@ -137,6 +156,14 @@ abbrev pub at_once : Option Why → Option Why
 at_once None = None
 at_once (Some why) = if is_at_once why then Some why else None
 
+-- no clock entry and no look came after the stop, or it was a stop at once
+abbrev pub hears : Job → List Entry → Bool
+hears j past = hears_looks j past || is_some (at_once (why j past))
+
+-- so at every moment
+abbrev pub Hears : Job → List Entry → Type 0
+Hears j past = all_along (hears j) past ≡ true
+
 -- a cause that no deadline brings
 abbrev pub is_undated : Why → Bool
 is_undated cause.Done = true
@@ -185,14 +212,12 @@ starts_in_turn j (entry ∷ past) =
     && ((not (starts j entry) || is_clock (time past) (drawn_clock j past))
     && (not (begins j entry) || is_some (child_clock j past)))
 
--- The loop keeps its rules over these jobs, of which this is one; the clock doesn't fall, the job starts in turn, and nothing
--- of it came after its stop.
+-- The loop keeps its rules over these jobs, of which this is one; the clock doesn't fall, and the job starts in turn.
 pub record KeepsRules (jobs : List Job) (j : Job) (past : List Entry) : Type 0 where
   pub among : IsAmong j jobs
   pub awake : Awake jobs past
   pub rising : all_along rises past ≡ true
   pub start : all_along (starts_in_turn j) past ≡ true
-  pub heard : IsHeard j past
 
 -- ---- what follows from the loop's rules
 

@@ -1,5 +1,5 @@
 -- With what a job's child is started, and where its connections go (jupyter_client, "Kernel specs" and "Connection files").
-use Rattle.std.specs.Prelude.{◌≡◌, ℕ, ◌==◌, List, [], ◌∷◌, Bool, true, false, Option, Some, None, if◌then◌else◌, slice_get, IsTrue}
+use Rattle.std.specs.Prelude.{◌≡◌, ◌⊎◌, ℕ, ◌<◌, ◌==◌, List, [], ◌∷◌, Bool, true, false, Option, Some, None, if◌then◌else◌, slice_get, IsTrue}
 use Rattle.jtext.specs.declared.json.Json.{Json}
 use Rattle.jtext.specs.Print.{compact}
 use Rattle.kspec.specs.declared.start.Spec.{Spec}
@@ -10,9 +10,11 @@ use Rattle.world.specs.declared.chan.Chan.TheVariants as chan
 use Rattle.world.specs.declared.entry.Entry.{Entry}
 use Rattle.world.specs.declared.entry.Entry.TheVariants as made
 use Rattle.world.specs.Disk.{place}
+use Rattle.world.specs.Places.{time}
 use Rattle.words.specs.Paths.{connection_of}
 use Rattle.kernel_start.specs.Launch.{from_root}
 use Rattle.run_journal.specs.Job.{Job}
+use Rattle.run_journal.specs.Parts.{acked}
 use Rattle.run_journal.specs.Due.{all_along}
 
 -- what a job starts its child by: the kernel's spec and its folder, the working folder, the child's folder, and the key
@@ -74,3 +76,10 @@ abbrev pub StartsRightly : Launch → Job → List Entry → Type 0
 StartsRightly launch j [] = Unit {0}
 StartsRightly launch j (made.Started job argv env dir did ∷ past) = (job ≡ j.number → StartsBy launch j argv env dir past) × StartsRightly launch j past
 StartsRightly launch j (_ ∷ past) = StartsRightly launch j past
+
+-- The job's child was started at this clock, after its first save was acknowledged, and rightly.
+abbrev pub StartsAt : Launch → Job → ℕ → List Entry → Type 0
+StartsAt launch j clock [] = ⊥
+StartsAt launch j clock (made.Started job argv env dir did ∷ past) =
+    ((job ≡ j.number) × (time past ≡ clock) × (0 < acked j past) × StartsBy launch j argv env dir past) ⊎ StartsAt launch j clock past
+StartsAt launch j clock (_ ∷ past) = StartsAt launch j clock past

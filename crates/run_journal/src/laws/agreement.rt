@@ -25,8 +25,10 @@ ghost use Rattle.run_journal.specs.Why.{child_clock, is_done, is_error, why};
 ghost use Rattle.run_journal.specs.Decoding.{IsDecoding};
 ghost use Rattle.run_journal.specs.Saves.{run_saves, settled_by};
 ghost use Rattle.run_journal.specs.Course.{came_for, course};
+ghost use Rattle.run_journal.specs.Starts.{Launch, StartsAt, StartsRightly};
 ghost use Rattle.run_journal.specs.Agreement.{Agrees, BringsNothing, Clocks, Flows, IsOther};
-ghost use Rattle.run_journal.specs.Agreement.{BeginsUnread, EndsLooks, KeepsRules, KeepsTime};
+ghost use Rattle.run_journal.specs.Agreement.{BeginsUnread, EndsLooks, HearsLooks};
+ghost use Rattle.run_journal.specs.Agreement.{KeepsRules, KeepsTime};
 ghost use Rattle.run_journal.specs.Agreement.{told_on};
 
 /// Before anything is told and before any entry they agree.
@@ -115,17 +117,20 @@ pub fn clocks_agree()
 {}
 
 /// The core asks for the kernel's start exactly at the first acknowledged save of a job with cells
-/// to run; and what it takes for the clock of that start is the clock at which the child was
-/// started.
+/// to run; what it takes for the clock of that start is the clock at which the child was started;
+/// and where each start of the child is a right one, it was one after that save, at that clock.
 pub fn starts_agree()
     ensures asked { (j : Job) (past : List Entry) → Flows j past →
         act_of j.task Saved (course j past).told ≡ Start → acked j past ≡ 0 }
     ensures first { (j : Job) (past : List Entry) → 0 < length j.task.plan → acked j past ≡ 0 →
         act_of j.task Saved (course j past).told ≡ Start }
     ensures clock { (jobs : List Job) (j : Job) (past : List Entry) → KeepsRules jobs j past →
-        (has_wait past ≡ true → is_running j (before_wait past) ≡ true) →
+        HearsLooks j past → (has_wait past ≡ true → is_running j (before_wait past) ≡ true) →
         (course j past).held ≡ [] → (clock : ℕ) → child_clock j past ≡ Some clock →
         started (course j past).told ≡ Some clock }
+    ensures rightly { (launch : Launch) (jobs : List Job) (j : Job) (past : List Entry) →
+        StartsRightly launch j past → KeepsRules jobs j past → (clock : ℕ) →
+        child_clock j past ≡ Some clock → StartsAt launch j clock past }
 {}
 
 /// Of a request without a reply, while no stream is broken and the kernel isn't lost, the core has

@@ -12,7 +12,8 @@ ghost use Rattle.run_journal.specs.Requests.{is_broken};
 ghost use Rattle.run_journal.specs.Why.{why};
 ghost use Rattle.run_journal.specs.Decoding.{IsDecoding};
 ghost use Rattle.run_journal.specs.Course.{course};
-ghost use Rattle.run_journal.specs.Agreement.{BeginsUnread, EndsLooks, Flows, IsHeard};
+ghost use Rattle.run_journal.specs.Agreement.{BeginsUnread, EndsLooks, Flows, Hears};
+ghost use Rattle.run_journal.specs.Agreement.{HearsLooks, IsHeard};
 ghost use Rattle.run_journal.specs.Agreement.{at_once, is_undated, KeepsRules, KeepsTime};
 
 /// Where nothing waits for a save, the core knows of a broken stream exactly where one is broken.
@@ -45,20 +46,20 @@ pub fn losses_found_are_shown()
 {}
 
 /// Where the journal shows the kernel lost, the core has been told of a look after a loss: where
-/// the job was running at the last wait, each look was over before the next wait, and nothing waits
-/// for a save or came after the stop.
+/// the job was running at the last wait, each look was over before the next wait, nothing waits
+/// for a save, and no look came after the stop.
 pub fn losses_shown_are_found()
-    ensures { (j : Job) (past : List Entry) → IsHeard j past → EndsLooks j past →
+    ensures { (j : Job) (past : List Entry) → HearsLooks j past → EndsLooks j past →
         (course j past).held ≡ [] → is_running j (before_wait past) ≡ true →
         is_lost j past ≡ true → events.looked events.is_lost (course j past).told ≡ true }
 {}
 
 /// A cause that no deadline brings and that stops the job by the journal stops the core, where the
-/// job was running at the last wait, each look was over before the next wait, and nothing waits for
-/// a save or came after the stop.
+/// job was running at the last wait, each look was over before the next wait, nothing waits for a
+/// save, and no look came after a stop that wasn't at once.
 pub fn undated_causes_agree()
     ensures { (j : Job) → IsDecoding j.codec → 0 < length j.task.plan → (past : List Entry) →
-        BeginsUnread j past → Flows j past → IsHeard j past → EndsLooks j past →
+        BeginsUnread j past → Flows j past → Hears j past → EndsLooks j past →
         (course j past).held ≡ [] → is_running j (before_wait past) ≡ true → (cause : Why) →
         is_undated cause ≡ true → why j past ≡ Some cause →
         core_saves.why j.task (course j past).told ≡ Some cause }
@@ -66,6 +67,7 @@ pub fn undated_causes_agree()
 
 /// Where the loop keeps its rules, and nothing waits for a save, the core stops exactly where the
 /// job does by the journal, and for the same cause: at once, by a lost kernel, or by a deadline.
+/// What shows only in the look that stops the job, as the end of a connection, may come after it.
 pub fn causes_agree()
     ensures { (jobs : List Job) (j : Job) (past : List Entry) → IsDecoding j.codec →
         0 < length j.task.plan → ((ms : ℕ) → j.task.times.limit_ms ≡ Some ms → 0 < ms) →
@@ -73,4 +75,11 @@ pub fn causes_agree()
         BeginsUnread j past → Flows j past → KeepsTime j past → EndsLooks j past →
         (course j past).held ≡ [] →
         core_saves.why j.task (course j past).told ≡ why j past }
+{}
+
+/// Where nothing came after the stop, no look did; and where none did, none came after a stop that
+/// wasn't at once.
+pub fn all_heard_hears()
+    ensures looks { (j : Job) (past : List Entry) → IsHeard j past → HearsLooks j past }
+    ensures stops { (j : Job) (past : List Entry) → HearsLooks j past → Hears j past }
 {}
