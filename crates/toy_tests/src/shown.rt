@@ -1,64 +1,74 @@
-//! What a text does, as a line of text.
-use jtext::Text;
-use std::test::Fail;
-use toy_lang::{Effect, Effects, State, run};
+//! What texts do, as lines of text.
+use jtext::{NoMemory, Text};
+use std::alloc::Global;
+use toy_lang::{Effect, State, run};
 
-/// The effects of the text where no variable is set.
-pub(crate) fn effects_of(rt: &HostRuntime, text: &str) -> Result<String, Fail> {
-    let mut state = State::new(rt.alloc());
-    effects_from(rt, &mut state, text)
-}
-
-/// The effects of the text where the variables stand.
-pub(crate) fn effects_from(rt: &HostRuntime, s: &mut State, text: &str) -> Result<String, Fail> {
-    let text = Text::of(rt.alloc(), text)?;
-    let effects = run(s, &text)?;
-    shown(rt, &effects)
-}
-
-/// Each effect in brackets, its words parted by bars.
-fn shown(rt: &HostRuntime, effects: &Effects) -> Result<String, Fail> {
-    let mut out = String::new(rt.alloc());
-    for effect in effects.as_slice() {
-        add_effect(rt, &mut out, effect)?;
+/// The rows of a table, `TEXT => EFFECTS`, whose texts have other effects, with these. A tilde
+/// stands for a line end. In a session the variables stand from one row to the next.
+pub(crate) fn odd_rows(alloc: Global, rows: &str, is_session: bool) -> Result<String, NoMemory> {
+    let mut out = String::new(alloc);
+    let mut state = State::new(alloc);
+    for row in rows.split('\n') {
+        let (text, effects) = row.split_once(" => ").unwrap_or((row, ""));
+        if !is_session {
+            state = State::new(alloc);
+        }
+        let found = effects_of(alloc, &mut state, text)?;
+        if found.as_str() != effects {
+            put_row(&mut out, text, found.as_str())?;
+        }
     }
     Ok(out)
 }
 
-fn add_effect(rt: &HostRuntime, out: &mut String, effect: &Effect) -> Result<(), Fail> {
+/// Adds a row of a table.
+pub(crate) fn put_row(out: &mut String, text: &str, effects: &str) -> Result<(), NoMemory> {
+    out.push_str(text)?;
+    out.push_str(" => ")?;
+    out.push_str(effects)?;
+    out.push_str("\n")?;
+    Ok(())
+}
+
+/// The effects of a text where these variables stand: each in brackets, its words parted by bars.
+pub(crate) fn effects_of(alloc: Global, s: &mut State, text: &str) -> Result<String, NoMemory> {
+    let text = text.replace(alloc, "~", "\n")?;
+    let effects = run(s, &Text::of_string(text))?;
+    let mut out = String::new(alloc);
+    for effect in effects.as_slice() {
+        put_effect(alloc, effect, &mut out)?;
+    }
+    Ok(out.as_str().replace(alloc, "\n", "~")?)
+}
+
+fn put_effect(alloc: Global, effect: &Effect, out: &mut String) -> Result<(), NoMemory> {
     match effect {
-        Effect::Print { err, text } => {
-            add(
-                out,
-                &[if *err { "stderr" } else { "stdout" }, text.as_str()],
-            )
+        Effect::Print { err, text } => put(if *err { "stderr" } else { "stdout" }, "", text, out),
+        Effect::Show { id, text, update } => {
+            let kind = if *update { "update " } else { "show " };
+            put(kind, id.as_str(), text, out)
         }
-        Effect::Show { id, text, update } => add(
-            out,
-            &[
-                if *update { "update" } else { "show" },
-                id.as_str(),
-                text.as_str(),
-            ],
-        ),
-        Effect::Clear { later } => add(out, &["clear", if *later { "later" } else { "now" }]),
-        Effect::Outcome { text } => add(out, &["result", text.as_str()]),
-        Effect::Raise { ename, evalue } => add(out, &["error", ename.as_str(), evalue.as_str()]),
-        Effect::Sleep { ms } => {
-            let ms = format!(in rt.alloc(); "{ms}")?;
-            add(out, &["sleep", ms.as_str()])
-        }
-        Effect::Die => add(out, &["die"]),
+        Effect::Clear { later } => put_word(if *later { "clear later" } else { "clear" }, out),
+        Effect::Outcome { text } => put("result", "", text, out),
+        Effect::Raise { ename, evalue } => put("error ", ename.as_str(), evalue, out),
+        Effect::Sleep { ms } => put_word(format!(in alloc; "sleep {ms}")?.as_str(), out),
+        Effect::Die => put_word("die", out),
     }
 }
 
-fn add(out: &mut String, words: &[&str]) -> Result<(), Fail> {
-    let mut bar = "[";
-    for word in words {
-        out.push_str(bar)?;
-        out.push_str(word)?;
-        bar = "|";
-    }
+fn put(kind: &str, name: &str, text: &Text, out: &mut String) -> Result<(), NoMemory> {
+    out.push_str("[")?;
+    out.push_str(kind)?;
+    out.push_str(name)?;
+    out.push_str("|")?;
+    out.push_str(text.as_str())?;
+    out.push_str("]")?;
+    Ok(())
+}
+
+fn put_word(word: &str, out: &mut String) -> Result<(), NoMemory> {
+    out.push_str("[")?;
+    out.push_str(word)?;
     out.push_str("]")?;
     Ok(())
 }

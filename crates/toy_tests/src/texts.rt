@@ -1,60 +1,76 @@
-//! Texts of several lines, and texts after one another.
-use crate::shown::{effects_from, effects_of};
+//! What texts do, worked out by hand from the table of the language.
+use crate::shown::odd_rows;
 use std::test::Fail;
-use toy_lang::State;
+
+/// A text a row with its effects, where no variable is set. A tilde stands for a line end.
+const TEXTS: &str = "\
+\x20=> \n\
+# print 1 => \n\
+# => \n\
+\x20 \t => \n\
+~~ => \n\
+a = 1 => \n\
+print 1 => [stdout|1~]\n\
+print -1.50e+3 => [stdout|-1.50e+3~]\n\
+print True => [stdout|True~]\n\
+print False => [stdout|False~]\n\
+print None => [stdout|None~]\n\
+print \"a b\" => [stdout|a b~]\n\
+print [1, b => [stdout|[1, b~]\n\
+print {} => [stdout|{}~]\n\
+err 2 => [stderr|2~]\n\
+show d 1 => [show d|1]\n\
+show = 1 => \n\
+show d-\u{e9} \"x y\" => [show d-\u{e9}|x y]\n\
+update d 1 => [update d|1]\n\
+clear => [clear]\n\
+clearwait => [clear later]\n\
+result 3 => [result|3]\n\
+raise KeyError \"no key\" => [error KeyError|no key]\n\
+sleep 0 => [sleep 0]\n\
+sleep 007 => [sleep 7]\n\
+sleep 999999999 => [sleep 999999999]\n\
+sleep = 4 => \n\
+die => [die]\n\
+die = 4 => \n\
+print b => [error NameError|b]\n\
+a = b => [error NameError|b]\n\
+show d _1 => [error NameError|_1]\n\
+raise E true => [error NameError|true]\n\
+result print => [error NameError|print]\n\
+result \"\u{e9}\u{1f600}\t\" => [result|\u{e9}\u{1f600}\t]\n\
+a = 1~print a~print b => [stdout|1~][error NameError|b]\n\
+print 1~~# 2~result 3~ => [stdout|1~][result|3]\n\
+a = 1~a = 2~print a => [stdout|2~]\n\
+a = \"x\"~b = a~a = 2~show d b => [show d|x]\n\
+a = \"b c\"~print a => [stdout|b c~]\n\
+True = 1~print True => [stdout|True~]\n\
+print 1~sleep 5~print 2 => [stdout|1~][sleep 5][stdout|2~]\n\
+raise E 1~print 2 => [error E|1]\n\
+print 1~die~print 2 => [stdout|1~][die]\n\
+x~print 2 => [error SyntaxError|x]\n\
+print x~print 2 => [error NameError|x]\n\
+a = x~a = 1 => [error NameError|x]";
 
 #[test]
-fn lines_are_run_in_their_order(rt: HostRuntime) -> Result<(), Fail> {
-    for (text, effects) in [
-        ("a = 1\nprint a\nprint b", "[stdout|1\n][error|NameError|b]"),
-        ("print 1\n\n# 2\nresult 3\n", "[stdout|1\n][result|3]"),
-        ("a = 1\na = 2\nprint a", "[stdout|2\n]"),
-        ("a = \"x\"\nb = a\na = 2\nshow d b", "[show|d|x]"),
-        ("a = \"b c\"\nprint a", "[stdout|b c\n]"),
-        ("True = 1\nprint True", "[stdout|True\n]"),
-        (
-            "print 1\nsleep 5\nprint 2",
-            "[stdout|1\n][sleep|5][stdout|2\n]",
-        ),
-        ("\n\n", ""),
-    ] {
-        let found = effects_of(&rt, text)?;
-        assert!(rt; found.as_str() == effects, "{text}: {found}");
-    }
+fn each_text_does_what_the_table_says(rt: HostRuntime) -> Result<(), Fail> {
+    let odd = odd_rows(rt.alloc(), TEXTS, false)?;
+    assert!(rt; odd.as_str() == "", "{odd}");
     Ok(())
 }
 
-#[test]
-fn nothing_follows_an_error_or_the_end_of_the_kernel(rt: HostRuntime) -> Result<(), Fail> {
-    for (text, effects) in [
-        ("raise E 1\nprint 2", "[error|E|1]"),
-        ("print 1\ndie\nprint 2", "[stdout|1\n][die]"),
-        ("x\nprint 2", "[error|SyntaxError|x]"),
-        ("print x\nprint 2", "[error|NameError|x]"),
-        ("a = x\na = 1", "[error|NameError|x]"),
-    ] {
-        let found = effects_of(&rt, text)?;
-        assert!(rt; found.as_str() == effects, "{text}: {found}");
-    }
-    Ok(())
-}
-
-/// Texts that are run one after the other, each with its effects.
-const SESSION: [(&str, &str); 6] = [
-    ("a = 1", ""),
-    ("print a\nb = a", "[stdout|1\n]"),
-    ("a = 2\nprint c\na = 3", "[error|NameError|c]"),
-    ("print a", "[stdout|2\n]"),
-    ("die\nb = 4", "[die]"),
-    ("print b", "[stdout|1\n]"),
-];
+/// Texts that are run one after the other.
+const SESSION: &str = "\
+a = 1 => \n\
+print a~b = a => [stdout|1~]\n\
+a = 2~print c~a = 3 => [error NameError|c]\n\
+print a => [stdout|2~]\n\
+die~b = 4 => [die]\n\
+print b => [stdout|1~]";
 
 #[test]
 fn variables_stand_from_one_text_to_the_next(rt: HostRuntime) -> Result<(), Fail> {
-    let mut state = State::new(rt.alloc());
-    for (text, effects) in SESSION {
-        let found = effects_from(&rt, &mut state, text)?;
-        assert!(rt; found.as_str() == effects, "{text}: {found}");
-    }
+    let odd = odd_rows(rt.alloc(), SESSION, true)?;
+    assert!(rt; odd.as_str() == "", "{odd}");
     Ok(())
 }
