@@ -1,0 +1,5 @@
+pub mod EndLemmas
+pub mod JournalLemmas
+pub mod LineLemmas
+pub mod SlotLemmas
+pub mod StandLemmas

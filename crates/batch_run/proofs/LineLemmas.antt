@@ -1,0 +1,259 @@
+-- What each call of the loop leaves of what is kept beside it.
+use Rattle.std.proofs.Common.{◌≡◌, ◌≢◌, inl, inr, ◌+◌, ◌*◌, ◌<◌, ◌≤◌, ◌||◌, ◌/◌, ℕ, Bool, true, false, List, length, replicate, set, suc, zero, Option, Some, None, Ok, Err, slice_get, arith, refl, sym, ◌∙◌, ap, subst}
+use Rattle.std.proofs.Math.Nat.{mul-div-le, lt-div-mul-add}
+use Rattle.std.proofs.lemmas.Bool.{cases_eq, cases_lt, eq-eqb, ne_eqb, false≢true}
+use Rattle.std.proofs.lemmas.List.{length-set}
+use Rattle.std.proofs.lemmas.Option.{slice_get_within}
+use Rattle.world.specs.declared.chan.Chan.{Chan}
+use Rattle.world.specs.declared.chan.Chan.TheVariants.{Shell, Control, Iopub, Heart}
+use Rattle.world.specs.declared.conn.Conn.{Conn}
+use Rattle.world.specs.Places.{chan_number, place_of, is_at}
+use Rattle.ready_loop.specs.declared.fault.LoopFault.{LoopFault}
+use Rattle.ready_loop.specs.declared.fault.LoopFault.TheVariants.{NetFault, Spent}
+use Rattle.ready_loop.specs.declared.link.Link.{Link}
+use Rattle.ready_loop.specs.declared.readiness.Loop.{Loop}
+use Rattle.ready_loop.specs.Begins.{IsFresh, IsBegun, is_of_job, failed_closed}
+use Rattle.ready_loop.specs.History.{conn_on}
+use Rattle.ready_loop.specs.States.{FailsOnly, IsSound, MayWait, SameKnown, failed_at, failed_in, known_at}
+use Rattle.ready_loop.proofs.TableLemmas.{some_is, slice_get-set_same, slice_get-set_other}
+use Rattle.batch_run.specs.Kept.{AreBegun, AreLost, IsFreshFrom, Loses, NoneLost, NoneLostBelow, NoPlaces, Notes, marked}
+
+-- ---- tests
+
+or_left : (a b : Bool) → a ≡ true → (a || b) ≡ true
+or_left true b e = refl
+or_left false b e = cc
+
+or_right : (a b : Bool) → b ≡ true → (a || b) ≡ true
+or_right true b e = refl
+or_right false b e = e
+
+or_none : (a b : Bool) → a ≡ false → b ≡ false → (a || b) ≡ false
+or_none true b e f = cc
+or_none false b e f = f
+
+or_other : (a b : Bool) → a ≡ false → (a || b) ≡ true → b ≡ true
+or_other true b e f = cc
+or_other false b e f = f
+
+-- ---- places
+
+chan_less : (c : Chan) → chan_number c < 4
+chan_less Shell = omega arith
+chan_less Control = omega arith
+chan_less Iopub = omega arith
+chan_less Heart = omega arith
+
+-- the four places of a job are of it
+pub of_job : (job p : ℕ) → 4 * job ≤ p → p < 4 * job + 4 → is_of_job job p ≡ true
+of_job job p low high =
+    let h = is_at p (conn_on job Heart) in
+    let i = is_at p (conn_on job Iopub) in
+    let c = is_at p (conn_on job Control) in
+    let s = is_at p (conn_on job Shell) in
+    elim (cases_eq p (4 * job + 3)) [
+      | inl e3 ↦ or_left h (i || (c || s)) (eq-eqb p (4 * job + 3) e3)
+      | inr n3 ↦ or_right h (i || (c || s)) (elim (cases_eq p (4 * job + 2)) [
+        | inl e2 ↦ or_left i (c || s) (eq-eqb p (4 * job + 2) e2)
+        | inr n2 ↦ or_right i (c || s) (elim (cases_eq p (4 * job + 1)) [
+          | inl e1 ↦ or_left c s (eq-eqb p (4 * job + 1) e1)
+          | inr n1 ↦ or_right c s (eq-eqb p (4 * job + 0) (omega (arith, low, high, n1, n2, n3)))
+        ])
+      ])
+    ]
+
+-- and no other
+pub of_none : (job p : ℕ) → p ≢ 4 * job → p ≢ 4 * job + 1 → p ≢ 4 * job + 2 → p ≢ 4 * job + 3 → is_of_job job p ≡ false
+of_none job p n0 n1 n2 n3 =
+    let z : p ≢ 4 * job + 0 = λ e. n0 (omega (arith, e)) in
+    let h = is_at p (conn_on job Heart) in
+    let i = is_at p (conn_on job Iopub) in
+    let c = is_at p (conn_on job Control) in
+    let s = is_at p (conn_on job Shell) in
+    or_none h (i || (c || s)) (ne_eqb p (4 * job + 3) n3)
+    (or_none i (c || s) (ne_eqb p (4 * job + 2) n2) (or_none c s (ne_eqb p (4 * job + 1) n1) (ne_eqb p (4 * job + 0) z)))
+
+of_before : (job p : ℕ) → p < 4 * job → is_of_job job p ≡ false
+of_before job p low =
+    let a : p ≢ 4 * job = λ e. omega (arith, e, low) in
+    let b : p ≢ 4 * job + 1 = λ e. omega (arith, e, low) in
+    let c : p ≢ 4 * job + 2 = λ e. omega (arith, e, low) in
+    let d : p ≢ 4 * job + 3 = λ e. omega (arith, e, low) in
+    of_none job p a b c d
+
+of_after : (job p : ℕ) → 4 * (job + 1) ≤ p → is_of_job job p ≡ false
+of_after job p high =
+    let a : p ≢ 4 * job = λ e. omega (arith, e, high) in
+    let b : p ≢ 4 * job + 1 = λ e. omega (arith, e, high) in
+    let c : p ≢ 4 * job + 2 = λ e. omega (arith, e, high) in
+    let d : p ≢ 4 * job + 3 = λ e. omega (arith, e, high) in
+    of_none job p a b c d
+
+-- ---- lists
+
+set_is : (xs : List Bool) (q : ℕ) (a b : Bool) → slice_get (set xs q a) q ≡ Some b → q < length xs → a ≡ b
+set_is xs q a b e low = some_is (sym (slice_get-set_same xs q a low) ∙ e)
+
+-- ---- the connections that were begun
+
+pub begun_same : {begun : List Bool} {old new : Loop} → SameKnown old new → AreBegun begun old → AreBegun begun new
+begun_same m are = record { each = λ p e. m.each p ∙ are.each p e }
+
+pub fresh_job : {job : ℕ} {l : Loop} → IsFreshFrom job l → IsFresh job l
+fresh_job {job} f = record { each = λ chan. f.each (place_of (conn_on job chan)) (omega arith) }
+
+pub fresh_next : {job : ℕ} {old new : Loop} → IsFreshFrom job old
+    → ((p : ℕ) → is_of_job job p ≡ false → known_at new p ≡ known_at old p) → IsFreshFrom (job + 1) new
+fresh_next {job} f others = record { each = λ p high. others p (of_after job p high) ∙ f.each p (omega (arith, high)) }
+
+-- where a job has begun no connection
+pub fresh_later : {job : ℕ} {l : Loop} → IsFreshFrom job l → IsFreshFrom (job + 1) l
+fresh_later {job} f = record { each = λ p low. f.each p (omega (arith, low)) }
+
+-- where the begin of a job failed
+pub begun_failed : {job : ℕ} {begun : List Bool} {old new : Loop} → IsFreshFrom job old
+    → ((p : ℕ) → is_of_job job p ≡ false → known_at new p ≡ known_at old p) → AreBegun begun old → AreBegun begun new
+begun_failed {job} f others are = record {
+  each = λ p e. elim (cases_lt p (4 * job)) [
+    | inl low ↦ others p (of_before job p low) ∙ are.each p e
+    | inr high ↦ absurd (false≢true (sym (f.each p high) ∙ are.each p e))
+  ];
+}
+
+-- and where it went well
+pub begun_begun : {job : ℕ} {heart : Bool} {begun : List Bool} {old new : Loop} → 4 * job + 3 < length begun → IsBegun job heart new
+    → ((p : ℕ) → is_of_job job p ≡ false → known_at new p ≡ known_at old p) → AreBegun begun old → AreBegun (marked job heart begun) new
+begun_begun {job} {heart} {begun} {old} {new} room is others are = record {
+  each = λ p e.
+      let a = set begun (4 * job) true in
+      let b = set a (4 * job + 1) true in
+      let c = set b (4 * job + 2) true in
+      elim (cases_eq p (4 * job + 3)) [
+        | inl e3 ↦
+            let size : length c ≡ length begun = length-set b (4 * job + 2) true ∙ length-set a (4 * job + 1) true ∙ length-set begun (4 * job) true in
+            let long : 4 * job + 3 < length c = omega (arith, size, room) in
+            let at = subst (λ q. slice_get (set c (4 * job + 3) heart) q ≡ Some true) e3 e in
+            subst (λ q. known_at new q ≡ true) (sym e3) (is.heart_too (set_is c (4 * job + 3) heart true at long))
+        | inr n3 ↦
+            let e' = sym (slice_get-set_other c (4 * job + 3) p heart n3) ∙ e in
+            elim (cases_eq p (4 * job + 2)) [
+              | inl e2 ↦ subst (λ q. known_at new q ≡ true) (sym e2) is.iopub
+              | inr n2 ↦
+                  let e'' = sym (slice_get-set_other b (4 * job + 2) p true n2) ∙ e' in
+                  elim (cases_eq p (4 * job + 1)) [
+                    | inl e1 ↦ subst (λ q. known_at new q ≡ true) (sym e1) is.control
+                    | inr n1 ↦
+                        let e''' = sym (slice_get-set_other a (4 * job + 1) p true n1) ∙ e'' in
+                        elim (cases_eq p (4 * job)) [
+                          | inl e0 ↦
+                              let z : p ≡ 4 * job + 0 = omega (arith, e0) in
+                              subst (λ q. known_at new q ≡ true) (sym z) is.shell
+                          | inr n0 ↦ others p (of_none job p n0 n1 n2 n3) ∙ are.each p (sym (slice_get-set_other begun (4 * job) p true n0) ∙ e''')
+                        ]
+                  ]
+            ]
+      ];
+}
+
+-- ---- the jobs that are lost
+
+pub lost_fault : {T : Type 0} (f : LoopFault) {old new : Loop} {lost then : List Bool} → FailsOnly {T = T} (Err f) old new
+    → Notes f lost then → AreLost lost old → AreLost then new
+lost_fault (NetFault (Some conn)) {old = old} {then = then} fails notes are = record {
+  each = λ p job low from to bad. elim (cases_eq p (place_of conn)) [
+    | inl e ↦
+        let less : chan_number conn.chan < 4 = chan_less conn.chan in
+        let same : conn.job ≡ job = omega (arith, e, less, from, to) in
+        let few : conn.job < 16 = omega (arith, e, low) in
+        subst (λ j. slice_get then j ≡ Some true) same (notes.marks conn refl few)
+    | inr ne ↦ notes.keeps job (are.each p job low from to (or_other (is_at p conn) (failed_at old p) (ne_eqb p (place_of conn) ne) (sym (fails.each p) ∙ bad)))
+  ];
+}
+lost_fault (NetFault None) fails notes are = record {
+  each = λ p job low from to bad. notes.keeps job (are.each p job low from to (sym (fails.each p) ∙ bad));
+}
+lost_fault Spent fails notes are = record {
+  each = λ p job low from to bad. notes.keeps job (are.each p job low from to (sym (fails.each p) ∙ bad));
+}
+
+pub lost_ok : {T : Type 0} {x : T} {old new : Loop} {lost : List Bool} → FailsOnly (Ok x) old new → AreLost lost old → AreLost lost new
+lost_ok fails are = record { each = λ p job low from to bad. are.each p job low from to (sym (fails.each p) ∙ bad) }
+
+pub lost_same : {old new : Loop} {lost : List Bool} → ((p : ℕ) → failed_at new p ≡ failed_at old p) → AreLost lost old → AreLost lost new
+lost_same same are = record { each = λ p job low from to bad. are.each p job low from to (sym (same p) ∙ bad) }
+
+not_closed : (b was : Bool) → failed_closed b was ≡ true → (b ≡ false) × (was ≡ true)
+not_closed true was e = absurd (false≢true e)
+not_closed false was e = (refl, e)
+
+-- the connections of a job were closed
+pub lost_closed : (job : ℕ) (old new : Loop) (lost : List Bool)
+    → ((p : ℕ) → failed_at new p ≡ failed_closed (is_of_job job p) (failed_at old p)) → AreLost lost old → AreLost (set lost job false) new
+lost_closed job old new lost closed are = record {
+  each = λ p j low from to bad.
+      let both = not_closed (is_of_job job p) (failed_at old p) (sym (closed p) ∙ bad) in
+      elim (cases_eq j job) [
+        | inl e ↦
+            let from' : 4 * job ≤ p = omega (arith, e, from) in
+            let to' : p < 4 * job + 4 = omega (arith, e, to) in
+            absurd (false≢true (sym both.0 ∙ of_job job p from' to'))
+        | inr ne ↦ slice_get-set_other lost job j false ne ∙ are.each p j low from to both.1
+      ];
+}
+
+-- where none is lost, no call of a connection has failed
+pub sound_none : {l : Loop} {lost : List Bool} → AreLost lost l → NoneLost lost → IsSound l
+sound_none {l} {lost} are none = record {
+  each = λ p link low is. fails p link low is link.failed refl;
+}
+  where
+    fails : (p : ℕ) (link : Link) → p < 64 → slice_get l.links p ≡ Some link → (b : Bool) → link.failed ≡ b → link.failed ≡ false
+    fails p link low is false e = e
+    fails p link low is true e =
+        let from : 4 * (p / 4) ≤ p = mul-div-le p 4 in
+        let to : p < 4 * (p / 4) + 4 = omega (arith, lt-div-mul-add {a = p} {b = 4} (omega arith)) in
+        let few : p / 4 < 16 = omega (arith, from, low) in
+        let bad = ap failed_in is ∙ e in
+        absurd (false≢true (some_is (sym (none.each (p / 4) few) ∙ are.each p (p / 4) low from to bad)))
+
+-- where all are lost, the one that a fault names is
+pub all_noted : (f : LoopFault) {lost then : List Bool} → ((job : ℕ) → Loses job lost then) → Notes f lost then
+all_noted f all = record { keeps = λ j e. (all 0).keeps j e; marks = λ conn e low. (all conn.job).marks low }
+
+-- ---- the begin
+
+pub none_of : (n p : ℕ) → p < n → slice_get (replicate n false) p ≡ Some false
+none_of zero p low = absurd (omega arith)
+none_of (suc n) zero low = refl
+none_of (suc n) (suc p) low = none_of n p (omega arith)
+
+pub none_begun : {begun : List Bool} {l : Loop} → NoPlaces begun → length begun ≡ 64 → AreBegun begun l
+none_begun {begun} none size = record {
+  each = λ p e.
+      let low : p < 64 = subst (λ n. p < n) size (slice_get_within begun p true e) in
+      absurd (false≢true (some_is (sym (none.each p low) ∙ e)));
+}
+
+-- ---- the jobs that were looked at
+
+pub none_more : {n : ℕ} {lost : List Bool} → NoneLostBelow n lost → slice_get lost n ≡ Some false → NoneLostBelow (n + 1) lost
+none_more {n} {lost} none here = record {
+  each = λ job low. elim (cases_eq job n) [
+    | inl e ↦ subst (λ j. slice_get lost j ≡ Some false) (sym e) here
+    | inr ne ↦ none.each job (omega (arith, low, ne))
+  ];
+}
+
+pub none_set : {n : ℕ} {lost then : List Bool} → n < length lost → then ≡ set lost n false → NoneLostBelow n lost → NoneLostBelow (n + 1) then
+none_set {n} {lost} room is none = none_more (record {
+  each = λ job low.
+      let ne : job ≢ n = λ e. omega (arith, e, low) in
+      ap (λ ls. slice_get ls job) is ∙ slice_get-set_other lost n job false ne ∙ none.each job low;
+}) (ap (λ ls. slice_get ls n) is ∙ slice_get-set_same lost n false room)
+
+pub none_lost : {l : Loop} {lost : List Bool} → MayWait l → AreLost lost l
+none_lost {l} may = record { each = λ p job low from to bad. absurd (false≢true (sym (fine (slice_get l.links p) p low refl) ∙ bad)) }
+  where
+    fine : (o : Option Link) (p : ℕ) → p < 64 → slice_get l.links p ≡ o → failed_in (slice_get l.links p) ≡ false
+    fine None p low e = ap failed_in e
+    fine (Some link) p low e = ap failed_in e ∙ may.sound.each p link low e

@@ -1,0 +1,14 @@
+use Rattle.world.specs.Moments.{start}
+use Rattle.world.proofs.CountsLemmas.{grow_start}
+use Rattle.world.proofs.MomentsLemmas.{told_start}
+use Rattle.batch_run.specs.Batch.{nothing}
+use Rattle.batch_run.proofs.batch.run_jobs.Goals as goal
+
+pub returns-in-Err-clause-jobs : goal.returns-in-Err-clause-jobs
+returns-in-Err-clause-jobs g c = told_start (λ x i a at apart rested. nothing start)
+
+pub returns-in-Err-clause-others : goal.returns-in-Err-clause-others
+returns-in-Err-clause-others g c = told_start (λ x path none. start)
+
+pub returns-in-Err-clause-counts : goal.returns-in-Err-clause-counts
+returns-in-Err-clause-counts g c = grow_start _

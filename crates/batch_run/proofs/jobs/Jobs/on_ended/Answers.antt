@@ -1,0 +1,10 @@
+use Rattle.std.proofs.Common.{arith}
+use Rattle.batch_run.proofs.SlotLemmas.{item_at}
+use Rattle.batch_run.proofs.jobs.Jobs.on_ended.Goals as goal
+
+pub returns-then-number-len : goal.returns-then-number-len
+returns-then-number-len c = record {
+  stands = λ asks start from journal counts s.
+      let items = c.args.self.now.slots.items in
+      c.on_ended.ensures asks start from items c.args.number journal counts (item_at items c.args.number _ (omega (arith, c.args.self.now.slots.ok.0)) c.index_mut.ensures.value) s;
+}

@@ -1,0 +1,8 @@
+use Rattle.batch_run.proofs.SlotLemmas.{waiting_none_more, running_none_more}
+use Rattle.batch_run.proofs.jobs.push_answer.Goals as goal
+
+pub returns-in-Waiting : goal.returns-in-Waiting
+returns-in-Waiting c = waiting_none_more c.args.answers.now c.args.slot c.in-Waiting.is
+
+pub returns : goal.returns
+returns c = running_none_more c.args.answers.now c.args.slot c.in-Running.field-0 c.in-Running.is

@@ -1,0 +1,39 @@
+use Rattle.std.proofs.Common.{◌+◌, ◌*◌, ◌<◌, arith, length, sym, subst}
+use Rattle.batch_run.specs.Kept.{AreBegun}
+use Rattle.batch_run.proofs.LineLemmas.{begun_begun, begun_failed, fresh_job, fresh_next, lost_ok, lost_fault}
+use Rattle.world.proofs.CountsLemmas.{net_grows}
+use Rattle.batch_run.proofs.StandLemmas.{files_keep}
+use Rattle.batch_run.proofs.lines.Lines.begin.Goals as goal
+
+pub begin-requires-clause-fresh : goal.begin-requires-clause-fresh
+begin-requires-clause-fresh g c = fresh_job c.requires.fresh
+
+pub invariant_of-self : goal.invariant_of-self
+invariant_of-self g c =
+    let b = c.args.self.now in
+    let size = c.mark.ensures.size in
+    let room : 4 * c.args.job + 3 < length c.args.self.now.begun = omega (arith, size, c.requires.job) in
+    record {
+      begun_are = subst (λ x. AreBegun x c.begin.new.self) (sym c.mark.ensures.begun) (begun_begun room c.in-Ok.ensures.begun c.in-Ok.ensures.others b.begun_are);
+      lost_are = lost_ok c.in-Ok.ensures.failed b.lost_are;
+    }
+
+pub invariant_of-self-in-Err : goal.invariant_of-self-in-Err
+invariant_of-self-in-Err g c =
+    let b = c.args.self.now in
+    record {
+      begun_are = begun_failed c.requires.fresh c.in-Err.ensures.others b.begun_are;
+      lost_are = lost_fault c.in-Err.fault c.in-Err.ensures.failed c.note.ensures.notes b.lost_are;
+    }
+
+pub returns-in-Ok-clause-fresh : goal.returns-in-Ok-clause-fresh
+returns-in-Ok-clause-fresh g c = fresh_next c.requires.fresh c.in-Ok.ensures.others
+
+pub returns-in-Err-clause-fresh : goal.returns-in-Err-clause-fresh
+returns-in-Err-clause-fresh g c = fresh_next c.requires.fresh c.in-Err.ensures.others
+
+pub returns-in-Ok-clause-stands : goal.returns-in-Ok-clause-stands
+returns-in-Ok-clause-stands g c = files_keep c.begin.ensures.files (net_grows c.begin.ensures.cause)
+
+pub returns-in-Err-clause-stands : goal.returns-in-Err-clause-stands
+returns-in-Err-clause-stands g c = files_keep c.begin.ensures.files (net_grows c.begin.ensures.cause)

@@ -1,0 +1,18 @@
+use Rattle.batch_run.proofs.LineLemmas.{begun_same, lost_fault}
+use Rattle.world.proofs.CountsLemmas.{net_grows}
+use Rattle.batch_run.proofs.StandLemmas.{files_keep}
+use Rattle.batch_run.proofs.lines.Lines.next.Goals as goal
+
+pub invariant_of-self-in-Err : goal.invariant_of-self-in-Err
+invariant_of-self-in-Err g c =
+    let b = c.args.self.now in
+    record {
+      begun_are = begun_same c.next.ensures.known b.begun_are;
+      lost_are = lost_fault c.in-Err.fault c.in-Err.ensures.failed c.note.ensures.notes b.lost_are;
+    }
+
+pub returns-in-Ok-clause-stands : goal.returns-in-Ok-clause-stands
+returns-in-Ok-clause-stands g c = files_keep c.next.ensures.files (net_grows c.next.ensures.cause)
+
+pub returns-in-Err-clause-stands : goal.returns-in-Err-clause-stands
+returns-in-Err-clause-stands g c = files_keep c.next.ensures.files (net_grows c.next.ensures.cause)

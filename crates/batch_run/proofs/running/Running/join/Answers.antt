@@ -1,0 +1,9 @@
+use Rattle.batch_run.proofs.running.Running.join.Goals as goal
+
+pub returns-in-Ok-clause-stands : goal.returns-in-Ok-clause-stands
+returns-in-Ok-clause-stands g c = λ asks start from s. c.begin.ensures.stands asks start from c.args.self.now.jobs.slots.items s
+
+pub returns-in-Err-clause-stands : goal.returns-in-Err-clause-stands
+returns-in-Err-clause-stands g c = λ asks start from s.
+    c.lose.ensures.stands asks start from (g.W.Journal.journal c.begin.new.w) (g.W.Journal.counts c.begin.new.w)
+    (c.begin.ensures.stands asks start from c.args.self.now.jobs.slots.items s)

@@ -1,0 +1,31 @@
+use Rattle.std.proofs.Common.{rules}
+use Rattle.batch_run.proofs.running.Running.put_out.Goals as goal
+
+pub returns-in_err-queue_all-clause-stands : goal.returns-in_err-queue_all-clause-stands
+returns-in_err-queue_all-clause-stands g c = λ asks start from s.
+    c.queue_all.ensures.stands asks start from (g.W.Journal.journal c.loop-self.w) (g.W.Journal.counts c.loop-self.w) (c.loop-self.invariant.stands asks start from s)
+
+pub returns-in-Ok-clause-stands : goal.returns-in-Ok-clause-stands
+returns-in-Ok-clause-stands g c = λ asks start from s.
+    c.on_ends.ensures.stands asks start from (g.W.Journal.journal c.offer.new.w) (g.W.Journal.counts c.offer.new.w) (c.offer.ensures.stands asks start from _
+    (c.queue_all.ensures.stands asks start from (g.W.Journal.journal c.loop-self.w) (g.W.Journal.counts c.loop-self.w) (c.loop-self.invariant.stands asks start from s)))
+
+pub returns-in_err-on_fault-in-Err-clause-stands : goal.returns-in_err-on_fault-in-Err-clause-stands
+returns-in_err-on_fault-in-Err-clause-stands g c = λ asks start from s.
+    c.on_fault.ensures.stands asks start from (g.W.Journal.journal c.offer.new.w) (g.W.Journal.counts c.offer.new.w) (c.offer.ensures.stands asks start from _
+    (c.queue_all.ensures.stands asks start from (g.W.Journal.journal c.loop-self.w) (g.W.Journal.counts c.loop-self.w) (c.loop-self.invariant.stands asks start from s)))
+
+pub returns-then-not-branch-clause-stands : goal.returns-then-not-branch-clause-stands
+returns-then-not-branch-clause-stands g c = λ asks start from s.
+    c.on_fault.ensures.stands asks start from (g.W.Journal.journal c.offer.new.w) (g.W.Journal.counts c.offer.new.w) (c.offer.ensures.stands asks start from _
+    (c.queue_all.ensures.stands asks start from (g.W.Journal.journal c.loop-self.w) (g.W.Journal.counts c.loop-self.w) (c.loop-self.invariant.stands asks start from s)))
+
+pub loop-self-preserved : goal.loop-self-preserved
+loop-self-preserved g c = record {
+  stands = λ asks start from s.
+      c.on_fault.ensures.stands asks start from (g.W.Journal.journal c.offer.new.w) (g.W.Journal.counts c.offer.new.w) (c.offer.ensures.stands asks start from _
+      (c.queue_all.ensures.stands asks start from (g.W.Journal.journal c.loop-self.w) (g.W.Journal.counts c.loop-self.w) (c.loop-self.invariant.stands asks start from s)));
+  drained = search rules;
+  buf = search rules;
+  budget = search rules;
+}

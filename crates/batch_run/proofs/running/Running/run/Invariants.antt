@@ -1,0 +1,15 @@
+use Rattle.std.proofs.Common.{◌<◌, length}
+use Rattle.ready_loop.specs.States.{IsDrained}
+use Rattle.batch_run.specs.Lines.{budget}
+use Rattle.batch_run.specs.Stands.{KeepsAll}
+use Rattle.batch_run.proofs.running.Running.run.Given as goal
+
+abbrev pub invariant-loop : goal.invariant-loop
+invariant-loop g l = record {
+  stands : KeepsAll g.W.Journal.journal g.W.Journal.counts l.fn.w l.w l.fn.self.jobs.slots.items l.self.jobs.slots.items;
+  drained : IsDrained l.self.lines.connections;
+  room : 0 < length l.self.buf.items;
+}
+
+abbrev pub decreases-loop : goal.decreases-loop
+decreases-loop g l = budget l.self.lines

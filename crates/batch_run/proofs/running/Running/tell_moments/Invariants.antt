@@ -1,0 +1,10 @@
+use Rattle.std.proofs.Common.{◌≡◌}
+use Rattle.batch_run.specs.Stands.{KeepsAll}
+use Rattle.batch_run.proofs.running.Running.tell_moments.Given as goal
+
+abbrev pub invariant-loop-number : goal.invariant-loop-number
+invariant-loop-number g l = record {
+  stands : KeepsAll g.W.Journal.journal g.W.Journal.counts l.fn.w l.w l.fn.self.jobs.slots.items l.self.jobs.slots.items;
+  lines : l.self.lines ≡ l.fn.self.lines;
+  buf : l.self.buf ≡ l.fn.self.buf;
+}

@@ -1,0 +1,57 @@
+-- What a run makes of its jobs' outputs. A journal has its newest entry first.
+use Rattle.std.specs.Prelude.{◌≡◌, ◌≢◌, ℕ, List, ◌∷◌, ◌++◌, Bool, Option, Some, None, Result, Ok, Err, slice_get}
+use Rattle.nb_model.specs.declared.notebook.Notebook.{Notebook}
+use Rattle.nb_load.specs.Loaded.{Accepts}
+use Rattle.words.specs.declared.ask.Ask.{Ask}
+use Rattle.world.specs.declared.entry.Entry.{Entry}
+use Rattle.world.specs.declared.entry.Entry.TheVariants.{Read}
+use Rattle.world.specs.declared.read_file.ReadFile.TheVariants as found
+use Rattle.world.specs.Counts.{Counts, CountsGrow}
+use Rattle.world.specs.Moments.{Since}
+use Rattle.world.specs.Touched.{Spares}
+use Rattle.save_course.specs.Course.{IsRested}
+use Rattle.job_end.specs.declared.answer.Answer.{Answer}
+use Rattle.job_saves.specs.Course.{Origin, Ends}
+use Rattle.job_run.specs.Run.{EndsWith, IsOther}
+use Rattle.job_begin.specs.Begun.{origin_of}
+
+-- the output of a job is no path of another one
+abbrev pub IsApart : List Ask → ℕ → Ask → Type 0
+IsApart asks i a = (k : ℕ) (b : Ask) → slice_get asks k ≡ Some b → k ≢ i → IsOther b.output a.output
+
+-- a path that no job touches
+abbrev pub IsNoPath : List Ask → List ℕ → Type 0
+IsNoPath asks path = (k : ℕ) (b : Ask) → slice_get asks k ≡ Some b → IsOther b.output path
+
+-- the answer of a job, which there is where memory wasn't refused
+abbrev pub answer_at : {E : Type 0} → ℕ → Result (List Answer) E → Option Answer
+answer_at i (Ok answers) = slice_get answers i
+answer_at i (Err e) = None
+
+-- a job that began so has ended, by memory that was refused to it or to another
+pub record HasStopped (o : Origin) (journal : Option (List Entry)) (counts : Counts) : Type 0 where
+  pub is_open : Bool
+  pub ends : Ends o is_open journal counts
+
+-- a job that began so has ended, with an answer where there is one
+abbrev pub EndsBy : Origin → Option Answer → Option (List Entry) → Counts → Type 0
+EndsBy o (Some answer) journal counts = EndsWith o answer journal counts
+EndsBy o None journal counts = HasStopped o journal counts
+
+-- What a run makes of a job's output: it isn't touched; or from some moment on, before which it wasn't touched, the input
+-- was read, its bytes give the notebook with its parameters, and the saves since are a course of its prefixes.
+pub data Makes (a : Ask) (answer : Option Answer) (old new : Counts) (before : List Entry) : List Entry → Type 0 where
+  nothing : {after : List Entry} → Since (Spares a.output) before after → Makes a answer old new before after
+  saves : (bytes : List ℕ) (n : Notebook) (begin : List Entry) (then : Counts) (later : List Entry) {after : List Entry} → Accepts a bytes n
+      → Since (Spares a.output) before begin → CountsGrow old then
+      → after ≡ later ++ Read a.input 33554432 (found.Whole bytes) ∷ begin
+      → EndsBy (origin_of a n begin then) answer (Some after) new → Makes a answer old new before after
+
+-- so it does with each whose output is no path of another, where no rename onto it waited for its folder's sync
+abbrev pub MakesEach : {E : Type 0} → List Ask → Result (List Answer) E → Counts → Counts → List Entry → List Entry → Type 0
+MakesEach asks result old new before after = (i : ℕ) (a : Ask) → slice_get asks i ≡ Some a → IsApart asks i a → IsRested a.output before
+    → Makes a (answer_at i result) old new before after
+
+-- and all other paths are left alone
+abbrev pub LeavesOthers : List Ask → List Entry → List Entry → Type 0
+LeavesOthers asks before after = (path : List ℕ) → IsNoPath asks path → Since (Spares path) before after

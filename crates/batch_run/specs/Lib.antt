@@ -1,0 +1,4 @@
+pub mod Batch
+pub mod Kept
+pub mod Lines
+pub mod Stands

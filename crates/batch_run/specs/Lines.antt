@@ -1,0 +1,8 @@
+-- How many calls of the connections may still be made that end a turn.
+use Rattle.std.specs.Prelude.{ℕ, ◌+◌}
+use Rattle.ready_loop.specs.States.{waits_left}
+use Rattle.batch_run.specs.declared.lines.Lines.{Lines}
+
+-- how many waits and faults may still come
+abbrev pub budget : Lines → ℕ
+budget l = waits_left l.connections + l.losses.left

@@ -1,0 +1,125 @@
+//! `run_jobs`, the jobs of a run.
+ghost use Rattle.std.specs.Prelude.{◌≡◌, ◌<◌, ◌≤◌, IfOk, OnOk, List as Plain, Option as Maybe, length};
+ghost use Rattle.std.specs.List.{AllByRecursion};
+ghost use Rattle.ready_loop.specs.States.{IsDrained};
+ghost use Rattle.words.specs.Runnable.{IsRunnable};
+ghost use Rattle.said_lines.specs.Between.{Between};
+ghost use Rattle.world.specs.declared.entry.Entry.{Entry};
+ghost use Rattle.world.specs.Counts.{Counts, CountsGrow};
+ghost use Rattle.batch_run.specs.Batch.{LeavesOthers, MakesEach};
+ghost use Rattle.batch_run.specs.Kept.{IsFreshFrom};
+ghost use Rattle.batch_run.specs.Stands.{AllEnded, AllStand, WaitingFrom};
+
+use crate::Limits;
+use crate::running::Running;
+use job_end::Answer;
+use jtext::{List, NoMemory};
+use std::alloc::Global;
+use words::Asks;
+use world::World;
+
+/// Runs 1 to 16 jobs side by side to their ends, and says how each ended in the order of the ends.
+/// One answer a job, in the order of the asks. Without memory each child that was started is ended.
+pub fn run_jobs<W: World>(
+    alloc: Global,
+    w: &mut W,
+    asks: Asks,
+    limits: &Limits,
+) -> Result<List<Answer>, NoMemory>
+    // So many jobs have numbers; a jobs file has no more.
+    requires few { length asks ≤ 16 }
+    requires asks { AllByRecursion IsRunnable asks }
+
+    // What it makes of the output of each job, with the answer that it gives for it.
+    ensures jobs { Between W.journal w.old w.new
+        (MakesEach asks result (W.counts w.old) (W.counts w.new)) }
+    // All other paths are left alone, and no count falls.
+    ensures others { Between W.journal w.old w.new (LeavesOthers asks) }
+    ensures counts { CountsGrow (W.counts w.old) (W.counts w.new) }
+    // One answer a job.
+    ensures one_each { IfOk result (λ answers. length answers ≡ length asks) }
+{
+    match Running::new(alloc, asks.len(), limits.turns) {
+        Ok(running) => answers_of(w, asks, limits, running),
+        Err(refused) => Err(refused),
+    }
+}
+
+/// Runs these jobs, none of which has begun.
+fn answers_of<W: World>(
+    w: &mut W,
+    asks: Asks,
+    limits: &Limits,
+    running: Running,
+) -> Result<List<Answer>, NoMemory>
+    requires asks { AllByRecursion IsRunnable asks }
+    requires size { length running.jobs.slots.items ≡ length asks }
+    requires waiting { WaitingFrom 0 running.jobs.slots.items }
+    requires fresh { IsFreshFrom 0 running.lines.connections }
+    requires drained { IsDrained running.lines.connections }
+    requires room { 0 < length running.buf.items }
+    ensures jobs { Between W.journal w.old w.new
+        (MakesEach asks result (W.counts w.old) (W.counts w.new)) }
+    ensures others { Between W.journal w.old w.new (LeavesOthers asks) }
+    ensures counts { CountsGrow (W.counts w.old) (W.counts w.new) }
+    ensures one_each { IfOk result (λ answers. length answers ≡ length asks) }
+{
+    let mut running = running;
+    match carried_out(w, asks, limits, &mut running) {
+        Ok(()) => running.into_answers(),
+        Err(refused) => {
+            running.abandon(w);
+            Err(refused)
+        }
+    }
+}
+
+/// Begins these jobs, and runs them to their ends.
+fn carried_out<W: World>(
+    w: &mut W,
+    asks: Asks,
+    limits: &Limits,
+    running: &mut Running,
+) -> Result<(), NoMemory>
+    requires asks { AllByRecursion IsRunnable asks }
+    requires size { length running.old.jobs.slots.items ≡ length asks }
+    requires waiting { WaitingFrom 0 running.old.jobs.slots.items }
+    requires fresh { IsFreshFrom 0 running.old.lines.connections }
+    requires drained { IsDrained running.old.lines.connections }
+    requires room { 0 < length running.old.buf.items }
+    ensures ended { OnOk result (AllEnded running.new.jobs.slots.items) }
+    ensures stands { (start : Maybe (Plain Entry)) (from : Counts) →
+        AllStand asks start from running.old.jobs.slots.items (W.journal w.old) (W.counts w.old) →
+        AllStand asks start from running.new.jobs.slots.items (W.journal w.new) (W.counts w.new) }
+{
+    match begin_all(w, asks, limits, running) {
+        Ok(()) => running.run(w),
+        Err(refused) => Err(refused),
+    }
+}
+
+/// Begins these jobs, one after another.
+fn begin_all<W: World>(
+    w: &mut W,
+    asks: Asks,
+    limits: &Limits,
+    running: &mut Running,
+) -> Result<(), NoMemory>
+    requires asks { AllByRecursion IsRunnable asks }
+    requires size { length running.old.jobs.slots.items ≡ length asks }
+    requires waiting { WaitingFrom 0 running.old.jobs.slots.items }
+    requires fresh { IsFreshFrom 0 running.old.lines.connections }
+    requires drained { IsDrained running.old.lines.connections }
+    ensures drained { OnOk result (IsDrained running.new.lines.connections) }
+    ensures buf { running.new.buf ≡ running.old.buf }
+    ensures stands { (start : Maybe (Plain Entry)) (from : Counts) →
+        AllStand asks start from running.old.jobs.slots.items (W.journal w.old) (W.counts w.old) →
+        AllStand asks start from running.new.jobs.slots.items (W.journal w.new) (W.counts w.new) }
+{
+    let mut number = 0;
+    for ask in asks.into_vec() {
+        running.begin(w, number, ask, &limits.here)?;
+        number += 1;
+    }
+    Ok(())
+}

@@ -1,0 +1,185 @@
+//! `Jobs`, the jobs of a run by their numbers.
+ghost use Rattle.std.specs.Prelude.{◌≡◌, ◌≤◌, ◌++◌, ◌∷◌, [], length, OnOk};
+ghost use Rattle.batch_run.specs.Stands.{answers_of};
+
+use crate::slot::{Slot, say_end};
+use crate::wanted::Wanted;
+use job_begin::begin;
+use job_end::Answer;
+use jtext::{List, NoMemory, Text};
+use std::alloc::Global;
+use words::Ask;
+use world::World;
+
+/// The jobs of a run, by their numbers.
+#[derive(Drop)]
+pub(crate) struct Jobs {
+    pub alloc: Global,
+    pub slots: Vec<Slot>,
+    ghost few: { length slots.items ≤ 16 },
+}
+
+impl Jobs {
+    ghost use Rattle.std.specs.Prelude.{◌≡◌, ◌<◌, ◌≤◌, ◌+◌, IfOk, IsTrue};
+    ghost use Rattle.std.specs.Prelude.{List as Plain, Option as Maybe, Some, length, slice_get, slice_set};
+    ghost use Rattle.words.specs.Runnable.{IsRunnable};
+    ghost use Rattle.words.specs.declared.ask.Ask.{Ask as Asked};
+    ghost use Rattle.world.specs.declared.entry.Entry.{Entry};
+    ghost use Rattle.world.specs.Counts.{Counts};
+    ghost use Rattle.batch_run.specs.Stands.{AllStand, AllEnded, EndedBelow, KeepsAll};
+    ghost use Rattle.batch_run.specs.Stands.{KeepsEach, WaitingFrom, answers_of};
+
+    /// So many jobs, of which none has begun.
+    pub(crate) fn new(alloc: Global, count: usize) -> Result<Jobs, NoMemory>
+        requires { count ≤ 16 }
+        ensures count { IfOk result (λ j. length j.slots.items ≡ count) }
+        ensures waiting { IfOk result (λ j. WaitingFrom 0 j.slots.items) }
+    {
+        let mut slots = Vec::with_capacity(alloc, 16)?;
+        while slots.len() < count {
+            slots.push(Slot::Waiting)?;
+        }
+        Ok(Jobs { alloc, slots })
+    }
+
+    /// How many jobs there are.
+    pub(crate) fn len(&self) -> usize
+        ensures is { result ≡ length self.now.slots.items }
+        ensures few { result ≤ 16 }
+    {
+        self.slots.len()
+    }
+
+    /// Begins a job. Where it runs, its connections are wanted.
+    pub(crate) fn begin<W: World>(
+        &mut self,
+        w: &mut W,
+        number: usize,
+        ask: Ask,
+        here: &Text,
+    ) -> Result<Option<Wanted>, NoMemory>
+        requires within { number < length self.old.slots.items }
+        requires ask { IsRunnable ask }
+        requires waiting { WaitingFrom number self.old.slots.items }
+        ensures size { length self.new.slots.items ≡ length self.old.slots.items }
+        ensures waiting { WaitingFrom (number + 1) self.new.slots.items }
+        ensures stands { (asks : Plain Asked) (start : Maybe (Plain Entry)) (from : Counts) →
+            slice_get asks number ≡ Some ask →
+            AllStand asks start from self.old.slots.items (W.journal w.old) (W.counts w.old) →
+            AllStand asks start from self.new.slots.items (W.journal w.new) (W.counts w.new) }
+    {
+        match begin(self.alloc, w, number as u8, ask, here) {
+            Ok(job) => {
+                let wanted = Wanted {
+                    ports: job.ports(),
+                    heart: job.has_heartbeat(),
+                };
+                self.slots[number] = Slot::Running(job);
+                Ok(Some(wanted))
+            }
+            Err(answer) => self.end(w, number, answer),
+        }
+    }
+
+    /// The job has ended so, which is said. It wants no connections.
+    fn end<W: World>(
+        &mut self,
+        w: &mut W,
+        number: usize,
+        answer: Answer,
+    ) -> Result<Option<Wanted>, NoMemory>
+        requires within { number < length self.old.slots.items }
+        ensures slots { self.new.slots.items
+            ≡ slice_set self.old.slots.items number (Slot.Ended answer) }
+        ensures stands { KeepsEach W.journal W.counts w.old w.new }
+    {
+        let is_starved = answer.status == 12;
+        say_end(w, &answer);
+        self.slots[number] = Slot::Ended(answer);
+        if is_starved { Err(NoMemory) } else { Ok(None) }
+    }
+
+    /// Whether each job has ended, and how was said.
+    pub(crate) fn are_done(&self) -> bool
+        ensures { IsTrue result → AllEnded self.now.slots.items }
+    {
+        for slot in self.slots.iter() {
+            match slot {
+                Slot::Ended(_) => {}
+                Slot::Waiting | Slot::Running(_) => return false,
+            }
+        }
+        true
+    }
+
+    /// Whether a job runs of which it stands how it ended.
+    pub(crate) fn is_over(&self, number: usize) -> bool {
+        match self.slots.get(number) {
+            Some(Slot::Running(job)) => job.outcome().is_some(),
+            _ => false,
+        }
+    }
+
+    /// Ends the child of a job that runs, and says how it ended.
+    pub(crate) fn finish<W: World>(&mut self, w: &mut W, number: usize)
+        ensures ended { EndedBelow number self.old.slots.items →
+            EndedBelow (number + 1) self.new.slots.items }
+        ensures size { length self.new.slots.items ≡ length self.old.slots.items }
+        ensures stands { KeepsAll W.journal W.counts w.old w.new self.old.slots.items
+            self.new.slots.items }
+    {
+        if number < self.slots.len() {
+            self.slots[number].finish(self.alloc, w);
+        }
+    }
+
+    /// How each job ended, in their order.
+    pub(crate) fn into_answers(self) -> Result<List<Answer>, NoMemory>
+        ensures { IfOk result (λ answers. answers ≡ answers_of self.slots.items) }
+    {
+        let mut answers = List::new(self.alloc);
+        for slot in self.slots {
+            push_answer(&mut answers, slot)?;
+        }
+        Ok(answers)
+    }
+
+    /// The earliest moment at which the clock brings something to a job that runs.
+    pub(crate) fn due(&self) -> Option<u64> {
+        let mut due = None;
+        for slot in self.slots.iter() {
+            if let Slot::Running(job) = slot {
+                due = earlier(due, job.due());
+            }
+        }
+        due
+    }
+
+    /// Whether a last look of the job is to be made.
+    pub(crate) fn wants_look(&self, number: usize) -> bool {
+        match self.slots.get(number) {
+            Some(Slot::Running(job)) => job.wants_look(),
+            _ => false,
+        }
+    }
+}
+
+/// Puts how this job ended at the end, if it has.
+fn push_answer(answers: &mut List<Answer>, slot: Slot) -> Result<(), NoMemory>
+    ensures { OnOk result (answers.new ≡ answers.old ++ answers_of (slot ∷ [])) }
+{
+    match slot {
+        Slot::Ended(answer) => answers.push(answer),
+        Slot::Waiting => Ok(()),
+        Slot::Running(_) => Ok(()),
+    }
+}
+
+/// The earlier of two moments.
+fn earlier(a: Option<u64>, b: Option<u64>) -> Option<u64> {
+    match (a, b) {
+        (Some(a), Some(b)) => Some(a.min(b)),
+        (Some(a), None) => Some(a),
+        (None, b) => b,
+    }
+}

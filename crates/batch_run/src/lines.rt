@@ -1,0 +1,207 @@
+//! `Lines`, the connections of the jobs of a run.
+ghost use Rattle.std.specs.Prelude.{◌≡◌, ◌<◌, length};
+ghost use Rattle.world.specs.Places.{place_of};
+ghost use Rattle.batch_run.specs.Kept.{AreBegun, AreLost, NoPlaces, marked};
+
+use crate::fault::Fault;
+use crate::losses::Losses;
+use crate::wanted::Wanted;
+use jtext::{Bytes, NoMemory};
+use ready_loop::{Loop, LoopFault, Next};
+use std::alloc::Global;
+use world::{Chan, Conn, World};
+
+/// The connections of the jobs, and what is known of them beside the loop.
+#[derive(Drop)]
+pub(crate) struct Lines {
+    pub connections: Loop,
+    /// The places of the connections that were begun.
+    pub begun: [bool; 64],
+    pub losses: Losses,
+    ghost begun_are: { AreBegun begun connections },
+    ghost lost_are: { AreLost losses.jobs connections },
+}
+
+impl Lines {
+    ghost use Rattle.std.specs.Prelude.{◌≡◌, ◌<◌, ◌+◌, ◌^◌, Some, Ok, IfOk, IfErr, OnOk, slice_get, true, false, length};
+    ghost use Rattle.ready_loop.specs.declared.next.Next.{Next as Found};
+    ghost use Rattle.ready_loop.specs.declared.next.Next.TheVariants.{Quiet};
+    ghost use Rattle.ready_loop.specs.States.{MayWait, IsDrained, IsOffered};
+    ghost use Rattle.batch_run.specs.Kept.{Falls, NoneLost, NoneLostBelow, IsFreshFrom, goes_on, is_fault, is_wait};
+    ghost use Rattle.batch_run.specs.Lines.{budget};
+    ghost use Rattle.batch_run.specs.Stands.{KeepsEach};
+
+    /// No connection, and so many waits.
+    pub(crate) fn new(alloc: Global, turns: u64) -> Result<Lines, NoMemory>
+        ensures drained { IfOk result (λ l. IsDrained l.connections) }
+        ensures fresh { IfOk result (λ l. IsFreshFrom 0 l.connections) }
+    {
+        Ok(Lines {
+            connections: Loop::new(alloc, turns)?,
+            begun: no_places(),
+            losses: Losses::new(),
+        })
+    }
+
+    /// Begins the connections of a job.
+    pub(crate) fn begin<W: World>(
+        &mut self,
+        w: &mut W,
+        job: u8,
+        wanted: Wanted,
+    ) -> Result<(), Fault>
+        requires job { job < 16 }
+        requires fresh { IsFreshFrom job self.old.connections }
+        ensures stands { KeepsEach W.journal W.counts w.old w.new }
+        ensures fresh { IsFreshFrom (job + 1) self.new.connections }
+        ensures drained { IsDrained self.old.connections → IsDrained self.new.connections }
+    {
+        match self.connections.begin(w, job, wanted.ports, wanted.heart) {
+            Ok(()) => {
+                mark(&mut self.begun, job, wanted.heart);
+                Ok(())
+            }
+            Err(fault) => Err(self.losses.note(fault)),
+        }
+    }
+
+    /// Whether this connection was begun.
+    pub(crate) fn takes(&self, conn: Conn) -> bool
+        requires { conn.job < 16 }
+        ensures { slice_get self.now.begun (place_of conn) ≡ Some result }
+    {
+        self.begun[place_at(conn)]
+    }
+
+    /// Queues bytes on a connection that was begun.
+    pub(crate) fn queue(&mut self, conn: Conn, bytes: Bytes) -> Result<(), NoMemory>
+        requires job { conn.job < 16 }
+        requires begun { slice_get self.old.begun (place_of conn) ≡ Some true }
+        ensures drained { IsDrained self.old.connections → IsDrained self.new.connections }
+        ensures budget { budget self.new ≡ budget self.old }
+    {
+        self.connections.queue(conn, bytes)
+    }
+
+    /// How many bytes of a connection were taken.
+    pub(crate) fn taken(&self, conn: Conn) -> u64
+        requires { conn.job < 16 }
+    {
+        self.connections.taken(conn)
+    }
+
+    /// Puts out what is queued, and names the connections that were found ended.
+    pub(crate) fn offer<W: World>(&mut self, w: &mut W) -> Result<[bool; 64], Fault>
+        ensures stands { KeepsEach W.journal W.counts w.old w.new }
+        ensures offered { OnOk result (IsOffered self.new.connections) }
+        ensures drained { IsDrained self.old.connections → IsDrained self.new.connections }
+        ensures budget { Falls (is_fault result) (budget self.old) (budget self.new) }
+    {
+        match self.connections.offer(w) {
+            Ok(ends) => Ok(ends),
+            Err(fault) => Err(self.losses.note(fault)),
+        }
+    }
+
+    /// A last look for these jobs.
+    pub(crate) fn look<W: World>(
+        &mut self,
+        w: &mut W,
+        looks: [bool; 16],
+    ) -> Result<[bool; 64], Fault>
+        requires drained { IsDrained self.old.connections }
+        requires offered { IsOffered self.old.connections }
+        requires none { NoneLost self.old.losses.jobs }
+        ensures stands { KeepsEach W.journal W.counts w.old w.new }
+        ensures drained { IfErr result (λ f. goes_on f ≡ true → IsDrained self.new.connections) }
+        ensures budget { Falls (is_wait result) (budget self.old) (budget self.new) }
+    {
+        match self.connections.look(w, looks) {
+            Ok(ends) => Ok(ends),
+            Err(LoopFault::NetFault { conn: Some(conn) }) => Err(self.losses.lose(conn.job)),
+            Err(LoopFault::NetFault { conn: None }) => Err(self.losses.lose_all(Fault::OfAll)),
+            Err(LoopFault::Spent) => Err(self.losses.lose_all(Fault::Spent)),
+        }
+    }
+
+    /// Waits once, at most up to this moment, and gives the clock.
+    pub(crate) fn turn<W: World>(&mut self, w: &mut W, due: Option<u64>) -> Result<u64, Fault>
+        requires drained { IsDrained self.old.connections }
+        requires offered { IsOffered self.old.connections }
+        requires none { NoneLost self.old.losses.jobs }
+        ensures stands { KeepsEach W.journal W.counts w.old w.new }
+        ensures ends { IfErr result (λ f. goes_on f ≡ false) }
+        ensures bound { IfOk result (λ ms. ms < 2 ^ 47) }
+        ensures budget { Falls (is_wait result) (budget self.old) (budget self.new) }
+    {
+        match self.connections.turn(w, due) {
+            // The moment that the turn gave.
+            Ok(_) => Ok(w.last()),
+            Err(LoopFault::NetFault { .. }) => Err(self.losses.lose_all(Fault::OfAll)),
+            Err(LoopFault::Spent) => Err(self.losses.lose_all(Fault::Spent)),
+        }
+    }
+
+    /// Reads one connection of those that were reported.
+    pub(crate) fn next<W: World>(&mut self, w: &mut W, buf: &mut [u8]) -> Result<Next, Fault>
+        requires { 0 < length buf.old }
+        ensures stands { KeepsEach W.journal W.counts w.old w.new }
+        ensures quiet { result ≡ Ok Quiet → IsDrained self.new.connections }
+        ensures budget { Falls (is_fault result) (budget self.old) (budget self.new) }
+    {
+        match self.connections.next(w, buf) {
+            Ok(next) => Ok(next),
+            Err(fault) => Err(self.losses.note(fault)),
+        }
+    }
+
+    /// Closes the connections of a job.
+    pub(crate) fn close<W: World>(&mut self, w: &mut W, job: u8)
+        requires { job < 16 }
+        ensures drained { IsDrained self.old.connections → IsDrained self.new.connections }
+        ensures offered { IsOffered self.old.connections → IsOffered self.new.connections }
+        ensures stands { KeepsEach W.journal W.counts w.old w.new }
+        ensures none { NoneLostBelow job self.old.losses.jobs →
+            NoneLostBelow (job + 1) self.new.losses.jobs }
+        ensures budget { budget self.new ≡ budget self.old }
+    {
+        self.connections.close(w, job);
+        self.losses.forgive(job);
+    }
+}
+
+/// No place.
+fn no_places() -> [bool; 64]
+    ensures none { NoPlaces result }
+    ensures size { length result ≡ 64 }
+{
+    [false; 64]
+}
+
+/// The connections of a job were begun.
+fn mark(begun: &mut [bool; 64], job: u8, heart: bool)
+    requires { job < 16 }
+    ensures begun { begun.new ≡ marked job heart begun.old }
+    ensures size { length begun.old ≡ 64 }
+{
+    let first = 4 * job as usize;
+    begun[first] = true;
+    begun[first + 1] = true;
+    begun[first + 2] = true;
+    begun[first + 3] = heart;
+}
+
+/// The place of a connection among the 64.
+fn place_at(conn: Conn) -> usize
+    requires { conn.job < 16 }
+    ensures within { result < 64 }
+    ensures place { result ≡ place_of conn }
+{
+    let chan = match conn.chan {
+        Chan::Shell => 0,
+        Chan::Control => 1,
+        Chan::Iopub => 2,
+        Chan::Heart => 3,
+    };
+    4 * usize::from(conn.job) + chan
+}

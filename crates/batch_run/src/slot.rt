@@ -1,0 +1,160 @@
+//! `Slot`, one job of a run.
+ghost use Rattle.batch_run.specs.Stands.{SlotKeeps, KeepsEach};
+
+use job_end::Answer;
+use job_run::Job;
+use jtext::{Bytes, NoMemory};
+use said_lines::say;
+use std::alloc::Global;
+use std::mem;
+use world::{Chan, World};
+
+/// A job that hasn't begun, one that runs, or how it ended. Only one that runs is told anything.
+#[derive(Drop)]
+pub(crate) enum Slot {
+    Waiting,
+    Running(Job),
+    Ended(Answer),
+}
+
+impl Slot {
+    ghost use Rattle.std.specs.Prelude.{◌<◌, ◌^◌};
+    ghost use Rattle.batch_run.specs.Stands.{HasEnded, SlotKeeps, SlotStays};
+
+    /// What the job has queued on this channel and hasn't handed out.
+    pub(crate) fn queued(&mut self, chan: Chan) -> Option<Bytes>
+        ensures { SlotStays self.old self.new }
+    {
+        match self {
+            Slot::Running(job) => job.queued(chan),
+            Slot::Waiting | Slot::Ended(_) => None,
+        }
+    }
+
+    /// So many bytes of this channel were taken.
+    pub(crate) fn on_taken(&mut self, chan: Chan, taken: u64)
+        ensures { SlotStays self.old self.new }
+    {
+        match self {
+            Slot::Running(job) => job.on_taken(chan, taken),
+            Slot::Waiting | Slot::Ended(_) => {}
+        }
+    }
+
+    /// The clock of a turn was read.
+    pub(crate) fn on_moment<W: World>(&mut self, w: &mut W, ms: u64) -> Result<(), NoMemory>
+        requires { ms < 2 ^ 47 }
+        ensures { SlotKeeps W.journal W.counts w.old w.new self.old self.new }
+    {
+        match self {
+            Slot::Running(job) => job.on_moment(w, ms),
+            Slot::Waiting | Slot::Ended(_) => Ok(()),
+        }
+    }
+
+    /// A piece came on this channel.
+    pub(crate) fn on_piece<W: World>(
+        &mut self,
+        w: &mut W,
+        chan: Chan,
+        piece: &[u8],
+    ) -> Result<(), NoMemory>
+        ensures { SlotKeeps W.journal W.counts w.old w.new self.old self.new }
+    {
+        match self {
+            Slot::Running(job) => job.on_piece(w, chan, piece),
+            Slot::Waiting | Slot::Ended(_) => Ok(()),
+        }
+    }
+
+    /// A connection has ended.
+    pub(crate) fn on_ended(&mut self)
+        ensures { SlotStays self.old self.new }
+    {
+        match self {
+            Slot::Running(job) => job.on_ended(),
+            Slot::Waiting | Slot::Ended(_) => {}
+        }
+    }
+
+    /// The wait of a last look was made.
+    pub(crate) fn on_waited(&mut self)
+        ensures { SlotStays self.old self.new }
+    {
+        match self {
+            Slot::Running(job) => job.on_waited(),
+            Slot::Waiting | Slot::Ended(_) => {}
+        }
+    }
+
+    /// The reads of a last look are done.
+    pub(crate) fn on_looked<W: World>(&mut self, w: &mut W) -> Result<(), NoMemory>
+        ensures { SlotKeeps W.journal W.counts w.old w.new self.old self.new }
+    {
+        match self {
+            Slot::Running(job) => job.on_looked(w),
+            Slot::Waiting | Slot::Ended(_) => Ok(()),
+        }
+    }
+
+    /// Ends the job by the network.
+    pub(crate) fn lose(&mut self) -> Result<(), NoMemory>
+        ensures { SlotStays self.old self.new }
+    {
+        match self {
+            Slot::Running(job) => job.lose_network(),
+            Slot::Waiting | Slot::Ended(_) => Ok(()),
+        }
+    }
+
+    /// Ends the job by the number of waits.
+    pub(crate) fn spend(&mut self) -> Result<(), NoMemory>
+        ensures { SlotStays self.old self.new }
+    {
+        match self {
+            Slot::Running(job) => job.spend(),
+            Slot::Waiting | Slot::Ended(_) => Ok(()),
+        }
+    }
+
+    /// Ends the child.
+    pub(crate) fn end_child<W: World>(&mut self, w: &mut W)
+        ensures { SlotKeeps W.journal W.counts w.old w.new self.old self.new }
+    {
+        match self {
+            Slot::Running(job) => job.end_child(w),
+            Slot::Waiting | Slot::Ended(_) => {}
+        }
+    }
+
+    /// Ends the child of a job that runs, and says how it ended.
+    pub(crate) fn finish<W: World>(&mut self, alloc: Global, w: &mut W)
+        ensures ended { HasEnded self.new }
+        ensures stands { SlotKeeps W.journal W.counts w.old w.new self.old self.new }
+    {
+        let slot = mem::replace(self, Slot::Waiting);
+        *self = Slot::Ended(ended(alloc, w, slot));
+    }
+}
+
+/// How a job ended: of one that runs the child is ended, and how it ended is said.
+fn ended<W: World>(alloc: Global, w: &mut W, slot: Slot) -> Answer
+    ensures { SlotKeeps W.journal W.counts w.old w.new slot (Slot.Ended result) }
+{
+    match slot {
+        Slot::Running(job) => {
+            let answer = job.finish(w);
+            say_end(w, &answer);
+            answer
+        }
+        Slot::Ended(answer) => answer,
+        Slot::Waiting => Answer::starved(alloc),
+    }
+}
+
+/// Says how a job ended.
+pub(crate) fn say_end<W: World>(w: &mut W, answer: &Answer)
+    ensures { KeepsEach W.journal W.counts w.old w.new }
+{
+    say(w, answer.line.bytes());
+}

@@ -1,0 +1,207 @@
+//! What the connections and the clock bring is told to the jobs.
+
+use crate::jobs::Jobs;
+use jtext::{Bytes, NoMemory};
+use world::{Chan, World};
+
+impl Jobs {
+    ghost use Rattle.std.specs.Prelude.{◌≡◌, ◌<◌, ◌+◌, ◌^◌, length};
+    ghost use Rattle.batch_run.specs.Stands.{KeepsAll, StayAll, WaitingFrom};
+
+    /// What a job has queued on this channel and hasn't handed out.
+    pub(crate) fn queued(&mut self, number: usize, chan: Chan) -> Option<Bytes>
+        ensures stands { StayAll self.old.slots.items self.new.slots.items }
+    {
+        if number >= self.slots.len() {
+            return None;
+        }
+        self.slots[number].queued(chan)
+    }
+
+    /// So many bytes of this channel were taken.
+    pub(crate) fn on_taken(&mut self, number: usize, chan: Chan, taken: u64)
+        ensures stands { StayAll self.old.slots.items self.new.slots.items }
+    {
+        if number < self.slots.len() {
+            self.slots[number].on_taken(chan, taken);
+        }
+    }
+
+    /// The clock of a turn was read.
+    pub(crate) fn on_moment<W: World>(
+        &mut self,
+        w: &mut W,
+        number: usize,
+        ms: u64,
+    ) -> Result<(), NoMemory>
+        requires { ms < 2 ^ 47 }
+        ensures stands { KeepsAll W.journal W.counts w.old w.new self.old.slots.items
+            self.new.slots.items }
+    {
+        if number >= self.slots.len() {
+            return Ok(());
+        }
+        self.slots[number].on_moment(w, ms)
+    }
+
+    /// A piece came on this channel.
+    pub(crate) fn on_piece<W: World>(
+        &mut self,
+        w: &mut W,
+        number: usize,
+        chan: Chan,
+        piece: &[u8],
+    ) -> Result<(), NoMemory>
+        ensures stands { KeepsAll W.journal W.counts w.old w.new self.old.slots.items
+            self.new.slots.items }
+    {
+        if number >= self.slots.len() {
+            return Ok(());
+        }
+        self.slots[number].on_piece(w, chan, piece)
+    }
+
+    /// A connection of the job has ended.
+    pub(crate) fn on_ended(&mut self, number: usize)
+        ensures stands { StayAll self.old.slots.items self.new.slots.items }
+    {
+        if number < self.slots.len() {
+            self.slots[number].on_ended();
+        }
+    }
+
+    /// The connections at these places have ended.
+    pub(crate) fn on_ends(&mut self, ends: &[bool; 64])
+        ensures stands { StayAll self.old.slots.items self.new.slots.items }
+    {
+        for place in 0..64usize {
+            self.end_where(place / 4, ends[place]);
+        }
+    }
+
+    fn end_where(&mut self, number: usize, has_ended: bool)
+        ensures stands { StayAll self.old.slots.items self.new.slots.items }
+    {
+        if has_ended {
+            self.on_ended(number);
+        }
+    }
+
+    /// The wait of a last look was made for these jobs.
+    pub(crate) fn on_waited(&mut self, looks: &[bool; 16])
+        ensures stands { StayAll self.old.slots.items self.new.slots.items }
+    {
+        for number in 0..16usize {
+            self.wait_where(number, looks[number]);
+        }
+    }
+
+    fn wait_where(&mut self, number: usize, was_made: bool)
+        ensures stands { StayAll self.old.slots.items self.new.slots.items }
+    {
+        if was_made {
+            self.waited(number);
+        }
+    }
+
+    fn waited(&mut self, number: usize)
+        ensures stands { StayAll self.old.slots.items self.new.slots.items }
+    {
+        if number < self.slots.len() {
+            self.slots[number].on_waited();
+        }
+    }
+
+    /// The reads of a last look are done for these jobs.
+    pub(crate) fn on_looked<W: World>(
+        &mut self,
+        w: &mut W,
+        looks: &[bool; 16],
+    ) -> Result<(), NoMemory>
+        ensures stands { KeepsAll W.journal W.counts w.old w.new self.old.slots.items
+            self.new.slots.items }
+    {
+        for number in 0..16usize {
+            self.look_where(w, number, looks[number])?;
+        }
+        Ok(())
+    }
+
+    fn look_where<W: World>(
+        &mut self,
+        w: &mut W,
+        number: usize,
+        was_made: bool,
+    ) -> Result<(), NoMemory>
+        ensures stands { KeepsAll W.journal W.counts w.old w.new self.old.slots.items
+            self.new.slots.items }
+    {
+        if was_made {
+            self.looked(w, number)
+        } else {
+            Ok(())
+        }
+    }
+
+    fn looked<W: World>(&mut self, w: &mut W, number: usize) -> Result<(), NoMemory>
+        ensures stands { KeepsAll W.journal W.counts w.old w.new self.old.slots.items
+            self.new.slots.items }
+    {
+        if number >= self.slots.len() {
+            return Ok(());
+        }
+        self.slots[number].on_looked(w)
+    }
+
+    /// Ends a job that runs by the network.
+    pub(crate) fn lose(&mut self, number: usize) -> Result<(), NoMemory>
+        ensures size { length self.new.slots.items ≡ length self.old.slots.items }
+        ensures waiting { WaitingFrom (number + 1) self.old.slots.items →
+            WaitingFrom (number + 1) self.new.slots.items }
+        ensures stands { StayAll self.old.slots.items self.new.slots.items }
+    {
+        if number >= self.slots.len() {
+            return Ok(());
+        }
+        self.slots[number].lose()
+    }
+
+    /// Ends each job that runs by the network.
+    pub(crate) fn lose_all(&mut self) -> Result<(), NoMemory>
+        ensures stands { StayAll self.old.slots.items self.new.slots.items }
+    {
+        for number in 0..16usize {
+            self.lose(number)?;
+        }
+        Ok(())
+    }
+
+    /// Ends each job that runs by the number of waits.
+    pub(crate) fn spend_all(&mut self) -> Result<(), NoMemory>
+        ensures stands { StayAll self.old.slots.items self.new.slots.items }
+    {
+        for number in 0..16usize {
+            self.spend(number)?;
+        }
+        Ok(())
+    }
+
+    fn spend(&mut self, number: usize) -> Result<(), NoMemory>
+        ensures stands { StayAll self.old.slots.items self.new.slots.items }
+    {
+        if number >= self.slots.len() {
+            return Ok(());
+        }
+        self.slots[number].spend()
+    }
+
+    /// Ends the child of a job that runs, without a word.
+    pub(crate) fn end_child<W: World>(&mut self, w: &mut W, number: usize)
+        ensures stands { KeepsAll W.journal W.counts w.old w.new self.old.slots.items
+            self.new.slots.items }
+    {
+        if number < self.slots.len() {
+            self.slots[number].end_child(w);
+        }
+    }
+}
