@@ -54,7 +54,7 @@ pub fn begin<W: World>(
         IsOther ask.output path →
         IsUntouched path since from (W.journal w.old) (W.counts w.old) →
         StartsAlone path since from result (W.journal w.new) (W.counts w.new) }
-    // A status that tells of a failed call comes only where one failed.
+    // Statuses 3, 6 and 10 come only where a count of failed calls rose.
     ensures cause { IfErr result (λ answer.
         HasCause (W.counts w.old) (W.counts w.new) answer.status) }
 {

@@ -64,7 +64,7 @@ impl Job {
             IsOther ask.output path →
             IsUntouched path since from (W.journal w.old) (W.counts w.old) →
             StartsAlone path since from result (W.journal w.new) (W.counts w.new) }
-        // An end that tells of a failed call comes only where its count rose.
+        // It ends by its kernel or its connection file only where a count of failed calls rose.
         ensures cause { IfErr result (EndCause (W.counts w.old) (W.counts w.new)) }
     {
         match drawn(w) {
