@@ -181,7 +181,8 @@ impl Core {
 
     fn moved(&self, e: Event) -> Moved
         requires { IsSmall e }
-        ensures { result ≡ moved_by (task_of self.now) self.now.clock self.now.lost self.now.state e }
+        ensures { result ≡ moved_by (task_of self.now) self.now.clock self.now.lost self.now.state
+            e }
     {
         match self.state {
             State::Preparing => self.in_preparing(e),
@@ -310,8 +311,8 @@ impl Core {
     /// A message of the request.
     fn on_io(&self, request: Request, message: Brief) -> Moved
         requires { request.at < length self.now.plan }
-        ensures { result ≡ on_io (task_of self.now) request.at request.fatal request.idle request.due
-            request.interrupted message }
+        ensures { result ≡ on_io (task_of self.now) request.at request.fatal request.idle
+            request.due request.interrupted message }
     {
         match message {
             _ if request.idle => Moved::stays(State::Running(request)),

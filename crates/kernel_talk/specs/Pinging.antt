@@ -42,5 +42,6 @@ abbrev pub is_lost_by : Option Ping → ℕ → ℕ → Bool
 is_lost_by None ms taken = false
 is_lost_by (Some ping) ms taken = nat_le ping.end taken && nat_le (ping.at + ping_ms) ms
 
+-- so it is by the tenth of these pings
 abbrev pub is_lost : Pinged → ℕ → ℕ → Bool
 is_lost p ms taken = is_lost_by p.tenth ms taken

@@ -94,7 +94,8 @@ impl Session {
         ensures is { IfOk result (λ parts. parts ≡ encoded self.old.key
             (request self.old.name (self.old.made + 1) ms kind.now content)) }
         ensures fits { IfOk result IsMessage }
-        ensures made { IfOk result (λ parts. self.new ≡ record self.old { made = self.old.made + 1 }) }
+        ensures made { IfOk result (λ parts.
+            self.new ≡ record self.old { made = self.old.made + 1 }) }
         ensures err { OnErr result (self.new ≡ self.old) }
     {
         let Some(number) = self.made.checked_add(1) else {

@@ -95,7 +95,8 @@ pub(crate) fn shown(alloc: Global, shown: &Shown) -> Result<Shown, NoMemory>
 }
 
 fn named(alloc: Global, id: &Text) -> Result<Shown, NoMemory>
-    ensures { IfOk result (λ r. r ≡ record { bundle = []; metadata = json.Null; id = Some id.now }) }
+    ensures { IfOk result (λ r.
+        r ≡ record { bundle = []; metadata = json.Null; id = Some id.now }) }
 {
     let id = Text::of(alloc, id.as_str())?;
     Ok(Shown {

@@ -44,7 +44,8 @@ impl Kernel {
         parent: &Json,
         notes: Notes,
     ) -> Result<Acts, NoMemory>
-        ensures acts { IfOk result (λ acts. acts ≡ spec.acts_for key.now parent.now notes self.old) }
+        ensures acts { IfOk result (λ acts.
+            acts ≡ spec.acts_for key.now parent.now notes self.old) }
         ensures numbered { OnOk result (self.new ≡ spec.numbered notes self.old) }
     {
         let mut acts = Acts::new(alloc);

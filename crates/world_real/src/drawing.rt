@@ -12,6 +12,11 @@ use std::net::{Ipv4Addr, Net, OpenListener, SocketAddr};
 /// was given before is used up, and of 16 jobs there are 80.
 const DRAWS: u32 = 80;
 
+/// The lowest port that is drawn, and how many there are: Linux gives out those from 32768 on.
+const LOWEST: u16 = 10_000;
+
+const COUNT: u16 = 22_000;
+
 /// Five ports that may be given after those.
 pub(crate) fn draw_ports<R: Net>(
     net: &R,
@@ -34,10 +39,22 @@ pub(crate) fn draw_ports<R: Net>(
     Err(io::Error::from(ErrorKind::AddrInUse))
 }
 
-// A free port of this machine, which stays bound.
+// A free port of this machine, which stays bound. It lies below those that the system gives out by
+// itself, where one is free there: no connection to one kernel then takes a port of another.
 fn bound_port<R: Net>(net: &R, held: &mut Vec<R::Listener>) -> io::Result<u16> {
-    let listener = net.bind(SocketAddr::from((Ipv4Addr::LOCALHOST, 0)))?;
-    let port = listener.local_addr()?.port();
-    held.push(listener)?;
-    Ok(port)
+    let given = listener_at(net, 0)?;
+    let port = given.local_addr()?.port();
+    held.push(given)?;
+    let low = LOWEST + port % COUNT;
+    match listener_at(net, low) {
+        Ok(listener) => {
+            held.push(listener)?;
+            Ok(low)
+        }
+        Err(_) => Ok(port),
+    }
+}
+
+fn listener_at<R: Net>(net: &R, port: u16) -> io::Result<R::Listener> {
+    net.bind(SocketAddr::from((Ipv4Addr::LOCALHOST, port)))
 }
