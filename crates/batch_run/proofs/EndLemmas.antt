@@ -1,39 +1,46 @@
 -- How a run begins and ends.
-use Rattle.std.proofs.Common.{◌≡◌, ℕ, ◌<◌, ◌++◌, List, ◌∷◌, length, Option, Some, None, Result, Ok, Err, refl, sym, ◌∙◌, ap, subst}
+use Rattle.std.proofs.Common.{◌≡◌, ℕ, ◌<◌, List, ◌∷◌, length, Option, Some, None, Result, Ok, Err, false, refl, sym, ◌∙◌, ap, subst, arith}
 use Rattle.std.specs.Prelude.{slice_get, IfOk}
 use Rattle.std.proofs.lemmas.Option.{slice_get_within}
 use Rattle.jtext.specs.declared.no_memory.NoMemory.{NoMemory}
 use Rattle.words.specs.declared.ask.Ask.{Ask}
 use Rattle.world.specs.declared.entry.Entry.{Entry}
+use Rattle.world.specs.declared.entry.Entry.TheVariants.{Read}
+use Rattle.world.specs.declared.read_file.ReadFile.TheVariants as found
 use Rattle.world.specs.Counts.{Counts}
 use Rattle.world.specs.Moments.{Since, start, Told}
 use Rattle.world.specs.Touched.{Spares}
 use Rattle.world.proofs.CountsLemmas.{grow_start}
-use Rattle.world.proofs.MomentsLemmas.{told_start}
-use Rattle.save_course.specs.Course.{IsRested}
+use Rattle.world.proofs.MomentsLemmas.{told_start, since_as}
 use Rattle.ready_loop.specs.Offers.{Extends}
 use Rattle.ready_loop.proofs.TableLemmas.{some_is}
 use Rattle.job_end.specs.declared.answer.Answer.{Answer}
 use Rattle.job_saves.specs.Course.{Origin}
 use Rattle.job_saves.proofs.CourseLemmas.{job_ends}
-use Rattle.job_begin.specs.Begun.{origin_of}
+use Rattle.nb_model.specs.declared.notebook.Notebook.{Notebook}
+use Rattle.job_begin.specs.Begun.{origin_of, first_of}
 use Rattle.batch_run.specs.declared.slot.Slot.{Slot}
 use Rattle.batch_run.specs.declared.slot.Slot.TheVariants.{Waiting, Running, Ended}
-use Rattle.batch_run.specs.Batch.{IsApart, HasStopped, EndsBy, Makes, nothing, saves, MakesEach, LeavesOthers, answer_at}
-use Rattle.batch_run.specs.Stands.{IsSlotAway, SlotRuns, Stands, waits, spared, begun, AllStand, AllEnded, AreAnswers, HasEnded, answer_of, answers_of}
+use Rattle.batch_run.specs.Batch.{HasStopped, EndsBy, EndsUnread, EndsRead, IsEndOf, AreEnds, Makes, nothing, saves, MakesEach, LeavesOthers, CallsOfJobs, EndsChildren}
+use Rattle.job_saves.specs.Children.{has_child, HasEnd}
+use Rattle.batch_run.proofs.CallLemmas.{run_spares}
+use Rattle.batch_run.specs.Stands.{Outset, SlotPlays, SlotEnds, SlotRuns, SlotTask, SlotKernel, SlotCounted, Stands, waits, spared, begun, AllStand, AllEnded, AreAnswers, HasEnded, answer_of, answers_of}
 use Rattle.batch_run.proofs.JournalLemmas.{has, extension, told_at}
 use Rattle.batch_run.proofs.SlotLemmas.{are_answers}
 
 -- ---- the begin
 
-pub all_start : (asks : List Ask) (slots : List Slot) (p : Option (List Entry)) (c : Counts) → length slots ≡ length asks
-    → ((i : ℕ) (slot : Slot) → slice_get slots i ≡ Some slot → slot ≡ Waiting) → AllStand asks p c slots p c
-all_start asks slots p c size waiting = record {
+pub all_start : (asks : List Ask) (slots : List Slot) (p : Option (List Entry)) (c : Counts) (here : List ℕ) → length slots ≡ length asks
+    → ((i : ℕ) (slot : Slot) → slice_get slots i ≡ Some slot → slot ≡ Waiting) → AllStand asks p (record { here = here; counts = c; waits = c.waits }) slots p c
+all_start asks slots p c here size waiting = record {
   size = size;
   grow = grow_start c;
+  waits = omega arith;
   told = told_start (λ x. start);
-  others = λ path no. told_start (λ x. start);
-  away = λ i a slot at got path other. subst (λ x. IsSlotAway path x) (sym (waiting i slot got)) tt;
+  calls = told_start (λ x. start);
+  plays = λ i a slot at got. subst (λ x. SlotPlays i a x) (sym (waiting i slot got)) tt;
+  ends = λ i a slot at got. subst (λ x. SlotEnds i x p p) (sym (waiting i slot got)) (λ h. h);
+  counted = λ i a slot at got. subst (λ x. SlotCounted a c x p c) (sym (waiting i slot got)) tt;
   each = λ before past st e i a slot at got apart rested.
       waits (waiting i slot got) (subst (λ x. Since (Spares a.output) before x) (some_is (sym st ∙ e)) start);
 }
@@ -51,19 +58,24 @@ ends_by o (Running job) j d h r = absurd h
 ends_by o (Ended answer) j d h r = r
 
 made_stopped : (a : Ask) (from : Counts) (before past : List Entry) (d : Counts) (slot : Slot) → Stands a from before past d slot → Makes a None from d before past
-made_stopped a from before past d slot (waits e h) = nothing h
-made_stopped a from before past d slot (spared answer e h) = nothing h
-made_stopped a from before past d slot (begun bytes n begin then acc h g ext r) =
+made_stopped a from before past d slot (waits e h) = nothing tt h
+made_stopped a from before past d slot (spared answer e u h) = nothing tt h
+made_stopped a from before past d slot (begun bytes n begin then acc h g ext of kernel r) =
     let front = extension ext in
-    saves bytes n begin then front.0 acc h g front.1 (stopped (origin_of a n begin then) slot (Some past) d r)
+    saves bytes n begin then front.0 acc tt h g front.1 (stopped (origin_of a n begin then) slot (Some past) d r)
+
+slot_read : (a : Ask) (first : Notebook) (slot : Slot) (x y : List Entry) → SlotTask a first slot → SlotKernel a first slot x y → EndsRead a first (answer_of (Some slot)) x y
+slot_read a first Waiting x y of kernel = tt
+slot_read a first (Running j) x y of kernel = tt
+slot_read a first (Ended answer) x y of kernel = (of, kernel)
 
 made_ended : (a : Ask) (from : Counts) (before past : List Entry) (d : Counts) (slot : Slot) → HasEnded slot → Stands a from before past d slot
     → Makes a (answer_of (Some slot)) from d before past
-made_ended a from before past d slot ended (waits e h) = nothing h
-made_ended a from before past d slot ended (spared answer e h) = nothing h
-made_ended a from before past d slot ended (begun bytes n begin then acc h g ext r) =
+made_ended a from before past d slot ended (waits e h) = nothing (subst (λ x. EndsUnread a (answer_of (Some x)) before past) (sym e) tt) h
+made_ended a from before past d slot ended (spared answer e u h) = nothing (subst (λ x. EndsUnread a (answer_of (Some x)) before past) (sym e) u) h
+made_ended a from before past d slot ended (begun bytes n begin then acc h g ext of kernel r) =
     let front = extension ext in
-    saves bytes n begin then front.0 acc h g front.1 (ends_by (origin_of a n begin then) slot (Some past) d ended r)
+    saves bytes n begin then front.0 acc (slot_read a (first_of a n) slot (Read a.input 33554432 (found.Whole bytes) ∷ begin) past of kernel) h g front.1 (ends_by (origin_of a n begin then) slot (Some past) d ended r)
 
 -- what holds of the journals holds where they are told
 told_of : (p q : Option (List Entry)) (R S : List Entry → List Entry → Type 0) → Told p q R
@@ -72,32 +84,58 @@ told_of p None R S told so = record { so = tt }
 told_of None (Some y) R S told so = absurd told.so
 told_of (Some x) (Some y) R S told so = record { so = so x y refl refl }
 
-module _ (asks : List Ask) (first : Option (List Entry)) (from : Counts) (slots : List Slot) (q : Option (List Entry)) (d : Counts)
+module _ (asks : List Ask) (first : Option (List Entry)) (from : Outset) (slots : List Slot) (q : Option (List Entry)) (d : Counts)
     (s : AllStand asks first from slots q d) where
   slot_at : (i : ℕ) (a : Ask) → slice_get asks i ≡ Some a → (slot : Slot) × (slice_get slots i ≡ Some slot)
   slot_at i a at = has slots i (subst (λ n. i < n) (sym s.size) (slice_get_within asks i a at))
 
-  pub made_without : (e : NoMemory) → Told first q (MakesEach asks (Err e) from d)
-  made_without e = told_of first q Extends (MakesEach asks (Err e) from d) s.told (λ x y st f i a at apart rested.
+  pub made_without : (e : NoMemory) → Told first q (MakesEach asks (Err e) from.counts d)
+  made_without e = told_of first q Extends (MakesEach asks (Err e) from.counts d) s.told (λ x y st f i a at apart rested.
       let slot = slot_at i a at in
-      made_stopped a from x y d slot.0 (s.each x y st f i a slot.0 at slot.1 apart rested))
+      made_stopped a from.counts x y d slot.0 (s.each x y st f i a slot.0 at slot.1 apart rested))
 
-  pub made_with : (answers : List Answer) → AllEnded slots → AreAnswers slots answers → Told first q (MakesEach {E = NoMemory} asks (Ok answers) from d)
-  made_with answers ended are = told_of first q Extends (MakesEach {E = NoMemory} asks (Ok answers) from d) s.told (λ x y st f i a at apart rested.
+  pub made_with : (answers : List Answer) → AllEnded slots → AreAnswers slots answers → Told first q (MakesEach {E = NoMemory} asks (Ok answers) from.counts d)
+  made_with answers ended are = told_of first q Extends (MakesEach {E = NoMemory} asks (Ok answers) from.counts d) s.told (λ x y st f i a at apart rested.
       let slot = slot_at i a at in
-      subst (λ o. Makes a o from d x y) (sym (are.each i ∙ ap answer_of slot.1))
-      (made_ended a from x y d slot.0 (ended.each i slot.0 slot.1) (s.each x y st f i a slot.0 at slot.1 apart rested)))
+      subst (λ o. Makes a o from.counts d x y) (sym (are.each i ∙ ap answer_of slot.1))
+      (made_ended a from.counts x y d slot.0 (ended.each i slot.0 slot.1) (s.each x y st f i a slot.0 at slot.1 apart rested)))
+
+  slot_end : (a : Ask) (slot : Slot) (answer : Answer) → answer_of (Some slot) ≡ Some answer → SlotCounted a from.counts slot q d → IsEndOf a from.counts d answer
+  slot_end a Waiting answer is h = absurd (cc)
+  slot_end a (Running j) answer is h = absurd (cc)
+  slot_end a (Ended x) answer is h = subst (IsEndOf a from.counts d) (some_is is) h
+
+  -- each answer is that of an end
+  pub are_ends : (answers : List Answer) → AreAnswers slots answers → AreEnds asks from.counts d answers
+  are_ends answers are i a answer at got =
+      let slot = slot_at i a at in
+      slot_end a slot.0 answer (sym (are.each i ∙ ap answer_of slot.1) ∙ got) (s.counted i a slot.0 at slot.1)
 
   pub others_left : Told first q (LeavesOthers asks)
-  others_left = told_of first q Extends (LeavesOthers asks) s.told (λ x y st f path no. told_at first q (Since (Spares path)) x y (s.others path no) st f)
+  others_left = told_of first q (CallsOfJobs asks from.here) (LeavesOthers asks) s.calls (λ x y st f path none.
+      since_as (run_spares asks from.here path none) (told_at first q (CallsOfJobs asks from.here) x y s.calls st f))
+
+  ended_at : (i : ℕ) (slot : Slot) (x y : List Entry) → HasEnded slot → SlotEnds i slot first q → first ≡ Some x → q ≡ Some y → has_child i x ≡ false → has_child i y ≡ false
+  ended_at i Waiting x y ended keeps st f h = absurd ended
+  ended_at i (Running j) x y ended keeps st f h = absurd ended
+  ended_at i (Ended answer) x y ended keeps st f h = subst (HasEnd i) f (keeps (subst (HasEnd i) (sym st) h))
+
+  pub children_end : AllEnded slots → Told first q (EndsChildren asks)
+  children_end ended = told_of first q Extends (EndsChildren asks) s.told (λ x y st f i a at h.
+      let slot = slot_at i a at in
+      ended_at i slot.0 x y (ended.each i slot.0 slot.1) (s.ends i a slot.0 at slot.1) st f h)
 
 -- ---- by the answer of the run
 
-module _ (asks : List Ask) (first : Option (List Entry)) (from : Counts) (slots : List Slot) (q : Option (List Entry)) (d : Counts)
+module _ (asks : List Ask) (first : Option (List Entry)) (from : Outset) (slots : List Slot) (q : Option (List Entry)) (d : Counts)
     (s : AllStand asks first from slots q d) (ended : AllEnded slots) where
-  pub made_by : (result : Result (List Answer) NoMemory) → IfOk result (λ answers. answers ≡ answers_of slots) → Told first q (MakesEach asks result from d)
+  pub made_by : (result : Result (List Answer) NoMemory) → IfOk result (λ answers. answers ≡ answers_of slots) → Told first q (MakesEach asks result from.counts d)
   made_by (Ok answers) is = made_with asks first from slots q d s answers ended (subst (AreAnswers slots) (sym is) (are_answers ended))
   made_by (Err e) is = made_without asks first from slots q d s e
+
+  pub ends_by_answers : (result : Result (List Answer) NoMemory) → IfOk result (λ answers. answers ≡ answers_of slots) → IfOk result (AreEnds asks from.counts d)
+  ends_by_answers (Ok answers) is = are_ends asks first from slots q d s answers (subst (AreAnswers slots) (sym is) (are_answers ended))
+  ends_by_answers (Err e) is = tt
 
   pub count_by : (result : Result (List Answer) NoMemory) → IfOk result (λ answers. answers ≡ answers_of slots) → IfOk result (λ answers. length answers ≡ length asks)
   count_by (Ok answers) is = ap length is ∙ (are_answers ended).size ∙ s.size

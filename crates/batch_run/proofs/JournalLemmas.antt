@@ -1,55 +1,21 @@
 -- What is told of journals and paths.
-use Rattle.std.proofs.Common.{◌≡◌, ◌≢◌, ℕ, ◌+◌, ◌<◌, ◌≤◌, ◌++◌, Bool, true, false, List, [], ◌∷◌, length, Option, Some, None, Result, Ok, Err, replicate, arith, refl, sym, ◌∙◌, ap, subst, suc, zero}
+use Rattle.std.proofs.Common.{◌≡◌, ◌≢◌, ◌↔◌, ◌^◌, ◌-◌, min, ℕ, ◌+◌, ◌<◌, ◌≤◌, ◌++◌, Bool, false, List, [], ◌∷◌, length, Option, Some, None, Result, Ok, Err, arith, refl, sym, ◌∙◌, ap, subst, suc, zero}
 use Rattle.std.specs.Prelude.{slice_get, IfSome}
-use Rattle.std.specs.Str.{bytes_eq}
-use Rattle.std.proofs.lemmas.List.{length-replicate}
-use Rattle.std.proofs.lemmas.Slice.Eq.{bytes_eq-Decides}
 use Rattle.world.specs.declared.entry.Entry.{Entry}
 use Rattle.world.specs.declared.entry.Entry.TheVariants as made
 use Rattle.world.specs.Counts.{Counts, CountsGrow}
 use Rattle.world.proofs.CountsLemmas.{net_grows, wait_grows, grow_same}
 use Rattle.ready_loop.specs.declared.fault.LoopFault.{LoopFault}
 use Rattle.ready_loop.specs.declared.fault.LoopFault.TheVariants.{NetFault, Spent}
-use Rattle.ready_loop.specs.Waits.{LookCounts, TurnCounts}
+use Rattle.ready_loop.specs.Waits.{LookCounts, TurnCounts, left_after}
 use Rattle.world.specs.Moments.{Since, start, more as later, Told}
 use Rattle.world.specs.Parts.{OnDisk, OnSay, part_of, IsNotOf, IsOf}
 use Rattle.world.specs.Touched.{touches, Spares}
-use Rattle.world.proofs.MomentsLemmas.{told_as, since_as, since_then}
+use Rattle.world.proofs.MomentsLemmas.{told_as, since_as}
 use Rattle.said_lines.specs.Speech.{Says}
 use Rattle.said_lines.proofs.SpeechLemmas.{says_since}
 use Rattle.ready_loop.specs.Offers.{Extends}
 use Rattle.ready_loop.proofs.TableLemmas.{some_is}
-
--- ---- paths
-
-is_false : (b : Bool) → (b ≡ true → ⊥) → b ≡ false
-is_false true h = absurd (h refl)
-is_false false h = refl
-
--- a longer text is another one
-differs : (xs ys : List ℕ) → length xs < length ys → bytes_eq xs ys ≡ false
-differs xs ys less = is_false (bytes_eq xs ys) (λ e.
-    let same = ap length ((bytes_eq-Decides xs ys).0 e) in
-    omega (arith, same, less))
-
--- a path that is none of three
-abbrev pub far : (xs ys zs : List ℕ) → List ℕ
-far xs ys zs = replicate (length xs + length ys + length zs + 1) 0
-
-pub far_first : (xs ys zs : List ℕ) → bytes_eq xs (far xs ys zs) ≡ false
-far_first xs ys zs =
-    let size : length (far xs ys zs) ≡ length xs + length ys + length zs + 1 = length-replicate (length xs + length ys + length zs + 1) 0 in
-    differs xs (far xs ys zs) (omega (arith, size))
-
-pub far_second : (xs ys zs : List ℕ) → bytes_eq ys (far xs ys zs) ≡ false
-far_second xs ys zs =
-    let size : length (far xs ys zs) ≡ length xs + length ys + length zs + 1 = length-replicate (length xs + length ys + length zs + 1) 0 in
-    differs ys (far xs ys zs) (omega (arith, size))
-
-pub far_third : (xs ys zs : List ℕ) → bytes_eq zs (far xs ys zs) ≡ false
-far_third xs ys zs =
-    let size : length (far xs ys zs) ≡ length xs + length ys + length zs + 1 = length-replicate (length xs + length ys + length zs + 1) 0 in
-    differs zs (far xs ys zs) (omega (arith, size))
 
 -- ---- lists
 
@@ -59,15 +25,6 @@ has (x ∷ xs) zero low = (x, refl)
 has (x ∷ xs) (suc k) low = has xs k (omega arith)
 
 -- ---- journals
-
-since_length : {P : List Entry → Type 0} {x y : List Entry} → Since P x y → length x ≤ length y
-since_length start = omega arith
-since_length (later {past} {entry} s p) = let less = since_length s in omega (arith, less)
-
-pub too_long : {P : List Entry → Type 0} {entry : Entry} {y : List Entry} → Since P (entry ∷ y) y → ⊥
-too_long {P} {entry} {y} s =
-    let less : length (entry ∷ y) ≤ length y = since_length s in
-    omega (arith, less)
 
 pub extends : {P : List Entry → Type 0} {x y : List Entry} → Since P x y → Extends x y
 extends s = since_as (λ n p. tt) s
@@ -101,16 +58,9 @@ pub at_start : (P : List Entry → Type 0) (p : Option (List Entry)) → IfSome 
 at_start P None = tt
 at_start P (Some x) = start
 
--- a call that adds to all that was told since any moment adds since the moment before it
-pub told_by : (P : List Entry → Type 0) (p q : Option (List Entry)) → ((since : List Entry) → IfSome p (Since P since) → IfSome q (Since P since))
-    → Told p q (Since P)
-told_by P p None adds = record { so = tt }
-told_by P None (Some y) adds = absurd (too_long (adds (made.Moment 0 ∷ y) tt))
-told_by P (Some x) (Some y) adds = record { so = adds x start }
-
 -- ---- paths that no entry touches
 
-other_spares : (path : List ℕ) (entry : Entry) → part_of entry ≢ OnDisk → touches path entry ≡ false
+pub other_spares : (path : List ℕ) (entry : Entry) → part_of entry ≢ OnDisk → touches path entry ≡ false
 other_spares path (made.Created p d) other = absurd (other refl)
 other_spares path (made.Wrote p bytes d) other = absurd (other refl)
 other_spares path (made.Synced p d) other = absurd (other refl)
@@ -125,9 +75,6 @@ elsewhere_spares path (entry ∷ past) h = other_spares path entry h
 said_elsewhere : (j : List Entry) → IsOf OnSay j → IsNotOf OnDisk j
 said_elsewhere [] h = absurd h
 said_elsewhere (entry ∷ past) h = λ e. cc
-
-pub files_spare : {p q : Option (List Entry)} → Told p q (Since (IsNotOf OnDisk)) → (path : List ℕ) → Told p q (Since (Spares path))
-files_spare told path = told_as told (λ x y s. since_as (elsewhere_spares path) s)
 
 -- what is said touches no path
 pub says_touch : {p q : Option (List Entry)} {text : List ℕ} {failed : Type 0} → Told p q (Says text failed) → (path : List ℕ) → Told p q (Since (Spares path))
@@ -160,3 +107,40 @@ turn_grows (Ok ms) old new h goes =
 turn_grows (Err (NetFault None)) old new h goes = wait_grows h
 turn_grows (Err (NetFault (Some conn))) old new h goes = absurd h
 turn_grows (Err Spent) old new h goes = grow_same h
+
+-- ---- waits
+
+waited : (a b : ℕ) → b ≡ min (a + 1) (2 ^ 64 - 1) → b ≤ a + 1
+waited a b is = grind (arith, is)
+
+pub look_waits : (result : Result (List Bool) LoopFault) (old new : Counts) (left rest : ℕ) → LookCounts result old new → rest ≡ left_after result left
+    → (result ≡ Err Spent) ↔ (left ≡ 0) → (new.waits ≤ old.waits + (left - rest)) × (rest ≤ left)
+look_waits (Ok names) old new left rest h is spent =
+    let some : left ≢ 0 = λ none. let e = spent.1 none in absurd (cc) in
+    let once = waited old.waits new.waits (ap (λ (c : Counts). c.waits) h.others) in
+    (omega (arith, some, once, is), omega (arith, is))
+look_waits (Err (NetFault None)) old new left rest h is spent =
+    let some : left ≢ 0 = λ none. let e = spent.1 none in absurd (cc) in
+    let once = waited old.waits new.waits (ap (λ (c : Counts). c.waits) h.others) in
+    (omega (arith, some, once, is), omega (arith, is))
+look_waits (Err (NetFault (Some conn))) old new left rest h is spent =
+    let still = ap (λ (c : Counts). c.waits) h.others in
+    (omega (arith, still, is), omega (arith, is))
+look_waits (Err Spent) old new left rest h is spent =
+    let still = ap (λ (c : Counts). c.waits) h in
+    (omega (arith, still, is), omega (arith, is))
+
+pub turn_waits : (result : Result ℕ LoopFault) (old new : Counts) (left rest : ℕ) → TurnCounts result old new → rest ≡ left - 1
+    → (result ≡ Err Spent) ↔ (left ≡ 0) → (new.waits ≤ old.waits + (left - rest)) × (rest ≤ left)
+turn_waits (Ok ms) old new left rest h is spent =
+    let some : left ≢ 0 = λ none. let e = spent.1 none in absurd (cc) in
+    let once = waited old.waits new.waits (ap (λ (c : Counts). c.waits) h.0.others) in
+    (omega (arith, some, once, is), omega (arith, is))
+turn_waits (Err (NetFault None)) old new left rest h is spent =
+    let some : left ≢ 0 = λ none. let e = spent.1 none in absurd (cc) in
+    let once = waited old.waits new.waits (ap (λ (c : Counts). c.waits) h.others) in
+    (omega (arith, some, once, is), omega (arith, is))
+turn_waits (Err (NetFault (Some conn))) old new left rest h is spent = absurd h
+turn_waits (Err Spent) old new left rest h is spent =
+    let still = ap (λ (c : Counts). c.waits) h in
+    (omega (arith, still, is), omega (arith, is))

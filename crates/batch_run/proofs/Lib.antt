@@ -1,3 +1,4 @@
+pub mod CallLemmas
 pub mod EndLemmas
 pub mod JournalLemmas
 pub mod LineLemmas

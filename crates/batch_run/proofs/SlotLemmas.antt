@@ -1,14 +1,17 @@
 -- Lists of jobs, one after another.
-use Rattle.std.proofs.Common.{◌≡◌, ◌≢◌, inl, inr, ℕ, ◌+◌, ◌<◌, ◌≤◌, ◌++◌, List, [], ◌∷◌, length, get_or, set, Option, Some, None, arith, refl, sym, ◌∙◌, ap, subst, suc, zero}
-use Rattle.std.specs.Prelude.{slice_get}
+use Rattle.std.proofs.Common.{◌≡◌, ◌≢◌, inl, inr, ℕ, ◌+◌, ◌<◌, ◌≤◌, ◌++◌, List, [], ◌∷◌, length, get_or, set, Some, Bool, true, Result, Ok, arith, refl, sym, ◌∙◌, ap, subst, suc, zero}
+use Rattle.std.specs.Prelude.{slice_get, IfOk}
 use Rattle.std.proofs.lemmas.Bool.{cases_eq}
 use Rattle.std.proofs.lemmas.Option.{slice_get_within}
-use Rattle.ready_loop.proofs.TableLemmas.{some_is, slice_get-set_same, slice_get-set_other}
+use Rattle.ready_loop.proofs.TableLemmas.{some_is, slice_get-set_other}
 use Rattle.job_end.specs.declared.answer.Answer.{Answer}
 use Rattle.job_run.specs.declared.job.Job.{Job}
 use Rattle.batch_run.specs.declared.slot.Slot.{Slot}
 use Rattle.batch_run.specs.declared.slot.Slot.TheVariants.{Waiting, Running, Ended}
 use Rattle.batch_run.specs.Stands.{WaitingFrom, EndedBelow, AllEnded, HasEnded, AreAnswers, answer_of, answers_of}
+use Rattle.batch_run.specs.declared.fault.Fault.{Fault}
+use Rattle.batch_run.specs.declared.fault.Fault.TheVariants as fault
+use Rattle.batch_run.specs.Kept.{goes_on}
 use Rattle.batch_run.proofs.JournalLemmas.{has}
 
 -- what holds of each holds of each with one more
@@ -109,3 +112,14 @@ pub item_at : {X : Type 0} (xs : List X) (n : ℕ) (x : X) → n < length xs →
 item_at [] n x low e = absurd (omega arith)
 item_at (y ∷ xs) zero x low e = ap Some (sym e)
 item_at (y ∷ xs) (suc n) x low e = item_at xs n x (omega arith) e
+
+-- ---- faults
+
+-- jobs go on only where a fault is that of one job
+pub one_of : (f : Fault) → goes_on f ≡ true → (job : ℕ) × (f ≡ fault.OfJob job)
+one_of (fault.OfJob job) e = (job, refl)
+one_of fault.OfAll e = absurd (cc)
+one_of fault.Spent e = absurd (cc)
+
+pub goes_on_by : {E : Type 0} (r : Result Bool E) (f : Fault) (b : Bool) → r ≡ Ok b → b ≡ true → IfOk r (λ x. x ≡ goes_on f) → goes_on f ≡ true
+goes_on_by r f b is on h = sym (subst (λ q. IfOk q (λ x. x ≡ goes_on f)) is h) ∙ on

@@ -1,39 +1,49 @@
 -- How the jobs of a run go on standing, call by call.
-use Rattle.std.proofs.Common.{◌≡◌, ◌≢◌, inl, inr, ℕ, ◌<◌, ◌≤◌, ◌++◌, Bool, false, List, [], ◌∷◌, length, set, suc, zero, Option, Some, None, Result, Ok, Err, refl, sym, ◌∙◌, ap, subst, arith}
-use Rattle.std.specs.Prelude.{slice_get, IfSome}
-use Rattle.std.specs.Str.{bytes_eq}
+use Rattle.std.proofs.Common.{◌≡◌, inl, inr, ℕ, ◌+◌, ◌-◌, ◌<◌, ◌≤◌, Bool, true, false, List, [], ◌∷◌, length, set, suc, zero, Option, Some, Result, Ok, Err, refl, sym, ◌∙◌, ap, subst, arith}
+use Rattle.std.specs.Prelude.{slice_get, IfSome, IfOk, IfErr}
 use Rattle.std.proofs.lemmas.Bool.{cases_eq}
 use Rattle.std.proofs.lemmas.List.{length-set}
 use Rattle.std.proofs.lemmas.Option.{slice_get_within}
 use Rattle.words.specs.declared.ask.Ask.{Ask}
-use Rattle.words.specs.Paths.{connection_of}
 use Rattle.world.specs.declared.entry.Entry.{Entry}
 use Rattle.world.specs.declared.entry.Entry.TheVariants.{Read}
 use Rattle.world.specs.declared.read_file.ReadFile.TheVariants as found
 use Rattle.world.specs.Counts.{Counts, CountsGrow, Rose}
 use Rattle.world.specs.Moments.{Since, start, Told}
-use Rattle.world.specs.Parts.{OnDisk, IsNotOf}
+use Rattle.ready_loop.specs.Standing.{IsOfLoop}
 use Rattle.world.specs.Touched.{Spares}
 use Rattle.said_lines.specs.Speech.{Says}
-use Rattle.world.proofs.CountsLemmas.{grow_start, grow_then}
-use Rattle.world.proofs.MomentsLemmas.{told_start, told_then, told_as, since_then}
-use Rattle.save_disk.specs.Temporary.{temporary_of}
+use Rattle.world.proofs.CountsLemmas.{grow_then}
+use Rattle.world.proofs.MomentsLemmas.{told_start, told_then, told_as, since_then, since_as}
 use Rattle.save_course.specs.Course.{IsRested}
 use Rattle.save_course.proofs.RestLemmas.{spared_rest}
 use Rattle.ready_loop.specs.Offers.{Extends}
 use Rattle.ready_loop.proofs.TableLemmas.{some_is, slice_get-set_same, slice_get-set_other}
 use Rattle.job_end.specs.declared.answer.Answer.{Answer}
-use Rattle.job_notebook.specs.State.{output_of}
-use Rattle.job_saves.specs.Course.{Origin, IsUntouched, IsSpared}
-use Rattle.job_saves.proofs.CourseLemmas.{others_pass, ends_pass}
+use Rattle.job_end.specs.Answers.{starved_answer}
+use Rattle.nb_model.specs.declared.notebook.Notebook.{Notebook}
+use Rattle.job_saves.specs.Course.{Origin, CountsWork, HasCalled}
+use Rattle.job_saves.proofs.CourseLemmas.{others_pass, ends_pass, work_start}
 use Rattle.job_run.specs.declared.job.Job.{Job}
-use Rattle.job_run.specs.Run.{Runs, EndsWith, IsOther, IsLeftAlone, StartsAlone, BeginsAs}
-use Rattle.job_begin.specs.Begun.{Begun, without, with_notebook, origin_of}
+use Rattle.job_run.specs.Run.{Runs, RunsCounted, EndsWith, IsCastAs, HasRole, StartsInRole, BeginsAs, number_of}
+use Rattle.job_run.specs.Task.{task_of_job, output_of_job}
+use Rattle.job_saves.specs.Calls.{Cast, IsAnswer, IsLine, of_end, IsCall}
+use Rattle.job_saves.specs.Children.{HasEnd, KeepsEnd}
+use Rattle.job_saves.proofs.CallLemmas.{says_called}
+use Rattle.job_saves.proofs.ChildLemmas.{told_keeps_end}
+use Rattle.job_saves.proofs.ToldLemmas.{told_by}
+use Rattle.job_run.specs.Told.{IsEnding, IsCaused}
+use Rattle.job_run.proofs.StopLemmas.{ending_caused, ending_answers, ending_starts}
+use Rattle.job_begin.specs.Begun.{Begun, without, with_notebook, BeginsWith, FindsKernel, IsUnread, origin_of, first_of}
+use Rattle.job_begin.specs.Causes.{HasCause}
+use Rattle.job_begin.proofs.CauseLemmas.{starved_caused}
+use Rattle.job_begin.proofs.EndLemmas.{caused_in, starved_end, unread_starved, unread_pass, kernel_pass, other_kernel, ending_other}
 use Rattle.batch_run.specs.declared.slot.Slot.{Slot}
 use Rattle.batch_run.specs.declared.slot.Slot.TheVariants.{Waiting, Running, Ended}
-use Rattle.batch_run.specs.Batch.{IsApart, IsNoPath}
-use Rattle.batch_run.specs.Stands.{IsAway, IsSlotAway, SlotRuns, Stands, waits, spared, begun, AllStand, TouchNothing, slot_of}
-use Rattle.batch_run.proofs.JournalLemmas.{far, far_first, far_second, far_third, has, extends, extended, told_back, told_at, or_none, at_start, told_by, files_spare, says_touch}
+use Rattle.batch_run.specs.Batch.{IsApart}
+use Rattle.batch_run.specs.Stands.{Outset, PlaysRole, SlotPlays, SlotEnds, SlotRuns, SlotTask, SlotKernel, SlotCounted, Stands, waits, spared, begun, AllStand, PassBy, more_waits, slot_of}
+use Rattle.batch_run.proofs.CallLemmas.{sole, sole_here, sole_at, calls_wide, calls_spare, loop_spares, loop_keeps_end, plays, played}
+use Rattle.batch_run.proofs.JournalLemmas.{has, extends, extended, told_back, told_at, or_none, at_start, says_touch}
 
 -- ---- calls that touch no path of a job
 
@@ -57,69 +67,168 @@ runs_pass o (Ended answer) past after c d s g r = record {
   fails = λ e. rose_still o.counts.disk c.disk d.disk (r.fails e) g.disk;
 }
 
+kernel_slot : (a : Ask) (first : Notebook) (slot : Slot) (read past after : List Entry) → Since (Spares a.output) past after → SlotKernel a first slot read past
+    → SlotKernel a first slot read after
+kernel_slot a first Waiting read past after s k = tt
+kernel_slot a first (Running j) read past after s k = tt
+kernel_slot a first (Ended answer) read past after s k = kernel_pass a first answer.status read past after s k
+
 pass_one : (a : Ask) (from : Counts) (before past after : List Entry) (c d : Counts) (slot : Slot) → Since (Spares a.output) past after → CountsGrow c d
     → Stands a from before past c slot → Stands a from before after d slot
 pass_one a from before past after c d slot s g (waits e h) = waits e (since_then h s)
-pass_one a from before past after c d slot s g (spared answer e h) = spared answer e (since_then h s)
-pass_one a from before past after c d slot s g (begun bytes n begin then acc h gr ext r) =
-    begun bytes n begin then acc h gr (since_then ext (extends s)) (runs_pass (origin_of a n begin then) slot past after c d s g r)
+pass_one a from before past after c d slot s g (spared answer e u h) = spared answer e (unread_pass a answer.status before before past after start s u) (since_then h s)
+pass_one a from before past after c d slot s g (begun bytes n begin then acc h gr ext task kernel r) =
+    begun bytes n begin then acc h gr (since_then ext (extends s)) task (kernel_slot a (first_of a n) slot (Read a.input 33554432 (found.Whole bytes) ∷ begin) past after s kernel) (runs_pass (origin_of a n begin then) slot past after c d s g r)
 
--- calls that touch no path at all
-pub calls_pass : (asks : List Ask) (first : Option (List Entry)) (from : Counts) (slots : List Slot) (p q : Option (List Entry)) (c d : Counts)
-    → TouchNothing p q c d → AllStand asks first from slots p c → AllStand asks first from slots q d
-calls_pass asks first from slots p q c d touch s = record {
-  size = s.size;
-  grow = grow_then s.grow touch.grow;
-  told = told_then s.told (touch.told []) (λ x y z a b. since_then a (extends b));
-  others = λ path no. told_then (s.others path no) (touch.told path) (λ x y z a b. since_then a b);
-  away = s.away;
-  each = λ before after st e i a slot at got apart rested.
-      let back = told_back p q (Since (Spares a.output)) after (touch.told a.output) e in
-      pass_one a from before back.0 after c d slot back.2 touch.grow (s.each before back.0 st back.1 i a slot at got apart rested);
+-- ---- by the counts alone
+
+cause_still : (old c d : Counts) (n : ℕ) → CountsGrow c d → HasCause old c n → HasCause old d n
+cause_still old c d n g h = record {
+  read = λ e. rose_still old.disk c.disk d.disk (h.read e) g.disk;
+  start = λ e. elim (h.start e) [
+    | inl r ↦ inl (rose_still old.rand c.rand d.rand r g.rand)
+    | inr r ↦ inr (rose_still old.child c.child d.child r g.child)
+  ];
+  save = λ e. rose_still old.disk c.disk d.disk (h.save e) g.disk;
 }
 
--- calls that leave all files
-pub files_keep : {p q : Option (List Entry)} {c d : Counts} → Told p q (Since (IsNotOf OnDisk)) → CountsGrow c d
-    → (asks : List Ask) (first : Option (List Entry)) (from : Counts) (slots : List Slot) → AllStand asks first from slots p c → AllStand asks first from slots q d
-files_keep {p} {q} {c} {d} told grow = λ asks first from slots s. calls_pass asks first from slots p q c d (record { told = files_spare told; grow = grow }) s
+rose_since : (a b c : ℕ) → a ≤ b → Rose b c → Rose a c
+rose_since a b c more rose = grind (arith, more, rose)
 
--- what is said
-pub says_keep : {p q : Option (List Entry)} {c d : Counts} {text : List ℕ} {failed : Type 0} → Told p q (Says text failed) → CountsGrow c d
-    → (asks : List Ask) (first : Option (List Entry)) (from : Counts) (slots : List Slot) → AllStand asks first from slots p c → AllStand asks first from slots q d
-says_keep {p} {q} {c} {d} told grow = λ asks first from slots s. calls_pass asks first from slots p q c d (record { told = says_touch told; grow = grow }) s
+cause_since : (old c d : Counts) (n : ℕ) → CountsGrow old c → HasCause c d n → HasCause old d n
+cause_since old c d n g h = record {
+  read = λ e. rose_since old.disk c.disk d.disk g.disk (h.read e);
+  start = λ e. elim (h.start e) [
+    | inl r ↦ inl (rose_since old.rand c.rand d.rand g.rand r)
+    | inr r ↦ inr (rose_since old.child c.child d.child g.child r)
+  ];
+  save = λ e. rose_since old.disk c.disk d.disk g.disk (h.save e);
+}
+
+-- a job of which the counts alone are looked at
+unwatched_pass : (o : Origin) (j : Job) (p q : Option (List Entry)) (c d : Counts) → o.is_watched ≡ false → CountsGrow c d → Runs o j p c → Runs o j q d
+unwatched_pass o j p q c d off g r = record {
+  is_open = r.is_open;
+  stands = record {
+    output = r.stands.output;
+    merge = r.stands.merge;
+    told = λ on. let no : true ≡ false = sym on ∙ off in absurd (cc);
+    grow = grow_then r.stands.grow g;
+    cause = λ e. rose_still o.counts.disk c.disk d.disk (r.stands.cause e) g.disk;
+  };
+  apart = r.apart;
+  shut = r.shut;
+  fails = r.fails;
+}
+
+counted_pass : (a : Ask) (from : Counts) (slot : Slot) (p q : Option (List Entry)) (c d : Counts) → CountsGrow c d → SlotCounted a from slot p c → SlotCounted a from slot q d
+counted_pass a from Waiting p q c d g r = tt
+counted_pass a from (Running j) p q c d g r =
+    (r.0, record { origin = r.1.origin; unwatched = r.1.unwatched; grow = r.1.grow; runs = unwatched_pass r.1.origin j p q c d r.1.unwatched g r.1.runs })
+counted_pass a from (Ended answer) p q c d g r = record { is = r.is; cause = cause_still from c d answer.status g r.cause }
+
+ends_then : (n : ℕ) (slot : Slot) (first p q : Option (List Entry)) → KeepsEnd n p q → SlotEnds n slot first p → SlotEnds n slot first q
+ends_then n Waiting first p q keeps h = λ s. keeps (h s)
+ends_then n (Running j) first p q keeps h = tt
+ends_then n (Ended answer) first p q keeps h = λ s. keeps (h s)
+
+-- calls that leave the jobs as they stand
+pub calls_pass : (asks : List Ask) (first : Option (List Entry)) (from : Outset) (slots : List Slot) (p q : Option (List Entry)) (c d : Counts) (most : ℕ)
+    → d.waits ≤ most → PassBy asks from.here p q c d → AllStand asks first from slots p c → AllStand asks first (record from { waits = most }) slots q d
+calls_pass asks first from slots p q c d most few pass s = record {
+  size = s.size;
+  grow = grow_then s.grow pass.grow;
+  waits = few;
+  told = told_then s.told (pass.spares []) (λ x y z a b. since_then a (extends b));
+  calls = told_then s.calls pass.calls (λ x y z a b. since_then a b);
+  plays = s.plays;
+  ends = λ i a slot at got. ends_then i slot first p q (pass.ends i) (s.ends i a slot at got);
+  counted = λ i a slot at got. counted_pass a from.counts slot p q c d pass.grow (s.counted i a slot at got);
+  each = λ before after st e i a slot at got apart rested.
+      let back = told_back p q (Since (Spares a.output)) after (pass.spares a.output) e in
+      pass_one a from.counts before back.0 after c d slot back.2 pass.grow (s.each before back.0 st back.1 i a slot at got apart rested);
+}
+
+loop_passes : (asks : List Ask) (here : List ℕ) (p q : Option (List Entry)) (c d : Counts) → Told p q (Since IsOfLoop) → CountsGrow c d → PassBy asks here p q c d
+loop_passes asks here p q c d told grow = record {
+  calls = told_as told (λ x y b. since_as (λ now is. inr is) b);
+  spares = λ path. told_as told (λ x y b. since_as (loop_spares path) b);
+  ends = λ n. loop_keeps_end n p q told;
+  grow = grow;
+}
+
+-- calls of the loop
+pub loop_keeps : {p q : Option (List Entry)} {c d : Counts} → Told p q (Since IsOfLoop) → CountsGrow c d → d.waits ≡ c.waits
+    → (asks : List Ask) (first : Option (List Entry)) (from : Outset) (slots : List Slot) → AllStand asks first from slots p c → AllStand asks first from slots q d
+loop_keeps {p} {q} {c} {d} told grow still = λ asks first from slots s. calls_pass asks first from slots p q c d from.waits (omega (arith, still, s.waits)) (loop_passes asks from.here p q c d told grow) s
+
+-- and those that may wait
+pub loop_waits : {p q : Option (List Entry)} {c d : Counts} → Told p q (Since IsOfLoop) → CountsGrow c d → (left rest : ℕ) → d.waits ≤ c.waits + (left - rest)
+    → (asks : List Ask) (first : Option (List Entry)) (from : Outset) (slots : List Slot) → AllStand asks first from slots p c
+    → AllStand asks first (more_waits (left - rest) from) slots q d
+loop_waits {p} {q} {c} {d} told grow left rest few = λ asks first from slots s. calls_pass asks first from slots p q c d (from.waits + (left - rest)) (omega (arith, few, s.waits)) (loop_passes asks from.here p q c d told grow) s
+
+-- what is said of the end of a job
+pub saying_keeps : {p q : Option (List Entry)} {c d : Counts} {line : List ℕ} {failed : Type 0} (answer : Answer) → line ≡ answer.line → Told p q (Says line failed) → CountsGrow c d → d.waits ≡ c.waits
+    → (asks : List Ask) (first : Option (List Entry)) (from : Outset) (slots : List Slot) (i : ℕ) (a : Ask) → slice_get asks i ≡ Some a → IsAnswer a.output answer
+    → AllStand asks first from slots p c → AllStand asks first from slots q d
+saying_keeps {p} {q} {c} {d} {line} {failed} answer same told grow still = λ asks first from slots i a own is s. calls_pass asks first from slots p q c d from.waits (omega (arith, still, s.waits)) (record {
+  calls = told_as told (λ x y b. calls_wide asks from.here i a own (said_by i a from.here true is b));
+  spares = says_touch told;
+  ends = λ n. told_keeps_end (sole i a from.here false) n (λ number b has starts. absurd (cc)) p q (told_as told (λ x y b. said_by i a from.here false is b));
+  grow = grow;
+}) s
+  where
+    said_by : (i : ℕ) (a : Ask) (here : List ℕ) (starts : Bool) → IsAnswer a.output answer → {x y : List Entry} → Says line failed x y → Since (IsCall (sole i a here starts)) x y
+    said_by i a here starts is b = says_called (sole i a here starts) i a (sole_here i a) (subst (IsLine a) (sym same) (of_end answer is)) b
 
 -- ---- one job changes
 
-change : (asks : List Ask) (first : Option (List Entry)) (from : Counts) (slots : List Slot) (p q : Option (List Entry)) (c d : Counts) (k : ℕ) (was next : Slot)
-    → slice_get slots k ≡ Some was → CountsGrow c d → Told p q Extends
-    → ((a : Ask) → slice_get asks k ≡ Some a → (path : List ℕ) → IsOther a.output path → IsSlotAway path was
-    → Told p q (Since (Spares path)) × IsSlotAway path next)
-    → ((a : Ask) (before past after : List Entry) → slice_get asks k ≡ Some a → p ≡ Some past → q ≡ Some after → IsRested a.output before
-    → Stands a from before past c was → Stands a from before after d next)
+change : (asks : List Ask) (first : Option (List Entry)) (from : Outset) (slots : List Slot) (p q : Option (List Entry)) (c d : Counts) (k : ℕ) (was next : Slot)
+    → slice_get slots k ≡ Some was → CountsWork c d
+    → ((a : Ask) → slice_get asks k ≡ Some a → SlotPlays k a was → Told p q (Since (IsCall (sole k a from.here true))) × SlotPlays k a next)
+    → ((a : Ask) → slice_get asks k ≡ Some a → SlotPlays k a was → SlotEnds k was first p → SlotEnds k next first q)
+    → ((a : Ask) (before past after : List Entry) → slice_get asks k ≡ Some a → SlotPlays k a was → p ≡ Some past → q ≡ Some after → IsRested a.output before
+    → Stands a from.counts before past c was → Stands a from.counts before after d next)
+    → ((a : Ask) → slice_get asks k ≡ Some a → SlotCounted a from.counts was p c → SlotCounted a from.counts next q d)
     → AllStand asks first from slots p c → AllStand asks first from (set slots k next) q d
-change asks first from slots p q c d k was next found g told touch step s = record {
+change asks first from slots p q c d k was next found work calls ends step count s = record {
   size = length-set slots k next ∙ s.size;
-  grow = grow_then s.grow g;
-  told = told_then s.told told (λ x y z a b. since_then a b);
-  others = λ path no. told_then (s.others path no) (touch own.0 own.1 path (no k own.0 own.1) (s.away k own.0 was own.1 found path (no k own.0 own.1))).0 (λ x y z a b. since_then a b);
-  away = λ i b slot at got path other. elim (cases_eq i k) [
+  grow = grow_then s.grow work.grow;
+  waits = omega (arith, work.waits, s.waits);
+  told = told_then s.told made (λ x y z a b. since_then a (extends b));
+  calls = told_then s.calls made (λ x y z a b. since_then a (calls_wide asks from.here k own.0 own.1 b));
+  plays = λ i b slot at got. elim (cases_eq i k) [
     | inl e ↦
         let at_k = subst (λ m. slice_get asks m ≡ Some b) e at in
-        subst (λ x. IsSlotAway path x) (here i slot e got) (touch b at_k path other (s.away k b was at_k found path other)).1
-    | inr ne ↦ s.away i b slot at (sym (slice_get-set_other slots k i next ne) ∙ got) path other
+        subst (λ m. SlotPlays m b slot) (sym e) (subst (λ x. SlotPlays k b x) (here i slot e got) (calls b at_k (s.plays k b was at_k found)).1)
+    | inr ne ↦ s.plays i b slot at (sym (slice_get-set_other slots k i next ne) ∙ got)
+  ];
+  ends = λ i b slot at got. elim (cases_eq i k) [
+    | inl e ↦
+        let at_k = subst (λ m. slice_get asks m ≡ Some b) e at in
+        subst (λ m. SlotEnds m slot first q) (sym e) (subst (λ x. SlotEnds k x first q) (here i slot e got) (ends b at_k (s.plays k b was at_k found) (s.ends k b was at_k found)))
+    | inr ne ↦
+        ends_then i slot first p q (told_keeps_end (sole k own.0 from.here true) i (λ number x has starts f. ne (sym (sym (sole_at number k own.0 x has).0 ∙ f))) p q made)
+        (s.ends i b slot at (sym (slice_get-set_other slots k i next ne) ∙ got))
+  ];
+  counted = λ i b slot at got. elim (cases_eq i k) [
+    | inl e ↦
+        let at_k = subst (λ m. slice_get asks m ≡ Some b) e at in
+        subst (λ x. SlotCounted b from.counts x q d) (here i slot e got) (count b at_k (s.counted k b was at_k found))
+    | inr ne ↦ counted_pass b from.counts slot p q c d work.grow (s.counted i b slot at (sym (slice_get-set_other slots k i next ne) ∙ got))
   ];
   each = λ before after st f i b slot at got apart rested.
-      let back = told_back p q Extends after told f in
+      let back = told_back p q (Since (IsCall (sole k own.0 from.here true))) after made f in
       elim (cases_eq i k) [
         | inl e ↦
             let at_k = subst (λ m. slice_get asks m ≡ Some b) e at in
             let apart_k = subst (λ m. IsApart asks m b) e apart in
-            subst (λ x. Stands b from before after d x) (here i slot e got)
-            (step b before back.0 after at_k back.1 f rested (s.each before back.0 st back.1 k b was at_k found apart_k rested))
+            subst (λ x. Stands b from.counts before after d x) (here i slot e got)
+            (step b before back.0 after at_k (s.plays k b was at_k found) back.1 f rested (s.each before back.0 st back.1 k b was at_k found apart_k rested))
         | inr ne ↦
             let other = apart k own.0 own.1 (λ e. ne (sym e)) in
-            let spare = (touch own.0 own.1 b.output other (s.away k own.0 was own.1 found b.output other)).0 in
-            pass_one b from before back.0 after c d slot (told_at p q (Since (Spares b.output)) back.0 after spare back.1 f) g
+            pass_one b from.counts before back.0 after c d slot (calls_spare k own.0 from.here b.output true other back.2) work.grow
             (s.each before back.0 st back.1 i b slot at (sym (slice_get-set_other slots k i next ne) ∙ got) apart rested)
       ];
 }
@@ -130,160 +239,197 @@ change asks first from slots p q c d k was next found g told touch step s = reco
     own : (a : Ask) × (slice_get asks k ≡ Some a)
     own = has asks k (subst (λ n. k < n) s.size low)
 
+    made : Told p q (Since (IsCall (sole k own.0 from.here true)))
+    made = (calls own.0 own.1 (s.plays k own.0 was own.1 found)).0
+
     here : (i : ℕ) (slot : Slot) → i ≡ k → slice_get (set slots k next) i ≡ Some slot → next ≡ slot
     here i slot e got = some_is (sym (slice_get-set_same slots k next low) ∙ subst (λ m. slice_get (set slots k next) m ≡ Some slot) e got)
 
 -- ---- a job that runs
 
-alone : (path : List ℕ) (j : Job) (since : List Entry) (p : Option (List Entry)) (c : Counts) → IsAway path j → IfSome p (Since (Spares path) since)
-    → IsLeftAlone path since c j p c
-alone path j since p c w held = record {
-  saves = record { output = w.output; temporary = w.temporary; so = record { told = held; grow = grow_start c } };
-  connection = w.connection;
-}
+-- what a call of a job adds
+adds : (k : ℕ) (a : Ask) (here : List ℕ) (was : Job) (p q : Option (List Entry)) (c d : Counts) → PlaysRole k a was
+    → ((since : List Entry) → HasRole (sole k a here true) since c was p c → HasCalled (sole k a here true) since c q d)
+    → Told p q (Since (IsCall (sole k a here true)))
+adds k a here was p q c d role calls =
+    told_by (IsCall (sole k a here true)) p q (λ since held. (calls since (plays k a here true was since p c role held)).told)
 
--- a path that it doesn't touch
-abbrev away_path : Job → List ℕ
-away_path j = far (output_of j.run.book) (temporary_of (output_of j.run.book)) j.paths.connection
+works : (k : ℕ) (a : Ask) (here : List ℕ) (was : Job) (p q : Option (List Entry)) (c d : Counts) → PlaysRole k a was
+    → ((since : List Entry) → HasRole (sole k a here true) since c was p c → HasCalled (sole k a here true) since c q d) → CountsWork c d
+works k a here was p q c d role calls =
+    (calls (or_none p) (plays k a here true was (or_none p) p c role (at_start (IsCall (sole k a here true)) p))).counts_work
 
-is_away : (j : Job) → IsAway (away_path j) j
-is_away j = record {
-  output = far_first (output_of j.run.book) (temporary_of (output_of j.run.book)) j.paths.connection;
-  temporary = far_second (output_of j.run.book) (temporary_of (output_of j.run.book)) j.paths.connection;
-  connection = far_third (output_of j.run.book) (temporary_of (output_of j.run.book)) j.paths.connection;
-}
+-- the job of a slot, by what was asked
+own_ask : (asks : List Ask) (first : Option (List Entry)) (from : Outset) (slots : List Slot) (p : Option (List Entry)) (c : Counts) (k : ℕ) (was : Job)
+    → slice_get slots k ≡ Some (Running was) → AllStand asks first from slots p c → (a : Ask) × (slice_get asks k ≡ Some a) × PlaysRole k a was
+own_ask asks first from slots p c k was found s =
+    let own = has asks k (subst (λ n. k < n) s.size (slice_get_within slots k (Running was) found)) in
+    (own.0, own.1, s.plays k own.0 (Running was) own.1 found)
 
 -- a call of a job
-pub job_goes_on : (asks : List Ask) (first : Option (List Entry)) (from : Counts) (slots : List Slot) (p q : Option (List Entry)) (c d : Counts) (k : ℕ) (was next : Job)
+pub job_goes_on : (asks : List Ask) (first : Option (List Entry)) (from : Outset) (slots : List Slot) (p q : Option (List Entry)) (c d : Counts) (k : ℕ) (was next : Job)
     → ((o : Origin) → Runs o was p c → Runs o next q d)
-    → ((path : List ℕ) (since : List Entry) (then : Counts) → IsLeftAlone path since then was p c → IsLeftAlone path since then next q d)
-    → slice_get slots k ≡ Some (Running was)
+    → ((cast : Cast) (since : List Entry) (then : Counts) → HasRole cast since then was p c → HasRole cast since then next q d)
+    → task_of_job next ≡ task_of_job was → output_of_job next ≡ output_of_job was → slice_get slots k ≡ Some (Running was)
     → AllStand asks first from slots p c → AllStand asks first from (set slots k (Running next)) q d
-job_goes_on asks first from slots p q c d k was next runs leaves found s =
-    change asks first from slots p q c d k (Running was) (Running next) found grow told (λ a at path other w. (spare path w, keeps path w)) step s
+job_goes_on asks first from slots p q c d k was next runs leaves task output found s =
+    change asks first from slots p q c d k (Running was) (Running next) found work
+    (λ a at role. (made a role, played k a from.here true (or_none p) c next q d (leaves (sole k a from.here true) (or_none p) c (plays k a from.here true was (or_none p) p c role (at_start (IsCall (sole k a from.here true)) p)))))
+    (λ a at role h. tt) step count s
   where
-    spare : (path : List ℕ) → IsAway path was → Told p q (Since (Spares path))
-    spare path w = told_by (Spares path) p q (λ since held. (leaves path since c (alone path was since p c w held)).saves.so.told)
+    calls : (a : Ask) (since : List Entry) → HasRole (sole k a from.here true) since c was p c → HasCalled (sole k a from.here true) since c q d
+    calls a since h = (leaves (sole k a from.here true) since c h).part.so
 
-    keeps : (path : List ℕ) → IsAway path was → IsAway path next
-    keeps path w =
-        let r = leaves path (or_none p) c (alone path was (or_none p) p c w (at_start (Spares path) p)) in
-        record { output = r.saves.output; temporary = r.saves.temporary; connection = r.connection }
+    made : (a : Ask) → PlaysRole k a was → Told p q (Since (IsCall (sole k a from.here true)))
+    made a role = adds k a from.here was p q c d role (calls a)
 
-    grow : CountsGrow c d
-    grow = (leaves (away_path was) (or_none p) c (alone (away_path was) was (or_none p) p c (is_away was) (at_start (Spares (away_path was)) p))).saves.so.grow
+    work : CountsWork c d
+    work = let own = own_ask asks first from slots p c k was found s in works k own.0 from.here was p q c d own.2 (calls own.0)
 
-    told : Told p q Extends
-    told = told_as (spare (away_path was) (is_away was)) (λ x y t. extends t)
+    count : (a : Ask) → slice_get asks k ≡ Some a → SlotCounted a from.counts (Running was) p c → SlotCounted a from.counts (Running next) q d
+    count a at r = (output ∙ r.0, record { origin = r.1.origin; unwatched = r.1.unwatched; grow = r.1.grow; runs = runs r.1.origin r.1.runs })
 
-    step : (a : Ask) (before past after : List Entry) → slice_get asks k ≡ Some a → p ≡ Some past → q ≡ Some after → IsRested a.output before
-        → Stands a from before past c (Running was) → Stands a from before after d (Running next)
-    step a before past after at e f rested (waits g h) = absurd (cc)
-    step a before past after at e f rested (spared answer g h) = absurd (cc)
-    step a before past after at e f rested (begun bytes n begin then acc h gr ext r) =
+    step : (a : Ask) (before past after : List Entry) → slice_get asks k ≡ Some a → PlaysRole k a was → p ≡ Some past → q ≡ Some after → IsRested a.output before
+        → Stands a from.counts before past c (Running was) → Stands a from.counts before after d (Running next)
+    step a before past after at role e f rested (waits g h) = absurd (cc)
+    step a before past after at role e f rested (spared answer g u h) = absurd (cc)
+    step a before past after at role e f rested (begun bytes n begin then acc h gr ext of kernel r) =
         let o = origin_of a n begin then in
-        begun bytes n begin then acc h gr (since_then ext (told_at p q Extends past after told e f))
+        begun bytes n begin then acc h gr (since_then ext (extends (told_at p q (Since (IsCall (sole k a from.here true))) past after (made a role) e f))) (task ∙ of) tt
         (subst (λ x. Runs o next x d) f (runs o (subst (λ x. Runs o was x c) (sym e) r)))
 
 -- the end of a job
-pub job_ends : (asks : List Ask) (first : Option (List Entry)) (from : Counts) (slots : List Slot) (p q : Option (List Entry)) (c d : Counts) (k : ℕ) (was : Job) (answer : Answer)
+pub job_ends : (asks : List Ask) (first : Option (List Entry)) (from : Outset) (slots : List Slot) (p q : Option (List Entry)) (c d : Counts) (k : ℕ) (was : Job) (answer : Answer)
     → ((o : Origin) → Runs o was p c → EndsWith o answer q d)
-    → ((path : List ℕ) (since : List Entry) (then : Counts) → IsLeftAlone path since then was p c → IsUntouched path since then q d)
-    → slice_get slots k ≡ Some (Running was)
+    → ((cast : Cast) (since : List Entry) (then : Counts) → HasRole cast since then was p c → HasCalled cast since then q d)
+    → HasEnd (number_of was) q
+    → IsEnding (output_of_job was) (task_of_job was) answer → slice_get slots k ≡ Some (Running was)
     → AllStand asks first from slots p c → AllStand asks first from (set slots k (Ended answer)) q d
-job_ends asks first from slots p q c d k was answer ends leaves found s =
-    change asks first from slots p q c d k (Running was) (Ended answer) found grow told (λ a at path other w. (spare path w, tt)) step s
+job_ends asks first from slots p q c d k was answer ends leaves left end found s =
+    change asks first from slots p q c d k (Running was) (Ended answer) found work (λ a at role. (made a role, tt))
+    (λ a at role h before. subst (λ n. HasEnd n q) role.number_is left) step count s
   where
-    spare : (path : List ℕ) → IsAway path was → Told p q (Since (Spares path))
-    spare path w = told_by (Spares path) p q (λ since held. (leaves path since c (alone path was since p c w held)).told)
+    made : (a : Ask) → PlaysRole k a was → Told p q (Since (IsCall (sole k a from.here true)))
+    made a role = adds k a from.here was p q c d role (λ since h. leaves (sole k a from.here true) since c h)
 
-    grow : CountsGrow c d
-    grow = (leaves (away_path was) (or_none p) c (alone (away_path was) was (or_none p) p c (is_away was) (at_start (Spares (away_path was)) p))).grow
+    work : CountsWork c d
+    work = let own = own_ask asks first from slots p c k was found s in works k own.0 from.here was p q c d own.2 (λ since h. leaves (sole k own.0 from.here true) since c h)
 
-    told : Told p q Extends
-    told = told_as (spare (away_path was) (is_away was)) (λ x y t. extends t)
+    count : (a : Ask) → slice_get asks k ≡ Some a → SlotCounted a from.counts (Running was) p c → SlotCounted a from.counts (Ended answer) q d
+    count a at r =
+        let e : EndsWith r.1.origin answer q d = ends r.1.origin r.1.runs in
+        record {
+          is = ending_answers (output_of_job was) a.output (task_of_job was) answer r.0 end;
+          cause = record {
+            read = λ is. rose_since from.counts.disk r.1.origin.counts.disk d.disk r.1.grow.disk (e.fails (inl is));
+            start = λ is. absurd (ending_starts (output_of_job was) (task_of_job was) answer end is);
+            save = λ is. rose_since from.counts.disk r.1.origin.counts.disk d.disk r.1.grow.disk (e.fails (inr is));
+          };
+        }
 
-    step : (a : Ask) (before past after : List Entry) → slice_get asks k ≡ Some a → p ≡ Some past → q ≡ Some after → IsRested a.output before
-        → Stands a from before past c (Running was) → Stands a from before after d (Ended answer)
-    step a before past after at e f rested (waits g h) = absurd (cc)
-    step a before past after at e f rested (spared x g h) = absurd (cc)
-    step a before past after at e f rested (begun bytes n begin then acc h gr ext r) =
+    step : (a : Ask) (before past after : List Entry) → slice_get asks k ≡ Some a → PlaysRole k a was → p ≡ Some past → q ≡ Some after → IsRested a.output before
+        → Stands a from.counts before past c (Running was) → Stands a from.counts before after d (Ended answer)
+    step a before past after at role e f rested (waits g h) = absurd (cc)
+    step a before past after at role e f rested (spared x g u h) = absurd (cc)
+    step a before past after at role e f rested (begun bytes n begin then acc h gr ext of kernel r) =
         let o = origin_of a n begin then in
-        begun bytes n begin then acc h gr (since_then ext (told_at p q Extends past after told e f))
+        let why = ending_caused (output_of_job was) (task_of_job was) answer end in
+        begun bytes n begin then acc h gr (since_then ext (extends (told_at p q (Since (IsCall (sole k a from.here true))) past after (made a role) e f)))
+        (caused_in a (first_of a n) answer.status (subst (λ t. IsCaused t answer.status) of why))
+        (other_kernel a (first_of a n) answer.status _ after (ending_other (output_of_job was) (task_of_job was) answer end))
         (subst (λ x. EndsWith o answer x d) f (ends o (subst (λ x. Runs o was x c) (sym e) r)))
+
+-- what is said of it is the last line of the job that was asked for
+pub end_said : (asks : List Ask) (first : Option (List Entry)) (from : Outset) (slots : List Slot) (p : Option (List Entry)) (c : Counts) (k : ℕ) (was : Job) (answer : Answer)
+    → IsEnding (output_of_job was) (task_of_job was) answer → slice_get slots k ≡ Some (Running was) → AllStand asks first from slots p c
+    → (a : Ask) × (slice_get asks k ≡ Some a) × IsAnswer a.output answer
+end_said asks first from slots p c k was answer end found s =
+    let own = own_ask asks first from slots p c k was found s in
+    (own.0, own.1, ending_answers (output_of_job was) (Ask.output own.0) (task_of_job was) answer (s.counted k own.0 (Running was) own.1 found).0 end)
 
 -- ---- a job that begins
 
-untouched : (path : List ℕ) (since : List Entry) (p : Option (List Entry)) (c : Counts) → IfSome p (Since (Spares path) since) → IsUntouched path since c p c
-untouched path since p c held = record { told = held; grow = grow_start c }
+starts_called : (cast : Cast) (since : List Entry) (then : Counts) (result : Result Job Answer) (q : Option (List Entry)) (d : Counts)
+    → StartsInRole cast since then result q d → HasCalled cast since then q d
+starts_called cast since then (Ok j) q d r = r.part.so
+starts_called cast since then (Err e) q d r = r
 
-starts_told : (path : List ℕ) (since : List Entry) (then : Counts) (result : Result Job Answer) (q : Option (List Entry)) (d : Counts)
-    → StartsAlone path since then result q d → IfSome q (Since (Spares path) since)
-starts_told path since then (Ok j) q d r = r.saves.so.told
-starts_told path since then (Err e) q d r = r.told
+starts_role : (k : ℕ) (a : Ask) (here : List ℕ) (since : List Entry) (then : Counts) (result : Result Job Answer) (q : Option (List Entry)) (d : Counts)
+    → StartsInRole (sole k a here true) since then result q d → SlotPlays k a (slot_of result)
+starts_role k a here since then (Ok j) q d r = played k a here true since then j q d r
+starts_role k a here since then (Err e) q d r = tt
 
-starts_grow : (path : List ℕ) (since : List Entry) (then : Counts) (result : Result Job Answer) (q : Option (List Entry)) (d : Counts)
-    → StartsAlone path since then result q d → CountsGrow then d
-starts_grow path since then (Ok j) q d r = r.saves.so.grow
-starts_grow path since then (Err e) q d r = r.grow
-
-starts_away : (path : List ℕ) (since : List Entry) (then : Counts) (result : Result Job Answer) (q : Option (List Entry)) (d : Counts)
-    → StartsAlone path since then result q d → IsSlotAway path (slot_of result)
-starts_away path since then (Ok j) q d r = record { output = r.saves.output; temporary = r.saves.temporary; connection = r.connection }
-starts_away path since then (Err e) q d r = tt
+starts_ends : (k : ℕ) (result : Result Job Answer) (first p q : Option (List Entry)) → IfErr result (λ e. KeepsEnd k p q) → KeepsEnd k first p → SlotEnds k (slot_of result) first q
+starts_ends k (Ok j) first p q left h = tt
+starts_ends k (Err e) first p q left h = λ s. left (h s)
 
 begins_runs : (o : Origin) (result : Result Job Answer) (q : Option (List Entry)) (d : Counts) → BeginsAs o result q d → SlotRuns o (slot_of result) q d
 begins_runs o (Ok j) q d r = r
 begins_runs o (Err e) q d r = r
 
-abbrev other_path : Ask → List ℕ
-other_path a = far a.output (temporary_of a.output) (connection_of a.output)
+begins_task : (a : Ask) (first : Notebook) (result : Result Job Answer) → BeginsWith a first result → SlotTask a first (slot_of result)
+begins_task a first (Ok j) of = of
+begins_task a first (Err answer) of = of
 
-is_other : (a : Ask) → IsOther a.output (other_path a)
-is_other a = record {
-  output_is = far_first a.output (temporary_of a.output) (connection_of a.output);
-  temporary = far_second a.output (temporary_of a.output) (connection_of a.output);
-  connection = far_third a.output (temporary_of a.output) (connection_of a.output);
-}
+begins_kernel : (a : Ask) (first : Notebook) (result : Result Job Answer) (x y : List Entry) → FindsKernel a first result x y → SlotKernel a first (slot_of result) x y
+begins_kernel a first (Ok j) x y k = tt
+begins_kernel a first (Err answer) x y k = k
+
+begins_counted : (a : Ask) (from c d : Counts) (q : Option (List Entry)) (result : Result Job Answer) → CountsGrow from c → IfErr result (λ x. HasCause c d x.status)
+    → IfErr result (IsAnswer a.output) → IfOk result (λ j. output_of_job j ≡ a.output) → IfOk result (λ j. RunsCounted c j q d) → SlotCounted a from (slot_of result) q d
+begins_counted a from c d q (Ok j) g cause answer output runs =
+    (output, record { origin = runs.origin; unwatched = runs.unwatched; grow = grow_then g runs.grow; runs = runs.runs })
+begins_counted a from c d q (Err x) g cause answer output runs = record { is = answer; cause = cause_since from c d x.status g cause }
 
 begin_stands : (a : Ask) (from : Counts) (before past after : List Entry) (c d : Counts) (result : Result Job Answer) → CountsGrow from c
     → Since (Spares a.output) before past → Begun a result c d past after → Stands a from before after d (slot_of result)
-begin_stands a from before past after c d result g h (without {answer} e s) = spared answer (ap slot_of e) (since_then h s)
-begin_stands a from before past after c d result g h (with_notebook bytes n front acc e b) =
-    begun bytes n past c acc h g (subst (λ j. Extends (Read a.input 33554432 (found.Whole bytes) ∷ past) j) (sym e) (extended front (Read a.input 33554432 (found.Whole bytes) ∷ past))) (begins_runs (origin_of a n past c) result (Some after) d b)
+begin_stands a from before past after c d result g h (without {answer} e u s) = spared answer (ap slot_of e) (unread_pass a answer.status before past after after h start u) (since_then h s)
+begin_stands a from before past after c d result g h (with_notebook bytes n front acc e of kernel b) =
+    begun bytes n past c acc h g (subst (λ j. Extends (Read a.input 33554432 (found.Whole bytes) ∷ past) j) (sym e) (extended front (Read a.input 33554432 (found.Whole bytes) ∷ past))) (begins_task a (first_of a n) result of) (begins_kernel a (first_of a n) result (Read a.input 33554432 (found.Whole bytes) ∷ past) after kernel) (begins_runs (origin_of a n past c) result (Some after) d b)
 
-pub job_begins : (asks : List Ask) (first : Option (List Entry)) (from : Counts) (slots : List Slot) (p q : Option (List Entry)) (c d : Counts) (k : ℕ) (a : Ask) (result : Result Job Answer)
+pub job_begins : (asks : List Ask) (first : Option (List Entry)) (from : Outset) (slots : List Slot) (p q : Option (List Entry)) (c d : Counts) (k : ℕ) (a : Ask) (result : Result Job Answer)
+    {here : List ℕ} → from.here ≡ here
     → Told p q (λ before after. IsRested a.output before → Begun a result c d before after)
-    → ((path : List ℕ) (since : List Entry) (then : Counts) → IsOther a.output path → IsUntouched path since then p c → StartsAlone path since then result q d)
+    → ((cast : Cast) (since : List Entry) (then : Counts) → IsCastAs cast k a here → HasCalled cast since then p c → StartsInRole cast since then result q d)
+    → IfErr result (λ e. KeepsEnd k p q)
+    → IfErr result (λ x. HasCause c d x.status) → IfErr result (IsAnswer a.output) → IfOk result (λ j. output_of_job j ≡ a.output) → IfOk result (λ j. RunsCounted c j q d)
     → slice_get asks k ≡ Some a → slice_get slots k ≡ Some Waiting
     → AllStand asks first from slots p c → AllStand asks first from (set slots k (slot_of result)) q d
-job_begins asks first from slots p q c d k a result begins leaves own found s =
-    change asks first from slots p q c d k Waiting (slot_of result) found grow told (λ b at path other w.
-    let other' = subst (λ x. IsOther x path) (ap (λ x. Ask.output x) (some_is (sym at ∙ own))) other in
-    (spare path other', away path other')) step s
+job_begins asks first from slots p q c d k a result {here} here_is begins leaves left cause answer output runs own found s =
+    change asks first from slots p q c d k Waiting (slot_of result) found work (λ b at role.
+    let same : a ≡ b = some_is (sym own ∙ at) in
+    (subst (λ x. Told p q (Since (IsCall (sole k x from.here true)))) same made, subst (λ x. SlotPlays k x (slot_of result)) same plays_so))
+    (λ b at role h. starts_ends k result first p q left h) step count s
   where
-    spare : (path : List ℕ) → IsOther a.output path → Told p q (Since (Spares path))
-    spare path w = told_by (Spares path) p q (λ since held. starts_told path since c result q d (leaves path since c w (untouched path since p c held)))
+    start_role : (since : List Entry) → IfSome p (Since (IsCall (sole k a from.here true)) since) → StartsInRole (sole k a from.here true) since c result q d
+    start_role since held =
+        leaves (sole k a from.here true) since c (record { has = sole_here k a; folder = here_is; starts = refl }) (record { told = held; counts_work = work_start c })
 
-    away : (path : List ℕ) → IsOther a.output path → IsSlotAway path (slot_of result)
-    away path w = starts_away path (or_none p) c result q d (leaves path (or_none p) c w (untouched path (or_none p) p c (at_start (Spares path) p)))
+    at_first : StartsInRole (sole k a from.here true) (or_none p) c result q d
+    at_first = start_role (or_none p) (at_start (IsCall (sole k a from.here true)) p)
 
-    grow : CountsGrow c d
-    grow = starts_grow (other_path a) (or_none p) c result q d (leaves (other_path a) (or_none p) c (is_other a) (untouched (other_path a) (or_none p) p c (at_start (Spares (other_path a)) p)))
+    made : Told p q (Since (IsCall (sole k a from.here true)))
+    made = told_by (IsCall (sole k a from.here true)) p q (λ since held. (starts_called (sole k a from.here true) since c result q d (start_role since held)).told)
 
-    told : Told p q Extends
-    told = told_as (spare (other_path a) (is_other a)) (λ x y t. extends t)
+    plays_so : SlotPlays k a (slot_of result)
+    plays_so = starts_role k a from.here (or_none p) c result q d at_first
 
-    step : (b : Ask) (before past after : List Entry) → slice_get asks k ≡ Some b → p ≡ Some past → q ≡ Some after → IsRested b.output before
-        → Stands b from before past c Waiting → Stands b from before after d (slot_of result)
-    step b before past after at e f rested (spared x g h) = absurd (cc)
-    step b before past after at e f rested (begun bytes n begin then acc h gr ext r) = absurd r
-    step b before past after at e f rested (waits g h) =
+    work : CountsWork c d
+    work = (starts_called (sole k a from.here true) (or_none p) c result q d at_first).counts_work
+
+    count : (b : Ask) → slice_get asks k ≡ Some b → SlotCounted b from.counts Waiting p c → SlotCounted b from.counts (slot_of result) q d
+    count b at w = subst (λ x. SlotCounted x from.counts (slot_of result) q d) (some_is (sym own ∙ at)) (begins_counted a from.counts c d q result s.grow cause answer output runs)
+
+    step : (b : Ask) (before past after : List Entry) → slice_get asks k ≡ Some b → Unit {0} → p ≡ Some past → q ≡ Some after → IsRested b.output before
+        → Stands b from.counts before past c Waiting → Stands b from.counts before after d (slot_of result)
+    step b before past after at role e f rested (spared x g u h) = absurd (cc)
+    step b before past after at role e f rested (begun bytes n begin then acc h gr ext of kernel r) = absurd r
+    step b before past after at role e f rested (waits g h) =
         let same : a ≡ b = some_is (sym own ∙ at) in
         let rests : IsRested b.output past = spared_rest b.output rested h in
         let began = told_at p q (λ x y. IsRested a.output x → Begun a result c d x y) past after begins e f in
         let began' = subst (λ x. IsRested x.output past → Begun x result c d past after) same began in
-        begin_stands b from before past after c d result s.grow h (began' rests)
+        begin_stands b from.counts before past after c d result s.grow h (began' rests)
 
 -- ---- one slot
 
@@ -293,18 +439,52 @@ same_slot [] k was e = absurd (cc)
 same_slot (x ∷ slots) zero was e = ap (λ y. y ∷ slots) (sym (some_is e))
 same_slot (x ∷ slots) (suc k) was e = ap (λ ys. x ∷ ys) (same_slot slots k was e)
 
-pub slot_rests : (asks : List Ask) (first : Option (List Entry)) (from : Counts) (slots : List Slot) (k : ℕ) (was : Slot) (p : Option (List Entry)) (c : Counts)
+pub slot_rests : (asks : List Ask) (first : Option (List Entry)) (from : Outset) (slots : List Slot) (k : ℕ) (was : Slot) (p : Option (List Entry)) (c : Counts)
     → slice_get slots k ≡ Some was → AllStand asks first from slots p c → AllStand asks first from (set slots k was) p c
 slot_rests asks first from slots k was p c found s = subst (λ x. AllStand asks first from x p c) (sym (same_slot slots k was found)) s
 
 -- a job that hasn't begun ends
-pub waiting_ends : (asks : List Ask) (first : Option (List Entry)) (from : Counts) (slots : List Slot) (p : Option (List Entry)) (c : Counts) (k : ℕ) (answer : Answer)
-    → slice_get slots k ≡ Some Waiting → AllStand asks first from slots p c → AllStand asks first from (set slots k (Ended answer)) p c
-waiting_ends asks first from slots p c k answer found s =
-    change asks first from slots p p c c k Waiting (Ended answer) found (grow_start c) (told_start (λ x. start)) (λ a at path other w. (told_start (λ x. start), tt)) step s
+pub waiting_ends : (asks : List Ask) (first : Option (List Entry)) (from : Outset) (slots : List Slot) (p : Option (List Entry)) (c : Counts) (k : ℕ) (answer : Answer)
+    → answer ≡ starved_answer → slice_get slots k ≡ Some Waiting → AllStand asks first from slots p c → AllStand asks first from (set slots k (Ended answer)) p c
+waiting_ends asks first from slots p c k answer is found s =
+    change asks first from slots p p c c k Waiting (Ended answer) found (work_start c) (λ a at role. (told_start (λ x. start), tt)) (λ a at role h. h) step count s
   where
-    step : (a : Ask) (before past after : List Entry) → slice_get asks k ≡ Some a → p ≡ Some past → p ≡ Some after → IsRested a.output before
-        → Stands a from before past c Waiting → Stands a from before after c (Ended answer)
-    step a before past after at e f rested (waits g h) = spared answer refl (subst (λ x. Since (Spares a.output) before x) (some_is (sym e ∙ f)) h)
-    step a before past after at e f rested (spared x g h) = absurd (cc)
-    step a before past after at e f rested (begun bytes n begin then acc h gr ext r) = absurd r
+    count : (a : Ask) → slice_get asks k ≡ Some a → SlotCounted a from.counts Waiting p c → SlotCounted a from.counts (Ended answer) p c
+    count a at w = record { is = starved_end a.output answer is; cause = starved_caused from.counts c answer is }
+
+    step : (a : Ask) (before past after : List Entry) → slice_get asks k ≡ Some a → Unit {0} → p ≡ Some past → p ≡ Some after → IsRested a.output before
+        → Stands a from.counts before past c Waiting → Stands a from.counts before after c (Ended answer)
+    step a before past after at role e f rested (waits g h) = spared answer refl (subst (λ x. IsUnread a answer.status before x) (some_is (sym e ∙ f)) (unread_pass a answer.status before past past past h start (unread_starved a answer past is)))
+        (subst (λ x. Since (Spares a.output) before x) (some_is (sym e ∙ f)) h)
+    step a before past after at role e f rested (spared x g u h) = absurd (cc)
+    step a before past after at role e f rested (begun bytes n begin then acc h gr ext of kernel r) = absurd r
+
+-- ---- waits
+
+widen : (asks : List Ask) (first : Option (List Entry)) (from : Outset) (most : ℕ) (slots : List Slot) (p : Option (List Entry)) (c : Counts) → c.waits ≤ most
+    → AllStand asks first from slots p c → AllStand asks first (record from { waits = most }) slots p c
+widen asks first from most slots p c few s = record {
+  size = s.size;
+  grow = s.grow;
+  waits = few;
+  told = s.told;
+  calls = s.calls;
+  plays = s.plays;
+  ends = s.ends;
+  counted = s.counted;
+  each = s.each;
+}
+
+-- where so many may have been waited, more may
+pub fits : (asks : List Ask) (first : Option (List Entry)) (from : Outset) {slots : List Slot} {p : Option (List Entry)} {c : Counts} (m n : ℕ) → m ≤ n
+    → AllStand asks first (more_waits m from) slots p c → AllStand asks first (more_waits n from) slots p c
+fits asks first from {slots} {p} {c} m n less s = widen asks first (more_waits m from) (from.waits + n) slots p c (omega (arith, less, s.waits)) s
+
+pub rests : (asks : List Ask) (first : Option (List Entry)) (from : Outset) {slots : List Slot} {p : Option (List Entry)} {c : Counts} (n : ℕ)
+    → AllStand asks first from slots p c → AllStand asks first (more_waits n from) slots p c
+rests asks first from {slots} {p} {c} n s = widen asks first from (from.waits + n) slots p c (omega (arith, s.waits)) s
+
+-- some waits, and then others
+pub fits_then : (asks : List Ask) (first : Option (List Entry)) (from : Outset) {slots : List Slot} {p : Option (List Entry)} {c : Counts} (l m n : ℕ) → l + m ≤ n
+    → AllStand asks first (more_waits m (more_waits l from)) slots p c → AllStand asks first (more_waits n from) slots p c
+fits_then asks first from {slots} {p} {c} l m n less s = widen asks first (more_waits m (more_waits l from)) (from.waits + n) slots p c (omega (arith, less, s.waits)) s

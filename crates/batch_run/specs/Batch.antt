@@ -1,5 +1,5 @@
 -- What a run makes of its jobs' outputs. A journal has its newest entry first.
-use Rattle.std.specs.Prelude.{◌≡◌, ◌≢◌, ℕ, List, ◌∷◌, ◌++◌, Bool, Option, Some, None, Result, Ok, Err, slice_get}
+use Rattle.std.specs.Prelude.{◌≡◌, ◌≢◌, ◌⊎◌, ℕ, List, ◌∷◌, ◌++◌, Bool, true, false, Option, Some, None, IfSome, Result, Ok, Err, slice_get}
 use Rattle.nb_model.specs.declared.notebook.Notebook.{Notebook}
 use Rattle.nb_load.specs.Loaded.{Accepts}
 use Rattle.words.specs.declared.ask.Ask.{Ask}
@@ -13,7 +13,11 @@ use Rattle.save_course.specs.Course.{IsRested}
 use Rattle.job_end.specs.declared.answer.Answer.{Answer}
 use Rattle.job_saves.specs.Course.{Origin, Ends}
 use Rattle.job_run.specs.Run.{EndsWith, IsOther}
-use Rattle.job_begin.specs.Begun.{origin_of}
+use Rattle.ready_loop.specs.Standing.{IsOfLoop}
+use Rattle.job_saves.specs.Calls.{Cast, IsAnswer, IsCall}
+use Rattle.job_saves.specs.Children.{has_child}
+use Rattle.job_begin.specs.Begun.{origin_of, first_of, IsCausedIn, IsUnread, HasKernel}
+use Rattle.job_begin.specs.Causes.{HasCause}
 
 -- the output of a job is no path of another one
 abbrev pub IsApart : List Ask → ℕ → Ask → Type 0
@@ -38,12 +42,22 @@ abbrev pub EndsBy : Origin → Option Answer → Option (List Entry) → Counts 
 EndsBy o (Some answer) journal counts = EndsWith o answer journal counts
 EndsBy o None journal counts = HasStopped o journal counts
 
+-- the answer of a job whose input gave no notebook says so
+abbrev pub EndsUnread : Ask → Option Answer → List Entry → List Entry → Type 0
+EndsUnread a answer before after = IfSome answer (λ x. IsUnread a x.status before after)
+
+-- that of a job whose notebook is first saved so names a cause only where there are events that stop its core for it, and is 5
+-- only where no kernel was found for it
+abbrev pub EndsRead : Ask → Notebook → Option Answer → List Entry → List Entry → Type 0
+EndsRead a first answer before after = IfSome answer (λ x. IsCausedIn a first x.status × HasKernel a first x.status before after)
+
 -- What a run makes of a job's output: it isn't touched; or from some moment on, before which it wasn't touched, the input
--- was read, its bytes give the notebook with its parameters, and the saves since are a course of its prefixes.
+-- was read, its bytes give the notebook with its parameters, the saves since are a course of its prefixes, and there are events
+-- that stop its core for the cause that its answer names.
 pub data Makes (a : Ask) (answer : Option Answer) (old new : Counts) (before : List Entry) : List Entry → Type 0 where
-  nothing : {after : List Entry} → Since (Spares a.output) before after → Makes a answer old new before after
+  nothing : {after : List Entry} → EndsUnread a answer before after → Since (Spares a.output) before after → Makes a answer old new before after
   saves : (bytes : List ℕ) (n : Notebook) (begin : List Entry) (then : Counts) (later : List Entry) {after : List Entry} → Accepts a bytes n
-      → Since (Spares a.output) before begin → CountsGrow old then
+      → EndsRead a (first_of a n) answer (Read a.input 33554432 (found.Whole bytes) ∷ begin) after → Since (Spares a.output) before begin → CountsGrow old then
       → after ≡ later ++ Read a.input 33554432 (found.Whole bytes) ∷ begin
       → EndsBy (origin_of a n begin then) answer (Some after) new → Makes a answer old new before after
 
@@ -52,6 +66,31 @@ abbrev pub MakesEach : {E : Type 0} → List Ask → Result (List Answer) E → 
 MakesEach asks result old new before after = (i : ℕ) (a : Ask) → slice_get asks i ≡ Some a → IsApart asks i a → IsRested a.output before
     → Makes a (answer_at i result) old new before after
 
+-- The answer of a job is that of an end. Its statuses 3, 6 and 10 come only where a count of failed calls rose.
+pub record IsEndOf (a : Ask) (old new : Counts) (answer : Answer) : Type 0 where
+  pub is : IsAnswer a.output answer
+  pub cause : HasCause old new answer.status
+
+-- so is each
+abbrev pub AreEnds : List Ask → Counts → Counts → List Answer → Type 0
+AreEnds asks old new answers = (i : ℕ) (a : Ask) (answer : Answer) → slice_get asks i ≡ Some a → slice_get answers i ≡ Some answer → IsEndOf a old new answer
+
 -- and all other paths are left alone
 abbrev pub LeavesOthers : List Ask → List Entry → List Entry → Type 0
 LeavesOthers asks before after = (path : List ℕ) → IsNoPath asks path → Since (Spares path) before after
+
+-- the jobs of a run by their numbers, in this working folder, which may start their children
+abbrev pub cast_of : List Ask → List ℕ → Cast
+cast_of asks here = record { job = λ number. slice_get asks number; here = here; starts = true }
+
+-- the newest entry is a call of one of the jobs, or of the loop
+abbrev pub IsRunCall : Cast → List Entry → Type 0
+IsRunCall c now = IsCall c now ⊎ IsOfLoop now
+
+-- so is each that was made
+abbrev pub CallsOfJobs : List Ask → List ℕ → List Entry → List Entry → Type 0
+CallsOfJobs asks here before after = Since (IsRunCall (cast_of asks here)) before after
+
+-- each child that was started has its end
+abbrev pub EndsChildren : List Ask → List Entry → List Entry → Type 0
+EndsChildren asks before after = (i : ℕ) (a : Ask) → slice_get asks i ≡ Some a → has_child i before ≡ false → has_child i after ≡ false

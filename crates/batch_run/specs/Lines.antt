@@ -3,6 +3,10 @@ use Rattle.std.specs.Prelude.{ℕ, ◌+◌}
 use Rattle.ready_loop.specs.States.{waits_left}
 use Rattle.batch_run.specs.declared.lines.Lines.{Lines}
 
+-- how many waits may still come
+abbrev pub waits_of : Lines → ℕ
+waits_of l = waits_left l.connections
+
 -- how many waits and faults may still come
 abbrev pub budget : Lines → ℕ
 budget l = waits_left l.connections + l.losses.left

@@ -1,6 +1,5 @@
 -- How the jobs of a run stand while it lasts.
-use Rattle.std.specs.Prelude.{◌≡◌, ℕ, ◌<◌, ◌≤◌, List, [], ◌∷◌, Bool, false, length, Option, Some, None, Result, Ok, Err, slice_get, slice_set}
-use Rattle.std.specs.Str.{bytes_eq}
+use Rattle.std.specs.Prelude.{◌≡◌, ◌≢◌, ℕ, ◌+◌, ◌-◌, ◌<◌, ◌≤◌, List, [], ◌∷◌, length, Option, Some, None, Result, Ok, Err, slice_get, slice_set}
 use Rattle.nb_model.specs.declared.notebook.Notebook.{Notebook}
 use Rattle.nb_load.specs.Loaded.{Accepts}
 use Rattle.words.specs.declared.ask.Ask.{Ask}
@@ -10,29 +9,50 @@ use Rattle.world.specs.declared.read_file.ReadFile.TheVariants as found
 use Rattle.world.specs.Counts.{Counts, CountsGrow}
 use Rattle.world.specs.Moments.{Since, Told}
 use Rattle.world.specs.Touched.{Spares}
-use Rattle.save_disk.specs.Temporary.{temporary_of}
+use Rattle.words.specs.Paths.{connection_of}
 use Rattle.save_course.specs.Course.{IsRested}
 use Rattle.ready_loop.specs.Offers.{Extends}
 use Rattle.job_end.specs.declared.answer.Answer.{Answer}
 use Rattle.job_notebook.specs.State.{output_of}
+use Rattle.job_saves.specs.Calls.{IsAnswer}
+use Rattle.job_saves.specs.Children.{KeepsEnd}
 use Rattle.job_saves.specs.Course.{Origin}
 use Rattle.job_run.specs.declared.job.Job.{Job}
-use Rattle.job_run.specs.Run.{Runs, EndsWith, IsOther}
-use Rattle.job_begin.specs.Begun.{origin_of}
+use Rattle.job_run.specs.Run.{Runs, RunsCounted, EndsWith, number_of}
+use Rattle.job_run.specs.Task.{task_for, task_of_job, output_of_job}
+use Rattle.job_begin.specs.Begun.{origin_of, first_of, IsCausedIn, IsUnread, HasKernel}
 use Rattle.batch_run.specs.declared.slot.Slot.{Slot}
 use Rattle.batch_run.specs.declared.slot.Slot.TheVariants.{Waiting, Running, Ended}
-use Rattle.batch_run.specs.Batch.{IsApart, IsNoPath}
+use Rattle.batch_run.specs.Batch.{IsApart, IsEndOf, CallsOfJobs}
 
--- a job that runs doesn't touch a path
-pub record IsAway (path : List ℕ) (j : Job) : Type 0 where
-  pub output : bytes_eq (output_of j.run.book) path ≡ false
-  pub temporary : bytes_eq (temporary_of (output_of j.run.book)) path ≡ false
-  pub connection : bytes_eq j.paths.connection path ≡ false
+-- what a run begins with: its working folder, and the counts of its world; and how often may have been waited by now
+pub record Outset : Type 0 where
+  pub here : List ℕ
+  pub counts : Counts
+  pub waits : ℕ
 
-abbrev pub IsSlotAway : List ℕ → Slot → Type 0
-IsSlotAway path Waiting = Unit {0}
-IsSlotAway path (Running j) = IsAway path j
-IsSlotAway path (Ended answer) = Unit {0}
+-- the same, where may have been waited so often more
+abbrev pub more_waits : ℕ → Outset → Outset
+more_waits n from = record from { waits = from.waits + n }
+
+-- a job that runs has the number and the paths of the one that was asked for
+pub record PlaysRole (number : ℕ) (a : Ask) (j : Job) : Type 0 where
+  pub number_is : number_of j ≡ number
+  pub output : output_of j.run.book ≡ a.output
+  pub connection : j.paths.connection ≡ connection_of a.output
+  pub folder : j.paths.cwd ≡ a.cwd
+
+-- so has that of a slot
+abbrev pub SlotPlays : ℕ → Ask → Slot → Type 0
+SlotPlays number a Waiting = Unit {0}
+SlotPlays number a (Running j) = PlaysRole number a j
+SlotPlays number a (Ended answer) = Unit {0}
+
+-- where the job of a slot doesn't run, no child of it was left without its end since the start
+abbrev pub SlotEnds : ℕ → Slot → Option (List Entry) → Option (List Entry) → Type 0
+SlotEnds number Waiting start journal = KeepsEnd number start journal
+SlotEnds number (Running j) start journal = Unit {0}
+SlotEnds number (Ended answer) start journal = KeepsEnd number start journal
 
 -- a job that began so is on its course, or has ended
 abbrev pub SlotRuns : Origin → Slot → Option (List Entry) → Counts → Type 0
@@ -40,26 +60,55 @@ SlotRuns o Waiting journal counts = ⊥
 SlotRuns o (Running j) journal counts = Runs o j journal counts
 SlotRuns o (Ended answer) journal counts = EndsWith o answer journal counts
 
+-- its core executes the cells of the notebook that is first saved, or it has ended by such a cause
+abbrev pub SlotTask : Ask → Notebook → Slot → Type 0
+SlotTask a first Waiting = Unit {0}
+SlotTask a first (Running j) = task_of_job j ≡ task_for a first
+SlotTask a first (Ended answer) = IsCausedIn a first answer.status
+
+-- it has ended with 5 only where no kernel was found for it
+abbrev pub SlotKernel : Ask → Notebook → Slot → List Entry → List Entry → Type 0
+SlotKernel a first Waiting before past = Unit {0}
+SlotKernel a first (Running j) before past = Unit {0}
+SlotKernel a first (Ended answer) before past = HasKernel a first answer.status before past
+
+-- what stands of a job by the counts alone, whatever the world tells
+abbrev pub SlotCounted : Ask → Counts → Slot → Option (List Entry) → Counts → Type 0
+SlotCounted a from Waiting journal counts = Unit {0}
+SlotCounted a from (Running j) journal counts = (output_of_job j ≡ a.output) × RunsCounted from j journal counts
+SlotCounted a from (Ended answer) journal counts = IsEndOf a from counts answer
+
 -- how a job of a run stands
 pub data Stands (a : Ask) (from : Counts) (before past : List Entry) (counts : Counts) (slot : Slot) : Type 0 where
   waits : slot ≡ Waiting → Since (Spares a.output) before past → Stands a from before past counts slot
-  spared : (answer : Answer) → slot ≡ Ended answer → Since (Spares a.output) before past → Stands a from before past counts slot
+  spared : (answer : Answer) → slot ≡ Ended answer → IsUnread a answer.status before past → Since (Spares a.output) before past → Stands a from before past counts slot
   begun : (bytes : List ℕ) (n : Notebook) (begin : List Entry) (then : Counts) → Accepts a bytes n
       → Since (Spares a.output) before begin → CountsGrow from then
-      → Extends (Read a.input 33554432 (found.Whole bytes) ∷ begin) past
+      → Extends (Read a.input 33554432 (found.Whole bytes) ∷ begin) past → SlotTask a (first_of a n) slot
+      → SlotKernel a (first_of a n) slot (Read a.input 33554432 (found.Whole bytes) ∷ begin) past
       → SlotRuns (origin_of a n begin then) slot (Some past) counts → Stands a from before past counts slot
 
 -- how all do, since a world was in this state
-pub record AllStand (asks : List Ask) (start : Option (List Entry)) (from : Counts) (slots : List Slot) (journal : Option (List Entry)) (counts : Counts) : Type 0 where
+pub record AllStand (asks : List Ask) (start : Option (List Entry)) (from : Outset) (slots : List Slot) (journal : Option (List Entry)) (counts : Counts) : Type 0 where
   pub size : length slots ≡ length asks
-  pub grow : CountsGrow from counts
+  pub grow : CountsGrow from.counts counts
+  pub waits : counts.waits ≤ from.waits
   pub told : Told start journal Extends
-  pub others : (path : List ℕ) → IsNoPath asks path → Told start journal (Since (Spares path))
-  pub away : (i : ℕ) (a : Ask) (slot : Slot) → slice_get asks i ≡ Some a → slice_get slots i ≡ Some slot
-      → (path : List ℕ) → IsOther a.output path → IsSlotAway path slot
+  pub calls : Told start journal (CallsOfJobs asks from.here)
+  pub plays : (i : ℕ) (a : Ask) (slot : Slot) → slice_get asks i ≡ Some a → slice_get slots i ≡ Some slot → SlotPlays i a slot
+  pub ends : (i : ℕ) (a : Ask) (slot : Slot) → slice_get asks i ≡ Some a → slice_get slots i ≡ Some slot → SlotEnds i slot start journal
+  pub counted : (i : ℕ) (a : Ask) (slot : Slot) → slice_get asks i ≡ Some a → slice_get slots i ≡ Some slot → SlotCounted a from.counts slot journal counts
   pub each : (before past : List Entry) → start ≡ Some before → journal ≡ Some past
       → (i : ℕ) (a : Ask) (slot : Slot) → slice_get asks i ≡ Some a → slice_get slots i ≡ Some slot
-      → IsApart asks i a → IsRested a.output before → Stands a from before past counts slot
+      → IsApart asks i a → IsRested a.output before → Stands a from.counts before past counts slot
+
+-- the slots of all jobs but this one stay as they were
+abbrev pub KeepsOthers : ℕ → List Slot → List Slot → Type 0
+KeepsOthers number was now = (k : ℕ) → k ≢ number → slice_get now k ≡ slice_get was k
+
+-- at most one job's slot has changed
+abbrev pub ChangesOne : List Slot → List Slot → Type 0
+ChangesOne was now = (number : ℕ) × KeepsOthers number was now
 
 -- a job that has begun runs, or has ended
 abbrev pub slot_of : Result Job Answer → Slot
@@ -68,34 +117,52 @@ slot_of (Err answer) = Ended answer
 
 -- calls keep them so
 abbrev pub KeepsAll : {W : Type 0} → (W → Option (List Entry)) → (W → Counts) → W → W → List Slot → List Slot → Type 0
-KeepsAll journal counts old new was now = (asks : List Ask) (start : Option (List Entry)) (from : Counts)
+KeepsAll journal counts old new was now = (asks : List Ask) (start : Option (List Entry)) (from : Outset)
     → AllStand asks start from was (journal old) (counts old) → AllStand asks start from now (journal new) (counts new)
+
+-- so do calls that may wait as often as waits were used up
+abbrev pub KeepsWaiting : {W : Type 0} → (W → Option (List Entry)) → (W → Counts) → W → W → ℕ → ℕ → List Slot → List Slot → Type 0
+KeepsWaiting journal counts old new left rest was now = (asks : List Ask) (start : Option (List Entry)) (from : Outset)
+    → AllStand asks start from was (journal old) (counts old) → AllStand asks start (more_waits (left - rest) from) now (journal new) (counts new)
 
 -- so does what calls nothing of the world
 abbrev pub StayAll : List Slot → List Slot → Type 0
-StayAll was now = (asks : List Ask) (start : Option (List Entry)) (from : Counts) (journal : Option (List Entry)) (counts : Counts)
+StayAll was now = (asks : List Ask) (start : Option (List Entry)) (from : Outset) (journal : Option (List Entry)) (counts : Counts)
     → AllStand asks start from was journal counts → AllStand asks start from now journal counts
 
 -- so do those that touch no path
 abbrev pub KeepsEach : {W : Type 0} → (W → Option (List Entry)) → (W → Counts) → W → W → Type 0
-KeepsEach journal counts old new = (asks : List Ask) (start : Option (List Entry)) (from : Counts) (slots : List Slot)
+KeepsEach journal counts old new = (asks : List Ask) (start : Option (List Entry)) (from : Outset) (slots : List Slot)
     → AllStand asks start from slots (journal old) (counts old) → AllStand asks start from slots (journal new) (counts new)
+
+-- and those of the loop that may wait
+abbrev pub KeepsEachWaiting : {W : Type 0} → (W → Option (List Entry)) → (W → Counts) → W → W → ℕ → ℕ → Type 0
+KeepsEachWaiting journal counts old new left rest = (asks : List Ask) (start : Option (List Entry)) (from : Outset) (slots : List Slot)
+    → AllStand asks start from slots (journal old) (counts old) → AllStand asks start (more_waits (left - rest) from) slots (journal new) (counts new)
 
 -- calls of the job in one slot keep all so
 abbrev pub SlotKeeps : {W : Type 0} → (W → Option (List Entry)) → (W → Counts) → W → W → Slot → Slot → Type 0
-SlotKeeps journal counts old new was now = (asks : List Ask) (start : Option (List Entry)) (from : Counts) (slots : List Slot) (k : ℕ)
+SlotKeeps journal counts old new was now = (asks : List Ask) (start : Option (List Entry)) (from : Outset) (slots : List Slot) (k : ℕ)
     → slice_get slots k ≡ Some was → AllStand asks start from slots (journal old) (counts old)
     → AllStand asks start from (slice_set slots k now) (journal new) (counts new)
 
 -- and what calls nothing of the world
 abbrev pub SlotStays : Slot → Slot → Type 0
-SlotStays was now = (asks : List Ask) (start : Option (List Entry)) (from : Counts) (slots : List Slot) (k : ℕ) (journal : Option (List Entry)) (counts : Counts)
+SlotStays was now = (asks : List Ask) (start : Option (List Entry)) (from : Outset) (slots : List Slot) (k : ℕ) (journal : Option (List Entry)) (counts : Counts)
     → slice_get slots k ≡ Some was → AllStand asks start from slots journal counts → AllStand asks start from (slice_set slots k now) journal counts
 
--- calls touch no path
-pub record TouchNothing (old new : Option (List Entry)) (was now : Counts) : Type 0 where
-  pub told : (path : List ℕ) → Told old new (Since (Spares path))
+-- calls that leave the jobs as they stand: each is one of theirs or of the loop, touches no path and starts no child
+pub record PassBy (asks : List Ask) (here : List ℕ) (old new : Option (List Entry)) (was now : Counts) : Type 0 where
+  pub calls : Told old new (CallsOfJobs asks here)
+  pub spares : (path : List ℕ) → Told old new (Since (Spares path))
+  pub ends : (number : ℕ) → KeepsEnd number old new
   pub grow : CountsGrow was now
+
+-- what is said of the end of one of the jobs leaves all as they stand
+abbrev pub KeepsSaying : {W : Type 0} → (W → Option (List Entry)) → (W → Counts) → W → W → Answer → Type 0
+KeepsSaying journal counts old new answer = (asks : List Ask) (start : Option (List Entry)) (from : Outset) (slots : List Slot) (i : ℕ) (a : Ask)
+    → slice_get asks i ≡ Some a → IsAnswer a.output answer → AllStand asks start from slots (journal old) (counts old)
+    → AllStand asks start from slots (journal new) (counts new)
 
 -- a job has ended
 abbrev pub HasEnded : Slot → Type 0

@@ -1,14 +1,15 @@
 //! `run_jobs`, the jobs of a run.
-ghost use Rattle.std.specs.Prelude.{◌≡◌, ◌<◌, ◌≤◌, IfOk, OnOk, List as Plain, Option as Maybe, length};
+ghost use Rattle.std.specs.Prelude.{◌≡◌, ◌<◌, ◌≤◌, ◌+◌, IfOk, IsOk, OnOk, List as Plain, Option as Maybe, length};
 ghost use Rattle.std.specs.List.{AllByRecursion};
-ghost use Rattle.ready_loop.specs.States.{IsDrained};
+ghost use Rattle.ready_loop.specs.States.{IsDrained, waits_left};
 ghost use Rattle.words.specs.Runnable.{IsRunnable};
 ghost use Rattle.said_lines.specs.Between.{Between};
 ghost use Rattle.world.specs.declared.entry.Entry.{Entry};
 ghost use Rattle.world.specs.Counts.{Counts, CountsGrow};
-ghost use Rattle.batch_run.specs.Batch.{LeavesOthers, MakesEach};
+ghost use Rattle.batch_run.specs.Batch.{AreEnds, CallsOfJobs, EndsChildren, LeavesOthers, MakesEach};
 ghost use Rattle.batch_run.specs.Kept.{IsFreshFrom};
-ghost use Rattle.batch_run.specs.Stands.{AllEnded, AllStand, WaitingFrom};
+ghost use Rattle.batch_run.specs.Stands.{AllEnded, AllStand, Outset, WaitingFrom, more_waits};
+ghost use Rattle.batch_run.specs.Lines.{waits_of};
 
 use crate::Limits;
 use crate::running::Running;
@@ -30,14 +31,24 @@ pub fn run_jobs<W: World>(
     requires few { length asks ≤ 16 }
     requires asks { AllByRecursion IsRunnable asks }
 
-    // What it makes of the output of each job, with the answer that it gives for it.
+    // What it makes of the output of each job, with the answer that it gives for it: 0, 1, 7, 8, 9,
+    // 13 and 15 come only where there are events that stop such a job for that cause.
     ensures jobs { Between W.journal w.old w.new
         (MakesEach asks result (W.counts w.old) (W.counts w.new)) }
+    // Each call is one of the loop or of one of the jobs: none reads or writes another file, starts
+    // another program than the kernel that is asked for, or says another line.
+    ensures calls { Between W.journal w.old w.new (CallsOfJobs asks limits.now.here) }
+    // In the end each child that was started has its end.
+    ensures children { IsOk result → Between W.journal w.old w.new (EndsChildren asks) }
     // All other paths are left alone, and no count falls.
     ensures others { Between W.journal w.old w.new (LeavesOthers asks) }
     ensures counts { CountsGrow (W.counts w.old) (W.counts w.new) }
+    // It waits at most so often as the limits have it.
+    ensures waits { (W.counts w.new).waits ≤ (W.counts w.old).waits + limits.now.turns }
     // One answer a job.
     ensures one_each { IfOk result (λ answers. length answers ≡ length asks) }
+    // Each is that of an end. 3, 6 and 10 come only where a count of failed calls rose.
+    ensures ends { IfOk result (AreEnds asks (W.counts w.old) (W.counts w.new)) }
 {
     match Running::new(alloc, asks.len(), limits.turns) {
         Ok(running) => answers_of(w, asks, limits, running),
@@ -58,11 +69,16 @@ fn answers_of<W: World>(
     requires fresh { IsFreshFrom 0 running.lines.connections }
     requires drained { IsDrained running.lines.connections }
     requires room { 0 < length running.buf.items }
+    requires left { waits_of running.lines ≡ limits.now.turns }
     ensures jobs { Between W.journal w.old w.new
         (MakesEach asks result (W.counts w.old) (W.counts w.new)) }
+    ensures calls { Between W.journal w.old w.new (CallsOfJobs asks limits.now.here) }
+    ensures children { IsOk result → Between W.journal w.old w.new (EndsChildren asks) }
     ensures others { Between W.journal w.old w.new (LeavesOthers asks) }
     ensures counts { CountsGrow (W.counts w.old) (W.counts w.new) }
+    ensures waits { (W.counts w.new).waits ≤ (W.counts w.old).waits + limits.now.turns }
     ensures one_each { IfOk result (λ answers. length answers ≡ length asks) }
+    ensures ends { IfOk result (AreEnds asks (W.counts w.old) (W.counts w.new)) }
 {
     let mut running = running;
     match carried_out(w, asks, limits, &mut running) {
@@ -88,9 +104,11 @@ fn carried_out<W: World>(
     requires drained { IsDrained running.old.lines.connections }
     requires room { 0 < length running.old.buf.items }
     ensures ended { OnOk result (AllEnded running.new.jobs.slots.items) }
-    ensures stands { (start : Maybe (Plain Entry)) (from : Counts) →
+    ensures stands { (start : Maybe (Plain Entry)) (from : Outset) →
+        from.here ≡ limits.now.here →
         AllStand asks start from running.old.jobs.slots.items (W.journal w.old) (W.counts w.old) →
-        AllStand asks start from running.new.jobs.slots.items (W.journal w.new) (W.counts w.new) }
+        AllStand asks start (more_waits (waits_of running.old.lines) from)
+        running.new.jobs.slots.items (W.journal w.new) (W.counts w.new) }
 {
     match begin_all(w, asks, limits, running) {
         Ok(()) => running.run(w),
@@ -98,7 +116,7 @@ fn carried_out<W: World>(
     }
 }
 
-/// Begins these jobs, one after another.
+/// Begins these jobs, one after another, before any wait.
 fn begin_all<W: World>(
     w: &mut W,
     asks: Asks,
@@ -111,8 +129,11 @@ fn begin_all<W: World>(
     requires fresh { IsFreshFrom 0 running.old.lines.connections }
     requires drained { IsDrained running.old.lines.connections }
     ensures drained { OnOk result (IsDrained running.new.lines.connections) }
+    ensures waits { waits_left running.new.lines.connections ≡
+        waits_left running.old.lines.connections }
     ensures buf { running.new.buf ≡ running.old.buf }
-    ensures stands { (start : Maybe (Plain Entry)) (from : Counts) →
+    ensures stands { (start : Maybe (Plain Entry)) (from : Outset) →
+        from.here ≡ limits.now.here →
         AllStand asks start from running.old.jobs.slots.items (W.journal w.old) (W.counts w.old) →
         AllStand asks start from running.new.jobs.slots.items (W.journal w.new) (W.counts w.new) }
 {

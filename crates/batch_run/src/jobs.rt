@@ -25,9 +25,8 @@ impl Jobs {
     ghost use Rattle.words.specs.Runnable.{IsRunnable};
     ghost use Rattle.words.specs.declared.ask.Ask.{Ask as Asked};
     ghost use Rattle.world.specs.declared.entry.Entry.{Entry};
-    ghost use Rattle.world.specs.Counts.{Counts};
-    ghost use Rattle.batch_run.specs.Stands.{AllStand, AllEnded, EndedBelow, KeepsAll};
-    ghost use Rattle.batch_run.specs.Stands.{KeepsEach, WaitingFrom, answers_of};
+    ghost use Rattle.batch_run.specs.Stands.{AllStand, AllEnded, EndedBelow, KeepsAll, Outset};
+    ghost use Rattle.batch_run.specs.Stands.{KeepsSaying, WaitingFrom, answers_of};
 
     /// So many jobs, of which none has begun.
     pub(crate) fn new(alloc: Global, count: usize) -> Result<Jobs, NoMemory>
@@ -63,8 +62,8 @@ impl Jobs {
         requires waiting { WaitingFrom number self.old.slots.items }
         ensures size { length self.new.slots.items ≡ length self.old.slots.items }
         ensures waiting { WaitingFrom (number + 1) self.new.slots.items }
-        ensures stands { (asks : Plain Asked) (start : Maybe (Plain Entry)) (from : Counts) →
-            slice_get asks number ≡ Some ask →
+        ensures stands { (asks : Plain Asked) (start : Maybe (Plain Entry)) (from : Outset) →
+            slice_get asks number ≡ Some ask → from.here ≡ here.now →
             AllStand asks start from self.old.slots.items (W.journal w.old) (W.counts w.old) →
             AllStand asks start from self.new.slots.items (W.journal w.new) (W.counts w.new) }
     {
@@ -91,7 +90,7 @@ impl Jobs {
         requires within { number < length self.old.slots.items }
         ensures slots { self.new.slots.items
             ≡ slice_set self.old.slots.items number (Slot.Ended answer) }
-        ensures stands { KeepsEach W.journal W.counts w.old w.new }
+        ensures stands { KeepsSaying W.journal W.counts w.old w.new answer }
     {
         let is_starved = answer.status == 12;
         say_end(w, &answer);

@@ -23,18 +23,19 @@ pub(crate) struct Lines {
 }
 
 impl Lines {
-    ghost use Rattle.std.specs.Prelude.{◌≡◌, ◌<◌, ◌+◌, ◌^◌, Some, Ok, IfOk, IfErr, OnOk, slice_get, true, false, length};
+    ghost use Rattle.std.specs.Prelude.{◌≡◌, ◌<◌, ◌≤◌, ◌+◌, ◌^◌, Some, Ok, IfOk, IfErr, OnOk, slice_get, true, false, length};
     ghost use Rattle.ready_loop.specs.declared.next.Next.{Next as Found};
     ghost use Rattle.ready_loop.specs.declared.next.Next.TheVariants.{Quiet};
-    ghost use Rattle.ready_loop.specs.States.{MayWait, IsDrained, IsOffered};
+    ghost use Rattle.ready_loop.specs.States.{MayWait, IsDrained, IsOffered, waits_left};
     ghost use Rattle.batch_run.specs.Kept.{Falls, NoneLost, NoneLostBelow, IsFreshFrom, goes_on, is_fault, is_wait};
-    ghost use Rattle.batch_run.specs.Lines.{budget};
-    ghost use Rattle.batch_run.specs.Stands.{KeepsEach};
+    ghost use Rattle.batch_run.specs.Lines.{budget, waits_of};
+    ghost use Rattle.batch_run.specs.Stands.{KeepsEach, KeepsEachWaiting};
 
     /// No connection, and so many waits.
     pub(crate) fn new(alloc: Global, turns: u64) -> Result<Lines, NoMemory>
         ensures drained { IfOk result (λ l. IsDrained l.connections) }
         ensures fresh { IfOk result (λ l. IsFreshFrom 0 l.connections) }
+        ensures left { IfOk result (λ l. waits_of l ≡ turns) }
     {
         Ok(Lines {
             connections: Loop::new(alloc, turns)?,
@@ -54,6 +55,7 @@ impl Lines {
         requires fresh { IsFreshFrom job self.old.connections }
         ensures stands { KeepsEach W.journal W.counts w.old w.new }
         ensures fresh { IsFreshFrom (job + 1) self.new.connections }
+        ensures waits { waits_left self.new.connections ≡ waits_left self.old.connections }
         ensures drained { IsDrained self.old.connections → IsDrained self.new.connections }
     {
         match self.connections.begin(w, job, wanted.ports, wanted.heart) {
@@ -79,6 +81,7 @@ impl Lines {
         requires begun { slice_get self.old.begun (place_of conn) ≡ Some true }
         ensures drained { IsDrained self.old.connections → IsDrained self.new.connections }
         ensures budget { budget self.new ≡ budget self.old }
+        ensures left { waits_of self.new ≡ waits_of self.old }
     {
         self.connections.queue(conn, bytes)
     }
@@ -93,6 +96,7 @@ impl Lines {
     /// Puts out what is queued, and names the connections that were found ended.
     pub(crate) fn offer<W: World>(&mut self, w: &mut W) -> Result<[bool; 64], Fault>
         ensures stands { KeepsEach W.journal W.counts w.old w.new }
+        ensures left { waits_of self.new ≡ waits_of self.old }
         ensures offered { OnOk result (IsOffered self.new.connections) }
         ensures drained { IsDrained self.old.connections → IsDrained self.new.connections }
         ensures budget { Falls (is_fault result) (budget self.old) (budget self.new) }
@@ -112,7 +116,9 @@ impl Lines {
         requires drained { IsDrained self.old.connections }
         requires offered { IsOffered self.old.connections }
         requires none { NoneLost self.old.losses.jobs }
-        ensures stands { KeepsEach W.journal W.counts w.old w.new }
+        ensures stands { KeepsEachWaiting W.journal W.counts w.old w.new (waits_of self.old)
+            (waits_of self.new) }
+        ensures left { waits_of self.new ≤ waits_of self.old }
         ensures drained { IfErr result (λ f. goes_on f ≡ true → IsDrained self.new.connections) }
         ensures budget { Falls (is_wait result) (budget self.old) (budget self.new) }
     {
@@ -129,7 +135,9 @@ impl Lines {
         requires drained { IsDrained self.old.connections }
         requires offered { IsOffered self.old.connections }
         requires none { NoneLost self.old.losses.jobs }
-        ensures stands { KeepsEach W.journal W.counts w.old w.new }
+        ensures stands { KeepsEachWaiting W.journal W.counts w.old w.new (waits_of self.old)
+            (waits_of self.new) }
+        ensures left { waits_of self.new ≤ waits_of self.old }
         ensures ends { IfErr result (λ f. goes_on f ≡ false) }
         ensures bound { IfOk result (λ ms. ms < 2 ^ 47) }
         ensures budget { Falls (is_wait result) (budget self.old) (budget self.new) }
@@ -146,6 +154,7 @@ impl Lines {
     pub(crate) fn next<W: World>(&mut self, w: &mut W, buf: &mut [u8]) -> Result<Next, Fault>
         requires { 0 < length buf.old }
         ensures stands { KeepsEach W.journal W.counts w.old w.new }
+        ensures left { waits_of self.new ≡ waits_of self.old }
         ensures quiet { result ≡ Ok Quiet → IsDrained self.new.connections }
         ensures budget { Falls (is_fault result) (budget self.old) (budget self.new) }
     {
@@ -161,6 +170,7 @@ impl Lines {
         ensures drained { IsDrained self.old.connections → IsDrained self.new.connections }
         ensures offered { IsOffered self.old.connections → IsOffered self.new.connections }
         ensures stands { KeepsEach W.journal W.counts w.old w.new }
+        ensures left { waits_of self.new ≡ waits_of self.old }
         ensures none { NoneLostBelow job self.old.losses.jobs →
             NoneLostBelow (job + 1) self.new.losses.jobs }
         ensures budget { budget self.new ≡ budget self.old }

@@ -23,15 +23,14 @@ pub(crate) struct Running {
 impl Running {
     ghost use Rattle.std.specs.Prelude.{◌≡◌, ◌<◌, ◌≤◌, ◌+◌, IfOk, OnOk, length};
     ghost use Rattle.std.specs.Prelude.{List as Plain, Option as Maybe, Some, slice_get};
-    ghost use Rattle.ready_loop.specs.States.{IsDrained, IsOffered};
+    ghost use Rattle.ready_loop.specs.States.{IsDrained, IsOffered, waits_left};
     ghost use Rattle.words.specs.Runnable.{IsRunnable};
     ghost use Rattle.batch_run.specs.Kept.{IsFreshFrom, NoneLost, NoneLostBelow};
-    ghost use Rattle.batch_run.specs.Lines.{budget};
-    ghost use Rattle.batch_run.specs.Stands.{AllStand, AllEnded, EndedBelow, KeepsAll};
+    ghost use Rattle.batch_run.specs.Lines.{budget, waits_of};
+    ghost use Rattle.batch_run.specs.Stands.{AllStand, AllEnded, EndedBelow, KeepsAll, Outset};
     ghost use Rattle.batch_run.specs.Stands.{WaitingFrom, answers_of};
     ghost use Rattle.words.specs.declared.ask.Ask.{Ask as Asked};
     ghost use Rattle.world.specs.declared.entry.Entry.{Entry};
-    ghost use Rattle.world.specs.Counts.{Counts};
 
     /// So many jobs, none of which has begun, and so many waits.
     pub(crate) fn new(alloc: Global, count: usize, turns: u64) -> Result<Running, NoMemory>
@@ -41,6 +40,7 @@ impl Running {
         ensures drained { IfOk result (λ r. IsDrained r.lines.connections) }
         ensures fresh { IfOk result (λ r. IsFreshFrom 0 r.lines.connections) }
         ensures room { IfOk result (λ r. 0 < length r.buf.items) }
+        ensures left { IfOk result (λ r. waits_of r.lines ≡ turns) }
     {
         Ok(Running {
             jobs: Jobs::new(alloc, count)?,
@@ -62,14 +62,17 @@ impl Running {
         requires fresh { IsFreshFrom number self.old.lines.connections }
         requires waiting { WaitingFrom number self.old.jobs.slots.items }
         ensures waiting { OnOk result (WaitingFrom (number + 1) self.new.jobs.slots.items) }
-        ensures stands { (asks : Plain Asked) (start : Maybe (Plain Entry)) (from : Counts) →
-            slice_get asks number ≡ Some ask → AllStand asks start from
-            self.old.jobs.slots.items (W.journal w.old) (W.counts w.old) → AllStand asks start
-            from self.new.jobs.slots.items (W.journal w.new) (W.counts w.new) }
+        ensures stands { (asks : Plain Asked) (start : Maybe (Plain Entry)) (from : Outset) →
+            slice_get asks number ≡ Some ask → from.here ≡ here.now →
+            AllStand asks start from self.old.jobs.slots.items (W.journal w.old) (W.counts w.old)
+            → AllStand asks start from self.new.jobs.slots.items (W.journal w.new)
+            (W.counts w.new) }
         ensures size { length self.new.jobs.slots.items ≡ length self.old.jobs.slots.items }
         ensures fresh { OnOk result (IsFreshFrom (number + 1) self.new.lines.connections) }
         ensures drained { IsDrained self.old.lines.connections →
             IsDrained self.new.lines.connections }
+        ensures waits { waits_left self.new.lines.connections ≡
+            waits_left self.old.lines.connections }
         ensures buf { self.new.buf ≡ self.old.buf }
     {
         match self.jobs.begin(w, number, ask, here) {
@@ -92,6 +95,8 @@ impl Running {
         ensures fresh { IsFreshFrom (number + 1) self.new.lines.connections }
         ensures drained { IsDrained self.old.lines.connections →
             IsDrained self.new.lines.connections }
+        ensures waits { waits_left self.new.lines.connections ≡
+            waits_left self.old.lines.connections }
         ensures buf { self.new.buf ≡ self.old.buf }
     {
         match self.lines.begin(w, number as u8, wanted) {
@@ -111,6 +116,7 @@ impl Running {
         ensures buf { self.new.buf ≡ self.old.buf }
         ensures stands { KeepsAll W.journal W.counts w.old w.new self.old.jobs.slots.items
             self.new.jobs.slots.items }
+        ensures left { waits_of self.new.lines ≡ waits_of self.old.lines }
     {
         for number in 0..16u8 {
             self.retire_where(w, number);
@@ -129,6 +135,7 @@ impl Running {
         ensures buf { self.new.buf ≡ self.old.buf }
         ensures stands { KeepsAll W.journal W.counts w.old w.new self.old.jobs.slots.items
             self.new.jobs.slots.items }
+        ensures left { waits_of self.new.lines ≡ waits_of self.old.lines }
     {
         if self.lines.losses.has(number) {
             self.retire_one(w, number);
@@ -144,6 +151,7 @@ impl Running {
         ensures buf { self.new.buf ≡ self.old.buf }
         ensures stands { KeepsAll W.journal W.counts w.old w.new self.old.jobs.slots.items
             self.new.jobs.slots.items }
+        ensures left { waits_of self.new.lines ≡ waits_of self.old.lines }
         ensures ended { AllEnded self.new.jobs.slots.items }
     {
         for number in 0..self.jobs.len() {
@@ -163,6 +171,7 @@ impl Running {
         ensures buf { self.new.buf ≡ self.old.buf }
         ensures stands { KeepsAll W.journal W.counts w.old w.new self.old.jobs.slots.items
             self.new.jobs.slots.items }
+        ensures left { waits_of self.new.lines ≡ waits_of self.old.lines }
         ensures size { length self.new.jobs.slots.items ≡ length self.old.jobs.slots.items }
         ensures ended { EndedBelow number self.old.jobs.slots.items →
             EndedBelow (number + 1) self.new.jobs.slots.items }

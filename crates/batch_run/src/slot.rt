@@ -1,5 +1,5 @@
 //! `Slot`, one job of a run.
-ghost use Rattle.batch_run.specs.Stands.{SlotKeeps, KeepsEach};
+ghost use Rattle.batch_run.specs.Stands.{SlotKeeps, KeepsSaying};
 
 use job_end::Answer;
 use job_run::Job;
@@ -154,7 +154,7 @@ fn ended<W: World>(alloc: Global, w: &mut W, slot: Slot) -> Answer
 
 /// Says how a job ended.
 pub(crate) fn say_end<W: World>(w: &mut W, answer: &Answer)
-    ensures { KeepsEach W.journal W.counts w.old w.new }
+    ensures { KeepsSaying W.journal W.counts w.old w.new answer.now }
 {
     say(w, answer.line.bytes());
 }

@@ -6,7 +6,7 @@ use world::{Chan, World};
 
 impl Jobs {
     ghost use Rattle.std.specs.Prelude.{◌≡◌, ◌<◌, ◌+◌, ◌^◌, length};
-    ghost use Rattle.batch_run.specs.Stands.{KeepsAll, StayAll, WaitingFrom};
+    ghost use Rattle.batch_run.specs.Stands.{KeepsAll, KeepsOthers, StayAll, WaitingFrom};
 
     /// What a job has queued on this channel and hasn't handed out.
     pub(crate) fn queued(&mut self, number: usize, chan: Chan) -> Option<Bytes>
@@ -54,6 +54,7 @@ impl Jobs {
     ) -> Result<(), NoMemory>
         ensures stands { KeepsAll W.journal W.counts w.old w.new self.old.slots.items
             self.new.slots.items }
+        ensures others { KeepsOthers number self.old.slots.items self.new.slots.items }
     {
         if number >= self.slots.len() {
             return Ok(());
@@ -64,6 +65,7 @@ impl Jobs {
     /// A connection of the job has ended.
     pub(crate) fn on_ended(&mut self, number: usize)
         ensures stands { StayAll self.old.slots.items self.new.slots.items }
+        ensures others { KeepsOthers number self.old.slots.items self.new.slots.items }
     {
         if number < self.slots.len() {
             self.slots[number].on_ended();
@@ -159,6 +161,7 @@ impl Jobs {
         ensures waiting { WaitingFrom (number + 1) self.old.slots.items →
             WaitingFrom (number + 1) self.new.slots.items }
         ensures stands { StayAll self.old.slots.items self.new.slots.items }
+        ensures others { KeepsOthers number self.old.slots.items self.new.slots.items }
     {
         if number >= self.slots.len() {
             return Ok(());

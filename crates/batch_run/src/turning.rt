@@ -14,18 +14,22 @@ const CHANS: [Chan; 4] = [Chan::Shell, Chan::Control, Chan::Iopub, Chan::Heart];
 const READS: u32 = 64 * 65;
 
 impl Running {
-    ghost use Rattle.std.specs.Prelude.{◌≡◌, ◌<◌, ◌^◌, Ok, Some, true, false, IfOk, OnOk, length};
+    ghost use Rattle.std.specs.Prelude.{◌≡◌, ◌<◌, ◌≤◌, ◌^◌, ℕ, Ok, Some, None, true, false, IfOk, OnOk};
+    ghost use Rattle.std.specs.Prelude.{length};
     ghost use Rattle.ready_loop.specs.States.{IsDrained, IsOffered};
     ghost use Rattle.batch_run.specs.Kept.{Falls, NoneLost, goes_on};
-    ghost use Rattle.batch_run.specs.Lines.{budget};
-    ghost use Rattle.batch_run.specs.Stands.{AllEnded, KeepsAll, StayAll};
+    ghost use Rattle.batch_run.specs.Lines.{budget, waits_of};
+    ghost use Rattle.batch_run.specs.Stands.{AllEnded, ChangesOne, KeepsAll, KeepsOthers};
+    ghost use Rattle.batch_run.specs.Stands.{KeepsWaiting, StayAll};
+    ghost use Rattle.batch_run.specs.declared.fault.Fault.TheVariants.{OfJob};
 
     /// Turn after turn, until each job has ended.
     pub(crate) fn run<W: World>(&mut self, w: &mut W) -> Result<(), NoMemory>
         requires drained { IsDrained self.old.lines.connections }
         requires room { 0 < length self.old.buf.items }
-        ensures stands { KeepsAll W.journal W.counts w.old w.new self.old.jobs.slots.items
-            self.new.jobs.slots.items }
+        ensures stands { KeepsWaiting W.journal W.counts w.old w.new (waits_of self.old.lines)
+            (waits_of self.new.lines) self.old.jobs.slots.items self.new.jobs.slots.items }
+        ensures left { waits_of self.new.lines ≤ waits_of self.old.lines }
         ensures ended { OnOk result (AllEnded self.new.jobs.slots.items) }
     {
         while self.turn(w)? {}
@@ -40,8 +44,9 @@ impl Running {
         ensures drained { result ≡ Ok true → IsDrained self.new.lines.connections }
         ensures room { 0 < length self.new.buf.items }
         ensures budget { result ≡ Ok true → budget self.new.lines < budget self.old.lines }
-        ensures stands { KeepsAll W.journal W.counts w.old w.new self.old.jobs.slots.items
-            self.new.jobs.slots.items }
+        ensures stands { KeepsWaiting W.journal W.counts w.old w.new (waits_of self.old.lines)
+            (waits_of self.new.lines) self.old.jobs.slots.items self.new.jobs.slots.items }
+        ensures left { waits_of self.new.lines ≤ waits_of self.old.lines }
         ensures ended { result ≡ Ok false → AllEnded self.new.jobs.slots.items }
     {
         if !self.put_out(w)? {
@@ -69,8 +74,9 @@ impl Running {
         ensures drained { result ≡ Ok true → IsDrained self.new.lines.connections }
         ensures room { 0 < length self.new.buf.items }
         ensures budget { result ≡ Ok true → budget self.new.lines < budget self.old.lines }
-        ensures stands { KeepsAll W.journal W.counts w.old w.new self.old.jobs.slots.items
-            self.new.jobs.slots.items }
+        ensures stands { KeepsWaiting W.journal W.counts w.old w.new (waits_of self.old.lines)
+            (waits_of self.new.lines) self.old.jobs.slots.items self.new.jobs.slots.items }
+        ensures left { waits_of self.new.lines ≤ waits_of self.old.lines }
     {
         let looks = self.looks();
         if looks.contains(&true) {
@@ -89,6 +95,7 @@ impl Running {
         ensures budget { Falls false (budget self.old.lines) (budget self.new.lines) }
         ensures stands { KeepsAll W.journal W.counts w.old w.new self.old.jobs.slots.items
             self.new.jobs.slots.items }
+        ensures left { waits_of self.new.lines ≡ waits_of self.old.lines }
     {
         loop {
             self.queue_all()?;
@@ -112,6 +119,7 @@ impl Running {
         ensures buf { self.new.buf ≡ self.old.buf }
         ensures budget { budget self.new.lines ≡ budget self.old.lines }
         ensures stands { StayAll self.old.jobs.slots.items self.new.jobs.slots.items }
+        ensures left { waits_of self.new.lines ≡ waits_of self.old.lines }
     {
         for number in 0..self.jobs.len() {
             self.queue_job(number as u8)?;
@@ -126,6 +134,7 @@ impl Running {
         ensures buf { self.new.buf ≡ self.old.buf }
         ensures budget { budget self.new.lines ≡ budget self.old.lines }
         ensures stands { StayAll self.old.jobs.slots.items self.new.jobs.slots.items }
+        ensures left { waits_of self.new.lines ≡ waits_of self.old.lines }
     {
         for chan in CHANS {
             self.queue_on(Conn { job, chan })?;
@@ -140,6 +149,7 @@ impl Running {
         ensures buf { self.new.buf ≡ self.old.buf }
         ensures budget { budget self.new.lines ≡ budget self.old.lines }
         ensures stands { StayAll self.old.jobs.slots.items self.new.jobs.slots.items }
+        ensures left { waits_of self.new.lines ≡ waits_of self.old.lines }
     {
         if !self.lines.takes(conn) {
             return Ok(());
@@ -150,12 +160,14 @@ impl Running {
         }
     }
 
-    // Ends what a fault ends. Whether a job may go on.
+    // Ends what a fault ends: the fault of one job ends no other. Whether a job may go on.
     fn on_fault(&mut self, fault: Fault) -> Result<bool, NoMemory>
         ensures goes { IfOk result (λ b. b ≡ goes_on fault) }
         ensures lines { self.new.lines ≡ self.old.lines }
         ensures buf { self.new.buf ≡ self.old.buf }
         ensures stands { StayAll self.old.jobs.slots.items self.new.jobs.slots.items }
+        ensures others { (job : ℕ) → fault ≡ OfJob job →
+            KeepsOthers job self.old.jobs.slots.items self.new.jobs.slots.items }
     {
         match fault {
             Fault::OfJob(job) => {
@@ -190,8 +202,9 @@ impl Running {
         ensures drained { result ≡ Ok true → IsDrained self.new.lines.connections }
         ensures room { 0 < length self.new.buf.items }
         ensures budget { result ≡ Ok true → budget self.new.lines < budget self.old.lines }
-        ensures stands { KeepsAll W.journal W.counts w.old w.new self.old.jobs.slots.items
-            self.new.jobs.slots.items }
+        ensures stands { KeepsWaiting W.journal W.counts w.old w.new (waits_of self.old.lines)
+            (waits_of self.new.lines) self.old.jobs.slots.items self.new.jobs.slots.items }
+        ensures left { waits_of self.new.lines ≤ waits_of self.old.lines }
     {
         match self.lines.look(w, looks) {
             Ok(ends) => {
@@ -213,8 +226,9 @@ impl Running {
         ensures drained { result ≡ Ok true → IsDrained self.new.lines.connections }
         ensures room { 0 < length self.new.buf.items }
         ensures budget { result ≡ Ok true → budget self.new.lines < budget self.old.lines }
-        ensures stands { KeepsAll W.journal W.counts w.old w.new self.old.jobs.slots.items
-            self.new.jobs.slots.items }
+        ensures stands { KeepsWaiting W.journal W.counts w.old w.new (waits_of self.old.lines)
+            (waits_of self.new.lines) self.old.jobs.slots.items self.new.jobs.slots.items }
+        ensures left { waits_of self.new.lines ≤ waits_of self.old.lines }
     {
         let due = self.jobs.due();
         match self.lines.turn(w, due) {
@@ -260,6 +274,7 @@ impl Running {
         ensures budget { Falls false (budget self.old.lines) (budget self.new.lines) }
         ensures stands { KeepsAll W.journal W.counts w.old w.new self.old.jobs.slots.items
             self.new.jobs.slots.items }
+        ensures left { waits_of self.new.lines ≡ waits_of self.old.lines }
     {
         for _ in 0..=READS {
             match self.read_one(w) {
@@ -271,7 +286,8 @@ impl Running {
         self.on_fault(Fault::OfAll)
     }
 
-    // Reads one connection. Where no more is to be read: whether a job may go on.
+    // Reads one connection. What its peer does changes its own job alone. Where no more is to be
+    // read: whether a job may go on.
     fn read_one<W: World>(&mut self, w: &mut W) -> Result<Option<bool>, NoMemory>
         requires room { 0 < length self.old.buf.items }
         ensures drained { result ≡ Ok (Some true) → IsDrained self.new.lines.connections }
@@ -279,6 +295,9 @@ impl Running {
         ensures budget { Falls false (budget self.old.lines) (budget self.new.lines) }
         ensures stands { KeepsAll W.journal W.counts w.old w.new self.old.jobs.slots.items
             self.new.jobs.slots.items }
+        ensures left { waits_of self.new.lines ≡ waits_of self.old.lines }
+        ensures one { result ≡ Ok None →
+            ChangesOne self.old.jobs.slots.items self.new.jobs.slots.items }
     {
         match self.lines.next(w, self.buf.as_mut_slice()) {
             Ok(Next::Piece { conn, n }) => {
@@ -301,6 +320,8 @@ impl Running {
         ensures lines { self.new.lines ≡ self.old.lines }
         ensures buf { self.new.buf ≡ self.old.buf }
         ensures stands { StayAll self.old.jobs.slots.items self.new.jobs.slots.items }
+        ensures one { result ≡ Ok None →
+            ChangesOne self.old.jobs.slots.items self.new.jobs.slots.items }
     {
         match self.on_fault(fault) {
             Ok(true) => Ok(None),
@@ -314,6 +335,7 @@ impl Running {
         ensures buf { self.new.buf ≡ self.old.buf }
         ensures stands { KeepsAll W.journal W.counts w.old w.new self.old.jobs.slots.items
             self.new.jobs.slots.items }
+        ensures others { KeepsOthers conn.job self.old.jobs.slots.items self.new.jobs.slots.items }
     {
         let piece = &self.buf[..n.min(self.buf.len())];
         self.jobs

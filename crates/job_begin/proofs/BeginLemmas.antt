@@ -1,39 +1,43 @@
 -- What the steps of a job's begin make together.
-use Rattle.std.proofs.Common.{◌≡◌, ◌⊎◌, inl, inr, ℕ, ◌+◌, Bool, true, false, List, [], ◌∷◌, ◌++◌, length, codes, Option, Some, None, Result, Ok, Err, refl, sym, ap, subst, ◌∙◌, arith, length-append}
-use Rattle.std.proofs.lemmas.Slice.Eq.{bytes_eq-Decides}
-use Rattle.std.proofs.lemmas.Bool.{false_from_ne_true}
+use Rattle.std.proofs.Common.{◌≡◌, inl, inr, ℕ, Bool, true, false, List, [], ◌∷◌, ◌++◌, length, Option, Some, None, Result, Ok, Err, refl, sym, ap, subst, ◌∙◌, arith, length-append}
 use Rattle.std.specs.Prelude.{IfSome, IfErr}
-use Rattle.std.specs.Str.{bytes_eq}
 use Rattle.nb_model.specs.declared.notebook.Notebook.{Notebook}
 use Rattle.words.specs.declared.ask.Ask.{Ask}
-use Rattle.words.specs.Paths.{connection_of}
 use Rattle.world.specs.declared.entry.Entry.{Entry}
 use Rattle.world.specs.declared.entry.Entry.TheVariants as made
 use Rattle.world.specs.Counts.{Counts, CountsGrow, Rose}
 use Rattle.world.specs.Moments.{Since, start, more as later, Told}
 use Rattle.world.specs.Touched.{Spares}
 use Rattle.world.proofs.CountsLemmas.{grow_start}
-use Rattle.save_disk.specs.Temporary.{temporary_of}
+use Rattle.world.proofs.MomentsLemmas.{told_as as moments_as}
+use Rattle.world.specs.declared.read_file.ReadFile.{ReadFile}
+use Rattle.kernel_start.specs.declared.kernel.Kernel.{Kernel}
+use Rattle.kernel_start.specs.declared.kernel_fault.KernelFault.{KernelFault}
+use Rattle.kernel_start.specs.Finding.{Finds, found, FindsBy, IsFound, read_entries}
 use Rattle.save_course.specs.Course.{begins, IsRested}
 use Rattle.job_end.specs.declared.answer.Answer.{Answer}
 use Rattle.job_end.specs.declared.end.End.{End}
 use Rattle.job_end.specs.declared.end.End.TheVariants as end
 use Rattle.job_end.specs.Answers.{Answers, said, starved}
 use Rattle.job_end.specs.Statuses.{status_of}
-use Rattle.job_saves.specs.Course.{Origin, IsFor, IsSaved, HasSaved, IsUntouched, IsSpared, Begins, Ends, keeps_open}
+use Rattle.job_saves.specs.Course.{Origin, IsFor, IsSaved, HasSaved, HasCalled, HasPart, Begins, Ends, keeps_open}
+use Rattle.job_saves.specs.Calls.{Cast, IsKernelOf, IsCallBy, IsCall}
+use Rattle.job_saves.specs.Children.{KeepsEnd}
+use Rattle.job_saves.proofs.ChildLemmas.{told_keeps_end}
+use Rattle.job_saves.proofs.ToldLemmas.{told_by}
 use Rattle.job_notebook.specs.declared.notebook.JobNotebook.{JobNotebook}
 use Rattle.job_notebook.specs.State.{merge_of, output_of}
-use Rattle.job_saves.proofs.CourseLemmas.{told_as, begins_pass}
+use Rattle.job_saves.proofs.CourseLemmas.{told_as, begins_pass, work_start}
 use Rattle.job_run.specs.declared.job.Job.{Job}
-use Rattle.job_run.specs.Run.{StartsAs, BeginsAs, EndsWith, Runs, IsUnsaved, StartsAlone, IsLeftAlone, IsOther}
+use Rattle.job_run.specs.Run.{StartsAs, BeginsAs, Runs, IsUnsaved, IsCastAs, StartsInRole, HasRole}
 use Rattle.job_begin.specs.Causes.{HasCause}
-use Rattle.job_begin.specs.Begun.{Begun, with_notebook, HasRead, AnswersAs, IsOpen, origin_of, first_of}
+use Rattle.job_begin.specs.Begun.{Begun, with_notebook, HasRead, AnswersAs, BeginsWith, FindsKernel, IsOpen, origin_of, first_of}
 
 -- ---- an end without a save
 
 pub end_unsaved : (o : Origin) (e : End) (j : Option (List Entry)) (c : Counts) → IsOpen e → Begins o j c → Ends o (keeps_open e) j c
 end_unsaved o e j c unsaved s = subst (λ b. Ends o b j c) (sym unsaved) (record {
-  told = told_as j (IsSaved o true 0) (HasSaved o true) (λ past h. record { settled = 0; is = h }) s.told;
+  told = λ on. told_as j (IsSaved o true 0) (HasSaved o true) (λ past h. record { settled = 0; is = h }) (s.told on);
   grow = s.grow;
   cause = λ f. absurd (cc);
 })
@@ -43,31 +47,11 @@ end_unsaved o e j c unsaved s = subst (λ b. Ends o b j c) (sym unsaved) (record
 pub for_book : (a : Ask) (b : JobNotebook) (n : Notebook) (o : Origin) → output_of b ≡ a.output → merge_of b ≡ a.merge → IsFor a.output a.merge n o → IsFor (output_of b) (merge_of b) n o
 for_book a b n o output merge for = record { output_is = for.output_is ∙ sym output; merge_is = for.merge_is ∙ sym merge; first_is = for.first_is }
 
-pub spared_by : (a : Ask) (b : JobNotebook) (path : List ℕ) (since : List Entry) (from : Counts) (j : Option (List Entry)) (c : Counts) → output_of b ≡ a.output → IsOther a.output path
-    → IsUntouched path since from j c → IsSpared path since from b j c
-spared_by a b path since from j c output other so = record {
-  output = subst (λ q. bytes_eq q path ≡ false) (sym output) other.output_is;
-  temporary = subst (λ q. bytes_eq (temporary_of q) path ≡ false) (sym output) other.temporary;
-  so = so;
-}
+pub part_by : (a : Ask) (b : JobNotebook) (cast : Cast) (number : ℕ) (since : List Entry) (from : Counts) (j : Option (List Entry)) (c : Counts) → output_of b ≡ a.output
+    → cast.job number ≡ Some a → HasCalled cast since from j c → HasPart cast since from b j c
+part_by a b cast number since from j c output has so = record { number = number; ask = a; has = has; output = output; so = so }
 
 -- ---- calls add to the journal
-
-differ : (p q : List ℕ) → (p ≡ q → ⊥) → bytes_eq p q ≡ false
-differ p q ne = false_from_ne_true _ (λ e. ne ((bytes_eq-Decides p q).0 e))
-
--- a path that a job on this output doesn't touch
-abbrev longer : List ℕ → List ℕ
-longer output = output ++ 0 ∷ []
-
-other_longer : (output : List ℕ) → IsOther output (longer output)
-other_longer output = record {
-  output_is = differ output (longer output) (λ e. let l : length output ≡ length (longer output) = ap length e in omega (arith, l, length-append output (0 ∷ [])));
-  temporary = differ (temporary_of output) (longer output) (λ e. let l : length (temporary_of output) ≡ length (longer output) = ap length e in
-      omega (arith, l, length-append output (codes ".nbrun-tmp"), length-append output (0 ∷ [])));
-  connection = differ (connection_of output) (longer output) (λ e. let l : length (connection_of output) ≡ length (longer output) = ap length e in
-      omega (arith, l, length-append output (codes ".nbrun-kernel.json"), length-append output (0 ∷ [])));
-}
 
 -- what was told is still there
 pub record Appends (before after : List Entry) : Type 0 where
@@ -81,25 +65,64 @@ appends (later {entry = entry} since p) = let a = appends since in record { adde
 not_longer : (entry : Entry) (y : List Entry) → Appends (entry ∷ y) y → ⊥
 not_longer entry y a = omega (arith, ap length a.is, length-append a.added (entry ∷ y))
 
-left_alone : {E : Type 0} (path : List ℕ) (since : List Entry) (from : Counts) (result : Result Job E) (k : Option (List Entry)) (d : Counts)
-    → StartsAlone path since from result k d → IsUntouched path since from k d
-left_alone path since from (Ok j) k d h = h.saves.so
-left_alone path since from (Err e) k d h = h
+called : {E : Type 0} (cast : Cast) (since : List Entry) (from : Counts) (result : Result Job E) (k : Option (List Entry)) (d : Counts)
+    → StartsInRole cast since from result k d → HasCalled cast since from k d
+called cast since from (Ok j) k d h = h.part.so
+called cast since from (Err e) k d h = h
 
-module _ {E : Type 0} (output : List ℕ) (result : Result Job E) (c d : Counts) where
-  abbrev Leaves : Option (List Entry) → Option (List Entry) → Type 0
-  Leaves j k = (path : List ℕ) (since : List Entry) (from : Counts) → IsOther output path → IsUntouched path since from j c → StartsAlone path since from result k d
+-- the job that is asked for alone
+abbrev pub sole : Ask → List ℕ → Bool → Cast
+sole a here starts = record { job = λ n. Some a; here = here; starts = starts }
 
-  pub told_appends : (j k : Option (List Entry)) → Leaves j k → Told j k Appends
-  told_appends j None leaves = record { so = tt }
-  told_appends None (Some y) leaves =
-      let was : IsUntouched (longer output) (made.Moment 0 ∷ y) c None c = record { told = tt; grow = grow_start c } in
-      let now = left_alone (longer output) (made.Moment 0 ∷ y) c result (Some y) d (leaves (longer output) (made.Moment 0 ∷ y) c (other_longer output) was) in
-      absurd (not_longer (made.Moment 0) y (appends now.told))
-  told_appends (Some x) (Some y) leaves =
-      let was : IsUntouched (longer output) x c (Some x) c = record { told = start; grow = grow_start c } in
-      let now = left_alone (longer output) x c result (Some y) d (leaves (longer output) x c (other_longer output) was) in
-      record { so = appends now.told }
+module _ {E : Type 0} (a : Ask) (number : ℕ) (here : List ℕ) (result : Result Job E) (c d : Counts) where
+  abbrev Calls : Option (List Entry) → Option (List Entry) → Type 0
+  Calls j k = (cast : Cast) (since : List Entry) (from : Counts) → IsCastAs cast number a here → HasCalled cast since from j c → StartsInRole cast since from result k d
+
+  pub told_appends : (j k : Option (List Entry)) → Calls j k → Told j k Appends
+  told_appends j k calls =
+      let cast : Cast = sole a here true in
+      told_adds (told_by (IsCall cast) j k (λ since held.
+      (called cast since c result k d (calls cast since c (record { has = refl; folder = refl; starts = refl })
+      (record { told = held; counts_work = work_start c }))).told))
+    where
+      told_adds : {i m : Option (List Entry)} {P : List Entry → Type 0} → Told i m (Since P) → Told i m Appends
+      told_adds told = moments_as told (λ x y s. appends s)
+
+-- ---- children
+
+-- calls of a job that start none
+pub none_started : (a : Ask) (n : ℕ) (j k : Option (List Entry)) → ((cast : Cast) (number : ℕ) → cast.job number ≡ Some a → Told j k (Since (IsCall cast))) → KeepsEnd n j k
+none_started a n j k calls = told_keeps_end (sole a [] false) n (λ number b has starts. absurd (cc)) j k (calls (sole a [] false) 0 refl)
+
+pub none_started_in : (a : Ask) (n : ℕ) (j k : Option (List Entry)) (c d : Counts)
+    → ((cast : Cast) (number : ℕ) (since : List Entry) (from : Counts) → cast.job number ≡ Some a → HasCalled cast since from j c → HasCalled cast since from k d)
+    → KeepsEnd n j k
+none_started_in a n j k c d calls =
+    let cast : Cast = sole a [] false in
+    told_keeps_end cast n (λ number b has starts. absurd (cc)) j k
+    (told_by (IsCall cast) j k (λ since held. (calls cast 0 since c refl (record { told = held; counts_work = work_start c })).told))
+
+-- ---- the calls of the begin
+
+pub reads_input : (a : Ask) (cast : Cast) (number : ℕ) → cast.job number ≡ Some a → (answer : ReadFile) → IsCallBy cast (made.Read a.input 33554432 answer)
+reads_input a cast number has answer = record { number = number; ask = a; has = has; is = inl (refl, refl) }
+
+pub finds_called : (a : Ask) (n : Notebook) (result : Result Kernel KernelFault) (cast : Cast) (number : ℕ) → cast.job number ≡ Some a
+    → (before after : List Entry) → FindsBy a n result before after → Since (IsCall cast) before after
+finds_called a n result cast number has before after f = subst (Since (IsCall cast) before) (sym f.ends) (read f.answer)
+  where
+    read : (answer : Option ReadFile) → Since (IsCall cast) before (read_entries a n answer before)
+    read None = start
+    read (Some answer) = later start (record { number = number; ask = a; has = has; is = inr (n, refl, refl) })
+
+-- a kernel that was found is one that was asked for
+pub kernel_found : (a : Ask) (n : Notebook) (answer : Option ReadFile) (kernel : Kernel) → Finds a n answer (Ok kernel) → IsKernelOf a kernel
+kernel_found a n answer kernel (found {bytes} good says folder) = record { bytes = bytes; says = says; notebook = n; folder = folder }
+
+pub kernel_by : (a : Ask) (n : Notebook) (result : Result Kernel KernelFault) (kernel : Kernel) → result ≡ Ok kernel → IsFound a n result → IsKernelOf a kernel
+kernel_by a n result kernel is f =
+    let at : IsFound a n (Ok kernel) = subst (IsFound a n) is f in
+    kernel_found a n at.0 kernel at.1
 
 -- ---- the answer of an end
 
@@ -143,12 +166,19 @@ answered output (Err e) (Err answer) answers o journal c caused h = record {
 answered output (Ok j) (Err answer) wrong o journal c caused h = absurd wrong
 answered output (Err e) (Ok k) wrong o journal c caused h = absurd wrong
 
-pub answered_apart : (output : List ℕ) (begun : Result Job End) (result : Result Job Answer) → AnswersAs output begun result
-    → (path : List ℕ) (since : List Entry) (from : Counts) (j : Option (List Entry)) (c : Counts) → StartsAlone path since from begun j c → StartsAlone path since from result j c
-answered_apart output (Ok j) (Ok k) same path since from journal c h = subst (λ x. IsLeftAlone path since from x journal c) (sym same) h
-answered_apart output (Err e) (Err answer) answers path since from journal c h = h
-answered_apart output (Ok j) (Err answer) wrong path since from journal c h = absurd wrong
-answered_apart output (Err e) (Ok k) wrong path since from journal c h = absurd wrong
+pub answered_role : (output : List ℕ) (begun : Result Job End) (result : Result Job Answer) → AnswersAs output begun result
+    → (cast : Cast) (since : List Entry) (from : Counts) (j : Option (List Entry)) (c : Counts) → StartsInRole cast since from begun j c → StartsInRole cast since from result j c
+answered_role output (Ok j) (Ok k) same cast since from journal c h = subst (λ x. HasRole cast since from x journal c) (sym same) h
+answered_role output (Err e) (Err answer) answers cast since from journal c h = h
+answered_role output (Ok j) (Err answer) wrong cast since from journal c h = absurd wrong
+answered_role output (Err e) (Ok k) wrong cast since from journal c h = absurd wrong
+
+-- what a job that ended left, by its answer
+pub answered_left : (output : List ℕ) (P : Type 0) (begun : Result Job End) (result : Result Job Answer) → AnswersAs output begun result → IfErr begun (λ e. P) → IfErr result (λ e. P)
+answered_left output P (Ok j) (Ok k) same h = tt
+answered_left output P (Err e) (Err answer) answers h = h
+answered_left output P (Ok j) (Err answer) wrong h = absurd wrong
+answered_left output P (Err e) (Ok k) wrong h = absurd wrong
 
 -- ---- the begin as a whole
 
@@ -162,7 +192,7 @@ module _ (a : Ask) (n : Notebook) (begun : Result Job End) (mid new : Counts) wh
       subst (λ c. Rose c.disk new.disk) at (ended.cause shut)
 
   saved_from : (j k : Option (List Entry)) (before : List Entry) → SavesOn j k → IfSome j (IsSaved (origin_of a n before mid) true 0) → StartsAs (origin_of a n before mid) begun k new
-  saved_from j k before goes told = goes (origin_of a n before mid) (record { output_is = refl; merge_is = refl; first_is = refl }) (record { told = told; grow = grow_start mid })
+  saved_from j k before goes told = goes (origin_of a n before mid) (record { output_is = refl; merge_is = refl; first_is = refl }) (record { told = λ on. told; grow = grow_start mid })
 
   -- a save that has failed has its cause, whatever the journal tells
   pub save_rose : (i j k : Option (List Entry)) → Told i j (HasRead a n) → SavesOn j k → (e : End) → begun ≡ Err e → keeps_open e ≡ false → Rose mid.disk new.disk
@@ -174,19 +204,19 @@ module _ (a : Ask) (n : Notebook) (begun : Result Job End) (mid new : Counts) wh
       rose_of (origin_of a n x mid) k refl (saved_from (Some x) k x goes (record { course = begins; rested = rested }))
 
   pub begun_so : (result : Result Job Answer) (old : Counts) (i j k : Option (List Entry)) → AnswersAs a.output begun result → IfErr result (λ answer. HasCause old new answer.status)
-      → Told i j (HasRead a n) → Told i j (Since (Spares a.output)) → CountsGrow old mid → SavesOn j k → Told j k Appends
+      → BeginsWith a (first_of a n) result → ((x y : List Entry) → j ≡ Some x → k ≡ Some y → FindsKernel a (first_of a n) result x y) → Told i j (HasRead a n) → Told i j (Since (Spares a.output)) → CountsGrow old mid → SavesOn j k → Told j k Appends
       → Told i k (λ before after. IsRested a.output before → Begun a result old new before after)
-  begun_so result old i j None answers caused read spared grow goes more = record { so = tt }
-  begun_so result old i None (Some y) answers caused read spared grow goes more = absurd more.so
-  begun_so result old None (Some x) (Some y) answers caused read spared grow goes more = absurd read.so
-  begun_so result old (Some before) (Some x) (Some y) answers caused read spared grow goes more =
+  begun_so result old i j None answers caused task kernel read spared grow goes more = record { so = tt }
+  begun_so result old i None (Some y) answers caused task kernel read spared grow goes more = absurd more.so
+  begun_so result old None (Some x) (Some y) answers caused task kernel read spared grow goes more = absurd read.so
+  begun_so result old (Some before) (Some x) (Some y) answers caused task kernel read spared grow goes more =
       let h : HasRead a n before x = read.so in
       let m : Appends x y = more.so in
       let o : Origin = origin_of a n before old in
       record {
         so = λ rested.
-            let first : Begins o (Some before) old = record { told = record { course = begins; rested = rested }; grow = grow_start old } in
+            let first : Begins o (Some before) old = record { told = λ on. record { course = begins; rested = rested }; grow = grow_start old } in
             let b : Begins o (Some x) mid = begins_pass o (Some before) (Some x) old mid spared grow first in
             let for : IsFor a.output a.merge (first_of a n) o = record { output_is = refl; merge_is = refl; first_is = refl } in
-            with_notebook h.bytes n m.added h.accepted (m.is ∙ ap (λ past. m.added ++ past) h.is) (answered a.output begun result answers o (Some y) new caused (goes o for b));
+            with_notebook h.bytes n m.added h.accepted (m.is ∙ ap (λ past. m.added ++ past) h.is) task (subst (λ z. FindsKernel a (first_of a n) result z y) h.is (kernel x y refl refl)) (answered a.output begun result answers o (Some y) new caused (goes o for b));
       }

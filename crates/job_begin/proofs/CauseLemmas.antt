@@ -1,5 +1,5 @@
 -- The causes of ends, by the counts.
-use Rattle.std.proofs.Common.{◌≡◌, ◌⊎◌, inl, inr, ℕ, ◌≤◌, List, Bool, true, false, Err, Result, Ok, refl, sym, subst, ◌∙◌, arith}
+use Rattle.std.proofs.Common.{◌≡◌, ◌⊎◌, ℕ, ◌≤◌, List, Bool, true, false, Err, Result, Ok, refl, sym, subst, ◌∙◌, arith}
 use Rattle.std.specs.Prelude.{◌==◌, ◌||◌, IfErr}
 use Rattle.world.specs.Counts.{Counts, CountsGrow, Rose}
 use Rattle.nb_load.specs.declared.load_fault.LoadFault.TheVariants as load
@@ -26,7 +26,7 @@ tells n = n == 3 || n == 6 || n == 10
 
 module _ (old new : Counts) where
   -- any other status
-  other : (n : ℕ) → tells n ≡ false → HasCause old new n
+  pub other : (n : ℕ) → tells n ≡ false → HasCause old new n
   other n quiet = record {
     read = λ e. let wrong : true ≡ false = subst (λ m. tells m ≡ false) e quiet in absurd (cc);
     start = λ e. let wrong : true ≡ false = subst (λ m. tells m ≡ false) e quiet in absurd (cc);

@@ -4,18 +4,17 @@ use Rattle.std.proofs.lemmas.List.{length-take, length-map}
 use Rattle.std.specs.Prelude.{position, nat_eq}
 use Rattle.std.specs.Cmp.Lexicographic.{pointwise}
 use Rattle.std.specs.Str.{bytes_eq}
-use Rattle.jtext.specs.declared.json.Json.{Json, out-Json}
+use Rattle.jtext.specs.declared.json.Json.{Json}
 use Rattle.jtext.specs.declared.json.Json.TheVariants as json
-use Rattle.jtext.specs.Grammar.{Spells, Spelled, Items, Pairs, Pair, null, yes, no, number, string, no_items, array, no_pairs, object, last_item, next_item, last_pair, next_pair, pair}
+use Rattle.jtext.specs.Grammar.{Spelled, Items, Pairs, Pair, null, yes, no, number, string, no_items, array, no_pairs, object, last_item, next_item, last_pair, next_pair, pair}
 use Rattle.jtext.specs.Find.{find, field, fields, fields_of}
 use Rattle.jtext.specs.Look.{items, items_layer, is_list, is_object}
 use Rattle.jtext.proofs.Trees.{open_Null, open_Bool, open_Num, open_Str, open_Arr, open_Obj}
 use Rattle.nb_model.specs.declared.cell.Cell.{Cell}
 use Rattle.nb_model.specs.declared.notebook.Notebook.{Notebook}
-use Rattle.nb_model.specs.Reading.{value_at, notebook_of}
 use Rattle.nb_model.specs.Tags.{is_tagged}
 use Rattle.nb_migrate.specs.Raised.{is_older, raised_tree, raised_object, raised_pair, raised_cells, raised_from}
-use Rattle.nb_params.specs.Injected.{parametrised_notebook, injected_notebook, with_parameters, placed_at, placed_after, hidden_cell}
+use Rattle.nb_params.specs.Injected.{parametrised_notebook, injected_notebook, placed_at, placed_after, hidden_cell}
 use Rattle.words.specs.declared.ask.Ask.{Ask}
 use Rattle.nb_load.specs.Loaded.{Accepts}
 

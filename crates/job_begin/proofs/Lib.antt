@@ -1,3 +1,4 @@
 mod BeginLemmas
-mod CauseLemmas
+pub mod CauseLemmas
 mod CellCounts
+pub mod EndLemmas

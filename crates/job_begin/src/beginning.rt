@@ -1,17 +1,26 @@
 //! `begin`, the begin of a job.
-ghost use Rattle.std.specs.Prelude.{◌≡◌, ◌<◌, ◌^◌, ℕ, List, false, length, IfOk, IfErr, OnOk};
+ghost use Rattle.std.specs.Prelude.{◌≡◌, ◌⊎◌, ◌<◌, ◌^◌, ℕ, List, false, length, Err, IfOk, IfErr, OnOk};
 ghost use Rattle.std.specs.Str.{bytes_eq};
 ghost use Rattle.job_begin.specs.Begun.{Begun, HasRead, AnswersAs, IsOpen, first_of};
+ghost use Rattle.job_begin.specs.Begun.{StartsWith, IsUncaused, IsEndOfSaving};
+ghost use Rattle.job_begin.specs.Begun.{GivesNone, KernelEnds, status_by};
+ghost use Rattle.job_end.specs.declared.end.End.TheVariants as ending;
+ghost use Rattle.kernel_start.specs.declared.kernel_fault.KernelFault as faults;
+ghost use Rattle.job_end.specs.Statuses.{status_of};
 ghost use Rattle.job_begin.specs.Causes.{HasCause};
-ghost use Rattle.job_begin.specs.Steps.{SavesFor, StartsFor, EndsApart, StartsApart};
+ghost use Rattle.job_begin.specs.Steps.{SavesFor, StartsFor, EndsInRole};
+ghost use Rattle.job_begin.specs.Steps.{BeginsInRole, LeavesNone};
 ghost use Rattle.job_notebook.specs.State.{notebook_of, settled_of, merge_of, output_of, KeepsRead};
-ghost use Rattle.job_saves.specs.Course.{GoesOn, SparesOthers, IsUntouched};
-ghost use Rattle.job_saves.specs.Course.{IsEndOfRun, stays_open, keeps_open};
-ghost use Rattle.job_run.specs.Run.{IsOther, StartsAlone, EndCause};
+ghost use Rattle.job_saves.specs.Calls.{Cast, IsAnswer, IsKernelOf, IsCall};
+ghost use Rattle.job_saves.specs.Course.{GoesOn, CallsOwn, CountsWork};
+ghost use Rattle.job_saves.specs.Course.{IsEndOfRun, IsEndOfSave, stays_open, keeps_open};
+ghost use Rattle.job_run.specs.Run.{EndCause, RunsCounted};
+ghost use Rattle.job_run.specs.Task.{output_of_job};
 ghost use Rattle.save_course.specs.Course.{IsRested};
-ghost use Rattle.kernel_start.specs.Finding.{IsNotRead};
+ghost use Rattle.kernel_start.specs.Finding.{IsFound, IsNotRead};
+ghost use Rattle.nb_model.specs.declared.notebook.Notebook as notebooks;
+ghost use Rattle.words.specs.declared.ask.Ask as asks;
 ghost use Rattle.words.specs.Runnable.{IsRunnable};
-ghost use Rattle.world.specs.declared.entry.Entry.{Entry};
 ghost use Rattle.world.specs.Counts.{Counts, CountsGrow, Rose};
 ghost use Rattle.world.specs.Moments.{Told, Since};
 ghost use Rattle.world.specs.Touched.{Spares};
@@ -49,14 +58,19 @@ pub fn begin<W: World>(
     ensures begun { Told (W.journal w.old) (W.journal w.new) (λ before after.
         IsRested ask.output before →
         Begun ask result (W.counts w.old) (W.counts w.new) before after) }
-    // No path is touched but its output, the temporary file of that and its connection file.
-    ensures others { (path : List ℕ) (since : List Entry) (from : Counts) →
-        IsOther ask.output path →
-        IsUntouched path since from (W.journal w.old) (W.counts w.old) →
-        StartsAlone path since from result (W.journal w.new) (W.counts w.new) }
+    // Its calls are those of the job that was asked for, and no other job's.
+    ensures calls { BeginsInRole W.journal W.counts w.old w.new number ask here.now result }
+    // Where it has ended a child that was started has its end.
+    ensures left { LeavesNone W.journal w.old w.new number result }
     // Statuses 3, 6 and 10 come only where a count of failed calls rose.
     ensures cause { IfErr result (λ answer.
         HasCause (W.counts w.old) (W.counts w.new) answer.status) }
+    // The status and the line are those of an end; where it runs, its last line names its output.
+    ensures answer { IfErr result (IsAnswer ask.output) }
+    ensures output { IfOk result (λ j. output_of_job j ≡ ask.output) }
+    // Where it runs, a save that fails comes only where a count rose, whatever the world tells.
+    ensures runs { IfOk result (λ j.
+        RunsCounted (W.counts w.old) j (W.journal w.new) (W.counts w.new)) }
 {
     laws::other_calls_pass();
     let Ok(output) = ask.output.copy(alloc) else {
@@ -87,10 +101,15 @@ fn input_of<W: Disk>(alloc: Global, w: &mut W, ask: &Ask) -> Result<Notebook, En
         Told (W.journal w.old) (W.journal w.new) (HasRead ask.now notebook)) }
     ensures others { (path : List ℕ) →
         Told (W.journal w.old) (W.journal w.new) (Since (Spares path)) }
-    ensures grow { CountsGrow (W.counts w.old) (W.counts w.new) }
+    ensures calls { (c : Cast) (number : ℕ) → c.job number ≡ Some ask.now →
+        Told (W.journal w.old) (W.journal w.new) (Since (IsCall c)) }
+    ensures work { CountsWork (W.counts w.old) (W.counts w.new) }
     ensures cause { IfErr result (EndCause (W.counts w.old) (W.counts w.new)) }
     ensures unsaved { IfErr result IsOpen }
     ensures few { IfOk result (λ notebook. length notebook.cells < 2 ^ 32) }
+    ensures none { IfErr result (λ end.
+        Told (W.journal w.old) (W.journal w.new) (λ before. GivesNone ask.now before end)) }
+    ensures uncaused { IfErr result (λ end. IsUncaused (status_of end)) }
 {
     match w.read_file(alloc, &ask.input, MOST) {
         ReadFile::Whole(bytes) => match load(alloc, bytes, ask) {
@@ -107,6 +126,8 @@ fn input_of<W: Disk>(alloc: Global, w: &mut W, ask: &Ask) -> Result<Notebook, En
 fn not_read(alloc: Global, ask: &Ask) -> End
     ensures cause { (old new : Counts) → Rose old.disk new.disk → EndCause old new result }
     ensures unsaved { IsOpen result }
+    ensures kind { (result ≡ ending.NotRead ask.now.input) ⊎ (result ≡ ending.NoMemory) }
+    ensures uncaused { IsUncaused (status_of result) }
 {
     match ask.input.copy(alloc) {
         Ok(path) => End::NotRead { path },
@@ -127,8 +148,13 @@ fn begin_with<W: World>(
     requires ask { IsRunnable ask }
     requires few { length notebook.cells < 2 ^ 32 }
     ensures course { StartsFor W.journal W.counts w.old w.new ask (first_of ask notebook) result }
-    ensures others { StartsApart W.journal W.counts w.old w.new ask result }
+    ensures calls { BeginsInRole W.journal W.counts w.old w.new number ask here.now result }
+    ensures left { LeavesNone W.journal w.old w.new number result }
     ensures cause { IfErr result (EndCause (W.counts w.old) (W.counts w.new)) }
+    ensures task { StartsWith ask (first_of ask notebook) result }
+    ensures kernel { IfErr result
+        (KernelEnds ask (first_of ask notebook) (W.journal w.old) (W.journal w.new)) }
+    ensures output { IfOk result (λ j. output_of_job j ≡ ask.output) }
 {
     jobs_end_unsaved();
     if ask.prepare {
@@ -145,6 +171,7 @@ fn begin_with<W: World>(
 fn end_of(saved: Result<(), End>) -> End
     ensures open { keeps_open result ≡ stays_open saved }
     ensures own { IfErr saved IsEndOfRun → IsEndOfRun result }
+    ensures kind { IfErr saved IsEndOfSave → IsEndOfSaving result }
 {
     match saved {
         Ok(()) => End::Done,
@@ -161,8 +188,9 @@ fn save_alone<W: Disk + Say>(
 ) -> Result<(), End>
     requires { length notebook.cells < 2 ^ 32 }
     ensures course { SavesFor W.journal W.counts w.old w.new ask.now notebook (stays_open result) }
-    ensures others { EndsApart W.journal W.counts w.old w.new ask.now }
+    ensures calls { EndsInRole W.journal W.counts w.old w.new ask.now }
     ensures own { IfErr result IsEndOfRun }
+    ensures kind { IfErr result IsEndOfSave }
 {
     laws::jobs_begin_and_end();
     jobs_end_unsaved();
@@ -180,6 +208,7 @@ fn book_of(alloc: Global, ask: &Ask, notebook: Notebook) -> Result<JobNotebook, 
     ensures keeps { IfOk result (λ b. KeepsRead b notebook) }
     ensures unsaved { IfErr result IsOpen }
     ensures own { IfErr result IsEndOfRun }
+    ensures kind { IfErr result IsEndOfSave }
 {
     Ok(JobNotebook::new(alloc, notebook, ask.merge, &ask.output)?)
 }
@@ -193,8 +222,9 @@ fn save_twice<W: Disk + Say>(
 ) -> Result<(), End>
     requires { length notebook.cells < 2 ^ 32 }
     ensures course { SavesFor W.journal W.counts w.old w.new ask.now notebook (stays_open result) }
-    ensures others { EndsApart W.journal W.counts w.old w.new ask.now }
+    ensures calls { EndsInRole W.journal W.counts w.old w.new ask.now }
     ensures own { IfErr result IsEndOfRun }
+    ensures kind { IfErr result IsEndOfSave }
 {
     laws::jobs_begin_and_end();
     jobs_end_unsaved();
@@ -210,8 +240,9 @@ fn save_done<W: Disk + Say>(w: &mut W, book: &mut JobNotebook) -> Result<(), End
     requires few { length (notebook_of book.old).cells < 2 ^ 32 }
     requires settled { settled_of book.old ≡ 0 }
     ensures course { GoesOn W.journal W.counts w.old w.new book.old book.new (stays_open result) }
-    ensures others { SparesOthers W.journal W.counts w.old w.new book.old book.new }
+    ensures calls { CallsOwn W.journal W.counts w.old w.new book.old book.new }
     ensures own { IfErr result IsEndOfRun }
+    ensures kind { IfErr result IsEndOfSave }
 {
     let count = book.notebook().cells.len() as u32;
     if count == 0 {
@@ -233,8 +264,13 @@ fn execute<W: World>(
     requires ask { IsRunnable ask }
     requires few { length notebook.cells < 2 ^ 32 }
     ensures course { StartsFor W.journal W.counts w.old w.new ask notebook result }
-    ensures others { StartsApart W.journal W.counts w.old w.new ask result }
+    ensures calls { BeginsInRole W.journal W.counts w.old w.new number ask here.now result }
+    ensures left { LeavesNone W.journal w.old w.new number result }
     ensures cause { IfErr result (EndCause (W.counts w.old) (W.counts w.new)) }
+    ensures task { ask.prepare ≡ false → StartsWith ask notebook result }
+    ensures kernel { IfErr result
+        (KernelEnds ask notebook (W.journal w.old) (W.journal w.new)) }
+    ensures output { IfOk result (λ j. output_of_job j ≡ ask.output) }
 {
     laws::other_calls_pass();
     jobs_end_unsaved();
@@ -262,20 +298,31 @@ fn kernel_of<W: Disk>(
     ask: &Ask,
     notebook: &Notebook,
 ) -> Result<Kernel, End>
+    ensures found { IfOk result (IsKernelOf ask.now) }
+    ensures kernel { IfErr result
+        (KernelEnds ask.now notebook.now (W.journal w.old) (W.journal w.new)) }
     ensures others { (path : List ℕ) →
         Told (W.journal w.old) (W.journal w.new) (Since (Spares path)) }
-    ensures grow { CountsGrow (W.counts w.old) (W.counts w.new) }
+    ensures calls { (c : Cast) (number : ℕ) → c.job number ≡ Some ask.now →
+        Told (W.journal w.old) (W.journal w.new) (Since (IsCall c)) }
+    ensures work { CountsWork (W.counts w.old) (W.counts w.new) }
     ensures cause { IfErr result (EndCause (W.counts w.old) (W.counts w.new)) }
     ensures unsaved { IfErr result IsOpen }
+    ensures uncaused { IfErr result (λ end. IsUncaused (status_of end)) }
 {
     found_or_end(Kernel::find(alloc, w, ask, notebook))
 }
 
 /// The kernel that was found, or how its job ends.
 fn found_or_end(found: Result<Kernel, KernelFault>) -> Result<Kernel, End>
+    ensures found { (a : asks.Ask) (n : notebooks.Notebook) → IsFound a n found →
+        IfOk result (IsKernelOf a) }
+    ensures fault { IfErr result (λ end.
+        (f : faults.KernelFault) × (found ≡ Err f) × (status_of end ≡ status_by f)) }
     ensures cause { (old new : Counts) → (IsNotRead found → Rose old.disk new.disk) →
         IfErr result (EndCause old new) }
     ensures unsaved { IfErr result IsOpen }
+    ensures uncaused { IfErr result (λ end. IsUncaused (status_of end)) }
 {
     match found {
         Ok(kernel) => Ok(kernel),

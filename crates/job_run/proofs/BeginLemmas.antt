@@ -1,18 +1,18 @@
 -- How a job begins with its course.
-use Rattle.std.proofs.Common.{◌≡◌, ℕ, ◌+◌, ◌<◌, Bool, true, false, List, ◌++◌, length, Option, Result, Ok, refl, sym, ap, subst, ◌∙◌, arith, length-append}
+use Rattle.std.proofs.Common.{◌≡◌, ℕ, ◌<◌, Bool, true, false, List, ◌++◌, length, Option, Some, Result, Ok, refl, sym, ap, subst, ◌∙◌, arith, length-append}
 use Rattle.std.specs.Prelude.{codes, IfOk}
 use Rattle.std.specs.Str.{bytes_eq}
 use Rattle.std.proofs.lemmas.Slice.Eq.{bytes_eq-Decides}
 use Rattle.nb_model.specs.declared.notebook.Notebook.{Notebook}
 use Rattle.world.specs.declared.entry.Entry.{Entry}
 use Rattle.world.specs.Counts.{Counts}
+use Rattle.words.specs.declared.ask.Ask.{Ask}
 use Rattle.words.specs.Paths.{connection_of}
-use Rattle.save_disk.specs.Temporary.{temporary_of}
 use Rattle.job_notebook.specs.declared.notebook.JobNotebook.{JobNotebook}
 use Rattle.job_notebook.specs.State.{output_of, merge_of, KeepsRead}
-use Rattle.job_saves.specs.Course.{Origin, IsFor, IsSaved, HasSaved, Begins, Stands, Ends, IsSpared, IsUntouched}
+use Rattle.job_saves.specs.Course.{Origin, IsFor, IsSaved, HasSaved, Begins, Stands, Ends, HasPart, HasCalled}
+use Rattle.job_saves.specs.Calls.{Cast}
 use Rattle.job_saves.proofs.CourseLemmas.{job_begins, told_as}
-use Rattle.job_run.specs.Run.{IsOther}
 
 -- what holds of an answer where it is Ok
 pub on_ok : {A E : Type 0} (r : Result A E) (a : A) (P : A → Type 0) → r ≡ Ok a → IfOk r P → P a
@@ -20,7 +20,7 @@ on_ok r a P is h = subst (λ q. IfOk q P) is h
 
 pub ends_unsaved : (o : Origin) (journal : Option (List Entry)) (counts : Counts) → Begins o journal counts → Ends o true journal counts
 ends_unsaved o journal counts b = record {
-  told = told_as journal (IsSaved o true 0) (HasSaved o true) (λ past h. record { settled = 0; is = h }) b.told;
+  told = λ on. told_as journal (IsSaved o true 0) (HasSaved o true) (λ past h. record { settled = 0; is = h }) (b.told on);
   grow = b.grow;
   cause = λ e. absurd (cc);
 }
@@ -31,13 +31,9 @@ stands_first book output merge first o journal counts out mer keeps for b =
     job_begins book first o journal counts keeps
     (record { output_is = for.output_is ∙ sym out; merge_is = for.merge_is ∙ sym mer; first_is = for.first_is }) b
 
-pub spared_first : (book : JobNotebook) (output path : List ℕ) (since : List Entry) (from : Counts) (journal : Option (List Entry)) (counts : Counts)
-    → output_of book ≡ output → IsOther output path → IsUntouched path since from journal counts → IsSpared path since from book journal counts
-spared_first book output path since from journal counts out other u = record {
-  output = subst (λ q. bytes_eq q path ≡ false) (sym out) other.output_is;
-  temporary = subst (λ q. bytes_eq (temporary_of q) path ≡ false) (sym out) other.temporary;
-  so = u;
-}
+pub part_first : (book : JobNotebook) (ask : Ask) (cast : Cast) (number : ℕ) (since : List Entry) (from : Counts) (journal : Option (List Entry)) (counts : Counts)
+    → output_of book ≡ ask.output → cast.job number ≡ Some ask → HasCalled cast since from journal counts → HasPart cast since from book journal counts
+part_first book ask cast number since from journal counts out has u = record { number = number; ask = ask; has = has; output = out; so = u }
 
 -- ---- the connection file is not the output
 

@@ -1,19 +1,21 @@
 -- The causes of ends, by the counts.
-use Rattle.std.proofs.Common.{◌≡◌, ◌⊎◌, inl, inr, ℕ, ◌+◌, ◌≤◌, ◌++◌, List, [], ◌∷◌, length, codes, Option, Some, None, Result, Ok, Err, refl, ap, arith, length-append}
-use Rattle.std.proofs.lemmas.Bool.{false_from_ne_true}
-use Rattle.std.proofs.lemmas.Slice.Eq.{bytes_eq-Decides}
-use Rattle.std.specs.Prelude.{false, IfErr}
-use Rattle.std.specs.Str.{bytes_eq}
+use Rattle.std.proofs.Common.{◌⊎◌, inl, inr, ℕ, ◌≤◌, List, [], Option, Some, None, Result, Ok, Err, refl, arith}
+use Rattle.std.specs.Prelude.{false, IfSome, IfErr}
 use Rattle.world.specs.declared.entry.Entry.{Entry}
 use Rattle.world.specs.Counts.{Counts, CountsGrow, Rose}
-use Rattle.world.specs.Moments.{start}
+use Rattle.world.specs.Moments.{Since, start}
 use Rattle.world.proofs.CountsLemmas.{grow_start}
-use Rattle.save_disk.specs.Temporary.{temporary_of}
+use Rattle.words.specs.declared.ask.Ask.{Ask}
 use Rattle.job_end.specs.declared.end.End.{End}
 use Rattle.job_end.specs.declared.end.End.TheVariants as end
 use Rattle.job_notebook.specs.declared.notebook.JobNotebook.{JobNotebook}
 use Rattle.job_notebook.specs.State.{output_of}
-use Rattle.job_saves.specs.Course.{IsEndOfRun, IsSpared}
+use Rattle.job_saves.specs.Calls.{Cast, IsCall}
+use Rattle.job_saves.specs.Children.{KeepsEnd}
+use Rattle.job_saves.specs.Course.{IsEndOfRun, HasPart}
+use Rattle.job_saves.proofs.ChildLemmas.{StartsNone, told_keeps_end}
+use Rattle.job_saves.proofs.CourseLemmas.{work_start}
+use Rattle.job_saves.proofs.ToldLemmas.{told_by}
 use Rattle.job_run.specs.Run.{EndCause}
 
 rose_within : (a b c d : ℕ) → a ≤ b → c ≤ d → Rose b c → Rose a d
@@ -78,27 +80,61 @@ own_caused old new end.NetFault own = tt
 own_caused old new (end.BadPeer chan f) own = tt
 own_caused old new end.Spent own = tt
 
--- ---- calls that leave each other path alone let no count fall
+-- ---- calls of a job that starts no child
 
--- a path that no save at this output touches
-abbrev longer : List ℕ → List ℕ
-longer output = output ++ 0 ∷ []
+-- a job with this output
+abbrev job_on : List ℕ → Ask
+job_on output = record {
+  input = [];
+  output = output;
+  kernel = None;
+  kernel_path = [];
+  cwd = [];
+  params = [];
+  prepare = false;
+  report = false;
+  merge = false;
+  all_errors = false;
+  interrupt = false;
+  heartbeat = false;
+  names = [];
+  start_ms = 0;
+  limit_ms = None;
+}
 
-differ : (p q : List ℕ) → (p ≡ q → ⊥) → bytes_eq p q ≡ false
-differ p q ne = false_from_ne_true _ (λ e. ne ((bytes_eq-Decides p q).0 e))
+-- no other, and no child is started
+abbrev alone : List ℕ → Cast
+alone output = record { job = λ n. Some (job_on output); here = []; starts = false }
 
-output_shorter : (output : List ℕ) → bytes_eq output (longer output) ≡ false
-output_shorter output = differ output (longer output) (λ e. let l : length output ≡ length (longer output) = ap length e in omega (arith, l, length-append output (0 ∷ [])))
+starts_none : (output : List ℕ) (n : ℕ) → StartsNone (alone output) n
+starts_none output n number a has starts = absurd (cc)
 
-temporary_longer : (output : List ℕ) → bytes_eq (temporary_of output) (longer output) ≡ false
-temporary_longer output = differ (temporary_of output) (longer output) (λ e. let l : length (temporary_of output) ≡ length (longer output) = ap length e in
-    omega (arith, l, length-append output (codes ".nbrun-tmp"), length-append output (0 ∷ [])))
+has_part : (was : JobNotebook) (j : Option (List Entry)) (c : Counts) (since : List Entry) → IfSome j (Since (IsCall (alone (output_of was))) since)
+    → HasPart (alone (output_of was)) since c was j c
+has_part was j c since held = record {
+  number = 0;
+  ask = job_on (output_of was);
+  has = refl;
+  output = refl;
+  so = record { told = held; counts_work = work_start c };
+}
 
-pub spares_grow : (was now : JobNotebook) (j k : Option (List Entry)) (c d : Counts)
-    → ((path : List ℕ) (since : List Entry) (from : Counts) → IsSpared path since from was j c → IsSpared path since from now k d) → CountsGrow c d
-spares_grow was now None k c d spares =
-    let path = longer (output_of was) in
-    (spares path [] c (record { output = output_shorter (output_of was); temporary = temporary_longer (output_of was); so = record { told = tt; grow = grow_start c } })).so.grow
-spares_grow was now (Some x) k c d spares =
-    let path = longer (output_of was) in
-    (spares path x c (record { output = output_shorter (output_of was); temporary = temporary_longer (output_of was); so = record { told = start; grow = grow_start c } })).so.grow
+abbrev or_none : Option (List Entry) → List Entry
+or_none None = []
+or_none (Some x) = x
+
+at_start : (P : List Entry → Type 0) (p : Option (List Entry)) → IfSome p (Since P (or_none p))
+at_start P None = tt
+at_start P (Some x) = start
+
+module _ (was now : JobNotebook) (j k : Option (List Entry)) (c d : Counts)
+    (calls : (cast : Cast) (since : List Entry) (from : Counts) → HasPart cast since from was j c → HasPart cast since from now k d) where
+  -- no count falls
+  pub calls_grow : CountsGrow c d
+  calls_grow = (calls (alone (output_of was)) (or_none j) c (has_part was j c (or_none j) (at_start (IsCall (alone (output_of was))) j))).so.counts_work.grow
+
+  -- and no child is left without its end
+  pub calls_end : (n : ℕ) → KeepsEnd n j k
+  calls_end n =
+      told_keeps_end (alone (output_of was)) n (starts_none (output_of was) n) j k
+      (told_by (IsCall (alone (output_of was))) j k (λ since held. (calls (alone (output_of was)) since c (has_part was j c since held)).so.told))

@@ -1,5 +1,10 @@
 pub mod BeginLemmas
 pub mod CauseLemmas
 pub mod HeardLemmas
+pub mod HoldLemmas
+pub mod LaunchLemmas
 pub mod OutcomeLemmas
 pub mod RunLemmas
+pub mod StopLemmas
+pub mod ToldLemmas
+pub mod WorkLemmas

@@ -1,23 +1,23 @@
 -- Calls of a job go on with its course.
-use Rattle.std.proofs.Common.{◌≡◌, ◌⊎◌, inl, inr, ℕ, Bool, true, false, List, Option, Some, None, is_some, Result, Ok, Err, refl, sym, ap, subst, ◌∙◌}
+use Rattle.std.proofs.Common.{◌≡◌, ℕ, Bool, true, false, List, Option, Some, None, is_some, refl, sym, ap, subst}
 use Rattle.std.specs.Str.{bytes_eq}
 use Rattle.world.specs.Counts.{CountsGrow}
 use Rattle.world.specs.Moments.{Since, start, more as later, Told, Tells}
 use Rattle.world.specs.Touched.{touches, Spares}
 use Rattle.world.proofs.MomentsLemmas.{tells_as}
 use Rattle.job_end.specs.Answers.{starved_answer}
-use Rattle.job_saves.proofs.CourseLemmas.{others_pass, calls_spare, job_ends}
+use Rattle.job_saves.proofs.CourseLemmas.{others_pass, calls_part, job_ends}
 use Rattle.job_run.proofs.OutcomeLemmas.{starved_shut, starved_fails}
 use Rattle.world.specs.declared.entry.Entry.{Entry}
 use Rattle.world.specs.Counts.{Counts}
 use Rattle.job_notebook.specs.declared.notebook.JobNotebook.{JobNotebook}
 use Rattle.job_end.specs.declared.answer.Answer.{Answer}
-use Rattle.job_end.specs.declared.end.End.{End}
-use Rattle.job_saves.specs.Course.{Origin, Stands, StaysOn, StaysSpared, IsSpared, Ends, IsUntouched, stays_open}
+use Rattle.job_saves.specs.Course.{Origin, Stands, StaysOn, KeepsPart, HasPart, Ends, CountsWork}
+use Rattle.job_saves.specs.Calls.{Cast, IsCallBy, IsCall}
 use Rattle.job_run.specs.declared.execution.Execution.{Execution}
 use Rattle.job_run.specs.declared.job.Job.{Job}
 use Rattle.job_run.specs.declared.paths.Paths.{Paths}
-use Rattle.job_run.specs.Run.{Runs, HasEnded, HasFailed, IsUnsaved, EndsWith, IsLeftAlone}
+use Rattle.job_run.specs.Run.{Runs, HasEnded, HasFailed, EndsWith, IsRole, HasRole}
 
 not_both : {A : Type 0} (b : Bool) → b ≡ true → b ≡ false → A
 not_both b e f = let no : true ≡ false = subst (λ c. c ≡ false) e f in absurd (cc)
@@ -50,14 +50,19 @@ turns o was now mid j k c d is_open running goes stays path shut fails r = recor
   fails = fails;
 }
 
-pub leaves : (path : List ℕ) (since : List Entry) (from : Counts) (was now : Job) (mid : JobNotebook) (j k : Option (List Entry)) (c d : Counts)
-    → (IsSpared path since from was.run.book j c → IsSpared path since from mid k d)
-    → StaysSpared mid now.run.book
-    → now.paths.connection ≡ was.paths.connection
-    → IsLeftAlone path since from was j c → IsLeftAlone path since from now k d
-leaves path since from was now mid j k c d spares stays same r = record {
-  saves = stays path since from k d (spares r.saves);
-  connection = subst (λ p. bytes_eq p path ≡ false) (sym same) r.connection;
+role_on : (cast : Cast) (was now : Job) → now.number ≡ was.number → now.paths ≡ was.paths → IsRole cast was.number was.paths → IsRole cast now.number now.paths
+role_on cast was now number paths r =
+    subst (λ (p : Paths). IsRole cast now.number p) (sym paths) (subst (λ n. IsRole cast n was.paths) (sym number) r)
+
+-- calls of its execution, and then its outcome
+pub plays_on : (cast : Cast) (since : List Entry) (from : Counts) (was now : Job) (mid : JobNotebook) (j k : Option (List Entry)) (c d : Counts)
+    → (HasPart cast since from was.run.book j c → HasPart cast since from mid k d)
+    → KeepsPart mid now.run.book
+    → now.number ≡ was.number → now.paths ≡ was.paths
+    → HasRole cast since from was j c → HasRole cast since from now k d
+plays_on cast since from was now mid j k c d calls stays number paths r = record {
+  part = stays cast since from k d (calls r.part);
+  role = role_on cast was now number paths r.role;
 }
 
 -- other calls leave a job on its course
@@ -71,12 +76,13 @@ passes o was now i k c d run path outcome on r = record {
   fails = λ f. r.fails (subst HasFailed outcome f);
 }
 
--- other calls of a path leave it alone
-pub passes_alone : (path : List ℕ) (since : List Entry) (from : Counts) (was now : Job) (i k : Option (List Entry)) (c d : Counts) → now.run ≡ was.run → now.paths ≡ was.paths
-    → (IsSpared path since from was.run.book i c → IsSpared path since from was.run.book k d) → IsLeftAlone path since from was i c → IsLeftAlone path since from now k d
-passes_alone path since from was now i k c d run same on r = record {
-  saves = subst (λ (x : Execution). IsSpared path since from x.book k d) (sym run) (on r.saves);
-  connection = subst (λ (p : Paths). bytes_eq p.connection path ≡ false) (sym same) r.connection;
+-- calls of the job beside its execution
+pub passes_role : (cast : Cast) (since : List Entry) (from : Counts) (was now : Job) (i k : Option (List Entry)) (c d : Counts) → now.run ≡ was.run
+    → now.number ≡ was.number → now.paths ≡ was.paths
+    → (HasPart cast since from was.run.book i c → HasPart cast since from was.run.book k d) → HasRole cast since from was i c → HasRole cast since from now k d
+passes_role cast since from was now i k c d run number paths on r = record {
+  part = subst (λ (x : Execution). HasPart cast since from x.book k d) (sym run) (on r.part);
+  role = role_on cast was now number paths r.role;
 }
 
 -- ---- single entries
@@ -88,9 +94,13 @@ pub entry_passes : (o : Origin) (b : JobNotebook) (is_open : Bool) (j k : Option
     → CountsGrow c d → Stands o b is_open j c → Stands o b is_open k d
 entry_passes o b is_open j k c d entry spared tells grow s = others_pass o b is_open j k c d (told_spares o.output j k entry spared tells) grow s
 
-pub entry_spares : (path : List ℕ) (since : List Entry) (from : Counts) (b : JobNotebook) (j k : Option (List Entry)) (c d : Counts) (entry : Entry) → touches path entry ≡ false
-    → Tells j k entry → CountsGrow c d → IsSpared path since from b j c → IsSpared path since from b k d
-entry_spares path since from b j k c d entry spared tells grow s = calls_spare path since from c d b b j k refl (told_spares path j k entry spared tells) grow s
+told_called : (cast : Cast) (j k : Option (List Entry)) (entry : Entry) → IsCallBy cast entry → Tells j k entry → Told j k (Since (IsCall cast))
+told_called cast j k entry is tells = tells_as tells (λ past. later start is)
+
+-- one call of the job
+pub entry_called : (cast : Cast) (since : List Entry) (from : Counts) (b : JobNotebook) (j k : Option (List Entry)) (c d : Counts) (entry : Entry) → IsCallBy cast entry
+    → Tells j k entry → CountsWork c d → HasPart cast since from b j c → HasPart cast since from b k d
+entry_called cast since from b j k c d entry is tells work s = calls_part cast since from c d b b j k refl (told_called cast j k entry is tells) work s
 
 -- ---- the end
 
@@ -124,11 +134,11 @@ begun o j x paths journal counts run path outcome s apart = record {
   fails = λ f. let none : HasFailed None = subst HasFailed outcome f in absurd none;
 }
 
-pub begun_alone : (path : List ℕ) (since : List Entry) (from : Counts) (j : Job) (x : Execution) (paths : Paths) (journal : Option (List Entry)) (counts : Counts)
-    → j.run ≡ x → j.paths ≡ paths → IsSpared path since from x.book journal counts → bytes_eq paths.connection path ≡ false → IsLeftAlone path since from j journal counts
-begun_alone path since from j x paths journal counts run same s apart = record {
-  saves = subst (λ (y : Execution). IsSpared path since from y.book journal counts) (sym run) s;
-  connection = subst (λ (p : Paths). bytes_eq p.connection path ≡ false) (sym same) apart;
+pub begun_role : (cast : Cast) (since : List Entry) (from : Counts) (j : Job) (x : Execution) (number : ℕ) (paths : Paths) (journal : Option (List Entry)) (counts : Counts)
+    → j.run ≡ x → j.number ≡ number → j.paths ≡ paths → HasPart cast since from x.book journal counts → IsRole cast number paths → HasRole cast since from j journal counts
+begun_role cast since from j x number paths journal counts run same_number same s role = record {
+  part = subst (λ (y : Execution). HasPart cast since from y.book journal counts) (sym run) s;
+  role = subst (λ (p : Paths). IsRole cast j.number p) (sym same) (subst (λ n. IsRole cast n paths) (sym same_number) role);
 }
 
 -- a job that runs and isn't started: all that was saved is as it is

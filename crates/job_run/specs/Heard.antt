@@ -1,5 +1,5 @@
 -- What is heard of the kernel (Jupyter messaging 5.3).
-use Rattle.std.specs.Prelude.{ℕ, ◌≤◌}
+use Rattle.std.specs.Prelude.{◌≤◌}
 use Rattle.jtext.specs.declared.json.Json.{Json}
 use Rattle.jtext.specs.Depth.{depth}
 use Rattle.jtext.specs.Keyed.{Keyed}

@@ -1,14 +1,17 @@
 -- How the parts of an execution agree: its core, its notebook and the request that stands.
-use Rattle.std.specs.Prelude.{◌≡◌, ℕ, ◌<◌, ◌≤◌, ◌^◌, length, Bool, true, false, is_some, List, Result}
-use Rattle.nb_model.specs.declared.notebook.Notebook.{Notebook}
+use Rattle.std.specs.Prelude.{◌≡◌, ℕ, ◌<◌, ◌≤◌, ◌^◌, length, true, false, is_some}
 use Rattle.cell_core.specs.declared.act.Act.{Act}
+use Rattle.cell_core.specs.declared.act.Act.TheVariants.{Stop}
+use Rattle.cell_core.specs.declared.why.Why.{Why}
+use Rattle.cell_core.specs.declared.why.Why.TheVariants.{BadPeer}
 use Rattle.cell_core.specs.Holds.{is_save}
 use Rattle.cell_core.specs.Sending.{IsInOrder, SendsOn, next_of}
 use Rattle.cell_core.specs.StandsFor.{task_of, awaits_saved_of}
 use Rattle.job_notebook.specs.State.{notebook_of, settled_of, begun_of}
+use Rattle.job_run.specs.Told.{Hears, StopsFor}
 use Rattle.job_run.specs.declared.execution.Execution.{Execution}
 
--- the cells to run are in order, and no cell has begun or is settled beyond those of the core
+-- the cells to run are in order, no cell has begun or is settled beyond those of the core, and the core was told what came
 pub record Holds (x : Execution) : Type 0 where
   pub ordered : IsInOrder (task_of x.core)
   pub cells : length (notebook_of x.book).cells ≡ (task_of x.core).cells
@@ -16,15 +19,18 @@ pub record Holds (x : Execution) : Type 0 where
   pub settled : settled_of x.book ≤ next_of x.core
   pub asked : is_some x.request ≡ true → 0 < begun_of x.book
   pub early : x.clock < 2 ^ 47
+  pub heard : Hears x.core x.clock (is_some x.broken)
 
 -- the act that the core has answered last may be done: a cell's request is of one that comes after those before, and a save
--- settles no fewer cells than the last one
+-- settles no fewer cells than the last one; where it stops the job its cause stands
 pub record IsToDo (x : Execution) (act : Act) : Type 0 where
   pub was : ℕ
   pub begun : begun_of x.book ≤ was
   pub settled : settled_of x.book ≤ was
   pub sends : SendsOn (task_of x.core) was (next_of x.core) act
   pub awaits : awaits_saved_of x.core ≡ is_save act
+  pub stops : (cause : Why) → act ≡ Stop cause → StopsFor (task_of x.core) cause
+  pub named : act ≡ Stop BadPeer → is_some x.broken ≡ true
 
 -- no save is awaited
 abbrev pub IsCalm : Execution → Type 0

@@ -15,8 +15,10 @@ impl Execution {
     ghost use Rattle.job_notebook.specs.State.{begun_of};
     ghost use Rattle.job_run.specs.Heard.{IsContent};
     ghost use Rattle.job_run.specs.Held.{Holds, IsCalm, KeepsToDo};
+    ghost use Rattle.job_run.specs.Told.{EndsBy};
     ghost use Rattle.jcontent.specs.IsRead.{IsRead};
-    ghost use Rattle.job_saves.specs.Course.{GoesOn, SparesOthers, StaysOn, StaysSpared, stays_open, IsEndOfRun};
+    ghost use Rattle.cell_core.specs.StandsFor.{task_of};
+    ghost use Rattle.job_saves.specs.Course.{GoesOn, CallsOwn, StaysOn, KeepsPart, stays_open};
 
     /// A piece came on this channel.
     pub(crate) fn on_piece<W: Disk + Say>(
@@ -31,8 +33,9 @@ impl Execution {
         ensures calm { OnOk result (IsCalm self.new) }
         ensures course { GoesOn W.journal W.counts w.old w.new self.old.book self.new.book
             (stays_open result) }
-        ensures others { SparesOthers W.journal W.counts w.old w.new self.old.book self.new.book }
-        ensures own { IfErr result IsEndOfRun }
+        ensures calls { CallsOwn W.journal W.counts w.old w.new self.old.book self.new.book }
+        ensures task { task_of self.new.core ≡ task_of self.old.core }
+        ensures own { IfErr result (EndsBy (task_of self.new.core)) }
     {
         let (messages, fault) = self.lines.feed(chan, piece)?;
         // What came with the end of a request is no part of the one that follows.
@@ -57,8 +60,9 @@ impl Execution {
         ensures calm { OnOk result (IsCalm self.new) }
         ensures course { GoesOn W.journal W.counts w.old w.new self.old.book self.new.book
             (stays_open result) }
-        ensures others { SparesOthers W.journal W.counts w.old w.new self.old.book self.new.book }
-        ensures own { IfErr result IsEndOfRun }
+        ensures calls { CallsOwn W.journal W.counts w.old w.new self.old.book self.new.book }
+        ensures task { task_of self.new.core ≡ task_of self.old.core }
+        ensures own { IfErr result (EndsBy (task_of self.new.core)) }
     {
         for message in messages.into_vec() {
             self.on_message(w, chan, &message, standing)?;
@@ -78,11 +82,23 @@ impl Execution {
         ensures calm { OnOk result (IsCalm self.new) }
         ensures course { GoesOn W.journal W.counts w.old w.new self.old.book self.new.book
             (stays_open result) }
-        ensures others { SparesOthers W.journal W.counts w.old w.new self.old.book self.new.book }
-        ensures own { IfErr result IsEndOfRun }
+        ensures calls { CallsOwn W.journal W.counts w.old w.new self.old.book self.new.book }
+        ensures task { task_of self.new.core ≡ task_of self.old.core }
+        ensures own { IfErr result (EndsBy (task_of self.new.core)) }
+    {
+        self.note_broken(chan, fault);
+        self.step(w, Event::Broken)
+    }
+
+    // The stream of this channel broke.
+    fn note_broken(&mut self, chan: Chan, fault: WireFault)
+        requires holds { Holds self.old }
+        ensures holds { Holds self.new }
+        ensures named { is_some self.new.broken ≡ true }
+        ensures core { self.new.core ≡ self.old.core }
+        ensures book { self.new.book ≡ self.old.book }
     {
         self.broken = Some((chan, fault));
-        self.step(w, Event::Broken)
     }
 
     fn on_message<W: Disk + Say>(
@@ -98,8 +114,9 @@ impl Execution {
         ensures calm { OnOk result (IsCalm self.new) }
         ensures course { GoesOn W.journal W.counts w.old w.new self.old.book self.new.book
             (stays_open result) }
-        ensures others { SparesOthers W.journal W.counts w.old w.new self.old.book self.new.book }
-        ensures own { IfErr result IsEndOfRun }
+        ensures calls { CallsOwn W.journal W.counts w.old w.new self.old.book self.new.book }
+        ensures task { task_of self.new.core ≡ task_of self.old.core }
+        ensures own { IfErr result (EndsBy (task_of self.new.core)) }
     {
         if chan == Chan::Heart {
             self.pings.on_echo();
@@ -125,8 +142,9 @@ impl Execution {
         ensures calm { OnOk result (IsCalm self.new) }
         ensures course { GoesOn W.journal W.counts w.old w.new self.old.book self.new.book
             (stays_open result) }
-        ensures others { SparesOthers W.journal W.counts w.old w.new self.old.book self.new.book }
-        ensures own { IfErr result IsEndOfRun }
+        ensures calls { CallsOwn W.journal W.counts w.old w.new self.old.book self.new.book }
+        ensures task { task_of self.new.core ≡ task_of self.old.core }
+        ensures own { IfErr result (EndsBy (task_of self.new.core)) }
     {
         match chan {
             Chan::Iopub => self.on_iopub(w, message, standing),
@@ -143,6 +161,7 @@ impl Execution {
         ensures holds { Holds self.new }
         ensures calm { IsCalm self.new }
         ensures book { self.new.book ≡ self.old.book }
+        ensures core { self.new.core ≡ self.old.core }
         ensures content { IfOk result (λ heard. IfSome heard (λ m. IsContent m.content)) }
     {
         let Some(message) = self.signed_message(parts)? else {
@@ -180,8 +199,9 @@ impl Execution {
         ensures calm { OnOk result (IsCalm self.new) }
         ensures course { GoesOn W.journal W.counts w.old w.new self.old.book self.new.book
             (stays_open result) }
-        ensures others { SparesOthers W.journal W.counts w.old w.new self.old.book self.new.book }
-        ensures own { IfErr result IsEndOfRun }
+        ensures calls { CallsOwn W.journal W.counts w.old w.new self.old.book self.new.book }
+        ensures task { task_of self.new.core ≡ task_of self.old.core }
+        ensures own { IfErr result (EndsBy (task_of self.new.core)) }
     {
         self.asking.on_iopub();
         match self.note_ready(w) {
@@ -204,8 +224,9 @@ impl Execution {
         ensures calm { OnOk result (IsCalm self.new) }
         ensures course { GoesOn W.journal W.counts w.old w.new self.old.book self.new.book
             (stays_open result) }
-        ensures others { SparesOthers W.journal W.counts w.old w.new self.old.book self.new.book }
-        ensures own { IfErr result IsEndOfRun }
+        ensures calls { CallsOwn W.journal W.counts w.old w.new self.old.book self.new.book }
+        ensures task { task_of self.new.core ≡ task_of self.old.core }
+        ensures own { IfErr result (EndsBy (task_of self.new.core)) }
     {
         if !self.is_of_request(message, standing) {
             return Ok(());
@@ -231,8 +252,9 @@ impl Execution {
         ensures calm { OnOk result (IsCalm self.new) }
         ensures course { GoesOn W.journal W.counts w.old w.new self.old.book self.new.book
             (stays_open result) }
-        ensures others { SparesOthers W.journal W.counts w.old w.new self.old.book self.new.book }
-        ensures own { IfErr result IsEndOfRun }
+        ensures calls { CallsOwn W.journal W.counts w.old w.new self.old.book self.new.book }
+        ensures task { task_of self.new.core ≡ task_of self.old.core }
+        ensures own { IfErr result (EndsBy (task_of self.new.core)) }
     {
         let step = self.tell(Event::Io(brief_of(content)));
         match self.take(step.takes, content, date) {
@@ -257,8 +279,9 @@ impl Execution {
         requires read { IsRead content.now }
         ensures holds { Holds self.new }
         ensures todo { KeepsToDo self.old self.new }
+        ensures core { self.new.core ≡ self.old.core }
         ensures course { StaysOn self.old.book self.new.book }
-        ensures others { StaysSpared self.old.book self.new.book }
+        ensures calls { KeepsPart self.old.book self.new.book }
     {
         laws::messages_stay_on_course();
         if !takes {
@@ -279,8 +302,9 @@ impl Execution {
         ensures calm { OnOk result (IsCalm self.new) }
         ensures course { GoesOn W.journal W.counts w.old w.new self.old.book self.new.book
             (stays_open result) }
-        ensures others { SparesOthers W.journal W.counts w.old w.new self.old.book self.new.book }
-        ensures own { IfErr result IsEndOfRun }
+        ensures calls { CallsOwn W.journal W.counts w.old w.new self.old.book self.new.book }
+        ensures task { task_of self.new.core ≡ task_of self.old.core }
+        ensures own { IfErr result (EndsBy (task_of self.new.core)) }
     {
         match read(self.alloc, &message.header.msg_type, &message.content)? {
             Content::InfoReply => {
@@ -305,6 +329,7 @@ impl Execution {
         ensures holds { Holds self.new }
         ensures calm { IsCalm self.new }
         ensures book { self.new.book ≡ self.old.book }
+        ensures core { self.new.core ≡ self.old.core }
     {
         if let Some(parent) = &message.parent_id {
             self.asking.on_reply(parent);
@@ -324,8 +349,9 @@ impl Execution {
         ensures calm { OnOk result (IsCalm self.new) }
         ensures course { GoesOn W.journal W.counts w.old w.new self.old.book self.new.book
             (stays_open result) }
-        ensures others { SparesOthers W.journal W.counts w.old w.new self.old.book self.new.book }
-        ensures own { IfErr result IsEndOfRun }
+        ensures calls { CallsOwn W.journal W.counts w.old w.new self.old.book self.new.book }
+        ensures task { task_of self.new.core ≡ task_of self.old.core }
+        ensures own { IfErr result (EndsBy (task_of self.new.core)) }
     {
         let fatal = !allowed(
             &reply,
@@ -352,8 +378,9 @@ impl Execution {
         requires asked { is_some self.old.request ≡ true }
         ensures holds { Holds self.new }
         ensures todo { KeepsToDo self.old self.new }
+        ensures core { self.new.core ≡ self.old.core }
         ensures course { StaysOn self.old.book self.new.book }
-        ensures others { StaysSpared self.old.book self.new.book }
+        ensures calls { KeepsPart self.old.book self.new.book }
     {
         laws::messages_stay_on_course();
         if !takes {
@@ -377,6 +404,7 @@ impl Execution {
         requires { Holds self.old }
         ensures holds { Holds self.new }
         ensures todo { KeepsToDo self.old self.new }
+        ensures core { self.new.core ≡ self.old.core }
         ensures book { self.new.book ≡ self.old.book }
     {
         if let Some(request) = &mut self.request {
@@ -407,8 +435,9 @@ impl Execution {
         ensures calm { OnOk result (IsCalm self.new) }
         ensures course { GoesOn W.journal W.counts w.old w.new self.old.book self.new.book
             (stays_open result) }
-        ensures others { SparesOthers W.journal W.counts w.old w.new self.old.book self.new.book }
-        ensures own { IfErr result IsEndOfRun }
+        ensures calls { CallsOwn W.journal W.counts w.old w.new self.old.book self.new.book }
+        ensures task { task_of self.new.core ≡ task_of self.old.core }
+        ensures own { IfErr result (EndsBy (task_of self.new.core)) }
     {
         if self.is_ready || !self.asking.is_ready() {
             return Ok(());

@@ -1,6 +1,9 @@
 //! `Job`, one job that runs its kernel.
-ghost use Rattle.std.specs.Prelude.{◌≡◌, ◌<◌, false, is_some};
+ghost use Rattle.std.specs.Prelude.{◌≡◌, ◌<◌, false, is_some, Some};
+ghost use Rattle.job_end.specs.declared.answer.Answer.{Answer as TheAnswer};
+ghost use Rattle.cell_core.specs.StandsFor.{task_of};
 ghost use Rattle.job_run.specs.Held.{Holds, IsCalm};
+ghost use Rattle.job_run.specs.Told.{IsEnding};
 
 use crate::execution::Execution;
 use crate::look::Look;
@@ -22,4 +25,6 @@ pub struct Job {
     ghost numbered: { number < 16 },
     ghost holds: { Holds run },
     ghost calm: { is_some outcome ≡ false → IsCalm run },
+    ghost end: { (a : TheAnswer) → outcome ≡ Some a →
+        IsEnding paths.output (task_of run.core) a },
 }

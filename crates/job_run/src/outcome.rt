@@ -1,8 +1,11 @@
 //! How a job has ended.
-ghost use Rattle.std.specs.Prelude.{◌≡◌, false, is_some, IfErr, OnOk};
-ghost use Rattle.job_saves.specs.Course.{StaysOn, StaysSpared, stays_open, keeps_open, IsEndOfRun};
+ghost use Rattle.std.specs.Prelude.{◌≡◌, ℕ, List, false, is_some, IfErr, IfSome, OnOk};
+ghost use Rattle.cell_core.specs.StandsFor.{task_of};
+ghost use Rattle.cell_core.specs.Task.{Task};
+ghost use Rattle.job_saves.specs.Course.{StaysOn, KeepsPart, stays_open, keeps_open};
 ghost use Rattle.job_run.specs.Held.{Holds, IsCalm};
 ghost use Rattle.job_run.specs.Run.{HasEnded, HasFailed, IsUnsaved, IsFileStatus};
+ghost use Rattle.job_run.specs.Told.{EndsBy, IsEnding};
 
 use crate::execution::Execution;
 use job_end::{Answer, End};
@@ -18,13 +21,15 @@ pub(crate) fn outcome_of(
     done: Result<(), End>,
 ) -> Option<Answer>
     requires holds { Holds run.old }
-    requires own { IfErr done IsEndOfRun }
+    requires own { IfErr done (EndsBy (task_of run.old.core)) }
     ensures holds { Holds run.new }
     ensures calm { is_some result ≡ false → OnOk done (IsCalm run.old) → IsCalm run.new }
     ensures course { StaysOn run.old.book run.new.book }
-    ensures others { StaysSpared run.old.book run.new.book }
+    ensures calls { KeepsPart run.old.book run.new.book }
     ensures shut { stays_open done ≡ false → HasEnded result }
     ensures fails { HasFailed result → stays_open done ≡ false }
+    ensures task { task_of run.new.core ≡ task_of run.old.core }
+    ensures end { IfSome result (IsEnding output.now (task_of run.new.core)) }
 {
     match done {
         Ok(()) => None,
@@ -35,11 +40,14 @@ pub(crate) fn outcome_of(
 /// How a job has ended that ends so: its kernel is asked to shut down where that can be said.
 fn farewell(alloc: Global, output: &Text, run: &mut Execution, end: &End) -> Answer
     requires holds { Holds run.old }
+    requires own { EndsBy (task_of run.old.core) end.now }
     ensures holds { Holds run.new }
     ensures course { StaysOn run.old.book run.new.book }
-    ensures others { StaysSpared run.old.book run.new.book }
+    ensures calls { KeepsPart run.old.book run.new.book }
     ensures shut { keeps_open end.now ≡ false → IsUnsaved result.status }
-    ensures fails { IsEndOfRun end.now → IsFileStatus result.status → keeps_open end.now ≡ false }
+    ensures fails { IsFileStatus result.status → keeps_open end.now ≡ false }
+    ensures task { task_of run.new.core ≡ task_of run.old.core }
+    ensures end { IsEnding output.now (task_of run.new.core) result }
 {
     let answer = answer_for(alloc, output, end);
     if answer.status != 12 && run.shut_down().is_err() {
@@ -51,13 +59,16 @@ fn farewell(alloc: Global, output: &Text, run: &mut Execution, end: &End) -> Ans
 fn starved(alloc: Global) -> Answer
     ensures shut { IsUnsaved result.status }
     ensures fails { IsFileStatus result.status → ⊥ }
+    ensures end { (output : List ℕ) (task : Task) → IsEnding output task result }
 {
     Answer::starved(alloc)
 }
 
 fn answer_for(alloc: Global, output: &Text, end: &End) -> Answer
     ensures shut { keeps_open end.now ≡ false → IsUnsaved result.status }
-    ensures fails { IsEndOfRun end.now → IsFileStatus result.status → keeps_open end.now ≡ false }
+    ensures fails { (task : Task) → EndsBy task end.now → IsFileStatus result.status →
+        keeps_open end.now ≡ false }
+    ensures end { (task : Task) → EndsBy task end.now → IsEnding output.now task result }
 {
     end.answer(alloc, output)
 }

@@ -4,20 +4,28 @@ ghost use Rattle.std.specs.Str.{bytes_eq};
 ghost use Rattle.world.specs.declared.entry.Entry.{Entry};
 ghost use Rattle.world.specs.Counts.{Counts, CountsGrow};
 ghost use Rattle.world.specs.Moments.{Told, Since};
+ghost use Rattle.world.specs.Parts.{IsOf, OnRand};
 ghost use Rattle.world.specs.Touched.{Spares};
 ghost use Rattle.words.specs.Paths.{connection_of};
 ghost use Rattle.words.specs.Runnable.{IsRunnable};
 ghost use Rattle.job_notebook.specs.State.{merge_of, output_of, KeepsRead};
-ghost use Rattle.job_saves.specs.Course.{Origin, Stands, IsSpared, stays_open};
+ghost use Rattle.job_saves.specs.Calls.{Cast};
+ghost use Rattle.job_saves.specs.Children.{HasEnd, KeepsEnd};
+ghost use Rattle.job_saves.specs.Course.{Origin, Stands, HasPart, CountsWork, stays_open};
+ghost use Rattle.cell_core.specs.StandsFor.{task_of};
+ghost use Rattle.cell_core.specs.Task.{Task};
+ghost use Rattle.job_run.specs.Told.{StartsBy};
 ghost use Rattle.job_run.specs.Held.{Holds, IsCalm, IsFirst};
-ghost use Rattle.job_run.specs.Run.{Runs, IsLeftAlone, StartsAs, StartsAlone, EndCause, outcome_of};
+ghost use Rattle.job_run.specs.Task.{task_of_job, output_of_job, task_for, task_in, times_of};
+ghost use Rattle.job_run.specs.Run.{Runs, IsRole, HasRole, MayStart, StartsAs, StartsInRole};
+ghost use Rattle.job_run.specs.Run.{EndCause, number_of, outcome_of};
 
 use crate::execution::Execution;
 use crate::look::Look;
 use crate::paths::Paths;
 use crate::terms::Terms;
 use crate::{Agenda, Job};
-use cell_core::{Act, Core, Event, Times};
+use cell_core::{Act, Core, Times};
 use job_end::End;
 use job_notebook::JobNotebook;
 use job_saves::laws;
@@ -34,12 +42,17 @@ use words::Ask;
 use world::World;
 
 impl Job {
-    ghost use Rattle.std.specs.Prelude.{◌≡◌, ◌<◌, ℕ, List, true, IfErr};
+    ghost use Rattle.std.specs.Prelude.{◌≡◌, ◌<◌, ℕ, List, true, IfOk, IfErr};
     ghost use Rattle.world.specs.declared.entry.Entry.{Entry};
     ghost use Rattle.world.specs.Counts.{Counts, CountsGrow};
-    ghost use Rattle.job_saves.specs.Course.{Origin, IsFor, IsUntouched, Begins, stays_open};
-    ghost use Rattle.job_run.specs.Run.{IsOther, StartsAs, StartsAlone, RunsOn, LeavesOthers};
-    ghost use Rattle.job_run.specs.Run.{EndCause, outcome_of};
+    ghost use Rattle.job_saves.specs.Course.{Origin, IsFor, HasCalled, Begins, stays_open};
+    ghost use Rattle.job_saves.specs.Calls.{Cast, IsKernelOf};
+    ghost use Rattle.job_saves.specs.Children.{KeepsEnd};
+    ghost use Rattle.job_run.specs.Run.{IsCastAs, StartsAs, StartsInRole, RunsOn};
+    ghost use Rattle.job_run.specs.Run.{LaunchesInRole, WritesInRole, EndCause, number_of, outcome_of};
+    ghost use Rattle.job_run.specs.Task.{task_of_job, output_of_job, task_for};
+    ghost use Rattle.cell_core.specs.Task.{Task};
+    ghost use Rattle.job_run.specs.Told.{StartsBy};
 
     /// Saves the notebook with no cell settled and starts the kernel that was found for it. Where
     /// the start fails nothing is left of the kernel. `here` is the working folder.
@@ -59,13 +72,20 @@ impl Job {
         ensures course { (o : Origin) → IsFor ask.output ask.merge agenda.notebook o →
             Begins o (W.journal w.old) (W.counts w.old) →
             StartsAs o result (W.journal w.new) (W.counts w.new) }
-        // No path is touched but its output, the temporary file of that and its connection file.
-        ensures others { (path : List ℕ) (since : List Entry) (from : Counts) →
-            IsOther ask.output path →
-            IsUntouched path since from (W.journal w.old) (W.counts w.old) →
-            StartsAlone path since from result (W.journal w.new) (W.counts w.new) }
+        // Its calls are those of the job that was asked for, and no other job's.
+        ensures calls { (c : Cast) (since : List Entry) (from : Counts) →
+            IsCastAs c number ask here.now → IsKernelOf ask kernel.now →
+            HasCalled c since from (W.journal w.old) (W.counts w.old) →
+            StartsInRole c since from result (W.journal w.new) (W.counts w.new) }
+        // Where it ends a child that was started has its end.
+        ensures left { IfErr result (λ _. KeepsEnd number (W.journal w.old) (W.journal w.new)) }
         // It ends by its kernel or its connection file only where a count of failed calls rose.
         ensures cause { IfErr result (EndCause (W.counts w.old) (W.counts w.new)) }
+        // It ends by that start or as a run does; where it runs its core is to execute the cells of
+        // the agenda in the times that were asked for, and its last line names its output.
+        ensures own { IfErr result (StartsBy (task_for ask agenda.notebook)) }
+        ensures task { IfOk result (λ j. task_of_job j ≡ task_for ask agenda.notebook) }
+        ensures output { IfOk result (λ j. output_of_job j ≡ ask.output) }
     {
         match drawn(w) {
             Ok(pairs) => Job::start_session(alloc, w, number, ask, agenda, pairs, kernel, here),
@@ -89,11 +109,15 @@ impl Job {
         ensures course { (o : Origin) → IsFor ask.output ask.merge agenda.notebook o →
             Begins o (W.journal w.old) (W.counts w.old) →
             StartsAs o result (W.journal w.new) (W.counts w.new) }
-        ensures others { (path : List ℕ) (since : List Entry) (from : Counts) →
-            IsOther ask.output path →
-            IsUntouched path since from (W.journal w.old) (W.counts w.old) →
-            StartsAlone path since from result (W.journal w.new) (W.counts w.new) }
+        ensures calls { (c : Cast) (since : List Entry) (from : Counts) →
+            IsCastAs c number ask here.now → IsKernelOf ask kernel.now →
+            HasCalled c since from (W.journal w.old) (W.counts w.old) →
+            StartsInRole c since from result (W.journal w.new) (W.counts w.new) }
+        ensures left { IfErr result (λ _. KeepsEnd number (W.journal w.old) (W.journal w.new)) }
         ensures cause { IfErr result (EndCause (W.counts w.old) (W.counts w.new)) }
+        ensures own { IfErr result (StartsBy (task_for ask agenda.notebook)) }
+        ensures task { IfOk result (λ j. task_of_job j ≡ task_for ask agenda.notebook) }
+        ensures output { IfOk result (λ j. output_of_job j ≡ ask.output) }
     {
         match parts_of(alloc, ask, agenda, pairs) {
             Ok((paths, run)) => started(alloc, w, number, paths, run, kernel, here),
@@ -104,11 +128,16 @@ impl Job {
     // Draws the ports, writes the connection file and starts the child.
     fn launch<W: World>(&mut self, w: &mut W, kernel: &Kernel, here: &Text) -> Result<(), End>
         ensures course { RunsOn W.journal W.counts w.old w.new self.old self.new }
-        ensures others { LeavesOthers W.journal W.counts w.old w.new self.old self.new }
+        ensures calls { LaunchesInRole W.journal W.counts w.old w.new kernel.now here.now
+            self.old self.new }
+        ensures number { number_of self.new ≡ number_of self.old }
         ensures outcome { outcome_of self.new ≡ outcome_of self.old }
+        ensures task { task_of_job self.new ≡ task_of_job self.old }
+        ensures output { output_of_job self.new ≡ output_of_job self.old }
         ensures saved { stays_open result ≡ true }
         ensures grow { CountsGrow (W.counts w.old) (W.counts w.new) }
         ensures cause { IfErr result (EndCause (W.counts w.old) (W.counts w.new)) }
+        ensures own { (task : Task) → IfErr result (StartsBy task) }
     {
         match w.free_ports(self.number) {
             Some(ports) => {
@@ -122,10 +151,12 @@ impl Job {
     // Writes the connection file and starts the child.
     fn start_on_ports<W: World>(&self, w: &mut W, kernel: &Kernel, here: &Text) -> Result<(), End>
         ensures course { RunsOn W.journal W.counts w.old w.new self.now self.now }
-        ensures others { LeavesOthers W.journal W.counts w.old w.new self.now self.now }
+        ensures calls { LaunchesInRole W.journal W.counts w.old w.new kernel.now here.now
+            self.now self.now }
         ensures saved { stays_open result ≡ true }
         ensures grow { CountsGrow (W.counts w.old) (W.counts w.new) }
         ensures cause { IfErr result (EndCause (W.counts w.old) (W.counts w.new)) }
+        ensures own { (task : Task) → IfErr result (StartsBy task) }
     {
         match self.write_file(w) {
             Ok(()) => self.start_child(w, kernel, here),
@@ -135,10 +166,11 @@ impl Job {
 
     fn write_file<W: World>(&self, w: &mut W) -> Result<(), End>
         ensures course { RunsOn W.journal W.counts w.old w.new self.now self.now }
-        ensures others { LeavesOthers W.journal W.counts w.old w.new self.now self.now }
+        ensures calls { WritesInRole W.journal W.counts w.old w.new self.now }
         ensures saved { stays_open result ≡ true }
         ensures grow { CountsGrow (W.counts w.old) (W.counts w.new) }
         ensures cause { IfErr result (EndCause (W.counts w.old) (W.counts w.new)) }
+        ensures own { (task : Task) → IfErr result (StartsBy task) }
     {
         let key = self.run.session.key();
         match write_connection(self.alloc, w, &self.paths.connection, self.ports, key) {
@@ -150,10 +182,12 @@ impl Job {
 
     fn start_child<W: World>(&self, w: &mut W, kernel: &Kernel, here: &Text) -> Result<(), End>
         ensures course { RunsOn W.journal W.counts w.old w.new self.now self.now }
-        ensures others { LeavesOthers W.journal W.counts w.old w.new self.now self.now }
+        ensures calls { LaunchesInRole W.journal W.counts w.old w.new kernel.now here.now
+            self.now self.now }
         ensures saved { stays_open result ≡ true }
         ensures grow { CountsGrow (W.counts w.old) (W.counts w.new) }
         ensures cause { IfErr result (EndCause (W.counts w.old) (W.counts w.new)) }
+        ensures own { (task : Task) → IfErr result (StartsBy task) }
     {
         let path = &self.paths.connection;
         match kernel.start(self.alloc, w, self.number, here, path, &self.paths.cwd) {
@@ -166,8 +200,10 @@ impl Job {
 
 impl Execution {
     ghost use Rattle.std.specs.Prelude.{IfErr, OnOk};
-    ghost use Rattle.job_saves.specs.Course.{GoesOn, SparesOthers, stays_open, IsEndOfRun};
+    ghost use Rattle.cell_core.specs.StandsFor.{task_of};
+    ghost use Rattle.job_saves.specs.Course.{GoesOn, CallsOwn, stays_open};
     ghost use Rattle.job_run.specs.Held.{Holds, IsCalm, IsFirst};
+    ghost use Rattle.job_run.specs.Told.{EndsBy};
 
     /// Saves the notebook with no cell settled, and reads the clock once.
     fn save_first<W: World>(&mut self, w: &mut W) -> Result<(), End>
@@ -176,8 +212,9 @@ impl Execution {
         ensures calm { OnOk result (IsCalm self.new) }
         ensures course { GoesOn W.journal W.counts w.old w.new self.old.book self.new.book
             (stays_open result) }
-        ensures others { SparesOthers W.journal W.counts w.old w.new self.old.book self.new.book }
-        ensures own { IfErr result IsEndOfRun }
+        ensures calls { CallsOwn W.journal W.counts w.old w.new self.old.book self.new.book }
+        ensures task { task_of self.new.core ≡ task_of self.old.core }
+        ensures own { IfErr result (EndsBy (task_of self.new.core)) }
     {
         self.act(w, Act::Save(0))?;
         self.read_clock(w)
@@ -190,13 +227,14 @@ impl Execution {
         ensures calm { OnOk result (IsCalm self.new) }
         ensures course { GoesOn W.journal W.counts w.old w.new self.old.book self.new.book
             (stays_open result) }
-        ensures others { SparesOthers W.journal W.counts w.old w.new self.old.book self.new.book }
-        ensures own { IfErr result IsEndOfRun }
+        ensures calls { CallsOwn W.journal W.counts w.old w.new self.old.book self.new.book }
+        ensures task { task_of self.new.core ≡ task_of self.old.core }
+        ensures own { IfErr result (EndsBy (task_of self.new.core)) }
     {
         laws::other_calls_pass();
         let ms = w.now();
-        self.clock = ms;
-        self.step(w, Event::Moment(ms))
+        self.turn_clock(ms);
+        self.hear_clock(w)
     }
 }
 
@@ -215,11 +253,15 @@ fn started<W: World>(
     ensures course { (o : Origin) → Stands o run.book true (W.journal w.old) (W.counts w.old) →
         bytes_eq paths.connection o.output ≡ false →
         StartsAs o result (W.journal w.new) (W.counts w.new) }
-    ensures others { (path : List ℕ) (since : List Entry) (from : Counts) →
-        IsSpared path since from run.book (W.journal w.old) (W.counts w.old) →
-        bytes_eq paths.connection path ≡ false →
-        StartsAlone path since from result (W.journal w.new) (W.counts w.new) }
+    ensures calls { (c : Cast) (since : List Entry) (from : Counts) →
+        MayStart c number kernel.now here.now → IsRole c number paths →
+        HasPart c since from run.book (W.journal w.old) (W.counts w.old) →
+        StartsInRole c since from result (W.journal w.new) (W.counts w.new) }
+    ensures left { IfErr result (λ _. KeepsEnd number (W.journal w.old) (W.journal w.new)) }
     ensures cause { IfErr result (EndCause (W.counts w.old) (W.counts w.new)) }
+    ensures own { IfErr result (StartsBy (task_of run.core)) }
+    ensures task { IfOk result (λ j. task_of_job j ≡ task_of run.core) }
+    ensures output { IfOk result (λ j. output_of_job j ≡ paths.output) }
 {
     laws::jobs_begin_and_end();
     let mut run = run;
@@ -236,6 +278,7 @@ fn job_of(alloc: Global, number: u8, paths: Paths, run: Execution) -> Job
     requires calm { IsCalm run }
     ensures run { result.run ≡ run }
     ensures paths { result.paths ≡ paths }
+    ensures number { number_of result ≡ number }
     ensures outcome { outcome_of result ≡ None }
 {
     Job {
@@ -254,10 +297,15 @@ fn with_kernel<W: World>(job: Job, w: &mut W, kernel: &Kernel, here: &Text) -> R
     requires { outcome_of job ≡ None }
     ensures course { (o : Origin) → Runs o job (W.journal w.old) (W.counts w.old) →
         StartsAs o result (W.journal w.new) (W.counts w.new) }
-    ensures others { (path : List ℕ) (since : List Entry) (from : Counts) →
-        IsLeftAlone path since from job (W.journal w.old) (W.counts w.old) →
-        StartsAlone path since from result (W.journal w.new) (W.counts w.new) }
+    ensures calls { (c : Cast) (since : List Entry) (from : Counts) →
+        MayStart c (number_of job) kernel.now here.now →
+        HasRole c since from job (W.journal w.old) (W.counts w.old) →
+        StartsInRole c since from result (W.journal w.new) (W.counts w.new) }
+    ensures left { IfErr result (λ _. HasEnd (number_of job) (W.journal w.new)) }
     ensures cause { IfErr result (EndCause (W.counts w.old) (W.counts w.new)) }
+    ensures own { (task : Task) → IfErr result (StartsBy task) }
+    ensures task { IfOk result (λ j. task_of_job j ≡ task_of_job job) }
+    ensures output { IfOk result (λ j. output_of_job j ≡ output_of_job job) }
 {
     laws::jobs_begin_and_end();
     let mut job = job;
@@ -273,9 +321,11 @@ fn with_kernel<W: World>(job: Job, w: &mut W, kernel: &Kernel, here: &Text) -> R
 fn drawn<W: World>(w: &mut W) -> Result<RandomPairs, End>
     ensures others { (path : List ℕ) →
         Told (W.journal w.old) (W.journal w.new) (Since (Spares path)) }
-    ensures grow { CountsGrow (W.counts w.old) (W.counts w.new) }
+    ensures part { Told (W.journal w.old) (W.journal w.new) (Since (IsOf OnRand)) }
+    ensures work { CountsWork (W.counts w.old) (W.counts w.new) }
     ensures saved { stays_open result ≡ true }
     ensures cause { IfErr result (EndCause (W.counts w.old) (W.counts w.new)) }
+    ensures own { (task : Task) → IfErr result (StartsBy task) }
 {
     match random_pairs(w) {
         Some(pairs) => Ok(pairs),
@@ -296,6 +346,9 @@ fn parts_of(
     ensures merge { IfOk result (λ p. merge_of p.1.book ≡ ask.merge) }
     ensures keeps { IfOk result (λ p. KeepsRead p.1.book agenda.notebook) }
     ensures connection { IfOk result (λ p. p.0.connection ≡ connection_of ask.output) }
+    ensures folder { IfOk result (λ p. p.0.cwd ≡ ask.cwd) }
+    ensures task { IfOk result (λ p. task_of p.1.core ≡ task_for ask agenda.notebook) }
+    ensures paths { IfOk result (λ p. p.0.output ≡ ask.output) }
 {
     let paths = paths_of(alloc, &ask)?;
     let run = execution_of(alloc, terms_of(ask), &paths.output, agenda, pairs)?;
@@ -305,6 +358,7 @@ fn parts_of(
 fn paths_of(alloc: Global, ask: &Ask) -> Result<Paths, NoMemory>
     ensures output { IfOk result (λ p. p.output ≡ ask.now.output) }
     ensures connection { IfOk result (λ p. p.connection ≡ connection_of ask.now.output) }
+    ensures folder { IfOk result (λ p. p.cwd ≡ ask.now.cwd) }
 {
     let output = ask.output.copy(alloc)?;
     let connection = connection_path(alloc, &ask.output)?;
@@ -318,7 +372,8 @@ fn paths_of(alloc: Global, ask: &Ask) -> Result<Paths, NoMemory>
 
 fn terms_of(ask: Ask) -> Terms
     requires { IsRunnable ask }
-    ensures { result.merge ≡ ask.merge }
+    ensures merge { result.merge ≡ ask.merge }
+    ensures times { result.times ≡ times_of ask }
 {
     let Ask {
         all_errors,
@@ -354,6 +409,8 @@ fn execution_of(
     ensures output { IfOk result (λ x. output_of x.book ≡ output.now) }
     ensures merge { IfOk result (λ x. merge_of x.book ≡ terms.merge) }
     ensures keeps { IfOk result (λ x. KeepsRead x.book agenda.notebook) }
+    ensures task { IfOk result (λ x. task_of x.core ≡
+        task_in terms.times agenda.notebook) }
 {
     nb_model::laws::plan_in_order();
     let Agenda { notebook, cells } = agenda;

@@ -14,14 +14,16 @@ use world::{Chan, Disk, Say};
 const RAISES: &str = "raises-exception";
 
 impl Execution {
-    ghost use Rattle.std.specs.Prelude.{◌≡◌, ◌<◌, ◌≤◌, ◌^◌, ◌+◌, true, false, IfOk, IfErr, OnOk};
+    ghost use Rattle.std.specs.Prelude.{◌≡◌, ◌<◌, ◌≤◌, ◌^◌, ◌+◌, true, false, is_some, IfOk, IfErr, OnOk};
     ghost use Rattle.cell_core.specs.Events.{is_saved};
     ghost use Rattle.cell_core.specs.Holds.{IsSmall, is_save};
     ghost use Rattle.cell_core.specs.Sending.{next_of, saves_ahead};
     ghost use Rattle.cell_core.specs.StandsFor.{task_of};
+    ghost use Rattle.cell_core.specs.declared.why.Why.TheVariants as cause;
     ghost use Rattle.job_notebook.specs.State.{settled_of, begun_of};
     ghost use Rattle.job_run.specs.Held.{Holds, IsToDo, IsCalm, IsSaid};
-    ghost use Rattle.job_saves.specs.Course.{GoesOn, SparesOthers, StaysOn, StaysSpared, stays_open, keeps_open, IsEndOfRun};
+    ghost use Rattle.job_run.specs.Told.{MayCome, StopsFor, EndsBy};
+    ghost use Rattle.job_saves.specs.Course.{GoesOn, CallsOwn, StaysOn, KeepsPart, stays_open, keeps_open};
 
     /// Tells the core of one event, and does what it answers. `Err` where the job ends so.
     pub(crate) fn step<W: Disk + Say>(&mut self, w: &mut W, e: Event) -> Result<(), End>
@@ -29,12 +31,14 @@ impl Execution {
         requires calm { IsCalm self.old }
         requires other { is_saved e ≡ false }
         requires small { IsSmall e }
+        requires may { MayCome self.old.core self.old.clock (is_some self.old.broken) e }
         ensures holds { Holds self.new }
         ensures calm { OnOk result (IsCalm self.new) }
         ensures course { GoesOn W.journal W.counts w.old w.new self.old.book self.new.book
             (stays_open result) }
-        ensures others { SparesOthers W.journal W.counts w.old w.new self.old.book self.new.book }
-        ensures own { IfErr result IsEndOfRun }
+        ensures calls { CallsOwn W.journal W.counts w.old w.new self.old.book self.new.book }
+        ensures task { task_of self.new.core ≡ task_of self.old.core }
+        ensures own { IfErr result (EndsBy (task_of self.new.core)) }
     {
         let step = self.tell(e);
         self.act(w, step.act)
@@ -46,10 +50,12 @@ impl Execution {
         requires calm { IsCalm self.old }
         requires other { is_saved e ≡ false }
         requires small { IsSmall e }
+        requires may { MayCome self.old.core self.old.clock (is_some self.old.broken) e }
         ensures holds { Holds self.new }
         ensures todo { IsToDo self.new result.act }
         ensures request { self.new.request ≡ self.old.request }
         ensures book { self.new.book ≡ self.old.book }
+        ensures task { task_of self.new.core ≡ task_of self.old.core }
     {
         self.core.step(e)
     }
@@ -62,8 +68,9 @@ impl Execution {
         ensures calm { OnOk result (IsCalm self.new) }
         ensures course { GoesOn W.journal W.counts w.old w.new self.old.book self.new.book
             (stays_open result) }
-        ensures others { SparesOthers W.journal W.counts w.old w.new self.old.book self.new.book }
-        ensures own { IfErr result IsEndOfRun }
+        ensures calls { CallsOwn W.journal W.counts w.old w.new self.old.book self.new.book }
+        ensures task { task_of self.new.core ≡ task_of self.old.core }
+        ensures own { IfErr result (EndsBy (task_of self.new.core)) }
     {
         let mut act = act;
         while let Act::Save(settled) = act {
@@ -82,8 +89,9 @@ impl Execution {
             saves_ahead self.new.core < saves_ahead self.old.core) }
         ensures course { GoesOn W.journal W.counts w.old w.new self.old.book self.new.book
             (stays_open result) }
-        ensures others { SparesOthers W.journal W.counts w.old w.new self.old.book self.new.book }
-        ensures own { IfErr result IsEndOfRun }
+        ensures calls { CallsOwn W.journal W.counts w.old w.new self.old.book self.new.book }
+        ensures task { task_of self.new.core ≡ task_of self.old.core }
+        ensures own { IfErr result (EndsBy (task_of self.new.core)) }
     {
         self.save(w, settled)?;
         Ok(self.core.step(Event::Saved).act)
@@ -97,9 +105,10 @@ impl Execution {
         ensures holds { Holds self.new }
         ensures calm { OnOk result (IsCalm self.new) }
         ensures course { StaysOn self.old.book self.new.book }
-        ensures others { StaysSpared self.old.book self.new.book }
+        ensures calls { KeepsPart self.old.book self.new.book }
         ensures saved { stays_open result ≡ true }
-        ensures own { IfErr result IsEndOfRun }
+        ensures task { task_of self.new.core ≡ task_of self.old.core }
+        ensures own { IfErr result (EndsBy (task_of self.new.core)) }
     {
         match act {
             Act::Send(cell) => self.send(cell),
@@ -124,8 +133,9 @@ impl Execution {
         ensures settled { settled_of self.new.book ≤ settled }
         ensures course { GoesOn W.journal W.counts w.old w.new self.old.book self.new.book
             (stays_open result) }
-        ensures others { SparesOthers W.journal W.counts w.old w.new self.old.book self.new.book }
-        ensures own { IfErr result IsEndOfRun }
+        ensures calls { CallsOwn W.journal W.counts w.old w.new self.old.book self.new.book }
+        ensures task { task_of self.new.core ≡ task_of self.old.core }
+        ensures own { IfErr result (EndsBy (task_of self.new.core)) }
     {
         let stop = self.core.failing();
         save_next(w, &mut self.book, settled, stop)
@@ -140,9 +150,10 @@ impl Execution {
         ensures holds { Holds self.new }
         ensures core { self.new.core ≡ self.old.core }
         ensures course { StaysOn self.old.book self.new.book }
-        ensures others { StaysSpared self.old.book self.new.book }
+        ensures calls { KeepsPart self.old.book self.new.book }
         ensures saved { stays_open result ≡ true }
-        ensures own { IfErr result IsEndOfRun }
+        ensures task { task_of self.new.core ≡ task_of self.old.core }
+        ensures own { IfErr result (EndsBy (task_of self.new.core)) }
     {
         laws::messages_stay_on_course();
         let request = self.request_of(cell)?;
@@ -203,29 +214,52 @@ impl Execution {
         self.say(Chan::Control, "shutdown_request", content)
     }
 
+    // How the job ends for this cause.
     fn end_by(&self, why: Why) -> Result<End, NoMemory>
+        requires stops { StopsFor (task_of self.now.core) why }
+        requires named { why ≡ cause.BadPeer → is_some self.now.broken ≡ true }
         ensures saved { IfOk result (λ e. keeps_open e ≡ true) }
-        ensures own { IfOk result IsEndOfRun }
+        ensures own { IfOk result (EndsBy (task_of self.now.core)) }
     {
-        let cell = match &self.request {
+        match why {
+            Why::Done => Ok(End::Done),
+            Why::CellError => self.cell_error(),
+            Why::NotReady => Ok(End::NotReady),
+            Why::KernelLost => Ok(End::KernelLost),
+            Why::TimedOut => Ok(End::TimedOut { cell: self.cell() }),
+            Why::NoIdle => Ok(End::NoIdle { cell: self.cell() }),
+            Why::BadPeer => Ok(self.peer_fault()),
+        }
+    }
+
+    // The cell of the request that stands.
+    fn cell(&self) -> u32 {
+        match &self.request {
             Some(request) => request.cell,
             None => 0,
-        };
-        Ok(match why {
-            Why::Done => End::Done,
-            Why::CellError => End::CellError {
-                cell,
-                name: self.error_name()?,
-            },
-            Why::NotReady => End::NotReady,
-            Why::KernelLost => End::KernelLost,
-            Why::TimedOut => End::TimedOut { cell },
-            Why::NoIdle => End::NoIdle { cell },
-            Why::BadPeer => match self.broken {
-                Some((chan, fault)) => End::BadPeer { chan, fault },
-                None => End::KernelLost,
-            },
+        }
+    }
+
+    fn cell_error(&self) -> Result<End, NoMemory>
+        requires { StopsFor (task_of self.now.core) cause.CellError }
+        ensures saved { IfOk result (λ e. keeps_open e ≡ true) }
+        ensures own { IfOk result (EndsBy (task_of self.now.core)) }
+    {
+        let name = self.error_name()?;
+        Ok(End::CellError {
+            cell: self.cell(),
+            name,
         })
+    }
+
+    fn peer_fault(&self) -> End
+        requires stops { StopsFor (task_of self.now.core) cause.BadPeer }
+        requires named { is_some self.now.broken ≡ true }
+        ensures saved { keeps_open result ≡ true }
+        ensures own { EndsBy (task_of self.now.core) result }
+    {
+        let (chan, fault) = self.broken.unwrap();
+        End::BadPeer { chan, fault }
     }
 
     fn error_name(&self) -> Result<Text, NoMemory> {

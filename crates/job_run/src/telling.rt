@@ -3,19 +3,23 @@
 use crate::Job;
 use crate::look::Look;
 use crate::outcome::outcome_of;
-use cell_core::Event;
 use job_end::{Answer, End};
 use job_saves::laws;
 use jtext::{Bytes, NoMemory};
 use world::{Chan, Disk, Kids, Say};
 
 impl Job {
-    ghost use Rattle.std.specs.Prelude.{◌≡◌, ◌<◌, ◌^◌, ℕ, List, true, false, is_some};
+    ghost use Rattle.std.specs.Prelude.{◌≡◌, ◌<◌, ◌^◌, List, true, false, is_some};
     ghost use Rattle.world.specs.declared.entry.Entry.{Entry};
     ghost use Rattle.world.specs.Counts.{Counts, CountsGrow};
-    ghost use Rattle.job_saves.specs.Course.{Origin, IsUntouched, IsEndOfRun, keeps_open};
+    ghost use Rattle.job_saves.specs.Calls.{Cast};
+    ghost use Rattle.job_saves.specs.Children.{HasEnd};
+    ghost use Rattle.job_saves.specs.Course.{Origin, HasCalled, keeps_open};
+    ghost use Rattle.job_run.specs.Task.{task_of_job, output_of_job};
+    ghost use Rattle.job_run.specs.Told.{EndsBy, IsEnding};
     ghost use Rattle.job_run.specs.Run.{Runs, RunsOn, KeepsRun, EndsWith};
-    ghost use Rattle.job_run.specs.Run.{IsLeftAlone, LeavesOthers, KeepsAlone, outcome_of as outcome};
+    ghost use Rattle.job_run.specs.Run.{HasRole, CallsInRole, KeepsRole};
+    ghost use Rattle.job_run.specs.Run.{number_of, outcome_of as outcome};
 
     /// Its number among the jobs of the run.
     pub fn number(&self) -> u8 {
@@ -48,7 +52,9 @@ impl Job {
     /// What is queued on this channel and wasn't handed out, where there is anything.
     pub fn queued(&mut self, chan: Chan) -> Option<Bytes>
         ensures course { KeepsRun self.old self.new }
-        ensures others { KeepsAlone self.old self.new }
+        ensures calls { KeepsRole self.old self.new }
+        ensures task { task_of_job self.new ≡ task_of_job self.old }
+        ensures output { output_of_job self.new ≡ output_of_job self.old }
     {
         self.run.lines.take(chan)
     }
@@ -56,7 +62,9 @@ impl Job {
     /// So many octets of this channel were taken since its connection was begun.
     pub fn on_taken(&mut self, chan: Chan, taken: u64)
         ensures course { KeepsRun self.old self.new }
-        ensures others { KeepsAlone self.old self.new }
+        ensures calls { KeepsRole self.old self.new }
+        ensures task { task_of_job self.new ≡ task_of_job self.old }
+        ensures output { output_of_job self.new ≡ output_of_job self.old }
     {
         self.run.lines.on_taken(chan, taken);
     }
@@ -82,7 +90,9 @@ impl Job {
         piece: &[u8],
     ) -> Result<(), NoMemory>
         ensures course { RunsOn W.journal W.counts w.old w.new self.old self.new }
-        ensures others { LeavesOthers W.journal W.counts w.old w.new self.old self.new }
+        ensures calls { CallsInRole W.journal W.counts w.old w.new self.old self.new }
+        ensures task { task_of_job self.new ≡ task_of_job self.old }
+        ensures output { output_of_job self.new ≡ output_of_job self.old }
     {
         if self.is_over() {
             return Ok(());
@@ -95,16 +105,16 @@ impl Job {
     /// A connection has ended.
     pub fn on_ended(&mut self)
         ensures course { KeepsRun self.old self.new }
-        ensures others { KeepsAlone self.old self.new }
+        ensures calls { KeepsRole self.old self.new }
+        ensures task { task_of_job self.new ≡ task_of_job self.old }
+        ensures output { output_of_job self.new ≡ output_of_job self.old }
     {
         if self.is_over() {
             return;
         }
         match self.look {
             Look::Waited { .. } => self.look = Look::Waited { late: true },
-            Look::Still => {
-                self.run.core.step(Event::Lost);
-            }
+            Look::Still => self.run.on_ended(),
         }
     }
 
@@ -112,7 +122,9 @@ impl Job {
     pub fn on_moment<W: Disk + Kids + Say>(&mut self, w: &mut W, ms: u64) -> Result<(), NoMemory>
         requires { ms < 2 ^ 47 }
         ensures course { RunsOn W.journal W.counts w.old w.new self.old self.new }
-        ensures others { LeavesOthers W.journal W.counts w.old w.new self.old self.new }
+        ensures calls { CallsInRole W.journal W.counts w.old w.new self.old self.new }
+        ensures task { task_of_job self.new ≡ task_of_job self.old }
+        ensures output { output_of_job self.new ≡ output_of_job self.old }
     {
         if self.is_over() {
             return Ok(());
@@ -127,7 +139,9 @@ impl Job {
     /// The wait of a last look was made.
     pub fn on_waited(&mut self)
         ensures course { KeepsRun self.old self.new }
-        ensures others { KeepsAlone self.old self.new }
+        ensures calls { KeepsRole self.old self.new }
+        ensures task { task_of_job self.new ≡ task_of_job self.old }
+        ensures output { output_of_job self.new ≡ output_of_job self.old }
     {
         self.look = Look::Waited { late: false };
     }
@@ -135,7 +149,9 @@ impl Job {
     /// The reads of a last look are done.
     pub fn on_looked<W: Disk + Say>(&mut self, w: &mut W) -> Result<(), NoMemory>
         ensures course { RunsOn W.journal W.counts w.old w.new self.old self.new }
-        ensures others { LeavesOthers W.journal W.counts w.old w.new self.old self.new }
+        ensures calls { CallsInRole W.journal W.counts w.old w.new self.old self.new }
+        ensures task { task_of_job self.new ≡ task_of_job self.old }
+        ensures output { output_of_job self.new ≡ output_of_job self.old }
     {
         let late = self.is_late();
         self.look = Look::Still;
@@ -158,7 +174,9 @@ impl Job {
     /// Ends the job by the network.
     pub fn lose_network(&mut self) -> Result<(), NoMemory>
         ensures course { KeepsRun self.old self.new }
-        ensures others { KeepsAlone self.old self.new }
+        ensures calls { KeepsRole self.old self.new }
+        ensures task { task_of_job self.new ≡ task_of_job self.old }
+        ensures output { output_of_job self.new ≡ output_of_job self.old }
     {
         if self.is_over() {
             return Ok(());
@@ -169,7 +187,9 @@ impl Job {
     /// Ends the job by the budget of turns.
     pub fn spend(&mut self) -> Result<(), NoMemory>
         ensures course { KeepsRun self.old self.new }
-        ensures others { KeepsAlone self.old self.new }
+        ensures calls { KeepsRole self.old self.new }
+        ensures task { task_of_job self.new ≡ task_of_job self.old }
+        ensures output { output_of_job self.new ≡ output_of_job self.old }
     {
         if self.is_over() {
             return Ok(());
@@ -180,8 +200,9 @@ impl Job {
     /// Ends the child and removes the connection file.
     pub fn end_child<W: Disk + Kids>(&self, w: &mut W)
         ensures course { RunsOn W.journal W.counts w.old w.new self.now self.now }
-        ensures others { LeavesOthers W.journal W.counts w.old w.new self.now self.now }
+        ensures calls { CallsInRole W.journal W.counts w.old w.new self.now self.now }
         ensures grow { CountsGrow (W.counts w.old) (W.counts w.new) }
+        ensures left { HasEnd (number_of self.now) (W.journal w.new) }
     {
         laws::other_calls_pass();
         w.end(self.number);
@@ -192,9 +213,13 @@ impl Job {
     pub fn finish<W: Disk + Kids>(self, w: &mut W) -> Answer
         ensures course { (o : Origin) → Runs o self (W.journal w.old) (W.counts w.old) →
             EndsWith o result (W.journal w.new) (W.counts w.new) }
-        ensures others { (path : List ℕ) (since : List Entry) (from : Counts) →
-            IsLeftAlone path since from self (W.journal w.old) (W.counts w.old) →
-            IsUntouched path since from (W.journal w.new) (W.counts w.new) }
+        ensures calls { (c : Cast) (since : List Entry) (from : Counts) →
+            HasRole c since from self (W.journal w.old) (W.counts w.old) →
+            HasCalled c since from (W.journal w.new) (W.counts w.new) }
+        // Its child has its end.
+        ensures left { HasEnd (number_of self) (W.journal w.new) }
+        // It is the answer of an end of its run, by a cause for which such a core may stop.
+        ensures end { IsEnding (output_of_job self) (task_of_job self) result }
     {
         laws::jobs_begin_and_end();
         self.end_child(w);
@@ -208,10 +233,12 @@ impl Job {
     // The job ends so.
     fn end(&mut self, end: End) -> Result<(), NoMemory>
         requires running { is_some (outcome self.old) ≡ false }
-        requires own { IsEndOfRun end }
+        requires own { EndsBy (task_of_job self.old) end }
         requires saved { keeps_open end ≡ true }
         ensures course { KeepsRun self.old self.new }
-        ensures others { KeepsAlone self.old self.new }
+        ensures calls { KeepsRole self.old self.new }
+        ensures task { task_of_job self.new ≡ task_of_job self.old }
+        ensures output { output_of_job self.new ≡ output_of_job self.old }
     {
         self.outcome = outcome_of(self.alloc, &self.paths.output, &mut self.run, Err(end));
         self.unless_starved()

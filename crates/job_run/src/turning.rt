@@ -12,9 +12,11 @@ use world::{Chan, Disk, Say};
 use zmtp_wire::Parts;
 
 impl Execution {
-    ghost use Rattle.std.specs.Prelude.{true, IfErr, OnOk};
+    ghost use Rattle.std.specs.Prelude.{◌≡◌, true, IfErr, OnOk};
+    ghost use Rattle.cell_core.specs.StandsFor.{task_of};
     ghost use Rattle.job_run.specs.Held.{Holds, IsCalm, IsAsked};
-    ghost use Rattle.job_saves.specs.Course.{GoesOn, SparesOthers, stays_open, IsEndOfRun};
+    ghost use Rattle.job_run.specs.Told.{EndsBy};
+    ghost use Rattle.job_saves.specs.Course.{GoesOn, CallsOwn, stays_open};
 
     /// The clock was read in a turn, and the child was found ended or not.
     pub(crate) fn on_moment<W: Disk + Say>(
@@ -30,11 +32,12 @@ impl Execution {
         ensures calm { OnOk result (IsCalm self.new) }
         ensures course { GoesOn W.journal W.counts w.old w.new self.old.book self.new.book
             (stays_open result) }
-        ensures others { SparesOthers W.journal W.counts w.old w.new self.old.book self.new.book }
-        ensures own { IfErr result IsEndOfRun }
+        ensures calls { CallsOwn W.journal W.counts w.old w.new self.old.book self.new.book }
+        ensures task { task_of self.new.core ≡ task_of self.old.core }
+        ensures own { IfErr result (EndsBy (task_of self.new.core)) }
     {
-        self.clock = ms;
-        match self.step(w, Event::Moment(ms)) {
+        self.turn_clock(ms);
+        match self.hear_clock(w) {
             Ok(()) => self.lose_or_ask(w, ms, has_ended),
             Err(end) => Err(end),
         }
@@ -48,8 +51,9 @@ impl Execution {
         ensures calm { OnOk result (IsCalm self.new) }
         ensures course { GoesOn W.journal W.counts w.old w.new self.old.book self.new.book
             (stays_open result) }
-        ensures others { SparesOthers W.journal W.counts w.old w.new self.old.book self.new.book }
-        ensures own { IfErr result IsEndOfRun }
+        ensures calls { CallsOwn W.journal W.counts w.old w.new self.old.book self.new.book }
+        ensures task { task_of self.new.core ≡ task_of self.old.core }
+        ensures own { IfErr result (EndsBy (task_of self.new.core)) }
     {
         let is_lost = self.is_lost(ms, has_ended);
         match self.lose(w, is_lost) {
@@ -67,12 +71,56 @@ impl Execution {
         requires { self.old.clock < 2 ^ 47 }
         ensures asked { IsAsked self.old self.new }
         ensures saved { stays_open result ≡ true }
-        ensures own { IfErr result IsEndOfRun }
+        ensures own { IfErr result (EndsBy (task_of self.new.core)) }
     {
         match self.ask_and_ping() {
             Ok(()) => Ok(()),
             Err(NoMemory) => Err(End::NoMemory),
         }
+    }
+
+    // The clock was read. It never falls.
+    pub(crate) fn turn_clock(&mut self, ms: u64)
+        requires early { ms < 2 ^ 47 }
+        requires holds { Holds self.old }
+        ensures holds { Holds self.new }
+        ensures core { self.new.core ≡ self.old.core }
+        ensures book { self.new.book ≡ self.old.book }
+    {
+        if ms <= self.clock {
+            return;
+        }
+        self.clock = ms;
+    }
+
+    // Tells the core of the clock, unless a last look comes first.
+    pub(crate) fn hear_clock<W: Disk + Say>(&mut self, w: &mut W) -> Result<(), End>
+        requires holds { Holds self.old }
+        requires calm { IsCalm self.old }
+        ensures holds { Holds self.new }
+        ensures calm { OnOk result (IsCalm self.new) }
+        ensures course { GoesOn W.journal W.counts w.old w.new self.old.book self.new.book
+            (stays_open result) }
+        ensures calls { CallsOwn W.journal W.counts w.old w.new self.old.book self.new.book }
+        ensures task { task_of self.new.core ≡ task_of self.old.core }
+        ensures own { IfErr result (EndsBy (task_of self.new.core)) }
+    {
+        if self.core.wants_look() {
+            return Ok(());
+        }
+        self.step(w, Event::Moment(self.clock))
+    }
+
+    /// A connection has ended.
+    pub(crate) fn on_ended(&mut self)
+        requires holds { Holds self.old }
+        requires calm { IsCalm self.old }
+        ensures holds { Holds self.new }
+        ensures calm { IsCalm self.new }
+        ensures book { self.new.book ≡ self.old.book }
+        ensures task { task_of self.new.core ≡ task_of self.old.core }
+    {
+        self.core.step(Event::Lost);
     }
 
     // The kernel is gone, where it is.
@@ -83,8 +131,9 @@ impl Execution {
         ensures calm { OnOk result (IsCalm self.new) }
         ensures course { GoesOn W.journal W.counts w.old w.new self.old.book self.new.book
             (stays_open result) }
-        ensures others { SparesOthers W.journal W.counts w.old w.new self.old.book self.new.book }
-        ensures own { IfErr result IsEndOfRun }
+        ensures calls { CallsOwn W.journal W.counts w.old w.new self.old.book self.new.book }
+        ensures task { task_of self.new.core ≡ task_of self.old.core }
+        ensures own { IfErr result (EndsBy (task_of self.new.core)) }
     {
         if is_lost {
             self.step(w, Event::Lost)
@@ -142,8 +191,9 @@ impl Execution {
         ensures calm { OnOk result (IsCalm self.new) }
         ensures course { GoesOn W.journal W.counts w.old w.new self.old.book self.new.book
             (stays_open result) }
-        ensures others { SparesOthers W.journal W.counts w.old w.new self.old.book self.new.book }
-        ensures own { IfErr result IsEndOfRun }
+        ensures calls { CallsOwn W.journal W.counts w.old w.new self.old.book self.new.book }
+        ensures task { task_of self.new.core ≡ task_of self.old.core }
+        ensures own { IfErr result (EndsBy (task_of self.new.core)) }
     {
         self.step(w, Event::Looked)?;
         self.lose(w, late)

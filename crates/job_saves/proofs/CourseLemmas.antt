@@ -1,7 +1,6 @@
 -- Saves and other calls go on with a job's course.
-use Rattle.std.proofs.Common.{◌≡◌, ℕ, ◌≤◌, Bool, true, false, List, Option, Some, None, Result, Ok, Err, refl, sym, subst, ◌∙◌, arith}
+use Rattle.std.proofs.Common.{◌≡◌, ℕ, ◌≤◌, Bool, true, false, List, Option, Some, None, Result, Ok, Err, length, refl, sym, ap, subst, ◌∙◌, arith}
 use Rattle.std.specs.Prelude.{IfSome, OnOk}
-use Rattle.std.specs.Str.{bytes_eq}
 use Rattle.nb_model.specs.declared.notebook.Notebook.{Notebook}
 use Rattle.out_fold.specs.declared.used.Used.{Used}
 use Rattle.world.specs.declared.entry.Entry.{Entry}
@@ -13,19 +12,20 @@ use Rattle.world.proofs.MomentsLemmas.{told_as as moments_as}
 use Rattle.save_disk.specs.Places.{durable_place}
 use Rattle.job_end.specs.declared.end.End.{End}
 use Rattle.job_end.specs.declared.end.End.TheVariants as end
-use Rattle.world.proofs.CountsLemmas.{grow_then}
+use Rattle.world.proofs.CountsLemmas.{grow_start, grow_then}
 use Rattle.world.proofs.MomentsLemmas.{since_then}
-use Rattle.save_disk.specs.Temporary.{temporary_of}
 use Rattle.progress_save.specs.declared.progress_fault.ProgressFault.{ProgressFault}
 use Rattle.progress_save.specs.declared.progress_fault.ProgressFault.TheVariants as fault
 use Rattle.progress_save.specs.Prefix.{prefix}
-use Rattle.progress_save.specs.Saved.{text_of, SavesAs, EndsAs, OnRefusal, SaveCause, IsSaveFault}
+use Rattle.progress_save.specs.Saved.{text_of, line_of, SavesAs, EndsAs, OnRefusal, SaveCause, IsSaveFault}
 use Rattle.save_course.specs.Course.{PrefixSave, prefix_text}
 use Rattle.save_course.proofs.CourseLemmas.{saved_goes_on}
 use Rattle.save_course.proofs.RestLemmas.{spared_go_on, spared_rest, saved_rests}
 use Rattle.job_notebook.specs.declared.notebook.JobNotebook.{JobNotebook}
 use Rattle.job_notebook.specs.State.{notebook_of, settled_of, merge_of, output_of, is_closed, Keeps, KeepsParts, KeepsRead, OnCall, closed_after}
-use Rattle.job_saves.specs.Course.{Origin, IsFor, IsSaved, IsOnCourse, HasSaved, Begins, Stands, Ends, IsUntouched, IsSpared, stays_open, answer_of}
+use Rattle.job_saves.specs.Course.{Origin, IsFor, IsSaved, IsOnCourse, HasSaved, Begins, Stands, Ends, CountsWork, HasCalled, HasPart, stays_open, answer_of}
+use Rattle.job_saves.specs.Calls.{Cast, IsCall}
+use Rattle.job_saves.proofs.CallLemmas.{saves_called}
 
 -- ---- what is told and what was held
 
@@ -156,29 +156,50 @@ pub save_stands : (o : Origin) (was now : JobNotebook) (p : ℕ) (stop : Option 
 save_stands o was now p stop line failed result j k c d above is keeps settles closes shut did cause merge output s = record {
   output = output ∙ s.output;
   merge = merge ∙ s.merge;
-  told = told_on j k (SavesAs (output_of was) (text_of (notebook_of now)) line failed result) (IsOnCourse o was true) (IsOnCourse o now (stays_open (answer_of result))) did s.told
+  told = λ on. told_on j k (SavesAs (output_of was) (text_of (notebook_of now)) line failed result) (IsOnCourse o was true) (IsOnCourse o now (stays_open (answer_of result))) did (s.told on)
       (λ x y h saved. save_goes_on o was now p stop line failed x y h s.merge above result is keeps settles closes shut
       (subst (λ q. SavesAs q (text_of (notebook_of now)) line failed result x y) s.output saved));
   grow = grow_then s.grow (save_grows c d (IsSaveFault result) cause);
   cause = λ e. rose_later o.counts.disk c.disk d.disk s.grow.disk (failed_rose result c.disk d.disk cause.disk.cause e);
 }
 
--- ---- other paths
+-- ---- the calls of a job
 
-pub calls_leave : (path : List ℕ) (since : List Entry) (from c d : Counts) (j k : Option (List Entry)) → Told j k (Since (Spares path)) → CountsGrow c d
-    → IsUntouched path since from j c → IsUntouched path since from k d
-calls_leave path since from c d j k told grow s = record {
-  told = told_on j k (Since (Spares path)) (Since (Spares path) since) (Since (Spares path) since) told s.told (λ x y held more. since_then held more);
-  grow = grow_then s.grow grow;
+pub work_start : (c : Counts) → CountsWork c c
+work_start c = record { grow = grow_start c; waits = refl }
+
+pub work_then : (a b c : Counts) → CountsWork a b → CountsWork b c → CountsWork a c
+work_then a b c first then = record { grow = grow_then first.grow then.grow; waits = then.waits ∙ first.waits }
+
+pub save_works : (old new : Counts) (failed : Type 0) → SaveCause old new failed → CountsWork old new
+save_works old new failed c = record { grow = save_grows old new failed c; waits = ap (λ (n : Counts). n.waits) c.others }
+
+pub calls_on : (cast : Cast) (since : List Entry) (from c d : Counts) (j k : Option (List Entry)) → Told j k (Since (IsCall cast)) → CountsWork c d
+    → HasCalled cast since from j c → HasCalled cast since from k d
+calls_on cast since from c d j k told work s = record {
+  told = told_on j k (Since (IsCall cast)) (Since (IsCall cast) since) (Since (IsCall cast) since) told s.told (λ x y held more. since_then held more);
+  counts_work = work_then from c d s.counts_work work;
 }
 
-pub calls_spare : (path : List ℕ) (since : List Entry) (from c d : Counts) (was now : JobNotebook) (j k : Option (List Entry)) → output_of now ≡ output_of was
-    → Told j k (Since (Spares path)) → CountsGrow c d → IsSpared path since from was j c → IsSpared path since from now k d
-calls_spare path since from c d was now j k output told grow s = record {
-  output = subst (λ q. bytes_eq q path ≡ false) (sym output) s.output;
-  temporary = subst (λ q. bytes_eq (temporary_of q) path ≡ false) (sym output) s.temporary;
-  so = calls_leave path since from c d j k told grow s.so;
+pub calls_part : (cast : Cast) (since : List Entry) (from c d : Counts) (was now : JobNotebook) (j k : Option (List Entry)) → output_of now ≡ output_of was
+    → Told j k (Since (IsCall cast)) → CountsWork c d → HasPart cast since from was j c → HasPart cast since from now k d
+calls_part cast since from c d was now j k output told work s = record {
+  number = s.number;
+  ask = s.ask;
+  has = s.has;
+  output = output ∙ s.output;
+  so = calls_on cast since from c d j k told work s.so;
 }
+
+pub save_called : (cast : Cast) (since : List Entry) (from : Counts) (was now : JobNotebook) (p : ℕ) (n : Notebook) (text : List ℕ) (failed : Type 0)
+    (result : Result (Unit {0}) ProgressFault) (j k : Option (List Entry)) (c d : Counts) → output_of now ≡ output_of was
+    → Told j k (SavesAs (output_of was) text (line_of (output_of was) p n) failed result) → SaveCause c d (IsSaveFault result)
+    → HasPart cast since from was j c → HasPart cast since from now k d
+save_called cast since from was now p n text failed result j k c d output did cause s =
+    calls_part cast since from c d was now j k output
+    (moments_as did (λ x y saved. saves_called cast s.number s.ask s.has text p (length n.cells) failed result x y
+    (subst (λ q. SavesAs q text (line_of q p n) failed result x y) s.output saved)))
+    (save_works c d (IsSaveFault result) cause) s
 
 -- ---- what is used changes nothing of the course
 
@@ -187,23 +208,19 @@ pub stays : (was now : JobNotebook) → KeepsParts was now → ((first : Noteboo
 stays was now parts reads o is_open j c s = record {
   output = parts.output ∙ s.output;
   merge = parts.merge ∙ s.merge;
-  told = told_as j (IsOnCourse o was is_open) (IsOnCourse o now is_open) (λ past h. record {
+  told = λ on. told_as j (IsOnCourse o was is_open) (IsOnCourse o now is_open) (λ past h. record {
     settled = h.settled;
     is = h.is;
     above = λ e f. subst (λ n. h.settled ≤ n) (sym parts.settled) (h.above e (sym parts.closed ∙ f));
     keeps = λ e f. reads o.first (h.keeps e (sym parts.closed ∙ f));
-  }) s.told;
+  }) (s.told on);
   grow = s.grow;
   cause = s.cause;
 }
 
-pub stays_spared : (was now : JobNotebook) (path : List ℕ) (since : List Entry) (from : Counts) (j : Option (List Entry)) (c : Counts) → KeepsParts was now
-    → IsSpared path since from was j c → IsSpared path since from now j c
-stays_spared was now path since from j c parts s = record {
-  output = subst (λ q. bytes_eq q path ≡ false) (sym parts.output) s.output;
-  temporary = subst (λ q. bytes_eq (temporary_of q) path ≡ false) (sym parts.output) s.temporary;
-  so = s.so;
-}
+pub keeps_part : (was now : JobNotebook) (cast : Cast) (since : List Entry) (from : Counts) (j : Option (List Entry)) (c : Counts) → KeepsParts was now
+    → HasPart cast since from was j c → HasPart cast since from now j c
+keeps_part was now cast since from j c parts s = record { number = s.number; ask = s.ask; has = s.has; output = parts.output ∙ s.output; so = s.so }
 
 -- ---- other calls
 
@@ -212,7 +229,7 @@ pub others_pass : (o : Origin) (b : JobNotebook) (is_open : Bool) (j k : Option 
 others_pass o b is_open j k c d told grow s = record {
   output = s.output;
   merge = s.merge;
-  told = told_on j k (Since (Spares o.output)) (IsOnCourse o b is_open) (IsOnCourse o b is_open) told s.told (λ x y h since. record {
+  told = λ on. told_on j k (Since (Spares o.output)) (IsOnCourse o b is_open) (IsOnCourse o b is_open) told (s.told on) (λ x y h since. record {
     settled = h.settled;
     is = record { course = spared_go_on o.output o.merge o.first 0 o.before h.is.course h.is.rested since; rested = spared_rest o.output h.is.rested since };
     above = h.above;
@@ -226,7 +243,7 @@ others_pass o b is_open j k c d told grow s = record {
 
 pub begins_pass : (o : Origin) (j k : Option (List Entry)) (c d : Counts) → Told j k (Since (Spares o.output)) → CountsGrow c d → Begins o j c → Begins o k d
 begins_pass o j k c d told grow s = record {
-  told = told_on j k (Since (Spares o.output)) (IsSaved o true 0) (IsSaved o true 0) told s.told (λ x y h since. record {
+  told = λ on. told_on j k (Since (Spares o.output)) (IsSaved o true 0) (IsSaved o true 0) told (s.told on) (λ x y h since. record {
     course = spared_go_on o.output o.merge o.first 0 o.before h.course h.rested since;
     rested = spared_rest o.output h.rested since;
   });
@@ -235,7 +252,7 @@ begins_pass o j k c d told grow s = record {
 
 pub ends_pass : (o : Origin) (is_open : Bool) (j k : Option (List Entry)) (c d : Counts) → Told j k (Since (Spares o.output)) → CountsGrow c d → Ends o is_open j c → Ends o is_open k d
 ends_pass o is_open j k c d told grow s = record {
-  told = told_on j k (Since (Spares o.output)) (HasSaved o is_open) (HasSaved o is_open) told s.told (λ x y h since. record {
+  told = λ on. told_on j k (Since (Spares o.output)) (HasSaved o is_open) (HasSaved o is_open) told (s.told on) (λ x y h since. record {
     settled = h.settled;
     is = record {
       course = spared_go_on o.output o.merge o.first 0 o.before h.is.course h.is.rested since;
@@ -251,19 +268,19 @@ pub job_begins : (b : JobNotebook) (first : Notebook) (o : Origin) (j : Option (
 job_begins b first o j c keeps for s = record {
   output = sym for.output_is;
   merge = sym for.merge_is;
-  told = told_as j (IsSaved o true 0) (IsOnCourse o b true) (λ past h. record {
+  told = λ on. told_as j (IsSaved o true 0) (IsOnCourse o b true) (λ past h. record {
     settled = 0;
     is = h;
     above = λ e f. omega arith;
     keeps = λ e f. subst (KeepsRead b) (sym for.first_is) keeps;
-  }) s.told;
+  }) (s.told on);
   grow = s.grow;
   cause = λ e. absurd (cc);
 }
 
 pub job_ends : (o : Origin) (b : JobNotebook) (is_open : Bool) (j : Option (List Entry)) (c : Counts) → Stands o b is_open j c → Ends o is_open j c
 job_ends o b is_open j c s = record {
-  told = told_as j (IsOnCourse o b is_open) (HasSaved o is_open) (λ past h. record { settled = h.settled; is = h.is }) s.told;
+  told = λ on. told_as j (IsOnCourse o b is_open) (HasSaved o is_open) (λ past h. record { settled = h.settled; is = h.is }) (s.told on);
   grow = s.grow;
   cause = s.cause;
 }

@@ -1,1 +1,4 @@
+pub mod CallLemmas
+pub mod ChildLemmas
 pub mod CourseLemmas
+pub mod ToldLemmas

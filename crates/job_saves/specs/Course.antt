@@ -1,24 +1,25 @@
 -- What a job makes of its output: a course of saves, each of a prefix of its notebook (Papermill and nbclient save after each
 -- cell). A journal has its newest entry first.
-use Rattle.std.specs.Prelude.{◌≡◌, ℕ, ◌≤◌, List, Bool, true, false, Option, IfSome, Result, Ok, Err}
-use Rattle.std.specs.Str.{bytes_eq}
+use Rattle.std.specs.Prelude.{◌≡◌, ℕ, ◌≤◌, List, Bool, true, false, Option, Some, IfSome, Result, Ok, Err}
 use Rattle.nb_model.specs.declared.notebook.Notebook.{Notebook}
 use Rattle.world.specs.declared.entry.Entry.{Entry}
 use Rattle.world.specs.Counts.{Counts, CountsGrow, Rose}
 use Rattle.world.specs.Moments.{Since}
-use Rattle.world.specs.Touched.{Spares}
-use Rattle.save_disk.specs.Temporary.{temporary_of}
 use Rattle.progress_save.specs.declared.progress_fault.ProgressFault.{ProgressFault}
 use Rattle.progress_save.specs.declared.progress_fault.ProgressFault.TheVariants as fault
 use Rattle.save_course.specs.Course.{Course, IsRested}
 use Rattle.job_notebook.specs.declared.notebook.JobNotebook.{JobNotebook}
 use Rattle.job_notebook.specs.State.{settled_of, merge_of, output_of, is_closed, KeepsRead}
+use Rattle.words.specs.declared.ask.Ask.{Ask}
 use Rattle.job_end.specs.declared.end.End.{End}
 use Rattle.job_end.specs.declared.end.End.TheVariants as end
+use Rattle.job_saves.specs.Calls.{Cast, IsCall}
 
 -- what the saves of a job begin with: its output, whether neighbouring streams of one name are joined, the notebook as it is
--- before its cells are executed, and the journal and the counts of failures before its first entry
+-- before its cells are executed, and the journal and the counts of failures before its first entry; what is said of one that
+-- isn't watched is of the counts alone
 pub record Origin : Type 0 where
+  pub is_watched : Bool
   pub output : List ℕ
   pub merge : Bool
   pub first : Notebook
@@ -42,7 +43,7 @@ pub record IsOnCourse (o : Origin) (b : JobNotebook) (is_open : Bool) (past : Li
 pub record Stands (o : Origin) (b : JobNotebook) (is_open : Bool) (journal : Option (List Entry)) (counts : Counts) : Type 0 where
   pub output : output_of b ≡ o.output
   pub merge : merge_of b ≡ o.merge
-  pub told : IfSome journal (IsOnCourse o b is_open)
+  pub told : o.is_watched ≡ true → IfSome journal (IsOnCourse o b is_open)
   pub grow : CountsGrow o.counts counts
   pub cause : is_open ≡ false → Rose o.counts.disk counts.disk
 
@@ -54,30 +55,37 @@ GoesOn journal counts old new was now is_open = (o : Origin) → Stands o was tr
 abbrev pub StaysOn : JobNotebook → JobNotebook → Type 0
 StaysOn was now = (o : Origin) (is_open : Bool) (journal : Option (List Entry)) (counts : Counts) → Stands o was is_open journal counts → Stands o now is_open journal counts
 
--- since that moment a path was touched by nothing, and no count has fallen
-pub record IsUntouched (path : List ℕ) (since : List Entry) (from : Counts) (journal : Option (List Entry)) (counts : Counts) : Type 0 where
-  pub told : IfSome journal (Since (Spares path) since)
-  pub grow : CountsGrow from counts
+-- no count has fallen, and nothing has waited
+pub record CountsWork (old new : Counts) : Type 0 where
+  pub grow : CountsGrow old new
+  pub waits : new.waits ≡ old.waits
 
--- and no save of the notebook touches it
-pub record IsSpared (path : List ℕ) (since : List Entry) (from : Counts) (b : JobNotebook) (journal : Option (List Entry)) (counts : Counts) : Type 0 where
-  pub output : bytes_eq (output_of b) path ≡ false
-  pub temporary : bytes_eq (temporary_of (output_of b)) path ≡ false
-  pub so : IsUntouched path since from journal counts
+-- since that moment all calls were of these jobs
+pub record HasCalled (c : Cast) (since : List Entry) (from : Counts) (journal : Option (List Entry)) (counts : Counts) : Type 0 where
+  pub told : IfSome journal (Since (IsCall c) since)
+  pub counts_work : CountsWork from counts
 
--- calls touch no path but the output and its temporary file, and no count falls
-abbrev pub SparesOthers : {W : Type 0} → (W → Option (List Entry)) → (W → Counts) → W → W → JobNotebook → JobNotebook → Type 0
-SparesOthers journal counts old new was now = (path : List ℕ) (since : List Entry) (from : Counts) → IsSpared path since from was (journal old) (counts old)
-    → IsSpared path since from now (journal new) (counts new)
+-- and this is the notebook of one of them
+pub record HasPart (c : Cast) (since : List Entry) (from : Counts) (b : JobNotebook) (journal : Option (List Entry)) (counts : Counts) : Type 0 where
+  pub number : ℕ
+  pub ask : Ask
+  pub has : c.job number ≡ Some ask
+  pub output : output_of b ≡ ask.output
+  pub so : HasCalled c since from journal counts
+
+-- calls are those of a job with this notebook
+abbrev pub CallsOwn : {W : Type 0} → (W → Option (List Entry)) → (W → Counts) → W → W → JobNotebook → JobNotebook → Type 0
+CallsOwn journal counts old new was now = (c : Cast) (since : List Entry) (from : Counts) → HasPart c since from was (journal old) (counts old)
+    → HasPart c since from now (journal new) (counts new)
 
 -- what was changed in the notebook is not where it is saved
-abbrev pub StaysSpared : JobNotebook → JobNotebook → Type 0
-StaysSpared was now = (path : List ℕ) (since : List Entry) (from : Counts) (journal : Option (List Entry)) (counts : Counts) → IsSpared path since from was journal counts
-    → IsSpared path since from now journal counts
+abbrev pub KeepsPart : JobNotebook → JobNotebook → Type 0
+KeepsPart was now = (c : Cast) (since : List Entry) (from : Counts) (journal : Option (List Entry)) (counts : Counts) → HasPart c since from was journal counts
+    → HasPart c since from now journal counts
 
 -- a job that hasn't saved yet
 pub record Begins (o : Origin) (journal : Option (List Entry)) (counts : Counts) : Type 0 where
-  pub told : IfSome journal (IsSaved o true 0)
+  pub told : o.is_watched ≡ true → IfSome journal (IsSaved o true 0)
   pub grow : CountsGrow o.counts counts
 
 -- some saves were made, of prefixes
@@ -87,7 +95,7 @@ pub record HasSaved (o : Origin) (is_open : Bool) (past : List Entry) : Type 0 w
 
 -- a job that began so has ended
 pub record Ends (o : Origin) (is_open : Bool) (journal : Option (List Entry)) (counts : Counts) : Type 0 where
-  pub told : IfSome journal (HasSaved o is_open)
+  pub told : o.is_watched ≡ true → IfSome journal (HasSaved o is_open)
   pub grow : CountsGrow o.counts counts
   pub cause : is_open ≡ false → Rose o.counts.disk counts.disk
 
@@ -125,3 +133,9 @@ IsEndOfRun (end.BadSpec f) = ⊥
 IsEndOfRun end.NotStarted = ⊥
 IsEndOfRun end.NoConnectionFile = ⊥
 IsEndOfRun _ = Unit {0}
+
+-- a save ends a job so: it failed, or memory was wanted
+abbrev pub IsEndOfSave : End → Type 0
+IsEndOfSave (end.NotSaved f) = Unit {0}
+IsEndOfSave end.NoMemory = Unit {0}
+IsEndOfSave _ = ⊥

@@ -11,13 +11,14 @@ ghost use Rattle.save_course.specs.Course.{IsSavedSo};
 ghost use Rattle.job_notebook.specs.declared.notebook.JobNotebook.{JobNotebook};
 ghost use Rattle.job_notebook.specs.State.{merge_of, output_of, KeepsParts, KeepsRead};
 ghost use Rattle.job_saves.specs.Course.{Origin, IsFor, IsSaved, Begins, Stands, Ends};
-ghost use Rattle.job_saves.specs.Course.{StaysOn, StaysSpared, IsSpared, IsUntouched};
+ghost use Rattle.job_saves.specs.Calls.{Cast, IsCall};
+ghost use Rattle.job_saves.specs.Course.{StaysOn, KeepsPart, HasPart, HasCalled, CountsWork};
 
 /// What was used for a request, where its contents were read, changes nothing of a job's course.
 pub fn messages_stay_on_course()
     ensures course { (was now : JobNotebook) → KeepsParts was now →
         ((first : Notebook) → KeepsRead was first → KeepsRead now first) → StaysOn was now }
-    ensures others { (was now : JobNotebook) → KeepsParts was now → StaysSpared was now }
+    ensures calls { (was now : JobNotebook) → KeepsParts was now → KeepsPart was now }
 {}
 
 /// A notebook of which nothing was saved stands where a job begins, and a job that stands so can end.
@@ -32,17 +33,17 @@ pub fn jobs_begin_and_end()
 {}
 
 /// Calls that don't touch a job's output leave it on its course, whichever folders they sync; and
-/// calls that don't touch a path leave it spared.
+/// calls of the jobs of a cast are such since an earlier moment too.
 pub fn other_calls_pass()
     ensures course { (o : Origin) (b : JobNotebook) (is_open : Bool) (j k : Option (List Entry))
         (c d : Counts) → Told j k (Since (Spares o.output)) → CountsGrow c d →
         Stands o b is_open j c → Stands o b is_open k d }
-    ensures untouched { (path : List ℕ) (since : List Entry) (from c d : Counts)
-        (j k : Option (List Entry)) → Told j k (Since (Spares path)) → CountsGrow c d →
-        IsUntouched path since from j c → IsUntouched path since from k d }
-    ensures others { (b : JobNotebook) (path : List ℕ) (since : List Entry) (from c d : Counts)
-        (j k : Option (List Entry)) → Told j k (Since (Spares path)) → CountsGrow c d →
-        IsSpared path since from b j c → IsSpared path since from b k d }
+    ensures called { (cast : Cast) (since : List Entry) (from c d : Counts)
+        (j k : Option (List Entry)) → Told j k (Since (IsCall cast)) → CountsWork c d →
+        HasCalled cast since from j c → HasCalled cast since from k d }
+    ensures calls { (b : JobNotebook) (cast : Cast) (since : List Entry) (from c d : Counts)
+        (j k : Option (List Entry)) → Told j k (Since (IsCall cast)) → CountsWork c d →
+        HasPart cast since from b j c → HasPart cast since from b k d }
     ensures begins { (o : Origin) (j k : Option (List Entry)) (c d : Counts) →
         Told j k (Since (Spares o.output)) → CountsGrow c d → Begins o j c → Begins o k d }
     ensures ends { (o : Origin) (is_open : Bool) (j k : Option (List Entry)) (c d : Counts) →

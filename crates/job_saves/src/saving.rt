@@ -10,7 +10,8 @@ ghost use Rattle.progress_save.specs.Saved.{text_of};
 ghost use Rattle.job_end.specs.declared.end.End.TheVariants as ending;
 ghost use Rattle.job_notebook.specs.State.{notebook_of, settled_of, begun_of, merge_of, output_of};
 ghost use Rattle.job_notebook.specs.State.{Keeps};
-ghost use Rattle.job_saves.specs.Course.{GoesOn, SparesOthers, stays_open, answer_of, IsEndOfRun};
+ghost use Rattle.job_saves.specs.Course.{GoesOn, CallsOwn, stays_open, answer_of};
+ghost use Rattle.job_saves.specs.Course.{IsEndOfRun, IsEndOfSave};
 
 use job_end::End;
 use job_notebook::JobNotebook;
@@ -28,9 +29,9 @@ pub fn save_next<W: Disk + Say>(
     requires within { settled ≤ length (notebook_of book.old).cells }
     requires above { settled_of book.old ≤ settled }
 
-    // It goes on with the course of the saves so far, and touches no other path.
+    // It goes on with the course of the saves so far, and its calls are those of its job.
     ensures course { GoesOn W.journal W.counts w.old w.new book.old book.new (stays_open result) }
-    ensures others { SparesOthers W.journal W.counts w.old w.new book.old book.new }
+    ensures calls { CallsOwn W.journal W.counts w.old w.new book.old book.new }
 
     // After Ok the notebook is that prefix of the first one, for the messages that were used, and a
     // crash leaves its text at the output.
@@ -45,6 +46,7 @@ pub fn save_next<W: Disk + Say>(
 
     // It ends the job by this save, or for want of memory.
     ensures own { IfErr result IsEndOfRun }
+    ensures kind { IfErr result IsEndOfSave }
 
     ensures settled { OnOk result (settled_of book.new ≡ settled) }
     ensures bounded { settled_of book.new ≤ settled }
@@ -58,6 +60,7 @@ pub fn save_next<W: Disk + Say>(
 fn end_of(saved: Result<(), ProgressFault>) -> Result<(), End>
     ensures answer { result ≡ answer_of saved }
     ensures own { IfErr result IsEndOfRun }
+    ensures kind { IfErr result IsEndOfSave }
 {
     match saved {
         Ok(()) => Ok(()),

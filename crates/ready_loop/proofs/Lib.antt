@@ -1,12 +1,12 @@
 pub mod BeginLemmas
 pub mod CallLemmas
-pub mod FileLemmas
 pub mod KeyLemmas
 pub mod LookLemmas
 pub mod MapLemmas
 pub mod NameLemmas
 pub mod NewLemmas
 pub mod OfferLemmas
+pub mod PartLemmas
 pub mod ReadAllLemmas
 pub mod ReadLemmas
 pub mod RunLemmas

@@ -1,5 +1,6 @@
 -- For which journals a loop stands. A journal has its newest entry first.
 use Rattle.std.specs.Prelude.{
+  ◌⊎◌,
   ◌≡◌,
   ◌<◌,
   ◌+◌,
@@ -25,7 +26,7 @@ use Rattle.world.specs.declared.entry.Entry.TheVariants as made
 use Rattle.world.specs.declared.side.Side.TheVariants as side
 use Rattle.world.specs.Jobs.{conn_of}
 use Rattle.world.specs.Moments.{Since, Told}
-use Rattle.world.specs.Parts.{OnDisk, IsNotOf}
+use Rattle.world.specs.Parts.{OnWire, OnClock, part_of}
 use Rattle.world.specs.Places.{Status, status, is_at}
 use Rattle.world.specs.Waits.{is_wait, wait_count}
 use Rattle.ready_loop.specs.declared.end.End.{End}
@@ -127,9 +128,18 @@ pub record Goes (rule : History → List Entry → Type 0) (step : History → H
 abbrev pub Follows : {W : Type 0} → (W → Option (List Entry)) → W → W → (List Entry → List Entry → Type 0) → Type 0
 Follows journal old new R = Told (journal old) (journal new) R
 
--- no call of the disk was made
-abbrev pub LeavesFiles : {W : Type 0} → (W → Option (List Entry)) → W → W → Type 0
-LeavesFiles journal old new = Follows journal old new (Since (IsNotOf OnDisk))
+-- a call of a connection, a wait or a look at the clock
+abbrev pub IsLoopEntry : Entry → Type 0
+IsLoopEntry entry = (part_of entry ≡ OnWire) ⊎ (part_of entry ≡ OnClock)
+
+-- the newest entry is one
+abbrev pub IsOfLoop : List Entry → Type 0
+IsOfLoop [] = ⊥
+IsOfLoop (entry ∷ past) = IsLoopEntry entry
+
+-- no other calls were made
+abbrev pub CallsOfLoop : {W : Type 0} → (W → Option (List Entry)) → W → W → Type 0
+CallsOfLoop journal old new = Follows journal old new (Since IsOfLoop)
 
 -- an entry that is neither of a connection nor a wait
 pub record IsElsewhere (entry : Entry) : Type 0 where

@@ -9,7 +9,7 @@ ghost use Rattle.ready_loop.specs.Begins.{CloseMoment, CloseCame, ClosesOne, clo
 ghost use Rattle.ready_loop.specs.Begins.{failed_closed};
 ghost use Rattle.ready_loop.specs.History.{same, with_begun, after_begin, chans};
 ghost use Rattle.ready_loop.specs.Offers.{IsOfConn};
-ghost use Rattle.ready_loop.specs.Standing.{Goes, Follows, LeavesFiles};
+ghost use Rattle.ready_loop.specs.Standing.{Goes, Follows, CallsOfLoop};
 ghost use Rattle.ready_loop.specs.States.{IsDrained, IsOffered, IsSound, FailsOnly, OnlyAt};
 ghost use Rattle.ready_loop.specs.States.{HoldsForKnown, SameKnown, failed_at, failed_connect, known_at, waits_left};
 
@@ -45,7 +45,7 @@ impl Loop {
         ensures failed { FailsOnly result self.old self.new }
         ensures sound { OnOk result (IsSound self.old → IsSound self.new) }
         ensures left { waits_left self.new ≡ waits_left self.old }
-        ensures files { LeavesFiles W.journal w.old w.new }
+        ensures calls { CallsOfLoop W.journal w.old w.new }
         ensures cause { CountsBy NetCause W.counts w.old w.new (IsErr result) }
     {
         let shell = Conn {
@@ -94,7 +94,7 @@ impl Loop {
         ensures failed { FailsOnly result self.old self.new }
         ensures known { (p : ℕ) → known_at self.new p ≡ is_at p conn || known_at self.old p }
         ensures same { self.new ≡ record self.old { links = self.new.links } }
-        ensures files { LeavesFiles W.journal w.old w.new }
+        ensures calls { CallsOfLoop W.journal w.old w.new }
         ensures cause { CountsBy NetCause W.counts w.old w.new (IsErr result) }
     {
         match self.begin_at(w, conn, port) {
@@ -119,7 +119,7 @@ impl Loop {
             ≡ failed_connect result conn p (failed_at self.old p) }
         ensures known { (p : ℕ) → known_at self.new p ≡ is_at p conn || known_at self.old p }
         ensures same { self.new ≡ record self.old { links = self.new.links } }
-        ensures files { LeavesFiles W.journal w.old w.new }
+        ensures calls { CallsOfLoop W.journal w.old w.new }
         ensures cause { CountsBy NetCause W.counts w.old w.new (result ≡ Connected.Failed) }
     {
         let place = place_at(conn);
@@ -144,7 +144,7 @@ impl Loop {
         ensures sound { IsSound self.old → IsSound self.new }
         ensures known { SameKnown self.old self.new }
         ensures left { waits_left self.new ≡ waits_left self.old }
-        ensures files { LeavesFiles W.journal w.old w.new }
+        ensures calls { CallsOfLoop W.journal w.old w.new }
         ensures counts { W.counts w.new ≡ W.counts w.old }
     {
         let chan = Chan::Shell;
@@ -169,7 +169,7 @@ impl Loop {
             ≡ failed_closed (is_at p conn) (failed_at self.old p) }
         ensures known { SameKnown self.old self.new }
         ensures same { self.new ≡ record self.old { links = self.new.links } }
-        ensures files { LeavesFiles W.journal w.old w.new }
+        ensures calls { CallsOfLoop W.journal w.old w.new }
         ensures counts { W.counts w.new ≡ W.counts w.old }
     {
         let place = place_at(conn);
@@ -184,7 +184,7 @@ fn close_where<W: World>(w: &mut W, conn: Conn, begun: bool)
     requires { conn.job < 16 }
     ensures came { Follows W.journal w.old w.new
         (λ before after. after ≡ closing begun conn before) }
-    ensures files { LeavesFiles W.journal w.old w.new }
+    ensures calls { CallsOfLoop W.journal w.old w.new }
     ensures counts { W.counts w.new ≡ W.counts w.old }
 {
     if begun {

@@ -4,7 +4,7 @@ ghost use Rattle.world.specs.Counts.{CountsBy, NetCause};
 ghost use Rattle.world.specs.declared.conn.Conn.{Conn};
 ghost use Rattle.ready_loop.specs.History.{same};
 ghost use Rattle.ready_loop.specs.Offers.{LookMoment, FaultCame, BeginsBelow, IsOfConn, Names};
-ghost use Rattle.ready_loop.specs.Standing.{Goes, Follows, LeavesFiles};
+ghost use Rattle.ready_loop.specs.Standing.{Goes, Follows, CallsOfLoop};
 ghost use Rattle.ready_loop.specs.States.{IsDrained, IsOffered, IsSound, MayWait, FailsOnly, SameKnown, IsCalm, waits_left};
 ghost use Rattle.ready_loop.specs.Waits.{Looked, LookCounts, left_after};
 
@@ -33,7 +33,7 @@ impl Loop {
         ensures failed { FailsOnly result self.old self.new }
         ensures sound { OnOk result (IsSound self.new) }
         ensures known { SameKnown self.old self.new }
-        ensures files { LeavesFiles W.journal w.old w.new }
+        ensures calls { CallsOfLoop W.journal w.old w.new }
         ensures cause { LookCounts result (W.counts w.old) (W.counts w.new) }
     {
         let _last = w.last();
@@ -65,7 +65,7 @@ impl Loop {
         ensures known { SameKnown self.old self.new }
         ensures fault { IfErr result IsOfConn }
         ensures left { self.new.left ≡ self.old.left }
-        ensures files { LeavesFiles W.journal w.old w.new }
+        ensures calls { CallsOfLoop W.journal w.old w.new }
         ensures cause { CountsBy NetCause W.counts w.old w.new (IsErr result) }
     {
         for place in 0..64usize {

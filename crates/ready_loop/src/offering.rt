@@ -9,7 +9,7 @@ ghost use Rattle.ready_loop.specs.History.{same, after_names};
 ghost use Rattle.ready_loop.specs.Offers.{OfferMoment, OfferAt, FaultCame, ConnectCame, PutCame};
 ghost use Rattle.ready_loop.specs.Offers.{Names, BeginsAt, Connects, IsOfConn};
 ghost use Rattle.ready_loop.specs.Queues.{rest_at};
-ghost use Rattle.ready_loop.specs.Standing.{Goes, Follows, LeavesFiles};
+ghost use Rattle.ready_loop.specs.Standing.{Goes, Follows, CallsOfLoop};
 ghost use Rattle.ready_loop.specs.States.{IsDrained, IsOffered, IsCalm, IsCalmAt, FailsOnly};
 ghost use Rattle.ready_loop.specs.States.{IsOfferedAt, AllOfferedBelow, OnlyAt, load, failed_at};
 ghost use Rattle.ready_loop.specs.States.{failed_connect, failed_put, found_at, NamesAll, IsSound, SameKnown, waits_left};
@@ -39,7 +39,7 @@ impl Loop {
         ensures sound { OnOk result (IsSound self.old → IsSound self.new) }
         ensures known { SameKnown self.old self.new }
         ensures left { waits_left self.new ≡ waits_left self.old }
-        ensures files { LeavesFiles W.journal w.old w.new }
+        ensures calls { CallsOfLoop W.journal w.old w.new }
         ensures cause { CountsBy NetCause W.counts w.old w.new (IsErr result) }
     {
         match self.offer_all(w) {
@@ -59,7 +59,7 @@ impl Loop {
         ensures failed { FailsOnly result self.old self.new }
         ensures known { SameKnown self.old self.new }
         ensures left { self.new.left ≡ self.old.left }
-        ensures files { LeavesFiles W.journal w.old w.new }
+        ensures calls { CallsOfLoop W.journal w.old w.new }
         ensures cause { CountsBy NetCause W.counts w.old w.new (IsErr result) }
     {
         for place in 0..64usize {
@@ -86,7 +86,7 @@ impl Loop {
         ensures drained { IsDrained self.old → IsDrained self.new }
         ensures failed { FailsOnly result self.old self.new }
         ensures known { SameKnown self.old self.new }
-        ensures files { LeavesFiles W.journal w.old w.new }
+        ensures calls { CallsOfLoop W.journal w.old w.new }
         ensures cause { CountsBy NetCause W.counts w.old w.new (IsErr result) }
     {
         let conn = conn_at(place);
@@ -115,7 +115,7 @@ impl Loop {
         ensures drained { IsDrained self.old → IsDrained self.new }
         ensures failed { FailsOnly result self.old self.new }
         ensures known { SameKnown self.old self.new }
-        ensures files { LeavesFiles W.journal w.old w.new }
+        ensures calls { CallsOfLoop W.journal w.old w.new }
         ensures cause { CountsBy NetCause W.counts w.old w.new (IsErr result) }
     {
         if !self.links.at(place).is_to_begin(forced, w.last()) {
@@ -151,7 +151,7 @@ impl Loop {
         ensures failed { (p : ℕ) → failed_at self.new p
             ≡ failed_connect result conn p (failed_at self.old p) }
         ensures known { SameKnown self.old self.new }
-        ensures files { LeavesFiles W.journal w.old w.new }
+        ensures calls { CallsOfLoop W.journal w.old w.new }
         ensures cause { CountsBy NetCause W.counts w.old w.new (result ≡ Connected.Failed) }
     {
         let link = self.links.at(place);
@@ -176,7 +176,7 @@ impl Loop {
         ensures drained { IsDrained self.old → IsDrained self.new }
         ensures failed { FailsOnly result self.old self.new }
         ensures known { SameKnown self.old self.new }
-        ensures files { LeavesFiles W.journal w.old w.new }
+        ensures calls { CallsOfLoop W.journal w.old w.new }
         ensures cause { CountsBy NetCause W.counts w.old w.new (IsErr result) }
     {
         while self.has_to_write(place) {
@@ -215,7 +215,7 @@ impl Loop {
         ensures failed { (p : ℕ) → failed_at self.new p
             ≡ failed_put result conn p (failed_at self.old p) }
         ensures known { SameKnown self.old self.new }
-        ensures files { LeavesFiles W.journal w.old w.new }
+        ensures calls { CallsOfLoop W.journal w.old w.new }
         ensures cause { CountsBy NetCause W.counts w.old w.new (result ≡ Put.Failed) }
     {
         let put = Wire::write(w, conn, self.queues.rest(place));

@@ -7,7 +7,7 @@ ghost use Rattle.ready_loop.specs.Link.{MayRead};
 ghost use Rattle.ready_loop.specs.History.{after_next};
 ghost use Rattle.ready_loop.specs.Reads.{ReadMoment, NextCame, after_got, failed_got};
 ghost use Rattle.ready_loop.specs.Offers.{IsOfConn};
-ghost use Rattle.ready_loop.specs.Standing.{Goes, Follows, LeavesFiles};
+ghost use Rattle.ready_loop.specs.Standing.{Goes, Follows, CallsOfLoop};
 ghost use Rattle.ready_loop.specs.States.{IsDrained, IsOffered, FailsOnly, EachBelow};
 ghost use Rattle.ready_loop.specs.States.{NotRead, IsSound, SameKnown, failed_at, waits_left};
 
@@ -35,7 +35,7 @@ impl Loop {
         ensures sound { OnOk result (IsSound self.old → IsSound self.new) }
         ensures known { SameKnown self.old self.new }
         ensures left { waits_left self.new ≡ waits_left self.old }
-        ensures files { LeavesFiles W.journal w.old w.new }
+        ensures calls { CallsOfLoop W.journal w.old w.new }
         ensures cause { CountsBy NetCause W.counts w.old w.new (IsErr result) }
     {
         for place in 0..64usize {
@@ -73,7 +73,7 @@ impl Loop {
             ≡ failed_got result conn p (failed_at self.old p) }
         ensures known { SameKnown self.old self.new }
         ensures same { self.new ≡ record self.old { links = self.new.links } }
-        ensures files { LeavesFiles W.journal w.old w.new }
+        ensures calls { CallsOfLoop W.journal w.old w.new }
         ensures cause { CountsBy NetCause W.counts w.old w.new (result ≡ Got.Failed) }
     {
         let got = w.read(conn, buf);

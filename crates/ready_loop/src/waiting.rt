@@ -3,7 +3,7 @@ ghost use Rattle.std.specs.Prelude.{◌≡◌, ◌↔◌, ◌-◌, ◌<◌, ◌�
 ghost use Rattle.world.specs.Counts.{CountsBy, WaitCause};
 ghost use Rattle.world.specs.Places.{is_reported};
 ghost use Rattle.ready_loop.specs.Link.{wait_link};
-ghost use Rattle.ready_loop.specs.Standing.{Follows, LeavesFiles};
+ghost use Rattle.ready_loop.specs.Standing.{Follows, CallsOfLoop};
 ghost use Rattle.ready_loop.specs.States.{MayWait, FailsOnly, IsSound, MapsBelow, SameKnown, failed_at, waits_left};
 ghost use Rattle.ready_loop.specs.Waits.{WaitCame, Turned, TurnCounts};
 
@@ -27,7 +27,7 @@ impl Loop {
         ensures sound { IsSound self.new }
         ensures known { SameKnown self.old self.new }
         ensures left { waits_left self.new ≡ waits_left self.old - 1 }
-        ensures files { LeavesFiles W.journal w.old w.new }
+        ensures calls { CallsOfLoop W.journal w.old w.new }
         ensures cause { TurnCounts result (W.counts w.old) (W.counts w.new) }
         ensures later { (W.counts w.old).last ≤ (W.counts w.new).last }
     {
@@ -50,7 +50,7 @@ impl Loop {
         ensures known { SameKnown self.old self.new }
         ensures same { self.new
             ≡ record self.old { links = self.new.links; left = self.old.left - 1 } }
-        ensures files { LeavesFiles W.journal w.old w.new }
+        ensures calls { CallsOfLoop W.journal w.old w.new }
         ensures cause { CountsBy WaitCause W.counts w.old w.new (result ≡ Did.Failed) }
     {
         let mut out = Reports { ready: [false; 64] };

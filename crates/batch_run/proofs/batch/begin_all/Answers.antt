@@ -1,4 +1,4 @@
-use Rattle.std.proofs.Common.{◌≡◌, ◌<◌, length, get_or, Some, arith, sym, ◌∙◌, subst}
+use Rattle.std.proofs.Common.{◌≡◌, length, Some, arith, sym, ◌∙◌, subst}
 use Rattle.std.specs.Prelude.{slice_get}
 use Rattle.std.proofs.lemmas.Iterator.Adapters.{YieldsList-from_vec}
 use Rattle.std.proofs.lemmas.Iterator.Consumers.{YieldsList-turn}
@@ -15,10 +15,11 @@ loop-ask-preserved g c =
       number = omega (arith, c.loop-ask.invariant.number, length_push c.loop-ask.yielded c.in-Some.ask);
       size = c.begin.ensures.size ∙ c.loop-ask.invariant.size;
       waiting = c.in_ok-begin.ensures.waiting;
-      stands = λ start from s. c.begin.ensures.stands c.args.asks start from own (c.loop-ask.invariant.stands start from s);
+      stands = λ start from here s. c.begin.ensures.stands c.args.asks start from own here (c.loop-ask.invariant.stands start from here s);
       fresh = c.in_ok-begin.ensures.fresh;
       drained = c.begin.ensures.drained c.loop-ask.invariant.drained;
       buf = c.begin.ensures.buf ∙ c.loop-ask.invariant.buf;
+      waits = c.begin.ensures.waits ∙ c.loop-ask.invariant.waits;
     }
 
 pub returns-in_err-begin-clause-stands : goal.returns-in_err-begin-clause-stands
@@ -26,4 +27,7 @@ returns-in_err-begin-clause-stands g c =
     let t = YieldsList-turn (YieldsList-from_vec c.args.asks (cc) (cc)) c.loop-ask.yielded _ c.loop-ask.yielded_by _ c.next.new.self c.in-Some.ask c.in-Some.is c.next.ensures.steps in
     let own : slice_get c.args.asks c.loop-ask.number ≡ Some c.in-Some.ask =
     subst (λ n. slice_get c.args.asks n ≡ Some c.in-Some.ask) (sym c.loop-ask.invariant.number) (item_at c.args.asks (length c.loop-ask.yielded) c.in-Some.ask t.0 t.1) in
-    λ start from s. c.begin.ensures.stands c.args.asks start from own (c.loop-ask.invariant.stands start from s)
+    λ start from here s. c.begin.ensures.stands c.args.asks start from own here (c.loop-ask.invariant.stands start from here s)
+
+pub returns-in_err-begin-clause-waits : goal.returns-in_err-begin-clause-waits
+returns-in_err-begin-clause-waits g c = c.begin.ensures.waits ∙ c.loop-ask.invariant.waits

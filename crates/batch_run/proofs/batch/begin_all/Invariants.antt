@@ -1,9 +1,8 @@
 use Rattle.std.proofs.Common.{◌≡◌, length, List, Option}
 use Rattle.world.specs.declared.entry.Entry.{Entry}
-use Rattle.world.specs.Counts.{Counts}
-use Rattle.ready_loop.specs.States.{IsDrained}
+use Rattle.ready_loop.specs.States.{IsDrained, waits_left}
 use Rattle.batch_run.specs.Kept.{IsFreshFrom}
-use Rattle.batch_run.specs.Stands.{AllStand, WaitingFrom}
+use Rattle.batch_run.specs.Stands.{AllStand, Outset, WaitingFrom}
 use Rattle.batch_run.proofs.batch.begin_all.Given as goal
 
 abbrev pub invariant-loop-ask : goal.invariant-loop-ask
@@ -11,9 +10,10 @@ invariant-loop-ask g l = record {
   number : l.number ≡ length l.yielded;
   size : length l.running.jobs.slots.items ≡ length l.fn.asks;
   waiting : WaitingFrom l.number l.running.jobs.slots.items;
-  stands : (start : Option (List Entry)) (from : Counts) → AllStand l.fn.asks start from l.fn.running.jobs.slots.items (g.W.Journal.journal l.fn.w) (g.W.Journal.counts l.fn.w)
+  stands : (start : Option (List Entry)) (from : Outset) → from.here ≡ l.fn.limits.here → AllStand l.fn.asks start from l.fn.running.jobs.slots.items (g.W.Journal.journal l.fn.w) (g.W.Journal.counts l.fn.w)
       → AllStand l.fn.asks start from l.running.jobs.slots.items (g.W.Journal.journal l.w) (g.W.Journal.counts l.w);
   fresh : IsFreshFrom l.number l.running.lines.connections;
   drained : IsDrained l.running.lines.connections;
   buf : l.running.buf ≡ l.fn.running.buf;
+  waits : waits_left l.running.lines.connections ≡ waits_left l.fn.running.lines.connections;
 }

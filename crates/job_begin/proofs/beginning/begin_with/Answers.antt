@@ -1,5 +1,55 @@
 use Rattle.job_run.proofs.CauseLemmas.{own_caused}
+use Rattle.std.proofs.Common.{◌≡◌, true, false, if◌then◌else◌, refl, sym, ◌∙◌, ap, subst}
+use Rattle.nb_model.specs.Prepared.{prepared_notebook}
+use Rattle.job_begin.specs.Begun.{StartsWith, KernelEnds, first_of}
+use Rattle.std.specs.Prelude.{IfErr}
+use Rattle.job_begin.proofs.BeginLemmas.{none_started_in}
+use Rattle.job_begin.proofs.EndLemmas.{saving_in, uncaused_in, saving_ends}
 use Rattle.job_begin.proofs.beginning.begin_with.Goals as goal
 
 pub returns-then-ask-clause-cause : goal.returns-then-ask-clause-cause
 returns-then-ask-clause-cause g c = own_caused (g.W.Journal.counts c.args.w.now) (g.W.Journal.counts c.save_alone-saved.new.w) c.end_of.result (c.end_of.ensures.own c.save_alone-saved.ensures.own)
+
+pub returns-then-ask-clause-task : goal.returns-then-ask-clause-task
+returns-then-ask-clause-task g c = saving_in c.args.ask (first_of c.args.ask c.args.notebook) c.end_of.result (λ p some. let no : true ≡ false = sym c.if-ask.true ∙ p in absurd (cc)) (c.end_of.ensures.kind c.save_alone-saved.ensures.kind)
+
+pub returns-in_default-clause-task : goal.returns-in_default-clause-task
+returns-in_default-clause-task g c = uncaused_in c.args.ask (first_of c.args.ask c.args.notebook) 12 refl
+
+pub returns-clause-task : goal.returns-clause-task
+returns-clause-task g c =
+    let a = c.args.ask in
+    let n = c.args.notebook in
+    let same : c.in-Ok.notebook ≡ first_of a n = c.in-Ok.ensures ∙ sym (ap (λ b. if b then n else prepared_notebook n) c.if-ask.false) in
+    subst (λ first. StartsWith a first c.execute.result) same (c.execute.ensures.task c.if-ask.false)
+
+pub returns-then-ask-clause-calls : goal.returns-then-ask-clause-calls
+returns-then-ask-clause-calls g c cast since from who so = c.save_alone-saved.ensures.calls cast c.args.number since from who.has so
+
+pub returns-then-ask-clause-left : goal.returns-then-ask-clause-left
+returns-then-ask-clause-left g c = none_started_in c.args.ask c.args.number _ _ _ _ c.save_alone-saved.ensures.calls
+
+pub returns-in_default-clause-calls : goal.returns-in_default-clause-calls
+returns-in_default-clause-calls g c cast since from who so = so
+
+pub returns-in_default-clause-left : goal.returns-in_default-clause-left
+returns-in_default-clause-left g c = λ h. h
+
+pub returns-clause-calls : goal.returns-clause-calls
+returns-clause-calls g c cast since from who so = c.execute.ensures.calls cast since from who so
+
+pub returns-clause-left : goal.returns-clause-left
+returns-clause-left g c = c.execute.ensures.left
+
+pub returns-then-ask-clause-kernel : goal.returns-then-ask-clause-kernel
+returns-then-ask-clause-kernel g c = saving_ends c.args.ask (first_of c.args.ask c.args.notebook) _ _ c.end_of.result (c.end_of.ensures.kind c.save_alone-saved.ensures.kind)
+
+pub returns-in_default-clause-kernel : goal.returns-in_default-clause-kernel
+returns-in_default-clause-kernel g c = saving_ends c.args.ask (first_of c.args.ask c.args.notebook) _ _ _ tt
+
+pub returns-clause-kernel : goal.returns-clause-kernel
+returns-clause-kernel g c =
+    let a = c.args.ask in
+    let n = c.args.notebook in
+    let same : c.in-Ok.notebook ≡ first_of a n = c.in-Ok.ensures ∙ sym (ap (λ b. if b then n else prepared_notebook n) c.if-ask.false) in
+    subst (λ first. IfErr c.execute.result (KernelEnds a first (g.W.Journal.journal c.args.w.now) (g.W.Journal.journal c.execute.new.w))) same c.execute.ensures.kernel

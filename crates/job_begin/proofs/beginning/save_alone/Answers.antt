@@ -1,5 +1,5 @@
 use Rattle.job_saves.proofs.CourseLemmas.{job_begins, job_ends}
-use Rattle.job_begin.proofs.BeginLemmas.{for_book, spared_by}
+use Rattle.job_begin.proofs.BeginLemmas.{for_book, part_by}
 use Rattle.job_begin.proofs.beginning.save_alone.Goals as goal
 
 pub returns-clause-course : goal.returns-clause-course
@@ -9,8 +9,8 @@ returns-clause-course g c o for s =
     let on = job_begins b c.args.notebook o _ _ e.keeps (for_book c.args.ask.now b c.args.notebook o e.output e.merge for) s in
     job_ends o c.save_next.new.book _ _ _ (c.save_next.ensures.course o on)
 
-pub returns-clause-others : goal.returns-clause-others
-returns-clause-others g c path since from other so =
+pub returns-clause-calls : goal.returns-clause-calls
+returns-clause-calls g c cast number since from has so =
     let b = c.in_ok-book.book in
-    let spared = spared_by c.args.ask.now b path since from _ _ c.in_ok-book.ensures.output other so in
-    (c.save_next.ensures.others path since from spared).so
+    let part = part_by c.args.ask.now b cast number since from _ _ c.in_ok-book.ensures.output has so in
+    (c.save_next.ensures.calls cast since from part).so

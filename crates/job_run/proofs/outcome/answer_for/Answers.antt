@@ -1,8 +1,12 @@
 use Rattle.job_run.proofs.OutcomeLemmas.{shut_by, fails_by}
+use Rattle.job_run.proofs.StopLemmas.{own_end}
 use Rattle.job_run.proofs.outcome.answer_for.Goals as goal
 
 pub returns-clause-shut : goal.returns-clause-shut
 returns-clause-shut c shut = shut_by c.args.output.now c.args.end.now c.answer.result c.answer.ensures shut
 
 pub returns-clause-fails : goal.returns-clause-fails
-returns-clause-fails c own fails = fails_by c.args.output.now c.args.end.now c.answer.result c.answer.ensures own fails
+returns-clause-fails c task own fails = fails_by c.args.output.now c.args.end.now c.answer.result c.answer.ensures (own_end task c.args.end.now own) fails
+
+pub returns-clause-end : goal.returns-clause-end
+returns-clause-end c task own = ∣ record { end = c.args.end.now; by = own; answers = c.answer.ensures } ∣₁

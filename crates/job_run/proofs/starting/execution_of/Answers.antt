@@ -1,7 +1,7 @@
-use Rattle.std.proofs.Common.{◌≡◌, ◌<◌, ◌≤◌, ◌^◌, length, ℕ, AllPairs, arith, sym, ap, ◌∙◌, subst}
+use Rattle.std.proofs.Common.{[], ◌≡◌, ◌<◌, ◌≤◌, ◌^◌, length, AllPairs, arith, sym, ap, ◌∙◌, subst}
 use Rattle.cell_core.specs.Sending.{IsInOrder, next_of}
 use Rattle.cell_core.specs.StandsFor.{task_of}
-use Rattle.job_notebook.specs.State.{notebook_of, begun_of, settled_of}
+use Rattle.job_notebook.specs.State.{begun_of, settled_of}
 use Rattle.job_run.proofs.starting.execution_of.Goals as goal
 
 pub returns-clause-first : goal.returns-clause-first
@@ -12,6 +12,7 @@ returns-clause-first c =
     let begun : begun_of book ≤ next_of core = omega (arith, c.in_ok-book.ensures.begun, c.new-core.ensures.first) in
     let settled : settled_of book ≤ next_of core = omega (arith, c.in_ok-book.ensures.settled, c.new-core.ensures.first) in
     let early : 0 < 2 ^ 47 = omega arith in
+    let timed : 0 ≤ 0 = omega arith in
     record {
       holds = record {
         ordered = subst IsInOrder (sym c.new-core.ensures.of) rises;
@@ -20,6 +21,7 @@ returns-clause-first c =
         settled = settled;
         asked = λ e. absurd (cc);
         early = early;
+        heard = ∣ record { events = []; stands = c.new-core.ensures.stands; meets = tt; timed = timed; named = λ e. absurd (cc) } ∣₁;
       };
       begun = c.in_ok-book.ensures.begun;
       settled = c.in_ok-book.ensures.settled;
@@ -35,3 +37,9 @@ returns-clause-merge c = c.in_ok-book.ensures.merge
 
 pub returns-clause-keeps : goal.returns-clause-keeps
 returns-clause-keeps c = c.in_ok-book.ensures.read
+
+pub returns-clause-task : goal.returns-clause-task
+returns-clause-task c =
+    let core = c.new-core.result in
+    let counted = subst (λ n. task_of core ≡ record { plan = c.args.agenda.cells; cells = n; times = c.args.terms.times }) c.len-count.ensures c.new-core.ensures.of in
+    subst (λ (p : _). task_of core ≡ record { plan = p; cells = length c.args.agenda.notebook.cells; times = c.args.terms.times }) c.args.agenda.plan counted

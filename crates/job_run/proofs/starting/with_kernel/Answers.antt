@@ -1,5 +1,6 @@
 use Rattle.std.proofs.Common.{true, ◌≡◌, sym, subst, ◌∙◌}
 use Rattle.job_saves.specs.Course.{Ends, keeps_open, stays_open}
+use Rattle.job_saves.specs.Children.{HasEnd}
 use Rattle.job_run.proofs.RunLemmas.{unstarted}
 use Rattle.world.proofs.CountsLemmas.{grow_start}
 use Rattle.job_run.proofs.CauseLemmas.{cause_within}
@@ -8,8 +9,8 @@ use Rattle.job_run.proofs.starting.with_kernel.Goals as goal
 pub returns-in-Ok-clause-course : goal.returns-in-Ok-clause-course
 returns-in-Ok-clause-course g c o r = c.launch.ensures.course o r
 
-pub returns-in-Ok-clause-others : goal.returns-in-Ok-clause-others
-returns-in-Ok-clause-others g c path since from r = c.launch.ensures.others path since from r
+pub returns-in-Ok-clause-calls : goal.returns-in-Ok-clause-calls
+returns-in-Ok-clause-calls g c cast since from may r = c.launch.ensures.calls cast since from may r
 
 pub returns-in-Err-clause-course : goal.returns-in-Err-clause-course
 returns-in-Err-clause-course g c o r =
@@ -17,8 +18,11 @@ returns-in-Err-clause-course g c o r =
     subst (λ b. Ends o b (g.W.Journal.journal c.end_child.new.w) (g.W.Journal.counts c.end_child.new.w)) (sym kept)
     (unstarted o c.launch.new.self _ _ (c.launch.ensures.outcome ∙ c.requires) (c.end_child.ensures.course o (c.launch.ensures.course o r)))
 
-pub returns-in-Err-clause-others : goal.returns-in-Err-clause-others
-returns-in-Err-clause-others g c path since from r = (c.end_child.ensures.others path since from (c.launch.ensures.others path since from r)).saves.so
+pub returns-in-Err-clause-calls : goal.returns-in-Err-clause-calls
+returns-in-Err-clause-calls g c cast since from may r = (c.end_child.ensures.calls cast since from (c.launch.ensures.calls cast since from may r)).part.so
+
+pub returns-in-Err-clause-left : goal.returns-in-Err-clause-left
+returns-in-Err-clause-left g c = subst (λ n. HasEnd n (g.W.Journal.journal c.end_child.new.w)) c.launch.ensures.number c.end_child.ensures.left
 
 pub returns-in-Err-clause-cause : goal.returns-in-Err-clause-cause
 returns-in-Err-clause-cause g c =

@@ -1,15 +1,15 @@
 use Rattle.std.proofs.Common.{refl}
-use Rattle.job_saves.proofs.CourseLemmas.{others_pass, calls_leave, calls_spare, begins_pass, ends_pass}
+use Rattle.job_saves.proofs.CourseLemmas.{others_pass, calls_on, calls_part, begins_pass, ends_pass}
 use Rattle.job_saves.proofs.laws.other_calls_pass.Goals as goal
 
 pub returns-clause-course : goal.returns-clause-course
 returns-clause-course c o b is_open j k before after told grow s = others_pass o b is_open j k before after told grow s
 
-pub returns-clause-others : goal.returns-clause-others
-returns-clause-others c b path since from before after j k told grow s = calls_spare path since from before after b b j k refl told grow s
+pub returns-clause-called : goal.returns-clause-called
+returns-clause-called c cast since from before after j k told work s = calls_on cast since from before after j k told work s
 
-pub returns-clause-untouched : goal.returns-clause-untouched
-returns-clause-untouched c path since from before after j k told grow s = calls_leave path since from before after j k told grow s
+pub returns-clause-calls : goal.returns-clause-calls
+returns-clause-calls c b cast since from before after j k told work s = calls_part cast since from before after b b j k refl told work s
 
 pub returns-clause-begins : goal.returns-clause-begins
 returns-clause-begins c o j k before after told grow s = begins_pass o j k before after told grow s

@@ -1,6 +1,7 @@
 use Rattle.std.proofs.Common.{sym, subst, ◌∙◌}
+use Rattle.job_notebook.specs.State.{notebook_of}
 use Rattle.job_saves.specs.Course.{Stands, stays_open}
-use Rattle.job_saves.proofs.CourseLemmas.{save_stands, save_grows, calls_spare, on_answer, durable_answer, left_alone}
+use Rattle.job_saves.proofs.CourseLemmas.{save_stands, save_called, on_answer, durable_answer, left_alone}
 use Rattle.job_saves.proofs.saving.save_next.Goals as goal
 
 pub returns-clause-course : goal.returns-clause-course
@@ -10,10 +11,10 @@ returns-clause-course g c o s =
     (save_stands o c.args.book.now c.save.new.self c.args.settled c.args.stop _ _ c.save.result _ _ _ _
     c.requires.above e.prefix e.read e.settled e.after (λ closed. e.closed.1 closed) e.entries e.cause e.merge e.output s)
 
-pub returns-clause-others : goal.returns-clause-others
-returns-clause-others g c path since from s =
+pub returns-clause-calls : goal.returns-clause-calls
+returns-clause-calls g c cast since from s =
     let e = c.save.ensures in
-    calls_spare path since from _ _ c.args.book.now c.save.new.self _ _ e.output (e.others path s.output s.temporary) (save_grows _ _ _ e.cause) s
+    save_called cast since from c.args.book.now c.save.new.self c.args.settled (notebook_of c.save.new.self) _ _ c.save.result _ _ _ _ e.output e.entries e.cause s
 
 pub returns-clause-prefix : goal.returns-clause-prefix
 returns-clause-prefix g c = on_answer c.save.result c.end_of.result _ c.end_of.ensures.answer c.save.ensures.prefix

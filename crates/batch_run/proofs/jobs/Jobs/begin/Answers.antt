@@ -1,7 +1,6 @@
-use Rattle.std.proofs.Common.{◌≡◌, ◌<◌, length, set, Some, Ok, Err, arith, sym, ◌∙◌, ap, subst}
-use Rattle.std.specs.Prelude.{slice_get}
+use Rattle.std.proofs.Common.{length, set, Ok, Err, sym, ◌∙◌, ap, subst}
 use Rattle.std.proofs.lemmas.List.{length-set}
-use Rattle.batch_run.specs.declared.slot.Slot.TheVariants.{Waiting, Running, Ended}
+use Rattle.batch_run.specs.declared.slot.Slot.TheVariants.{Running, Ended}
 use Rattle.batch_run.specs.Stands.{AllStand, WaitingFrom}
 use Rattle.batch_run.proofs.SlotLemmas.{waiting_at, waiting_set}
 use Rattle.batch_run.proofs.StandLemmas.{job_begins}
@@ -11,10 +10,10 @@ pub returns-in-Ok-clause-waiting : goal.returns-in-Ok-clause-waiting
 returns-in-Ok-clause-waiting g c = waiting_set (Running c.in-Ok.job) c.requires.waiting
 
 pub returns-in-Ok-clause-stands : goal.returns-in-Ok-clause-stands
-returns-in-Ok-clause-stands g c = λ asks start from own s.
+returns-in-Ok-clause-stands g c = λ asks start from own here s.
     let items = c.args.self.now.slots.items in
     job_begins asks start from items (g.W.Journal.journal c.args.w.now) (g.W.Journal.journal c.begin.new.w) (g.W.Journal.counts c.args.w.now) (g.W.Journal.counts c.begin.new.w)
-    c.args.number c.args.ask (Ok c.in-Ok.job) c.in-Ok.ensures.begun c.in-Ok.ensures.others own (waiting_at c.requires.waiting c.requires.within) s
+    c.args.number c.args.ask (Ok c.in-Ok.job) here c.in-Ok.ensures.begun c.in-Ok.ensures.calls c.in-Ok.ensures.left tt tt c.in-Ok.ensures.output c.in-Ok.ensures.runs own (waiting_at c.requires.waiting c.requires.within) s
 
 pub returns-in-Err-clause-size : goal.returns-in-Err-clause-size
 returns-in-Err-clause-size g c = ap length c.end.ensures.slots ∙ length-set c.args.self.now.slots.items c.args.number (Ended c.in-Err.answer)
@@ -23,10 +22,10 @@ pub returns-in-Err-clause-waiting : goal.returns-in-Err-clause-waiting
 returns-in-Err-clause-waiting g c = subst (WaitingFrom _) (sym c.end.ensures.slots) (waiting_set (Ended c.in-Err.answer) c.requires.waiting)
 
 pub returns-in-Err-clause-stands : goal.returns-in-Err-clause-stands
-returns-in-Err-clause-stands g c = λ asks start from own s.
+returns-in-Err-clause-stands g c = λ asks start from own here s.
     let items = c.args.self.now.slots.items in
     let mid = set items c.args.number (Ended c.in-Err.answer) in
     let b : AllStand asks start from mid (g.W.Journal.journal c.begin.new.w) (g.W.Journal.counts c.begin.new.w) =
     job_begins asks start from items (g.W.Journal.journal c.args.w.now) (g.W.Journal.journal c.begin.new.w) (g.W.Journal.counts c.args.w.now) (g.W.Journal.counts c.begin.new.w)
-    c.args.number c.args.ask (Err c.in-Err.answer) c.in-Err.ensures.begun c.in-Err.ensures.others own (waiting_at c.requires.waiting c.requires.within) s in
-    subst (λ xs. AllStand asks start from xs (g.W.Journal.journal c.end.new.w) (g.W.Journal.counts c.end.new.w)) (sym c.end.ensures.slots) (c.end.ensures.stands asks start from mid b)
+    c.args.number c.args.ask (Err c.in-Err.answer) here c.in-Err.ensures.begun c.in-Err.ensures.calls c.in-Err.ensures.left c.in-Err.ensures.cause c.in-Err.ensures.answer tt tt own (waiting_at c.requires.waiting c.requires.within) s in
+    subst (λ xs. AllStand asks start from xs (g.W.Journal.journal c.end.new.w) (g.W.Journal.counts c.end.new.w)) (sym c.end.ensures.slots) (c.end.ensures.stands asks start from mid c.args.number c.args.ask own c.in-Err.ensures.answer b)

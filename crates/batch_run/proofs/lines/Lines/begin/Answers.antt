@@ -1,8 +1,9 @@
-use Rattle.std.proofs.Common.{◌+◌, ◌*◌, ◌<◌, arith, length, sym, subst}
+use Rattle.world.specs.Counts.{Counts}
+use Rattle.std.proofs.Common.{◌+◌, ◌*◌, ◌<◌, arith, length, sym, subst, ap}
 use Rattle.batch_run.specs.Kept.{AreBegun}
 use Rattle.batch_run.proofs.LineLemmas.{begun_begun, begun_failed, fresh_job, fresh_next, lost_ok, lost_fault}
 use Rattle.world.proofs.CountsLemmas.{net_grows}
-use Rattle.batch_run.proofs.StandLemmas.{files_keep}
+use Rattle.batch_run.proofs.StandLemmas.{loop_keeps}
 use Rattle.batch_run.proofs.lines.Lines.begin.Goals as goal
 
 pub begin-requires-clause-fresh : goal.begin-requires-clause-fresh
@@ -33,7 +34,7 @@ pub returns-in-Err-clause-fresh : goal.returns-in-Err-clause-fresh
 returns-in-Err-clause-fresh g c = fresh_next c.requires.fresh c.in-Err.ensures.others
 
 pub returns-in-Ok-clause-stands : goal.returns-in-Ok-clause-stands
-returns-in-Ok-clause-stands g c = files_keep c.begin.ensures.files (net_grows c.begin.ensures.cause)
+returns-in-Ok-clause-stands g c = loop_keeps c.begin.ensures.calls (net_grows c.begin.ensures.cause) (ap (λ (n : Counts). n.waits) c.begin.ensures.cause.others)
 
 pub returns-in-Err-clause-stands : goal.returns-in-Err-clause-stands
-returns-in-Err-clause-stands g c = files_keep c.begin.ensures.files (net_grows c.begin.ensures.cause)
+returns-in-Err-clause-stands g c = loop_keeps c.begin.ensures.calls (net_grows c.begin.ensures.cause) (ap (λ (n : Counts). n.waits) c.begin.ensures.cause.others)

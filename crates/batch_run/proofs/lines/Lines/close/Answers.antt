@@ -1,8 +1,9 @@
-use Rattle.std.proofs.Common.{sym, subst}
+use Rattle.world.specs.Counts.{Counts}
+use Rattle.std.proofs.Common.{sym, subst, ap}
 use Rattle.batch_run.specs.Kept.{AreLost}
 use Rattle.batch_run.proofs.LineLemmas.{begun_same, lost_closed, none_set}
 use Rattle.world.proofs.CountsLemmas.{grow_same}
-use Rattle.batch_run.proofs.StandLemmas.{files_keep}
+use Rattle.batch_run.proofs.StandLemmas.{loop_keeps}
 use Rattle.batch_run.proofs.lines.Lines.close.Goals as goal
 
 pub invariant_of-self : goal.invariant_of-self
@@ -18,4 +19,4 @@ pub returns-clause-none : goal.returns-clause-none
 returns-clause-none g c = λ none. none_set c.forgive.ensures.room c.forgive.ensures.jobs none
 
 pub returns-clause-stands : goal.returns-clause-stands
-returns-clause-stands g c = files_keep c.close.ensures.files (grow_same c.close.ensures.counts)
+returns-clause-stands g c = loop_keeps c.close.ensures.calls (grow_same c.close.ensures.counts) (ap (λ (n : Counts). n.waits) c.close.ensures.counts)

@@ -1,6 +1,8 @@
 use Rattle.batch_run.proofs.LineLemmas.{begun_same, lost_fault, all_noted, sound_none}
-use Rattle.batch_run.proofs.JournalLemmas.{look_grows}
-use Rattle.batch_run.proofs.StandLemmas.{files_keep}
+use Rattle.batch_run.proofs.JournalLemmas.{look_grows, look_waits}
+use Rattle.ready_loop.specs.States.{waits_left}
+use Rattle.batch_run.specs.Lines.{waits_of}
+use Rattle.batch_run.proofs.StandLemmas.{loop_waits}
 use Rattle.batch_run.proofs.lines.Lines.look.Goals as goal
 
 pub look-requires : goal.look-requires
@@ -25,13 +27,25 @@ invariant_of-self-in-Err-Spent g c =
     }
 
 pub returns-in-Ok-clause-stands : goal.returns-in-Ok-clause-stands
-returns-in-Ok-clause-stands g c = files_keep c.look.ensures.files (look_grows c.look.result (g.W.Journal.counts c.args.w.now) (g.W.Journal.counts c.look.new.w) c.look.ensures.cause)
+returns-in-Ok-clause-stands g c = loop_waits c.look.ensures.calls (look_grows c.look.result (g.W.Journal.counts c.args.w.now) (g.W.Journal.counts c.look.new.w) c.look.ensures.cause) (waits_of c.args.self.now) (waits_left c.look.new.self) (look_waits c.look.result (g.W.Journal.counts c.args.w.now) (g.W.Journal.counts c.look.new.w) (waits_of c.args.self.now) (waits_left c.look.new.self) c.look.ensures.cause c.look.ensures.left c.look.ensures.spent).0
 
 pub returns-in-Err-NetFault-Some-clause-stands : goal.returns-in-Err-NetFault-Some-clause-stands
-returns-in-Err-NetFault-Some-clause-stands g c = files_keep c.look.ensures.files (look_grows c.look.result (g.W.Journal.counts c.args.w.now) (g.W.Journal.counts c.look.new.w) c.look.ensures.cause)
+returns-in-Err-NetFault-Some-clause-stands g c = loop_waits c.look.ensures.calls (look_grows c.look.result (g.W.Journal.counts c.args.w.now) (g.W.Journal.counts c.look.new.w) c.look.ensures.cause) (waits_of c.args.self.now) (waits_left c.look.new.self) (look_waits c.look.result (g.W.Journal.counts c.args.w.now) (g.W.Journal.counts c.look.new.w) (waits_of c.args.self.now) (waits_left c.look.new.self) c.look.ensures.cause c.look.ensures.left c.look.ensures.spent).0
 
 pub returns-in-Err-NetFault-None-clause-stands : goal.returns-in-Err-NetFault-None-clause-stands
-returns-in-Err-NetFault-None-clause-stands g c = files_keep c.look.ensures.files (look_grows c.look.result (g.W.Journal.counts c.args.w.now) (g.W.Journal.counts c.look.new.w) c.look.ensures.cause)
+returns-in-Err-NetFault-None-clause-stands g c = loop_waits c.look.ensures.calls (look_grows c.look.result (g.W.Journal.counts c.args.w.now) (g.W.Journal.counts c.look.new.w) c.look.ensures.cause) (waits_of c.args.self.now) (waits_left c.look.new.self) (look_waits c.look.result (g.W.Journal.counts c.args.w.now) (g.W.Journal.counts c.look.new.w) (waits_of c.args.self.now) (waits_left c.look.new.self) c.look.ensures.cause c.look.ensures.left c.look.ensures.spent).0
 
 pub returns-in-Err-Spent-clause-stands : goal.returns-in-Err-Spent-clause-stands
-returns-in-Err-Spent-clause-stands g c = files_keep c.look.ensures.files (look_grows c.look.result (g.W.Journal.counts c.args.w.now) (g.W.Journal.counts c.look.new.w) c.look.ensures.cause)
+returns-in-Err-Spent-clause-stands g c = loop_waits c.look.ensures.calls (look_grows c.look.result (g.W.Journal.counts c.args.w.now) (g.W.Journal.counts c.look.new.w) c.look.ensures.cause) (waits_of c.args.self.now) (waits_left c.look.new.self) (look_waits c.look.result (g.W.Journal.counts c.args.w.now) (g.W.Journal.counts c.look.new.w) (waits_of c.args.self.now) (waits_left c.look.new.self) c.look.ensures.cause c.look.ensures.left c.look.ensures.spent).0
+
+pub returns-in-Ok-clause-left : goal.returns-in-Ok-clause-left
+returns-in-Ok-clause-left g c = (look_waits c.look.result (g.W.Journal.counts c.args.w.now) (g.W.Journal.counts c.look.new.w) (waits_of c.args.self.now) (waits_left c.look.new.self) c.look.ensures.cause c.look.ensures.left c.look.ensures.spent).1
+
+pub returns-in-Err-NetFault-Some-clause-left : goal.returns-in-Err-NetFault-Some-clause-left
+returns-in-Err-NetFault-Some-clause-left g c = (look_waits c.look.result (g.W.Journal.counts c.args.w.now) (g.W.Journal.counts c.look.new.w) (waits_of c.args.self.now) (waits_left c.look.new.self) c.look.ensures.cause c.look.ensures.left c.look.ensures.spent).1
+
+pub returns-in-Err-NetFault-None-clause-left : goal.returns-in-Err-NetFault-None-clause-left
+returns-in-Err-NetFault-None-clause-left g c = (look_waits c.look.result (g.W.Journal.counts c.args.w.now) (g.W.Journal.counts c.look.new.w) (waits_of c.args.self.now) (waits_left c.look.new.self) c.look.ensures.cause c.look.ensures.left c.look.ensures.spent).1
+
+pub returns-in-Err-Spent-clause-left : goal.returns-in-Err-Spent-clause-left
+returns-in-Err-Spent-clause-left g c = (look_waits c.look.result (g.W.Journal.counts c.args.w.now) (g.W.Journal.counts c.look.new.w) (waits_of c.args.self.now) (waits_left c.look.new.self) c.look.ensures.cause c.look.ensures.left c.look.ensures.spent).1

@@ -1,6 +1,8 @@
+use Rattle.std.proofs.Common.{ap}
+use Rattle.world.specs.Counts.{Counts}
 use Rattle.batch_run.proofs.LineLemmas.{begun_same, lost_fault}
 use Rattle.world.proofs.CountsLemmas.{net_grows}
-use Rattle.batch_run.proofs.StandLemmas.{files_keep}
+use Rattle.batch_run.proofs.StandLemmas.{loop_keeps}
 use Rattle.batch_run.proofs.lines.Lines.next.Goals as goal
 
 pub invariant_of-self-in-Err : goal.invariant_of-self-in-Err
@@ -12,7 +14,7 @@ invariant_of-self-in-Err g c =
     }
 
 pub returns-in-Ok-clause-stands : goal.returns-in-Ok-clause-stands
-returns-in-Ok-clause-stands g c = files_keep c.next.ensures.files (net_grows c.next.ensures.cause)
+returns-in-Ok-clause-stands g c = loop_keeps c.next.ensures.calls (net_grows c.next.ensures.cause) (ap (λ (n : Counts). n.waits) c.next.ensures.cause.others)
 
 pub returns-in-Err-clause-stands : goal.returns-in-Err-clause-stands
-returns-in-Err-clause-stands g c = files_keep c.next.ensures.files (net_grows c.next.ensures.cause)
+returns-in-Err-clause-stands g c = loop_keeps c.next.ensures.calls (net_grows c.next.ensures.cause) (ap (λ (n : Counts). n.waits) c.next.ensures.cause.others)

@@ -1,4 +1,5 @@
-use Rattle.std.proofs.Common.{rules}
+use Rattle.std.proofs.Common.{rules, ◌∙◌, ap}
+use Rattle.batch_run.specs.Lines.{waits_of}
 use Rattle.batch_run.proofs.running.Running.put_out.Goals as goal
 
 pub returns-in_err-queue_all-clause-stands : goal.returns-in_err-queue_all-clause-stands
@@ -22,6 +23,7 @@ returns-then-not-branch-clause-stands g c = λ asks start from s.
 
 pub loop-self-preserved : goal.loop-self-preserved
 loop-self-preserved g c = record {
+  left = ap waits_of c.on_fault.ensures.lines ∙ c.offer.ensures.left ∙ c.queue_all.ensures.left ∙ c.loop-self.invariant.left;
   stands = λ asks start from s.
       c.on_fault.ensures.stands asks start from (g.W.Journal.journal c.offer.new.w) (g.W.Journal.counts c.offer.new.w) (c.offer.ensures.stands asks start from _
       (c.queue_all.ensures.stands asks start from (g.W.Journal.journal c.loop-self.w) (g.W.Journal.counts c.loop-self.w) (c.loop-self.invariant.stands asks start from s)));

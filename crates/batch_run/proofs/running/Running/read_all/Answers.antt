@@ -1,4 +1,4 @@
-use Rattle.std.proofs.Common.{rules}
+use Rattle.std.proofs.Common.{rules, ◌∙◌}
 use Rattle.batch_run.proofs.running.Running.read_all.Goals as goal
 
 pub returns-in-Ok-Some-clause-stands : goal.returns-in-Ok-Some-clause-stands
@@ -9,6 +9,7 @@ returns-in-Err-clause-stands g c = λ asks start from s. c.read_one.ensures.stan
 
 pub loop-preserved : goal.loop-preserved
 loop-preserved g c = record {
+  left = c.read_one.ensures.left ∙ c.loop.invariant.left;
   stands = λ asks start from s. c.read_one.ensures.stands asks start from (c.loop.invariant.stands asks start from s);
   room = c.read_one.ensures.room;
   budget = search rules;

@@ -1,9 +1,9 @@
-use Rattle.std.proofs.Common.{refl, ◌∙◌, arith}
-use Rattle.batch_run.specs.Kept.{NoneLostBelow}
+use Rattle.std.proofs.Common.{◌∙◌}
 use Rattle.batch_run.proofs.running.Running.retire.Goals as goal
 
 pub loop-number-preserved : goal.loop-number-preserved
 loop-number-preserved g c = record {
+  left = c.retire_where.ensures.left ∙ c.loop-number.invariant.left;
   stands = λ asks start from s. c.retire_where.ensures.stands asks start from (c.loop-number.invariant.stands asks start from s);
   drained = λ d. c.retire_where.ensures.drained (c.loop-number.invariant.drained d);
   offered = λ o. c.retire_where.ensures.offered (c.loop-number.invariant.offered o);

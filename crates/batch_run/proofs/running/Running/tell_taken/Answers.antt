@@ -1,4 +1,3 @@
-use Rattle.std.proofs.Common.{◌∙◌}
 use Rattle.batch_run.proofs.running.Running.tell_taken.Goals as goal
 
 pub loop-chan-preserved : goal.loop-chan-preserved

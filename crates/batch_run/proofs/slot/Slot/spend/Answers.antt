@@ -5,7 +5,7 @@ use Rattle.batch_run.proofs.slot.Slot.spend.Goals as goal
 pub returns-in-Running : goal.returns-in-Running
 returns-in-Running c = λ asks start from slots k journal counts found s.
     job_goes_on asks start from slots journal journal counts counts k c.in-Running.job c.spend.new.self
-    (λ o r. c.spend.ensures.course o journal counts r) (λ path since then l. c.spend.ensures.others path since then journal counts l) (found ∙ ap Some c.in-Running.is) s
+    (λ o r. c.spend.ensures.course o journal counts r) (λ path since then l. c.spend.ensures.calls path since then journal counts l) c.spend.ensures.task c.spend.ensures.output (found ∙ ap Some c.in-Running.is) s
 
 pub returns-in-Waiting : goal.returns-in-Waiting
 returns-in-Waiting c = λ asks start from slots k journal counts found s. slot_rests asks start from slots k c.args.self.now journal counts found s

@@ -1,4 +1,4 @@
-use Rattle.std.proofs.Common.{sym, subst}
+use Rattle.std.proofs.Common.{sym, subst, ◌∙◌}
 use Rattle.job_saves.specs.Course.{Stands}
 use Rattle.job_run.proofs.execution.Execution.act.Goals as goal
 
@@ -10,7 +10,8 @@ loop-act-preserved g c =
       holds = e.holds;
       todo = e.todo;
       course = λ o s. e.course o (i.course o s);
-      others = λ path since from s. e.others path since from (i.others path since from s);
+      calls = λ cast since from s. e.calls cast since from (i.calls cast since from s);
+      task = e.task ∙ i.task;
     }
 
 pub returns : goal.returns
@@ -22,9 +23,10 @@ returns g c =
       calm = p.calm;
       course = λ o s. subst (λ b. Stands o c.perform.new.self.book b (g.W.Journal.journal c.loop-act.w) (g.W.Journal.counts c.loop-act.w)) (sym p.saved)
           (p.course o _ _ _ (i.course o s));
-      others = λ path since from s. p.others path since from _ _ (i.others path since from s);
+      calls = λ cast since from s. p.calls cast since from _ _ (i.calls cast since from s);
+      task = p.task ∙ i.task;
       own = p.own;
     }
 
-pub returns-in_err-act-clause-others : goal.returns-in_err-act-clause-others
-returns-in_err-act-clause-others g c path since from s = c.save_on.ensures.others path since from (c.loop-act.invariant.others path since from s)
+pub returns-in_err-act-clause-calls : goal.returns-in_err-act-clause-calls
+returns-in_err-act-clause-calls g c cast since from s = c.save_on.ensures.calls cast since from (c.loop-act.invariant.calls cast since from s)

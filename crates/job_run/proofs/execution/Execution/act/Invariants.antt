@@ -1,6 +1,7 @@
-use Rattle.std.proofs.Common.{true}
+use Rattle.std.proofs.Common.{true, ◌≡◌}
+use Rattle.cell_core.specs.StandsFor.{task_of}
 use Rattle.cell_core.specs.Sending.{saves_ahead}
-use Rattle.job_saves.specs.Course.{GoesOn, SparesOthers}
+use Rattle.job_saves.specs.Course.{GoesOn, CallsOwn}
 use Rattle.job_run.specs.Held.{Holds, IsToDo}
 use Rattle.job_run.proofs.execution.Execution.act.Given as goal
 
@@ -10,7 +11,8 @@ invariant-loop-act g l =
       holds : Holds l.self;
       todo : IsToDo l.self l.act;
       course : GoesOn g.W.Journal.journal g.W.Journal.counts l.fn.w l.w l.fn.self.book l.self.book true;
-      others : SparesOthers g.W.Journal.journal g.W.Journal.counts l.fn.w l.w l.fn.self.book l.self.book;
+      calls : CallsOwn g.W.Journal.journal g.W.Journal.counts l.fn.w l.w l.fn.self.book l.self.book;
+      task : task_of l.self.core ≡ task_of l.fn.self.core;
     }
 
 abbrev pub decreases-loop-act : goal.decreases-loop-act

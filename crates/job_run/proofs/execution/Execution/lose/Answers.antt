@@ -1,4 +1,4 @@
 use Rattle.job_run.proofs.execution.Execution.lose.Goals as goal
 
-pub returns-then-is_lost-clause-others : goal.returns-then-is_lost-clause-others
-returns-then-is_lost-clause-others g c path since from s = c.step.ensures.others path since from s
+pub returns-then-is_lost-clause-calls : goal.returns-then-is_lost-clause-calls
+returns-then-is_lost-clause-calls g c cast since from s = c.step.ensures.calls cast since from s

@@ -1,3 +1,4 @@
+use Rattle.std.proofs.Common.{◌∙◌}
 use Rattle.job_run.proofs.execution.Execution.on_messages.Goals as goal
 
 pub loop-message-preserved : goal.loop-message-preserved
@@ -10,8 +11,9 @@ loop-message-preserved g c =
       holds = e.holds;
       calm = e.calm;
       course = λ o s. e.course o (i.course o s);
-      others = λ path since from s. e.others path since from (i.others path since from s);
+      calls = λ cast since from s. e.calls cast since from (i.calls cast since from s);
+      task = e.task ∙ i.task;
     }
 
-pub returns-in_err-on_message-clause-others : goal.returns-in_err-on_message-clause-others
-returns-in_err-on_message-clause-others g c path since from s = c.on_message.ensures.others path since from (c.loop-message.invariant.others path since from s)
+pub returns-in_err-on_message-clause-calls : goal.returns-in_err-on_message-clause-calls
+returns-in_err-on_message-clause-calls g c cast since from s = c.on_message.ensures.calls cast since from (c.loop-message.invariant.calls cast since from s)

@@ -1,5 +1,6 @@
-use Rattle.std.proofs.Common.{true}
-use Rattle.job_saves.specs.Course.{GoesOn, SparesOthers}
+use Rattle.std.proofs.Common.{true, ◌≡◌}
+use Rattle.cell_core.specs.StandsFor.{task_of}
+use Rattle.job_saves.specs.Course.{GoesOn, CallsOwn}
 use Rattle.job_run.specs.Held.{Holds, IsCalm}
 use Rattle.job_run.proofs.execution.Execution.on_messages.Given as goal
 
@@ -11,5 +12,6 @@ invariant-loop-message g l =
       holds : Holds l.self;
       calm : IsCalm l.self;
       course : GoesOn g.W.Journal.journal g.W.Journal.counts l.fn.w l.w l.fn.self.book l.self.book true;
-      others : SparesOthers g.W.Journal.journal g.W.Journal.counts l.fn.w l.w l.fn.self.book l.self.book;
+      calls : CallsOwn g.W.Journal.journal g.W.Journal.counts l.fn.w l.w l.fn.self.book l.self.book;
+      task : task_of l.self.core ≡ task_of l.fn.self.core;
     }

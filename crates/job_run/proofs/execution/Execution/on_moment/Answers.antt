@@ -1,10 +1,19 @@
+use Rattle.std.proofs.Common.{true, sym, subst}
+use Rattle.job_saves.specs.Course.{Stands, HasPart}
 use Rattle.job_run.proofs.execution.Execution.on_moment.Goals as goal
 
 pub returns-in-Ok-clause-course : goal.returns-in-Ok-clause-course
-returns-in-Ok-clause-course g c o s = c.lose_or_ask.ensures.course o (c.in-Ok.ensures.course o s)
+returns-in-Ok-clause-course g c o s =
+    c.lose_or_ask.ensures.course o (c.in-Ok.ensures.course o (subst (λ b. Stands o b true (g.W.Journal.journal c.args.w.now) (g.W.Journal.counts c.args.w.now)) (sym c.turn_clock.ensures.book) s))
 
-pub returns-in-Ok-clause-others : goal.returns-in-Ok-clause-others
-returns-in-Ok-clause-others g c path since from s = c.lose_or_ask.ensures.others path since from (c.step.ensures.others path since from s)
+pub returns-in-Ok-clause-calls : goal.returns-in-Ok-clause-calls
+returns-in-Ok-clause-calls g c cast since from s =
+    c.lose_or_ask.ensures.calls cast since from
+    (c.hear_clock.ensures.calls cast since from (subst (λ b. HasPart cast since from b (g.W.Journal.journal c.args.w.now) (g.W.Journal.counts c.args.w.now)) (sym c.turn_clock.ensures.book) s))
 
-pub returns-in-Err-clause-others : goal.returns-in-Err-clause-others
-returns-in-Err-clause-others g c path since from s = c.step.ensures.others path since from s
+pub returns-in-Err-clause-course : goal.returns-in-Err-clause-course
+returns-in-Err-clause-course g c o s = c.in-Err.ensures.course o (subst (λ b. Stands o b true (g.W.Journal.journal c.args.w.now) (g.W.Journal.counts c.args.w.now)) (sym c.turn_clock.ensures.book) s)
+
+pub returns-in-Err-clause-calls : goal.returns-in-Err-clause-calls
+returns-in-Err-clause-calls g c cast since from s =
+    c.hear_clock.ensures.calls cast since from (subst (λ b. HasPart cast since from b (g.W.Journal.journal c.args.w.now) (g.W.Journal.counts c.args.w.now)) (sym c.turn_clock.ensures.book) s)

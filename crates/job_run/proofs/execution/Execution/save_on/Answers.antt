@@ -1,15 +1,43 @@
-use Rattle.std.proofs.Common.{sym, subst}
+use Rattle.std.proofs.Common.{sym, ap, subst, ◌∙◌}
+use Rattle.std.specs.Prelude.{is_some}
+use Rattle.cell_core.specs.declared.event.Event.TheVariants.{Saved}
 use Rattle.cell_core.specs.Sending.{SendsOn, next_of}
+use Rattle.cell_core.specs.StandsFor.{awaits_saved_of}
+use Rattle.job_run.proofs.HoldLemmas.{holds_told}
+use Rattle.job_run.proofs.ToldLemmas.{Steps, hears_more, stops_more, names_more}
 use Rattle.job_run.proofs.execution.Execution.save_on.Goals as goal
+
+pub returns-clause-holds : goal.returns-clause-holds
+returns-clause-holds g c =
+    let x = c.save.new.self in
+    let s = c.step in
+    let steps : Steps x.core s.new.self Saved s.result.act = record {
+      order = sym (ap awaits_saved_of c.save.ensures.core ∙ c.requires.todo.awaits);
+      stands = s.ensures.stands;
+      act_is = s.ensures.act;
+      same = s.ensures.same;
+    } in
+    holds_told x s.new.self s.result.act c.save.ensures.holds s.ensures.same s.ensures.sends
+    (hears_more x.core s.new.self x.clock (is_some x.broken) Saved s.result.act steps tt c.save.ensures.holds.heard)
 
 pub returns-clause-todo : goal.returns-clause-todo
 returns-clause-todo g c =
+    let x = c.save.new.self in
+    let s = c.step in
     let h = c.save.ensures.holds in
-    let was = next_of c.save.new.self.core in
+    let was = next_of x.core in
+    let steps : Steps x.core s.new.self Saved s.result.act = record {
+      order = sym (ap awaits_saved_of c.save.ensures.core ∙ c.requires.todo.awaits);
+      stands = s.ensures.stands;
+      act_is = s.ensures.act;
+      same = s.ensures.same;
+    } in
     record {
       was = was;
       begun = h.begun;
       settled = h.settled;
-      sends = subst (λ t. SendsOn t was (next_of c.step.new.self) c.step.result.act) (sym c.step.ensures.same) (c.step.ensures.sends h.ordered);
-      awaits = c.step.ensures.next;
+      sends = subst (λ t. SendsOn t was (next_of s.new.self) s.result.act) (sym s.ensures.same) (s.ensures.sends h.ordered);
+      awaits = s.ensures.next;
+      stops = stops_more x.core s.new.self x.clock (is_some x.broken) Saved s.result.act steps tt h.heard;
+      named = names_more x.core s.new.self x.clock (is_some x.broken) Saved s.result.act steps tt h.heard;
     }

@@ -1,6 +1,8 @@
 use Rattle.std.proofs.Common.{refl}
 use Rattle.world.proofs.CountsLemmas.{grow_same, disk_grows, grow_then}
-use Rattle.job_run.proofs.RunLemmas.{passes, entry_passes, entry_spares}
+use Rattle.job_run.proofs.RunLemmas.{passes, entry_passes, entry_called}
+use Rattle.job_run.proofs.WorkLemmas.{same_works, disk_works}
+use Rattle.job_saves.proofs.ChildLemmas.{removed_after}
 use Rattle.job_run.proofs.job.Job.end_child.Goals as goal
 
 pub returns-clause-course : goal.returns-clause-course
@@ -9,13 +11,17 @@ returns-clause-course g c o r =
     (λ b s. entry_passes o _ b _ _ _ _ _ r.apart c.remove.ensures.tells (disk_grows c.remove.ensures.cause)
     (entry_passes o _ b _ _ _ _ _ refl c.end.ensures.tells (grow_same c.end.ensures.same) s)) r
 
-pub returns-clause-others : goal.returns-clause-others
-returns-clause-others g c path since from r =
-    let ended = entry_spares path since from _ _ _ _ _ _ refl c.end.ensures.tells (grow_same c.end.ensures.same) r.saves in
+pub returns-clause-calls : goal.returns-clause-calls
+returns-clause-calls g c cast since from r =
+    let number = c.args.self.now.number in
+    let ended = entry_called cast since from _ _ _ _ _ _ (record { number = number; ask = r.role.ask; has = r.role.has; is = refl }) c.end.ensures.tells (same_works c.end.ensures.same) r.part in
     record {
-      saves = entry_spares path since from _ _ _ _ _ _ r.connection c.remove.ensures.tells (disk_grows c.remove.ensures.cause) ended;
-      connection = r.connection;
+      part = entry_called cast since from _ _ _ _ _ _ (record { number = number; ask = r.role.ask; has = r.role.has; is = r.role.connection }) c.remove.ensures.tells (disk_works c.remove.ensures.cause) ended;
+      role = r.role;
     }
 
 pub returns-clause-grow : goal.returns-clause-grow
 returns-clause-grow g c = grow_then (grow_same c.end.ensures.same) (disk_grows c.remove.ensures.cause)
+
+pub returns-clause-left : goal.returns-clause-left
+returns-clause-left g c = removed_after c.args.self.now.number c.end.ensures.tells c.remove.ensures.tells

@@ -1,6 +1,7 @@
 use Rattle.std.proofs.Common.{refl}
 use Rattle.world.proofs.CountsLemmas.{net_grows, grow_then}
-use Rattle.job_run.proofs.RunLemmas.{passes, passes_alone, entry_passes, entry_spares}
+use Rattle.job_run.proofs.RunLemmas.{passes, passes_role, entry_passes, entry_called}
+use Rattle.job_run.proofs.WorkLemmas.{net_works}
 use Rattle.job_run.proofs.CauseLemmas.{causes_stay}
 use Rattle.job_run.proofs.job.Job.launch.Goals as goal
 
@@ -9,20 +10,20 @@ returns-in-Some-clause-course g c o r =
     c.start_on_ports.ensures.course o (passes o c.args.self.now _ _ _ _ _ refl refl refl
     (λ b s. entry_passes o _ b _ _ _ _ _ refl c.free_ports.ensures.tells (net_grows c.free_ports.ensures.cause) s) r)
 
-pub returns-in-Some-clause-others : goal.returns-in-Some-clause-others
-returns-in-Some-clause-others g c path since from r =
-    c.start_on_ports.ensures.others path since from (passes_alone path since from c.args.self.now _ _ _ _ _ refl refl
-    (λ s. entry_spares path since from _ _ _ _ _ _ refl c.free_ports.ensures.tells (net_grows c.free_ports.ensures.cause) s) r)
+pub returns-in-Some-clause-calls : goal.returns-in-Some-clause-calls
+returns-in-Some-clause-calls g c cast since from may r =
+    c.start_on_ports.ensures.calls cast since from may (passes_role cast since from c.args.self.now _ _ _ _ _ refl refl refl
+    (λ s. entry_called cast since from _ _ _ _ _ _ (record { number = c.args.self.now.number; ask = r.role.ask; has = r.role.has; is = refl }) c.free_ports.ensures.tells (net_works c.free_ports.ensures.cause) s) r)
 
 pub returns-in-None-clause-course : goal.returns-in-None-clause-course
 returns-in-None-clause-course g c o r =
     passes o c.args.self.now _ _ _ _ _ refl refl refl
     (λ b s. entry_passes o _ b _ _ _ _ _ refl c.free_ports.ensures.tells (net_grows c.free_ports.ensures.cause) s) r
 
-pub returns-in-None-clause-others : goal.returns-in-None-clause-others
-returns-in-None-clause-others g c path since from r =
-    passes_alone path since from c.args.self.now _ _ _ _ _ refl refl
-    (λ s. entry_spares path since from _ _ _ _ _ _ refl c.free_ports.ensures.tells (net_grows c.free_ports.ensures.cause) s) r
+pub returns-in-None-clause-calls : goal.returns-in-None-clause-calls
+returns-in-None-clause-calls g c cast since from may r =
+    passes_role cast since from c.args.self.now _ _ _ _ _ refl refl refl
+    (λ s. entry_called cast since from _ _ _ _ _ _ (record { number = c.args.self.now.number; ask = r.role.ask; has = r.role.has; is = refl }) c.free_ports.ensures.tells (net_works c.free_ports.ensures.cause) s) r
 
 pub returns-in-Some-clause-saved : goal.returns-in-Some-clause-saved
 returns-in-Some-clause-saved g c = c.start_on_ports.ensures.saved

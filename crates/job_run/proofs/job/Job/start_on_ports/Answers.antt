@@ -7,14 +7,14 @@ use Rattle.job_run.proofs.job.Job.start_on_ports.Goals as goal
 pub returns-in-Ok-clause-course : goal.returns-in-Ok-clause-course
 returns-in-Ok-clause-course g c o r = c.start_child.ensures.course o (c.write_file.ensures.course o r)
 
-pub returns-in-Ok-clause-others : goal.returns-in-Ok-clause-others
-returns-in-Ok-clause-others g c path since from r = c.start_child.ensures.others path since from (c.write_file.ensures.others path since from r)
+pub returns-in-Ok-clause-calls : goal.returns-in-Ok-clause-calls
+returns-in-Ok-clause-calls g c cast since from may r = c.start_child.ensures.calls cast since from may (c.write_file.ensures.calls cast since from may.cast.starts r)
 
 pub returns-in-Err-clause-course : goal.returns-in-Err-clause-course
 returns-in-Err-clause-course g c o r = c.write_file.ensures.course o r
 
-pub returns-in-Err-clause-others : goal.returns-in-Err-clause-others
-returns-in-Err-clause-others g c path since from r = c.write_file.ensures.others path since from r
+pub returns-in-Err-clause-calls : goal.returns-in-Err-clause-calls
+returns-in-Err-clause-calls g c cast since from may r = c.write_file.ensures.calls cast since from may.cast.starts r
 
 pub returns-in-Ok-clause-saved : goal.returns-in-Ok-clause-saved
 returns-in-Ok-clause-saved g c = c.start_child.ensures.saved

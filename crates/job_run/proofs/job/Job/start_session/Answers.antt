@@ -1,6 +1,8 @@
-use Rattle.std.proofs.Common.{◌≡◌, false, sym, subst}
-use Rattle.std.specs.Str.{bytes_eq}
-use Rattle.job_run.proofs.BeginLemmas.{on_ok, stands_first, spared_first, apart_first, ends_unsaved}
+use Rattle.std.proofs.Common.{◌≡◌, subst}
+use Rattle.job_run.proofs.BeginLemmas.{on_ok, stands_first, part_first, apart_first, ends_unsaved}
+use Rattle.std.specs.Prelude.{IfOk, IfErr}
+use Rattle.job_run.specs.Task.{task_of_job, output_of_job}
+use Rattle.job_run.specs.Told.{StartsBy}
 use Rattle.job_run.proofs.job.Job.start_session.Goals as goal
 
 pub returns-in-Ok-clause-course : goal.returns-in-Ok-clause-course
@@ -12,19 +14,34 @@ returns-in-Ok-clause-course g c o for b =
     (on_ok _ _ _ is e.output) (on_ok _ _ _ is e.merge) (on_ok _ _ _ is e.keeps) for b)
     (apart_first c.in-Ok.paths.connection c.args.ask.output o.output (on_ok _ _ _ is e.connection) for.output_is)
 
-pub returns-in-Ok-clause-others : goal.returns-in-Ok-clause-others
-returns-in-Ok-clause-others g c path since from other u =
+pub returns-in-Ok-clause-calls : goal.returns-in-Ok-clause-calls
+returns-in-Ok-clause-calls g c cast since from who kernel u =
     let e = c.parts_of.ensures in
     let is = c.in-Ok.is in
-    c.started.ensures.others path since from
-    (spared_first c.in-Ok.run'.book c.args.ask.output path since from _ _ (on_ok _ _ _ is e.output) other u)
-    (subst (λ q. bytes_eq q path ≡ false) (sym (on_ok _ _ _ is e.connection)) other.connection)
+    c.started.ensures.calls cast since from (record { ask = c.args.ask; cast = who; kernel_is = kernel })
+    (record { ask = c.args.ask; has = who.has; connection = on_ok _ _ _ is e.connection; folder = on_ok _ _ _ is e.folder })
+    (part_first c.in-Ok.run'.book c.args.ask cast c.args.number since from _ _ (on_ok _ _ _ is e.output) who.has u)
+
+pub returns-in-Ok-clause-left : goal.returns-in-Ok-clause-left
+returns-in-Ok-clause-left g c = c.started.ensures.left
+
+pub returns-in-Err-clause-left : goal.returns-in-Err-clause-left
+returns-in-Err-clause-left g c = λ h. h
 
 pub returns-in-Err-clause-course : goal.returns-in-Err-clause-course
 returns-in-Err-clause-course g c o for b = ends_unsaved o _ _ b
 
-pub returns-in-Err-clause-others : goal.returns-in-Err-clause-others
-returns-in-Err-clause-others g c path since from other u = u
+pub returns-in-Err-clause-calls : goal.returns-in-Err-clause-calls
+returns-in-Err-clause-calls g c cast since from who kernel u = u
 
 pub returns-in-Ok-clause-cause : goal.returns-in-Ok-clause-cause
 returns-in-Ok-clause-cause g c = c.started.ensures.cause
+
+pub returns-in-Ok-clause-own : goal.returns-in-Ok-clause-own
+returns-in-Ok-clause-own g c = subst (λ t. IfErr c.started.result (StartsBy t)) (on_ok _ _ _ c.in-Ok.is c.parts_of.ensures.task) c.started.ensures.own
+
+pub returns-in-Ok-clause-task : goal.returns-in-Ok-clause-task
+returns-in-Ok-clause-task g c = subst (λ t. IfOk c.started.result (λ j. task_of_job j ≡ t)) (on_ok _ _ _ c.in-Ok.is c.parts_of.ensures.task) c.started.ensures.task
+
+pub returns-in-Ok-clause-output : goal.returns-in-Ok-clause-output
+returns-in-Ok-clause-output g c = subst (λ t. IfOk c.started.result (λ j. output_of_job j ≡ t)) (on_ok _ _ _ c.in-Ok.is c.parts_of.ensures.paths) c.started.ensures.output

@@ -9,7 +9,7 @@ use Rattle.ready_loop.specs.States.{failed_after}
 use Rattle.ready_loop.proofs.StateLemmas.{sound_ok}
 use Rattle.ready_loop.proofs.StandLemmas.{goes_then, goes_step}
 use Rattle.ready_loop.proofs.BeginLemmas.{fresh_other, begins_then, begins_failed, begins_last, after_last}
-use Rattle.ready_loop.proofs.FileLemmas.{files_then}
+use Rattle.ready_loop.proofs.PartLemmas.{calls_then}
 use Rattle.ready_loop.proofs.readiness.Loop.begin.Goals as goal
 
 pub begin_on-requires-clause-fresh : goal.begin_on-requires-clause-fresh
@@ -106,14 +106,14 @@ returns-clause-sound g c = sound_ok c.begin_on-4.result c.args.self.now c.begin_
       (c.in-Ok-begin_on-2.ensures.failed.each p ∙ c.in-Ok-begin_on.ensures.failed.each p ∙ c.in-Ok.ensures.failed.each p);
 })
 
-pub returns-in-Err-begin_on-clause-files : goal.returns-in-Err-begin_on-clause-files
-returns-in-Err-begin_on-clause-files g c = files_then c.in-Ok.ensures.files c.in-Err-begin_on.ensures.files
+pub returns-in-Err-begin_on-clause-calls : goal.returns-in-Err-begin_on-clause-calls
+returns-in-Err-begin_on-clause-calls g c = calls_then c.in-Ok.ensures.calls c.in-Err-begin_on.ensures.calls
 
-pub returns-in-Err-begin_on-2-clause-files : goal.returns-in-Err-begin_on-2-clause-files
-returns-in-Err-begin_on-2-clause-files g c = files_then (files_then c.in-Ok.ensures.files c.in-Ok-begin_on.ensures.files) c.in-Err-begin_on-2.ensures.files
+pub returns-in-Err-begin_on-2-clause-calls : goal.returns-in-Err-begin_on-2-clause-calls
+returns-in-Err-begin_on-2-clause-calls g c = calls_then (calls_then c.in-Ok.ensures.calls c.in-Ok-begin_on.ensures.calls) c.in-Err-begin_on-2.ensures.calls
 
-pub returns-then-not-heart-clause-files : goal.returns-then-not-heart-clause-files
-returns-then-not-heart-clause-files g c = files_then (files_then c.in-Ok.ensures.files c.in-Ok-begin_on.ensures.files) c.in-Ok-begin_on-2.ensures.files
+pub returns-then-not-heart-clause-calls : goal.returns-then-not-heart-clause-calls
+returns-then-not-heart-clause-calls g c = calls_then (calls_then c.in-Ok.ensures.calls c.in-Ok-begin_on.ensures.calls) c.in-Ok-begin_on-2.ensures.calls
 
-pub returns-clause-files : goal.returns-clause-files
-returns-clause-files g c = files_then (files_then (files_then c.in-Ok.ensures.files c.in-Ok-begin_on.ensures.files) c.in-Ok-begin_on-2.ensures.files) c.begin_on-4.ensures.files
+pub returns-clause-calls : goal.returns-clause-calls
+returns-clause-calls g c = calls_then (calls_then (calls_then c.in-Ok.ensures.calls c.in-Ok-begin_on.ensures.calls) c.in-Ok-begin_on-2.ensures.calls) c.begin_on-4.ensures.calls

@@ -1,7 +1,7 @@
 use Rattle.world.proofs.MomentsLemmas.{told_start, told_as}
 use Rattle.ready_loop.proofs.StandLemmas.{goes_start}
 use Rattle.ready_loop.proofs.LookLemmas.{begins_none, begins_one}
-use Rattle.ready_loop.proofs.FileLemmas.{files_start}
+use Rattle.ready_loop.proofs.PartLemmas.{calls_start}
 use Rattle.ready_loop.proofs.readiness.Loop.begin_again.Goals as goal
 
 pub returns-then-not-is_to_begin-clause-goes : goal.returns-then-not-is_to_begin-clause-goes
@@ -19,5 +19,5 @@ returns-in-Refused-clause-begins g c = told_as c.in-Refused.ensures.connects (λ
 pub returns-in-Failed-clause-begins : goal.returns-in-Failed-clause-begins
 returns-in-Failed-clause-begins g c = told_as c.in-Failed.ensures.connects (λ x y k. begins_one k)
 
-pub returns-then-not-is_to_begin-clause-files : goal.returns-then-not-is_to_begin-clause-files
-returns-then-not-is_to_begin-clause-files g c = files_start
+pub returns-then-not-is_to_begin-clause-calls : goal.returns-then-not-is_to_begin-clause-calls
+returns-then-not-is_to_begin-clause-calls g c = calls_start

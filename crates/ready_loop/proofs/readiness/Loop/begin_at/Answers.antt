@@ -1,4 +1,4 @@
-use Rattle.std.proofs.Common.{◌≡◌, List, set, ap, ◌∙◌, refl, sym, subst, Some, slice_get, ℕ}
+use Rattle.std.proofs.Common.{◌≡◌, List, set, ap, ◌∙◌, refl, sym, subst, Some, slice_get, ℕ, inl}
 use Rattle.world.specs.declared.entry.Entry.{Entry}
 use Rattle.world.specs.Places.{time, place_of}
 use Rattle.ready_loop.specs.Link.{connect_link, begun_link}
@@ -6,7 +6,7 @@ use Rattle.ready_loop.specs.States.{known_in}
 use Rattle.ready_loop.proofs.TableLemmas.{tells_now}
 use Rattle.ready_loop.proofs.StateLemmas.{only_set, drained_set, connect_reads}
 use Rattle.ready_loop.proofs.BeginLemmas.{begin_goes, begin_reads, begin_fails, begin_known, begin_holds, begin_offered, fresh_of}
-use Rattle.ready_loop.proofs.FileLemmas.{files_one}
+use Rattle.ready_loop.proofs.PartLemmas.{calls_one}
 use Rattle.ready_loop.proofs.readiness.Loop.begin_at.Goals as goal
 
 pub returns-clause-goes : goal.returns-clause-goes
@@ -48,5 +48,5 @@ returns-clause-holds g c = begin_holds c.args.conn c.args.self.now (record c.arg
 pub returns-clause-offered : goal.returns-clause-offered
 returns-clause-offered g c = begin_offered (place_of c.args.conn) c.args.self.now (record c.args.self.now { links = c.put.new.self }) refl (returns-clause-only g c) c.requires.fresh
 
-pub returns-clause-files : goal.returns-clause-files
-returns-clause-files g c = files_one c.connect-how.ensures.tells (λ e. cc)
+pub returns-clause-calls : goal.returns-clause-calls
+returns-clause-calls g c = calls_one c.connect-how.ensures.tells (inl refl)

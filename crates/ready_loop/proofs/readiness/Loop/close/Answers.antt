@@ -8,7 +8,7 @@ use Rattle.ready_loop.specs.States.{failed_at}
 use Rattle.ready_loop.proofs.StandLemmas.{goes_then}
 use Rattle.ready_loop.proofs.BeginLemmas.{close_came, closed_four, closed_sound, Both, both}
 use Rattle.ready_loop.proofs.StateLemmas.{sound_by, known_then}
-use Rattle.ready_loop.proofs.FileLemmas.{files_then}
+use Rattle.ready_loop.proofs.PartLemmas.{calls_then}
 use Rattle.ready_loop.proofs.readiness.Loop.close.Goals as goal
 
 pub returns-clause-came : goal.returns-clause-came
@@ -47,5 +47,5 @@ returns-clause-sound g c = λ s. sound_by c.args.self.now c.close_one-4.new.self
     ∙ closed_sound _ (failed_at c.close_one-2.new.self p) (c.close_one-2.ensures.failed p
     ∙ closed_sound _ (failed_at c.close_one.new.self p) (c.close_one.ensures.failed p ∙ closed_sound _ (failed_at c.args.self.now p) e)))) s
 
-pub returns-clause-files : goal.returns-clause-files
-returns-clause-files g c = files_then (files_then (files_then c.close_one.ensures.files c.close_one-2.ensures.files) c.close_one-3.ensures.files) c.close_one-4.ensures.files
+pub returns-clause-calls : goal.returns-clause-calls
+returns-clause-calls g c = calls_then (calls_then (calls_then c.close_one.ensures.calls c.close_one-2.ensures.calls) c.close_one-3.ensures.calls) c.close_one-4.ensures.calls

@@ -1,4 +1,4 @@
-use Rattle.std.proofs.Common.{◌≡◌, List, set, ap, ◌∙◌, refl}
+use Rattle.std.proofs.Common.{◌≡◌, List, set, ap, ◌∙◌, refl, inl}
 use Rattle.world.specs.declared.entry.Entry.{Entry}
 use Rattle.world.specs.Places.{time}
 use Rattle.ready_loop.specs.Link.{IsToBegin, connect_link}
@@ -8,7 +8,7 @@ use Rattle.ready_loop.specs.Offers.{connects}
 use Rattle.ready_loop.proofs.TableLemmas.{tells_now}
 use Rattle.ready_loop.proofs.StateLemmas.{may_here, only_set, calm_connected, drained_set, connect_reads, connect_fails, known_set, connect_stage}
 use Rattle.ready_loop.proofs.OfferLemmas.{again_goes}
-use Rattle.ready_loop.proofs.FileLemmas.{files_one}
+use Rattle.ready_loop.proofs.PartLemmas.{calls_one}
 use Rattle.ready_loop.proofs.readiness.Loop.connect_at.Goals as goal
 
 pub returns-clause-goes : goal.returns-clause-goes
@@ -44,5 +44,5 @@ pub returns-clause-known : goal.returns-clause-known
 returns-clause-known g c = known_set c.args.self.now (record c.args.self.now { links = c.put.new.self }) c.args.place (connect_link c.connect-how.result c.last-last.result c.at-link.result) c.at-link.result c.at-link.ensures
     (c.put.ensures ∙ ap (set c.args.self.now.links c.args.place) c.after_connect.ensures) (connect_stage c.connect-how.result c.last-last.result c.at-link.result) (λ p e. e)
 
-pub returns-clause-files : goal.returns-clause-files
-returns-clause-files g c = files_one c.connect-how.ensures.tells (λ e. cc)
+pub returns-clause-calls : goal.returns-clause-calls
+returns-clause-calls g c = calls_one c.connect-how.ensures.tells (inl refl)

@@ -7,7 +7,7 @@ use Rattle.ready_loop.specs.declared.readiness.Loop.{Loop}
 use Rattle.ready_loop.proofs.NameLemmas.{named_failed, named_known}
 use Rattle.ready_loop.proofs.StateLemmas.{sound_as, known_then}
 use Rattle.ready_loop.proofs.LookLemmas.{looked_until, looked_failed, looked_done, looked_names, may_then, left_of, counts_of}
-use Rattle.ready_loop.proofs.FileLemmas.{files_start, files_then}
+use Rattle.ready_loop.proofs.PartLemmas.{calls_start, calls_then}
 use Rattle.ready_loop.proofs.readiness.Loop.look.Goals as goal
 
 pub returns-in-Err-clause-looked : goal.returns-in-Err-clause-looked
@@ -60,11 +60,11 @@ returns-in-Done-clause-known g c = known_then (known_then c.in-Ok.ensures.known 
 pub returns-in-Err-clause-drained : goal.returns-in-Err-clause-drained
 returns-in-Err-clause-drained g c = λ conn e. c.in-Err.ensures.drained c.requires.drained
 
-pub returns-then-self-eq0-clause-files : goal.returns-then-self-eq0-clause-files
-returns-then-self-eq0-clause-files g c = files_start
+pub returns-then-self-eq0-clause-calls : goal.returns-then-self-eq0-clause-calls
+returns-then-self-eq0-clause-calls g c = calls_start
 
-pub returns-in-Failed-clause-files : goal.returns-in-Failed-clause-files
-returns-in-Failed-clause-files g c = files_then c.in-Ok.ensures.files c.in-Failed.ensures.files
+pub returns-in-Failed-clause-calls : goal.returns-in-Failed-clause-calls
+returns-in-Failed-clause-calls g c = calls_then c.in-Ok.ensures.calls c.in-Failed.ensures.calls
 
-pub returns-in-Done-clause-files : goal.returns-in-Done-clause-files
-returns-in-Done-clause-files g c = files_then c.in-Ok.ensures.files c.in-Done.ensures.files
+pub returns-in-Done-clause-calls : goal.returns-in-Done-clause-calls
+returns-in-Done-clause-calls g c = calls_then c.in-Ok.ensures.calls c.in-Done.ensures.calls

@@ -5,12 +5,12 @@ use Rattle.world.proofs.MomentsLemmas.{told_start, told_one, told_then}
 use Rattle.ready_loop.specs.declared.readiness.Loop.{Loop}
 use Rattle.ready_loop.proofs.StandLemmas.{goes_start, goes_then}
 use Rattle.ready_loop.proofs.StateLemmas.{sound_as, known_start, known_then}
-use Rattle.ready_loop.proofs.FileLemmas.{files_start, files_then}
+use Rattle.ready_loop.proofs.PartLemmas.{calls_start, calls_then}
 use Rattle.ready_loop.proofs.readiness.Loop.next.Goals as goal
 
 pub loop-place-init : goal.loop-place-init
 loop-place-init g c = record {
-  files = files_start;
+  calls = calls_start;
   room = search rules;
   some = search rules;
   goes = told_start (λ x. goes_start x);
@@ -59,7 +59,7 @@ loop-place-preserved g c =
     record {
       room = omega arith;
       some = omega arith;
-      files = files_then inv.files read.files;
+      calls = calls_then inv.calls read.calls;
       goes = told_then inv.goes read.goes (λ x y z a b. goes_then (λ h now r. r) (λ h now r. r) a b);
       dry = told_one inv.dry read.tells (λ x y s. more s tt);
       below = read.below refl inv.below;
@@ -83,14 +83,14 @@ returns-in-Refused-clause-sound g c = λ s. sound_as c.args.self.now c.read_at.n
 pub returns-clause-sound : goal.returns-clause-sound
 returns-clause-sound g c = λ s. sound_as c.args.self.now c.loop-place.self c.loop-place.invariant.failed s
 
-pub returns-in-Piece-clause-files : goal.returns-in-Piece-clause-files
-returns-in-Piece-clause-files g c = files_then c.loop-place.invariant.files c.in-Piece.ensures.files
+pub returns-in-Piece-clause-calls : goal.returns-in-Piece-clause-calls
+returns-in-Piece-clause-calls g c = calls_then c.loop-place.invariant.calls c.in-Piece.ensures.calls
 
-pub returns-in-Ended-clause-files : goal.returns-in-Ended-clause-files
-returns-in-Ended-clause-files g c = files_then c.loop-place.invariant.files c.in-Ended.ensures.files
+pub returns-in-Ended-clause-calls : goal.returns-in-Ended-clause-calls
+returns-in-Ended-clause-calls g c = calls_then c.loop-place.invariant.calls c.in-Ended.ensures.calls
 
-pub returns-in-Refused-clause-files : goal.returns-in-Refused-clause-files
-returns-in-Refused-clause-files g c = files_then c.loop-place.invariant.files c.in-Refused.ensures.files
+pub returns-in-Refused-clause-calls : goal.returns-in-Refused-clause-calls
+returns-in-Refused-clause-calls g c = calls_then c.loop-place.invariant.calls c.in-Refused.ensures.calls
 
-pub returns-in-Failed-clause-files : goal.returns-in-Failed-clause-files
-returns-in-Failed-clause-files g c = files_then c.loop-place.invariant.files c.in-Failed.ensures.files
+pub returns-in-Failed-clause-calls : goal.returns-in-Failed-clause-calls
+returns-in-Failed-clause-calls g c = calls_then c.loop-place.invariant.calls c.in-Failed.ensures.calls

@@ -3,7 +3,7 @@ use Rattle.world.specs.Moments.{Since}
 use Rattle.world.specs.Counts.{NetCause}
 use Rattle.ready_loop.specs.History.{same}
 use Rattle.ready_loop.specs.Reads.{ReadMoment, IsDry}
-use Rattle.ready_loop.specs.Standing.{Goes, Follows, LeavesFiles}
+use Rattle.ready_loop.specs.Standing.{Goes, Follows, CallsOfLoop}
 use Rattle.ready_loop.specs.States.{IsDrained, IsOffered, EachBelow, NotRead, SameKnown, failed_at}
 use Rattle.ready_loop.proofs.readiness.Loop.next.Given as goal
 
@@ -11,7 +11,7 @@ abbrev pub invariant-loop-place : goal.invariant-loop-place
 invariant-loop-place g l = record {
   room : length l.buf ≡ length l.fn.buf;
   some : 0 < length l.buf;
-  files : LeavesFiles g.W.Journal.journal l.fn.w l.w;
+  calls : CallsOfLoop g.W.Journal.journal l.fn.w l.w;
   goes : Follows g.W.Journal.journal l.fn.w l.w (Goes ReadMoment same l.fn.self l.self);
   dry : Follows g.W.Journal.journal l.fn.w l.w (Since IsDry);
   below : EachBelow l.place l.self.links NotRead;

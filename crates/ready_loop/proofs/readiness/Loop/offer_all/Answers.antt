@@ -3,12 +3,12 @@ use Rattle.world.proofs.MomentsLemmas.{told_start, told_then}
 use Rattle.ready_loop.proofs.StandLemmas.{goes_start, goes_then, cause_then}
 use Rattle.ready_loop.proofs.StateLemmas.{offered_more, known_start, known_then}
 use Rattle.ready_loop.proofs.OfferLemmas.{offer_moment}
-use Rattle.ready_loop.proofs.FileLemmas.{files_start, files_then}
+use Rattle.ready_loop.proofs.PartLemmas.{calls_start, calls_then}
 use Rattle.ready_loop.proofs.readiness.Loop.offer_all.Goals as goal
 
 pub loop-place-init : goal.loop-place-init
 loop-place-init g c = record {
-  files = files_start;
+  calls = calls_start;
   goes = told_start (λ x. goes_start x);
   offered = record { each = λ p low. absurd (omega arith) };
   drained = λ d. d;
@@ -27,7 +27,7 @@ loop-place-preserved g c =
     let inv = c.loop-place.invariant in
     let at = c.in_ok-offer_at.ensures in
     record {
-      files = files_then inv.files at.files;
+      calls = calls_then inv.calls at.calls;
       goes = told_then inv.goes at.goes (λ x y z a b. goes_then (λ h now r. r) (λ h now r. offer_moment false c.loop-place.place h now r) a b);
       offered = offered_more c.loop-place.place (g.W.Journal.counts c.loop-place.w).last (g.W.Journal.counts c.offer_at.new.w).last c.loop-place.self c.offer_at.new.self
           (ap (λ k. k.last) at.cause.others) at.only at.offered inv.offered;
@@ -38,5 +38,5 @@ loop-place-preserved g c =
       cause = cause_then inv.cause at.cause (λ b. b) (λ e. cc);
     }
 
-pub returns-in_err-offer_at-clause-files : goal.returns-in_err-offer_at-clause-files
-returns-in_err-offer_at-clause-files g c = files_then c.loop-place.invariant.files c.in_err-offer_at.ensures.files
+pub returns-in_err-offer_at-clause-calls : goal.returns-in_err-offer_at-clause-calls
+returns-in_err-offer_at-clause-calls g c = calls_then c.loop-place.invariant.calls c.in_err-offer_at.ensures.calls

@@ -2,7 +2,7 @@ use Rattle.world.proofs.MomentsLemmas.{told_then, told_both}
 use Rattle.ready_loop.proofs.StandLemmas.{goes_then}
 use Rattle.ready_loop.proofs.LookLemmas.{begins_then}
 use Rattle.ready_loop.proofs.OfferLemmas.{forced_at}
-use Rattle.ready_loop.proofs.FileLemmas.{files_then}
+use Rattle.ready_loop.proofs.PartLemmas.{calls_then}
 use Rattle.ready_loop.proofs.readiness.Loop.offer_at.Goals as goal
 
 pub returns-clause-goes : goal.returns-clause-goes
@@ -12,5 +12,5 @@ returns-clause-goes g c = told_then c.in_ok-begin_again.ensures.goes c.write_all
 pub returns-clause-begins : goal.returns-clause-begins
 returns-clause-begins g c = told_then (told_both c.in_ok-begin_again.ensures.begins c.in_ok-begin_again.ensures.goes) c.write_all.ensures.goes (λ x y z a b. begins_then a.0 a.1 b)
 
-pub returns-clause-files : goal.returns-clause-files
-returns-clause-files g c = files_then c.in_ok-begin_again.ensures.files c.write_all.ensures.files
+pub returns-clause-calls : goal.returns-clause-calls
+returns-clause-calls g c = calls_then c.in_ok-begin_again.ensures.calls c.write_all.ensures.calls

@@ -5,12 +5,12 @@ use Rattle.ready_loop.specs.Offers.{is_looked}
 use Rattle.ready_loop.proofs.StandLemmas.{goes_start, goes_then, cause_then}
 use Rattle.ready_loop.proofs.StateLemmas.{known_start, known_then, calm_joins}
 use Rattle.ready_loop.proofs.LookLemmas.{below_none, below_skip, below_more, look_moment, offered_at}
-use Rattle.ready_loop.proofs.FileLemmas.{files_start, files_then}
+use Rattle.ready_loop.proofs.PartLemmas.{calls_start, calls_then}
 use Rattle.ready_loop.proofs.readiness.Loop.offer_jobs.Goals as goal
 
 pub loop-place-init : goal.loop-place-init
 loop-place-init g c = record {
-  files = files_start;
+  calls = calls_start;
   goes = told_start (λ x. goes_start x);
   begins = told_start (λ x. below_none c.args.jobs.now c.args.self.now x);
   untouched = λ p le. refl;
@@ -28,7 +28,7 @@ loop-place-preserved-then-not-jobs-place g c =
     let inv = c.loop-place.invariant in
     let skip : is_looked c.args.jobs.now (c.loop-place.place / 4) ≡ false = unwrap_or-slice_get c.args.jobs.now (c.loop-place.place / 4) false ∙ c.if-not-jobs-place.true in
     record {
-      files = inv.files;
+      calls = inv.calls;
       goes = inv.goes;
       begins = told_as inv.begins (λ x y b. below_skip skip b);
       untouched = λ p le. inv.untouched p (omega arith);
@@ -54,7 +54,7 @@ loop-place-preserved g c =
     let n = c.loop-place.place in
     let looked : is_looked c.args.jobs.now (c.loop-place.place / 4) ≡ true = unwrap_or-slice_get c.args.jobs.now (c.loop-place.place / 4) false ∙ c.if-not-jobs-place.false in
     record {
-      files = files_then inv.files at.files;
+      calls = calls_then inv.calls at.calls;
       goes = told_then inv.goes at.goes (λ x y z a b. goes_then (λ h now r. r) (λ h now r. look_moment n c.args.jobs.now looked h now r) a b);
       begins = told_then (told_both inv.begins inv.goes) (told_both at.begins at.goes) (λ x y z a b. below_more (inv.untouched n (omega arith)) a.0 a.1 b.0 b.1);
       untouched = λ p le. let ne : p ≢ c.loop-place.place = λ e. omega (arith, e) in at.only.links p ne ∙ inv.untouched p (omega arith);
@@ -68,5 +68,5 @@ loop-place-preserved g c =
       cause = cause_then inv.cause at.cause (λ b. b) (λ e. cc);
     }
 
-pub returns-in-Err-clause-files : goal.returns-in-Err-clause-files
-returns-in-Err-clause-files g c = files_then c.loop-place.invariant.files c.in-Err.ensures.files
+pub returns-in-Err-clause-calls : goal.returns-in-Err-clause-calls
+returns-in-Err-clause-calls g c = calls_then c.loop-place.invariant.calls c.in-Err.ensures.calls

@@ -2,13 +2,13 @@ use Rattle.std.proofs.Common.{◌≡◌, ◌≤◌, ℕ, slice_get}
 use Rattle.world.specs.Counts.{NetCause}
 use Rattle.ready_loop.specs.History.{same}
 use Rattle.ready_loop.specs.Offers.{LookMoment, BeginsBelow}
-use Rattle.ready_loop.specs.Standing.{Goes, Follows, LeavesFiles}
+use Rattle.ready_loop.specs.Standing.{Goes, Follows, CallsOfLoop}
 use Rattle.ready_loop.specs.States.{IsCalm, IsDrained, IsOffered, SameKnown, failed_at}
 use Rattle.ready_loop.proofs.readiness.Loop.offer_jobs.Given as goal
 
 abbrev pub invariant-loop-place : goal.invariant-loop-place
 invariant-loop-place g l = record {
-  files : LeavesFiles g.W.Journal.journal l.fn.w l.w;
+  calls : CallsOfLoop g.W.Journal.journal l.fn.w l.w;
   goes : Follows g.W.Journal.journal l.fn.w l.w (Goes (LookMoment l.jobs) same l.fn.self l.self);
   begins : Follows g.W.Journal.journal l.fn.w l.w (BeginsBelow l.place l.jobs l.fn.self);
   untouched : (p : ℕ) → l.place ≤ p → slice_get l.self.links p ≡ slice_get l.fn.self.links p;

@@ -5,7 +5,7 @@ use Rattle.ready_loop.specs.Link.{MayRead, read_link}
 use Rattle.ready_loop.proofs.TableLemmas.{tells_with}
 use Rattle.ready_loop.proofs.StateLemmas.{may_here, read_offered, read_fails, read_below, known_set, read_stage}
 use Rattle.ready_loop.proofs.ReadLemmas.{read_goes, untimed}
-use Rattle.ready_loop.proofs.FileLemmas.{files_one, read_elsewhere}
+use Rattle.ready_loop.proofs.PartLemmas.{calls_one, read_of_loop}
 use Rattle.ready_loop.proofs.readiness.Loop.read_at.Goals as goal
 
 pub returns-clause-goes : goal.returns-clause-goes
@@ -35,5 +35,5 @@ pub returns-clause-known : goal.returns-clause-known
 returns-clause-known g c = known_set c.args.self.now (record c.args.self.now { links = c.put.new.self }) c.args.place (read_link c.read-got.result c.last-last.result c.at-link.result) c.at-link.result c.at-link.ensures
     (c.put.ensures ∙ ap (set c.args.self.now.links c.args.place) c.after_read.ensures) (read_stage c.read-got.result c.last-last.result c.at-link.result) (λ p e. e)
 
-pub returns-clause-files : goal.returns-clause-files
-returns-clause-files g c = files_one c.read-got.ensures.tells (read_elsewhere c.args.conn (length c.args.buf.now) c.read-got.result c.read-got.new.buf)
+pub returns-clause-calls : goal.returns-clause-calls
+returns-clause-calls g c = calls_one c.read-got.ensures.tells (read_of_loop c.args.conn (length c.args.buf.now) c.read-got.result c.read-got.new.buf)

@@ -1,11 +1,11 @@
-use Rattle.std.proofs.Common.{◌≡◌, List, refl}
+use Rattle.std.proofs.Common.{◌≡◌, List, refl, inr}
 use Rattle.world.specs.declared.entry.Entry.{Entry}
 use Rattle.world.specs.Places.{time}
 use Rattle.world.proofs.MomentsLemmas.{told_start, told_as, told_one}
 use Rattle.ready_loop.proofs.StateLemmas.{sound_as}
 use Rattle.ready_loop.proofs.TableLemmas.{told_from}
 use Rattle.ready_loop.proofs.WaitLemmas.{turned_failed, turned_done, turned_spent}
-use Rattle.ready_loop.proofs.FileLemmas.{files_start, files_one, files_then}
+use Rattle.ready_loop.proofs.PartLemmas.{calls_start, calls_one, calls_then}
 use Rattle.ready_loop.proofs.readiness.Loop.turn.Goals as goal
 
 pub returns-in-Failed-clause-turned : goal.returns-in-Failed-clause-turned
@@ -31,8 +31,8 @@ returns-in-Failed-clause-sound g c = sound_as c.args.self.now c.wait.new.self c.
 pub returns-in-Done-clause-sound : goal.returns-in-Done-clause-sound
 returns-in-Done-clause-sound g c = sound_as c.args.self.now c.wait.new.self c.in-Done.ensures.failed c.requires.sound
 
-pub returns-in-Done-clause-files : goal.returns-in-Done-clause-files
-returns-in-Done-clause-files g c = files_then c.in-Done.ensures.files (files_one c.now.ensures.tells (λ e. cc))
+pub returns-in-Done-clause-calls : goal.returns-in-Done-clause-calls
+returns-in-Done-clause-calls g c = calls_then c.in-Done.ensures.calls (calls_one c.now.ensures.tells (inr refl))
 
-pub returns-then-self-eq0-clause-files : goal.returns-then-self-eq0-clause-files
-returns-then-self-eq0-clause-files g c = files_start
+pub returns-then-self-eq0-clause-calls : goal.returns-then-self-eq0-clause-calls
+returns-then-self-eq0-clause-calls g c = calls_start

@@ -1,4 +1,4 @@
-use Rattle.std.proofs.Common.{ap, refl, ◌∙◌, ◌-◌}
+use Rattle.std.proofs.Common.{ap, refl, ◌∙◌, ◌-◌, inl}
 use Rattle.world.specs.Places.{is_reported}
 use Rattle.ready_loop.specs.declared.readiness.Loop.{Loop}
 use Rattle.ready_loop.specs.Link.{wait_link}
@@ -7,7 +7,7 @@ use Rattle.ready_loop.proofs.StateLemmas.{known_by}
 use Rattle.ready_loop.proofs.TableLemmas.{tells_both}
 use Rattle.ready_loop.proofs.MapLemmas.{maps_failed, maps_known}
 use Rattle.ready_loop.proofs.WaitLemmas.{wait_stands, wait_failed, wait_stage}
-use Rattle.ready_loop.proofs.FileLemmas.{files_one}
+use Rattle.ready_loop.proofs.PartLemmas.{calls_one}
 use Rattle.ready_loop.proofs.readiness.Loop.wait.Goals as goal
 
 pub returns-clause-came : goal.returns-clause-came
@@ -30,5 +30,5 @@ returns-clause-known g c = known_by c.args.self.now (record c.report.new.self { 
     (λ p link. wait_stage c.wait-did.result (is_reported p c.wait-did.new.out.ready) link) c.report.ensures.reported)
     (λ p e. ap (λ (l : Loop). rest_at l.queues p) c.report.ensures.same ∙ e)
 
-pub returns-clause-files : goal.returns-clause-files
-returns-clause-files g c = files_one c.wait-did.ensures.tells (λ e. cc)
+pub returns-clause-calls : goal.returns-clause-calls
+returns-clause-calls g c = calls_one c.wait-did.ensures.tells (inl refl)

@@ -3,12 +3,12 @@ use Rattle.world.proofs.MomentsLemmas.{told_start, told_then}
 use Rattle.ready_loop.proofs.StandLemmas.{goes_start, goes_then, cause_then}
 use Rattle.ready_loop.proofs.StateLemmas.{only_start, only_then, not_failed, known_start, known_then}
 use Rattle.ready_loop.specs.States.{failed_at}
-use Rattle.ready_loop.proofs.FileLemmas.{files_start, files_then}
+use Rattle.ready_loop.proofs.PartLemmas.{calls_start, calls_then}
 use Rattle.ready_loop.proofs.readiness.Loop.write_all.Goals as goal
 
 pub loop-conn-init : goal.loop-conn-init
 loop-conn-init g c = record {
-  files = files_start;
+  calls = calls_start;
   goes = told_start (λ x. goes_start x);
   only = only_start c.args.place c.args.self.now;
   calm = c.requires.calm;
@@ -25,7 +25,7 @@ pub loop-conn-preserved : goal.loop-conn-preserved
 loop-conn-preserved g c =
     let inv = c.loop-conn.invariant in
     record {
-      files = files_then inv.files c.write_at.ensures.files;
+      calls = calls_then inv.calls c.write_at.ensures.calls;
       goes = told_then inv.goes c.write_at.ensures.goes (λ x y z a b. goes_then (λ h now r. r) (λ h now r. r) a b);
       only = only_then inv.only c.write_at.ensures.only;
       calm = c.write_at.ensures.calm inv.calm;
@@ -35,5 +35,5 @@ loop-conn-preserved g c =
       cause = cause_then inv.cause c.write_at.ensures.cause (λ b. b) c.in_default.not-Failed;
     }
 
-pub returns-in-Failed-clause-files : goal.returns-in-Failed-clause-files
-returns-in-Failed-clause-files g c = files_then c.loop-conn.invariant.files c.in-Failed.ensures.files
+pub returns-in-Failed-clause-calls : goal.returns-in-Failed-clause-calls
+returns-in-Failed-clause-calls g c = calls_then c.loop-conn.invariant.calls c.in-Failed.ensures.calls

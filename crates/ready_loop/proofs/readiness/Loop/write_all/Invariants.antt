@@ -2,13 +2,13 @@ use Rattle.std.proofs.Common.{◌≡◌, ℕ, false}
 use Rattle.world.specs.Counts.{NetCause}
 use Rattle.ready_loop.specs.History.{same}
 use Rattle.ready_loop.specs.Offers.{OfferAt}
-use Rattle.ready_loop.specs.Standing.{Goes, Follows, LeavesFiles}
+use Rattle.ready_loop.specs.Standing.{Goes, Follows, CallsOfLoop}
 use Rattle.ready_loop.specs.States.{IsDrained, IsCalmAt, OnlyAt, SameKnown, load, failed_at}
 use Rattle.ready_loop.proofs.readiness.Loop.write_all.Given as goal
 
 abbrev pub invariant-loop-conn : goal.invariant-loop-conn
 invariant-loop-conn g l = record {
-  files : LeavesFiles g.W.Journal.journal l.fn.w l.w;
+  calls : CallsOfLoop g.W.Journal.journal l.fn.w l.w;
   goes : Follows g.W.Journal.journal l.fn.w l.w (Goes (OfferAt false l.place) same l.fn.self l.self);
   only : OnlyAt l.place l.fn.self l.self;
   calm : IsCalmAt l.place (g.W.Journal.counts l.w).last l.self;

@@ -6,7 +6,7 @@ use Rattle.ready_loop.specs.Link.{MayWrite, write_link}
 use Rattle.ready_loop.proofs.TableLemmas.{tells_with}
 use Rattle.ready_loop.proofs.StateLemmas.{may_here, only_written, calm_written, drained_set, write_reads, write_fails, load_less, known_set, empty_set, write_stage}
 use Rattle.ready_loop.proofs.OfferLemmas.{write_goes, untimed_write}
-use Rattle.ready_loop.proofs.FileLemmas.{files_one, write_elsewhere}
+use Rattle.ready_loop.proofs.PartLemmas.{calls_one, write_of_loop}
 use Rattle.ready_loop.proofs.readiness.Loop.write_at.Goals as goal
 
 pub returns-clause-goes : goal.returns-clause-goes
@@ -47,5 +47,5 @@ returns-clause-known g c = known_set c.args.self.now (record c.args.self.now { l
     (c.put.ensures ∙ ap (set c.args.self.now.links c.args.place) c.after_write.ensures) (write_stage c.write-put.result c.last-last.result c.at-link.result)
     (empty_set c.args.self.now.queues c.take_off.new.self c.args.place _ c.requires.some c.take_off.ensures)
 
-pub returns-clause-files : goal.returns-clause-files
-returns-clause-files g c = files_one c.write-put.ensures.tells (write_elsewhere c.args.conn c.write-put.result c.rest.result.now)
+pub returns-clause-calls : goal.returns-clause-calls
+returns-clause-calls g c = calls_one c.write-put.ensures.tells (write_of_loop c.args.conn c.write-put.result c.rest.result.now)

@@ -1,0 +1,10 @@
+use Rattle.std.proofs.Common.{◌≡◌, subst}
+use Rattle.cell_core.specs.StandsFor.{task_of}
+use Rattle.job_run.specs.Task.{task_in}
+use Rattle.job_run.proofs.starting.parts_of.Goals as goal
+
+pub returns-clause-task : goal.returns-clause-task
+returns-clause-task c = subst (λ t. task_of c.in_ok-run.run'.core ≡ task_in t c.args.agenda.notebook) c.terms_of.ensures.times c.in_ok-run.ensures.task
+
+pub returns-clause-paths : goal.returns-clause-paths
+returns-clause-paths c = c.in_ok-paths.ensures.output

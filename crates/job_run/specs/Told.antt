@@ -1,0 +1,86 @@
+-- What the core of a job was told, and by which cause it stopped. Events have the newest first.
+use Rattle.std.specs.Prelude.{◌≡◌, ℕ, ◌==◌, List, ◌∷◌, ◌≤◌, Bool, true, if◌then◌else◌, Option, Some, None}
+use Rattle.cell_core.specs.declared.event.Event.{Event}
+use Rattle.cell_core.specs.declared.event.Event.TheVariants.{Moment, Broken}
+use Rattle.cell_core.specs.declared.machine.Core.{Core}
+use Rattle.cell_core.specs.declared.why.Why.{Why}
+use Rattle.cell_core.specs.declared.why.Why.TheVariants as why
+use Rattle.cell_core.specs.declared.act.Act.TheVariants.{Stop}
+use Rattle.cell_core.specs.Acts.{Meets, IsTimely, act_of, heard}
+use Rattle.cell_core.specs.Events.{came, is_broken, time}
+use Rattle.cell_core.specs.StandsFor.{StandsFor, task_of}
+use Rattle.cell_core.specs.Task.{Task}
+use Rattle.job_end.specs.declared.answer.Answer.{Answer}
+use Rattle.job_end.specs.declared.end.End.{End}
+use Rattle.job_end.specs.declared.end.End.TheVariants as end
+use Rattle.job_end.specs.Answers.{Answers}
+
+-- the core was told these events, which came where they may and in time; no clock entry is after this one, and a broken stream is named
+pub record Tells (core : Core) (clock : ℕ) (is_named : Bool) : Type 0 where
+  pub events : List Event
+  pub stands : StandsFor core events
+  pub meets : Meets (task_of core) events
+  pub timed : time (heard (task_of core) events) ≤ clock
+  pub named : came is_broken events ≡ true → is_named ≡ true
+
+-- the core was told some such events
+abbrev pub Hears : Core → ℕ → Bool → Type 0
+Hears core clock is_named = ∥ Tells core clock is_named ∥₁
+
+-- an event may be told: a clock entry in time, a broken stream by its name
+abbrev pub MayCome : Core → ℕ → Bool → Event → Type 0
+MayCome core clock is_named (Moment t) = (t ≡ clock) × ((events : List Event) → StandsFor core events → time (heard (task_of core) events) ≤ t → IsTimely (task_of core) (Moment t) events)
+MayCome core clock is_named Broken = is_named ≡ true
+MayCome core clock is_named _ = Unit {0}
+
+-- the newest of these events, which came where they may and in time, stops the job for this cause
+pub record Stopping (task : Task) (cause : Why) : Type 0 where
+  pub event : Event
+  pub past : List Event
+  pub meets : Meets task (event ∷ past)
+  pub stops : act_of task event past ≡ Stop cause
+
+-- some events stop the job for this cause (nbclient's and Papermill's ends of a run)
+abbrev pub StopsFor : Task → Why → Type 0
+StopsFor task cause = ∥ Stopping task cause ∥₁
+
+-- a run ends so: by a cause for which events stop its core, by a save that failed, by the network, by its turns, or for want of memory
+abbrev pub EndsBy : Task → End → Type 0
+EndsBy task end.Done = StopsFor task why.Done
+EndsBy task (end.CellError cell name) = StopsFor task why.CellError
+EndsBy task end.NotReady = StopsFor task why.NotReady
+EndsBy task end.KernelLost = StopsFor task why.KernelLost
+EndsBy task (end.TimedOut cell) = StopsFor task why.TimedOut
+EndsBy task (end.NoIdle cell) = StopsFor task why.NoIdle
+EndsBy task (end.BadPeer chan f) = StopsFor task why.BadPeer
+EndsBy task (end.NotSaved f) = Unit {0}
+EndsBy task end.NoMemory = Unit {0}
+EndsBy task end.NetFault = Unit {0}
+EndsBy task end.Spent = Unit {0}
+EndsBy task _ = ⊥
+
+-- a start ends a job so: by its kernel or its connection file, or as a run does
+abbrev pub StartsBy : Task → End → Type 0
+StartsBy task end.NotStarted = Unit {0}
+StartsBy task end.NoConnectionFile = Unit {0}
+StartsBy task e = EndsBy task e
+
+-- a job on this output ended so: its answer is that of an end of its run
+pub record Ending (output : List ℕ) (task : Task) (a : Answer) : Type 0 where
+  pub end : End
+  pub by : EndsBy task end
+  pub answers : Answers output end a
+
+-- its answer is that of some such end
+abbrev pub IsEnding : List ℕ → Task → Answer → Type 0
+IsEnding output task a = ∥ Ending output task a ∥₁
+
+-- the cause that a status names (the exit statuses of nbrun)
+abbrev pub cause_of : ℕ → Option Why
+cause_of n =
+    if n == 0 then Some why.Done else if n == 1 then Some why.CellError else if n == 7 then Some why.NotReady else if n == 8 then Some why.KernelLost
+    else if n == 9 then Some why.TimedOut else if n == 13 then Some why.NoIdle else if n == 15 then Some why.BadPeer else None
+
+-- a status that names a cause comes only where there are events that stop the job for it
+abbrev pub IsCaused : Task → ℕ → Type 0
+IsCaused task status = (cause : Why) → cause_of status ≡ Some cause → StopsFor task cause
