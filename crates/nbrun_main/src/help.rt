@@ -11,7 +11,7 @@ nbrun executes Jupyter notebooks with nobody at the screen.
 
   nbrun IN OUT [options]          reads the notebook IN and writes OUT
   nbrun --jobs FILE [options]     runs the jobs of a file, at most 16
-  nbrun --exercise N              runs N generated cells, at most 200
+  nbrun --exercise N              runs N generated cells, at most 200, in memory
   nbrun --help | --version        prints this, or the version
 
   -p, --parameters NAME VALUE     a parameter: a number of JSON, True, False,
@@ -31,12 +31,25 @@ nbrun executes Jupyter notebooks with nobody at the screen.
   --interrupt                     interrupts a cell at its limit
   --no-heartbeat                  doesn't ping the kernel
 
-After -- each word is a path. Switches are off by default. Built so far is
---prepare-only; all else ends with status 70.
+After -- each word is a path. Switches are off by default. A job of a file has
+its own paths, parameters, kernel and cwd: -p, -r, -k, --cwd and --prepare-only
+don't go with --jobs. --exercise goes with no other word.
 
-Status: 0 done, 2 wrong words, 3 input not read, 4 no notebook, 5 no translator
-for parameters, 10 output not saved, 11 done but not said, 12 no memory,
-20 arguments or folder not read, 70 not built.
+Examples:
+  nbrun report.ipynb out.ipynb -p year 2026 -r day 007
+  nbrun report.ipynb out.ipynb -k python3 --execution-timeout 600 --interrupt
+  nbrun --jobs jobs.json --kernel-path /usr/share/jupyter/kernels
+  nbrun --exercise 8
+
+A jobs file:
+  {\"jobs\": [{\"input\": \"a.ipynb\", \"output\": \"x.ipynb\", \"parameters\": {\"n\": 1}}]}
+
+Status: 0 done, 1 a cell raised an error, 2 wrong words or jobs file, 3 a file
+not read, 4 no notebook, 5 kernel spec refused or no translator for parameters,
+6 kernel not started, 7 not ready in time, 8 kernel lost, 9 a cell timed out,
+10 not saved, 11 done but not said, 12 no memory, 13 a cell's end not seen,
+14 network fault, 15 the kernel's bytes are broken, 16 too many waits,
+20 arguments or folder not read.
 ";
 
 /// What is printed in place of a run, where `--help` or `--version` is the only word.

@@ -5,5 +5,6 @@
 mod help;
 mod printing;
 mod program;
+mod toys;
 
 pub use program::{run_words, start};

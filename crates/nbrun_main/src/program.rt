@@ -1,26 +1,33 @@
 //! The start of the program, and what it does with its words.
-ghost use Rattle.std.specs.Prelude.{◌≡◌, ◌⊎◌, None, Some, List as Plain, ℕ};
+ghost use Rattle.std.specs.Prelude.{◌≡◌, ◌⊎◌, ◌^◌, None, Some, List as Plain, ℕ};
 ghost use Rattle.words.specs.declared.ask.Ask as asks;
 ghost use Rattle.words.specs.declared.usage.Usage as usages;
 ghost use Rattle.words.specs.Refusals.{refusal};
-ghost use Rattle.nbrun_top.specs.Asked.{IsJob, IsNotBuilt, texts};
+ghost use Rattle.nbrun_top.specs.Asked.{IsJob, IsPlain, IsExecuting, IsExecuted, texts};
+ghost use Rattle.nbrun_top.specs.Asked.{IsExercise, IsNoExercise};
 ghost use Rattle.said_lines.specs.Between.{Between, FromStart, DiskRose, SayRose, SayFailed};
 ghost use Rattle.nbrun_top.specs.Crash.{IsSafe};
 ghost use Rattle.nbrun_top.specs.Ended.{Ended, IsHeard, acks_of};
+ghost use Rattle.nbrun_top.specs.Exercised.{Exercised};
+ghost use Rattle.nbrun_top.specs.Executed.{Executed, IsSavedOnly, DoesNotWrite, StartRose};
+ghost use Rattle.nbrun_top.specs.Executed.{WaitsAtMost};
 ghost use Rattle.nbrun_top.specs.Ran.{IsDelivered, IsOther, IsUntouched};
 ghost use Rattle.said_lines.specs.Speech.{heard};
 ghost use Rattle.save_disk.specs.Places.{acknowledged};
+ghost use Rattle.toy_exercise.specs.Reported.{IsOutcome};
 ghost use Rattle.nbrun_main.specs.Printed.{Prints, IsRun, printed as printed_for};
 
 use crate::help::printed;
 use crate::printing::print;
+use crate::toys::Toys;
+use batch_run::Limits;
 use jtext::{NoMemory, Text};
-use nbrun_top::{Limits, run};
+use nbrun_top::run;
 use std::alloc::Global;
 use std::io::ErrorKind;
 use std::process::ExitCode;
 use std::{env, io, process};
-use world::{Disk, Say};
+use world::World;
 use world_real::RealWorld;
 
 /// Memory was refused before the run began.
@@ -67,19 +74,21 @@ fn not_given(kind: ErrorKind) -> u8
 /// Does what these words ask for over a world, and answers the exit status. The words are the
 /// arguments without the program's name, and `here` is the working folder; `--help` and `--version`
 /// say their text where they stand alone, and all other words are those of a run.
-pub fn run_words<W: Disk + Say>(alloc: Global, words: &[String], here: Text, w: &mut W) -> u8
+pub fn run_words<W: World>(alloc: Global, words: &[String], here: Text, w: &mut W) -> u8
     // The text is said whole with status 0, or else a say has failed and the status is 11.
     ensures printed { (text : Plain ℕ) → printed_for (texts words.now) ≡ Some text →
         Between W.journal w.old w.new (λ before. Prints text before result) }
     ensures printed_status { (text : Plain ℕ) → printed_for (texts words.now) ≡ Some text →
         (result ≡ 0) ⊎ (result ≡ 11) }
 
-    // Each other status has its cause, with all that was asked of the world and all that was said.
-    ensures causes { IsRun (texts words.now) → Between W.journal w.old w.new
-        (Ended (texts words.now) result
+    // Words that execute nothing: each status has its cause, with all that was asked of the world
+    // and all that was said.
+    ensures causes { IsRun (texts words.now) → IsPlain (texts words.now) →
+        Between W.journal w.old w.new (Ended (texts words.now) result
         (SayRose W.counts w.old w.new) (SayFailed W.counts w.new)) }
-    // After 0 and 11 a crash leaves at the output the notebook with its parameters, and nothing else.
-    ensures delivered { IsRun (texts words.now) → FromStart W.journal w.old w.new
+    // After 0 and 11 a crash leaves at the output just the notebook with its parameters.
+    ensures delivered { IsRun (texts words.now) → IsPlain (texts words.now) →
+        FromStart W.journal w.old w.new
         (λ j. (result ≡ 0) ⊎ (result ≡ 11) → IsDelivered (texts words.now) j) }
     // At every moment a crash leaves at the output what was there before, or the whole new text.
     ensures crash { IsRun (texts words.now) → FromStart W.journal w.old w.new
@@ -89,32 +98,63 @@ pub fn run_words<W: Disk + Say>(alloc: Global, words: &[String], here: Text, w: 
         (λ j. (a : asks.Ask) → IsJob (texts words.now) a →
         acknowledged a.output j ≡ acks_of result) }
     // At every moment a crash leaves every other file as it was, the input among them.
-    ensures untouched { IsRun (texts words.now) → FromStart W.journal w.old w.new
+    ensures untouched { IsRun (texts words.now) → IsPlain (texts words.now) →
+        FromStart W.journal w.old w.new
         (λ j. (path : Plain ℕ) → IsOther (texts words.now) path → IsUntouched path j) }
     ensures input { IsRun (texts words.now) → FromStart W.journal w.old w.new
         (λ j. (a : asks.Ask) → IsJob (texts words.now) a → IsUntouched a.input j) }
     // What is said are the lines of how this run ended, or a front of them where a say failed; and
     // where one had failed before, nothing is said.
-    ensures said { IsRun (texts words.now) → FromStart W.journal w.old w.new
-        (IsHeard (texts words.now) result
+    ensures said { IsRun (texts words.now) → IsPlain (texts words.now) →
+        FromStart W.journal w.old w.new (IsHeard (texts words.now) result
         (SayRose W.counts w.old w.new) (SayFailed W.counts w.new)) }
-    ensures silent { IsRun (texts words.now) → SayFailed W.counts w.old →
+    ensures silent { IsRun (texts words.now) → IsPlain (texts words.now) →
+        SayFailed W.counts w.old →
         Between W.journal w.old w.new (λ before after. heard after ≡ heard before) }
+
+    // Words that execute notebooks: the jobs ran, those of a jobs file by the bytes that were read,
+    // each call was one of theirs or of the loop, and each child that was started has its end; or
+    // why they did not run is said.
+    ensures executed { IsRun (texts words.now) → IsExecuting (texts words.now) →
+        FromStart W.journal w.old w.new (Executed (texts words.now) here
+        (SayRose W.counts w.old w.new) (SayFailed W.counts w.new) result) }
+    // The one job of the words: at every moment a crash leaves at the output what was there before,
+    // or a prefix of the notebook that was read, the one that was acknowledged last or the next;
+    // 0, 1, 7, 8, 9, 13 and 15 come only where there are events that stop the job for that cause.
+    ensures prefixes { IsRun (texts words.now) → FromStart W.journal w.old w.new
+        (λ j. (a : asks.Ask) → IsExecuted (texts words.now) a → IsSavedOnly a result j) }
+    // At every moment a crash leaves every other file as it was, the input among them.
+    ensures others { IsRun (texts words.now) → FromStart W.journal w.old w.new
+        (λ j. (a : asks.Ask) (path : Plain ℕ) → IsExecuted (texts words.now) a →
+        DoesNotWrite a.output path → IsUntouched path j) }
+    ensures read_only { IsRun (texts words.now) → FromStart W.journal w.old w.new
+        (λ j. (a : asks.Ask) → IsExecuted (texts words.now) a → IsUntouched a.input j) }
+
+    // The exercise: its one line is said, with the numbers and the status of a run in memory, and
+    // nothing else is asked of the world.
+    ensures exercised { IsRun (texts words.now) → (n : ℕ) → IsExercise (texts words.now) n →
+        Between W.journal w.old w.new (λ before after. Exercised (IsOutcome n)
+        (SayRose W.counts w.old w.new) (SayFailed W.counts w.new) before result after) }
 
     // What no journal is needed for.
     ensures usage { IsRun (texts words.now) → (u : usages.Usage) →
         refusal (texts words.now) ≡ Some u → (result ≡ 2) ⊎ (result ≡ 12) }
-    ensures refused { result ≡ 2 → refusal (texts words.now) ≡ None → ⊥ }
-    ensures not_built { IsRun (texts words.now) → IsNotBuilt (texts words.now) →
-        (result ≡ 70) ⊎ (result ≡ 12) }
-    ensures built { result ≡ 70 → IsNotBuilt (texts words.now) }
-    ensures read_fault { result ≡ 3 → DiskRose W.counts w.old w.new }
-    ensures save_fault { result ≡ 10 → DiskRose W.counts w.old w.new }
-    ensures say_fault { result ≡ 11 → SayRose W.counts w.old w.new }
+    ensures refused { IsPlain (texts words.now) → result ≡ 2 →
+        refusal (texts words.now) ≡ None → ⊥ }
+    ensures read_fault { IsNoExercise (texts words.now) → result ≡ 3 →
+        DiskRose W.counts w.old w.new }
+    ensures start_fault { IsNoExercise (texts words.now) → result ≡ 6 →
+        StartRose W.counts w.old w.new }
+    ensures save_fault { IsNoExercise (texts words.now) → result ≡ 10 →
+        DiskRose W.counts w.old w.new }
+    ensures say_fault { IsNoExercise (texts words.now) → result ≡ 11 →
+        SayRose W.counts w.old w.new }
+    // It is waited at most 2^40 times.
+    ensures waits { IsRun (texts words.now) → WaitsAtMost W.counts w.old w.new (2 ^ 40) }
     ensures heard { IsRun (texts words.now) → result ≡ 0 → SayRose W.counts w.old w.new → ⊥ }
 {
     match printed(words) {
         Some(text) => print(w, text.as_bytes()),
-        None => run(alloc, words, &Limits::usual(here), w),
+        None => run(alloc, words, &Limits::usual(here), &Toys, w),
     }
 }

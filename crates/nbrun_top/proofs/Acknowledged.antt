@@ -9,7 +9,6 @@ use Rattle.save_disk.specs.Places.{acknowledged}
 use Rattle.save_disk.proofs.Laws.{end_of}
 use Rattle.nb_model.specs.declared.notebook.Notebook.{Notebook}
 use Rattle.nbrun_top.specs.declared.end.End.{End}
-use Rattle.nbrun_top.specs.declared.end.End.TheVariants as end
 use Rattle.nbrun_top.specs.Asked.{IsJob}
 use Rattle.nbrun_top.specs.Codes.{code_of, end_of as load_end}
 use Rattle.nbrun_top.specs.Ended.{Answers, plain, not_said, Ended, acks_of}
@@ -41,7 +40,6 @@ prepares_acks a e after (ran.no_memory_later answer) = refl
 
 ran_acks : (words : List (List ℕ)) (a : Ask) → IsJob words a → (e : End) (after : List Entry) → Ran words [] e after → acknowledged a.output after ≡ acks_of (code_of e)
 ran_acks words a is e after (ran.refused u why) = refl
-ran_acks words a is e after (ran.not_built why) = refl
 ran_acks words a is e after ran.no_memory = refl
 ran_acks words a is e after (ran.job b _ _ also prepares) =
     subst (λ c. acknowledged c.output after ≡ acks_of (code_of e)) (one_ask (sym also.asks ∙ is.asks)) (prepares_acks b e after prepares)

@@ -125,7 +125,6 @@ one_ask e = cc
 
 ran_good : (words : List (List ℕ)) (a : Ask) → IsJob words a → (e : End) (on_disk after : List Entry) → Ran words [] e on_disk → Since (IsOf OnSay) on_disk after → Since (Good a after) [] on_disk
 ran_good words a is e on_disk after (ran.refused u why) said = start
-ran_good words a is e on_disk after (ran.not_built why) said = start
 ran_good words a is e on_disk after ran.no_memory said = start
 ran_good words a is e on_disk after (ran.job b e_ after_ also prepares) said =
     subst (λ c. Since (Good c after) [] on_disk) (one_ask (sym also.asks ∙ is.asks)) (prepares_good b e on_disk after prepares said)

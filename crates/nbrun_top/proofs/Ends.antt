@@ -6,7 +6,7 @@ use Rattle.world.specs.declared.entry.Entry.TheVariants.{Read}
 use Rattle.world.specs.declared.read_file.ReadFile.TheVariants as found
 use Rattle.world.specs.declared.left.Left.TheVariants as left
 use Rattle.world.specs.Disk.{leaves}
-use Rattle.world.specs.Moments.{Since, start, more as later}
+use Rattle.world.specs.Moments.{Since}
 use Rattle.world.specs.Parts.{OnSay, IsOf}
 use Rattle.world.proofs.PartsLemmas.{place_since}
 use Rattle.nb_model.specs.declared.notebook.Notebook.{Notebook}
@@ -38,7 +38,6 @@ no_eleven (end.NotLoaded (fault.NoTranslator language)) is = cc
 no_eleven (end.NotLoaded fault.NoMemory) is = cc
 no_eleven (end.NotSaved f) is = cc
 no_eleven end.NoMemory is = cc
-no_eleven end.NotBuilt is = cc
 
 done_code : (failed : Type 0) (e : End) (c code : ℕ) → c ≡ code_of e → Answers failed c code → (code ≡ 0) ⊎ (code ≡ 11) → code_of e ≡ 0
 done_code failed e c code is (plain heard) (inl zero_) = sym is ∙ zero_
@@ -98,7 +97,6 @@ delivered_after words a on_disk after is s since =
 
 ran_well : (words : List (List ℕ)) (e : End) (before on_disk after : List Entry) → before ≡ [] → code_of e ≡ 0 → Ran words before e on_disk → Since (IsOf OnSay) on_disk after → IsDelivered words after
 ran_well words e before on_disk after new zero_ (ran.refused u is) since = cc
-ran_well words e before on_disk after new zero_ (ran.not_built is) since = cc
 ran_well words e before on_disk after new zero_ ran.no_memory since = cc
 ran_well words e before on_disk after new zero_ (ran.job a e_ after_ is prepares) since = delivered_after words a on_disk after is (prepared_well a e before on_disk new zero_ prepares) since
 

@@ -1,6 +1,5 @@
 -- What is heard of a run.
-use Rattle.std.proofs.Common.{◌≡◌, ◌⊎◌, inl, inr, ℕ, List, [], ◌∷◌, ◌++◌, take, drop, Result, Ok, Err, refl, sym, ◌∙◌, ap, subst, append_assoc}
-use Rattle.std.proofs.lemmas.List.{take-append-drop, append-nil}
+use Rattle.std.proofs.Common.{◌≡◌, ℕ, List, [], ◌∷◌, Result, Ok, Err, refl, ◌∙◌, ap, subst}
 use Rattle.words.specs.declared.ask.Ask.{Ask}
 use Rattle.world.specs.declared.entry.Entry.{Entry}
 use Rattle.nb_model.specs.declared.notebook.Notebook.{Notebook}
@@ -13,7 +12,6 @@ use Rattle.world.specs.Moments.{Since, start, more as later}
 use Rattle.world.specs.Parts.{OnDisk, IsOf, part_of}
 use Rattle.nbrun_top.specs.Ran.{SavesAs, Prepares, Ran, text_of}
 use Rattle.nbrun_top.specs.Ran as ran
-use Rattle.nbrun_top.specs.Said.{said_of}
 use Rattle.said_lines.specs.Speech.{heard}
 use Rattle.said_lines.proofs.SpeechLemmas.{says_since, heard_text}
 use Rattle.nbrun_top.specs.Ended.{Ended, IsHeard}
@@ -45,7 +43,6 @@ prepares_silent a e before after (ran.no_memory_later answer) = refl
 
 pub ran_silent : (words : List (List ℕ)) (e : End) (before after : List Entry) → Ran words before e after → heard after ≡ heard before
 ran_silent words e before after (ran.refused u is) = refl
-ran_silent words e before after (ran.not_built is) = refl
 ran_silent words e before after (ran.job a e_ after_ is prepares) = prepares_silent a e before after prepares
 ran_silent words e before after ran.no_memory = refl
 

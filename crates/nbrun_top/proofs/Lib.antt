@@ -5,3 +5,11 @@ pub mod Ends
 pub mod Crashes
 pub mod Acknowledged
 pub mod Runs
+mod CodeLemmas
+mod Statuses
+mod Executions
+mod Files
+mod Asked
+mod Batches
+mod Exercises
+mod JobsApart

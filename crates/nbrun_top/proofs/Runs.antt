@@ -1,15 +1,9 @@
 -- From the steps of a run to what it asked of the world.
-use Rattle.std.proofs.Common.{◌≡◌, ◌⊎◌, inl, inr, ℕ, true, List, [], ◌∷◌, ◌++◌, ◌<◌, codes, Result, length, length-append, Some, None, Ok, Err, refl, sym, ◌∙◌, ap, subst, arith}
-use Rattle.std.proofs.lemmas.Grind.{common_steps}
-use Rattle.std.proofs.lemmas.List.{nil_from_length}
-use Rattle.std.specs.Prelude.{◌==◌}
+use Rattle.std.proofs.Common.{◌≡◌, ◌⊎◌, inl, inr, ℕ, List, [], ◌∷◌, ◌++◌, ◌<◌, codes, Result, length, length-append, Some, Ok, Err, refl, sym, ◌∙◌, ap, subst, arith}
 use Rattle.nb_model.specs.declared.notebook.Notebook.{Notebook}
 use Rattle.words.specs.declared.ask.Ask.{Ask}
-use Rattle.words.specs.declared.command.Command.{Command}
-use Rattle.words.specs.declared.command.Command.TheVariants as command
 use Rattle.words.specs.declared.usage.Usage.{Usage}
 use Rattle.words.specs.declared.usage.Usage.TheVariants as usage_fault
-use Rattle.words.specs.Asked.{asked}
 use Rattle.words.specs.Refusals.{refusal}
 use Rattle.world.specs.Counts.{Rose}
 use Rattle.world.specs.declared.entry.Entry.{Entry}
@@ -24,7 +18,6 @@ use Rattle.jtext.specs.Indent.{indented}
 use Rattle.nb_model.specs.Tree.{notebook_tree}
 use Rattle.nbrun_top.specs.declared.reports.Reports.{Reports}
 use Rattle.nbrun_top.specs.Reported.{AreReports, report_of}
-use Rattle.nbrun_top.specs.Asked.{IsJob, IsNotBuilt, is_not_built}
 use Rattle.nbrun_top.specs.Codes.{code_of, end_of}
 use Rattle.nbrun_top.specs.Ended.{Answers, Ended}
 use Rattle.said_lines.specs.Lines.{spoken_line, saved_line}
@@ -85,16 +78,6 @@ saved_at a bytes n e accepted past read after is saved = ran.saves bytes n e aft
 
 -- ---- by what the words are
 
-pub asks_for : (words : List (List ℕ)) (c : Command) (a : Ask) → c ≡ asked words → c ≡ command.One a → refusal words ≡ None → a.prepare ≡ true → IsJob words a
-asks_for words c a is one taken prepares = record { taken = taken; asks = sym is ∙ one; prepares = prepares }
-
-pub asks_other : (words : List (List ℕ)) (c d : Command) → c ≡ asked words → c ≡ d → refusal words ≡ None → is_not_built d ≡ true → IsNotBuilt words
-asks_other words c d is also taken other = record { taken = taken; other = ap is_not_built (sym is ∙ also) ∙ other }
-
-pub not_built_at : (words : List (List ℕ)) (given : End) → (given ≡ end.NotBuilt) ⊎ (given ≡ end.NoMemory) → IsNotBuilt words → (before : List Entry) → Ran words before given before
-not_built_at words given (inl same) is before = subst (λ e. Ran words before e before) (sym same) (ran.not_built is)
-not_built_at words given (inr memory) is before = subst (λ e. Ran words before e before) (sym memory) ran.no_memory
-
 no_memory_at : (words : List (List ℕ)) (given : End) → given ≡ end.NoMemory → (before : List Entry) → Ran words before given before
 no_memory_at words given memory before = subst (λ e. Ran words before e before) (sym memory) ran.no_memory
 
@@ -106,17 +89,17 @@ usage_at words u given (inl same) memory (inr why) before = subst (λ e. Ran wor
 
 -- ---- the whole run
 
-pub said_text : (words : List (List ℕ)) (e : End) (text result : List ℕ) → (e ≡ end.NoMemory) ⊎ (text ≡ said_of words e) → (e ≡ end.NoMemory → result ≡ said [] [] end.NoMemory)
-    → ((e ≡ end.NoMemory → ⊥) → result ≡ text) → result ≡ said_of words e
-said_text words e text result (inl memory) m t = m memory ∙ ap (said_of words) (sym memory)
-said_text words end.NoMemory text result (inr is) m t = m refl
-said_text words (end.Done cells) text result (inr is) m t = t (λ x. cc) ∙ is
-said_text words (end.Refused u) text result (inr is) m t = t (λ x. cc) ∙ is
-said_text words end.NotRead text result (inr is) m t = t (λ x. cc) ∙ is
-said_text words end.TooLarge text result (inr is) m t = t (λ x. cc) ∙ is
-said_text words (end.NotLoaded f) text result (inr is) m t = t (λ x. cc) ∙ is
-said_text words (end.NotSaved f) text result (inr is) m t = t (λ x. cc) ∙ is
-said_text words end.NotBuilt text result (inr is) m t = t (λ x. cc) ∙ is
+-- what is said of an end on these paths
+pub said_text : (input output : List ℕ) (e : End) (text result : List ℕ) → (e ≡ end.NoMemory) ⊎ (text ≡ said input output e) → (e ≡ end.NoMemory → result ≡ said [] [] end.NoMemory)
+    → ((e ≡ end.NoMemory → ⊥) → result ≡ text) → result ≡ said input output e
+said_text input output e text result (inl memory) m t = m memory ∙ ap (λ x. said input output x) (sym memory)
+said_text input output end.NoMemory text result (inr is) m t = m refl
+said_text input output (end.Done cells) text result (inr is) m t = t (λ x. cc) ∙ is
+said_text input output (end.Refused u) text result (inr is) m t = t (λ x. cc) ∙ is
+said_text input output end.NotRead text result (inr is) m t = t (λ x. cc) ∙ is
+said_text input output end.TooLarge text result (inr is) m t = t (λ x. cc) ∙ is
+said_text input output (end.NotLoaded f) text result (inr is) m t = t (λ x. cc) ∙ is
+said_text input output (end.NotSaved f) text result (inr is) m t = t (λ x. cc) ∙ is
 
 pub ended_at : (words : List (List ℕ)) (e : End) (text : List ℕ) (code given faults old now : ℕ) → text ≡ said_of words e → code ≡ code_of e → faults ≡ old → Answers (Rose faults now) code given
     → (before on_disk after : List Entry) → Ran words before e on_disk → Says text (0 < now) on_disk after → Ended words given (Rose old now) (0 < now) before after

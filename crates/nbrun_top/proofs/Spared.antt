@@ -39,7 +39,7 @@ module _ (path output : List ℕ) (apart : bytes_eq output path ≡ false) (besi
   saves_spare {n} s (ran.done after saved) = save_spares (text_of n) (Ok tt) s saved
   saves_spare s ran.not_made = s
 
-apart_from : (x y : List ℕ) → (x ≡ y → ⊥) → bytes_eq x y ≡ false
+pub apart_from : (x y : List ℕ) → (x ≡ y → ⊥) → bytes_eq x y ≡ false
 apart_from x y differ = false_from_ne_true (bytes_eq x y) (λ e. absurd (differ ((bytes_eq-Decides x y).0 e)))
 
 prepares_spare : (path : List ℕ) (a : Ask) → bytes_eq a.output path ≡ false → bytes_eq (temporary_of a.output) path ≡ false → {e : End} {before after : List Entry} → Prepares a before e after → Since (Spares path) before after
@@ -51,7 +51,6 @@ prepares_spare path a apart beside (ran.no_memory_later answer) = later start re
 
 ran_spares : (words : List (List ℕ)) (path : List ℕ) → IsOther words path → {e : End} {before after : List Entry} → Ran words before e after → Since (Spares path) before after
 ran_spares words path other (ran.refused u is) = start
-ran_spares words path other (ran.not_built is) = start
 ran_spares words path other (ran.job a e after is prepares) = prepares_spare path a (apart_from a.output path (other a is).0) (apart_from (temporary_of a.output) path (other a is).1) prepares
 ran_spares words path other ran.no_memory = start
 
@@ -59,18 +58,18 @@ speech_spares : (path : List ℕ) {text : List ℕ} {x before after : List Entry
 speech_spares path s said.none = s
 speech_spares path s (said.more n before) = later (speech_spares path s before) refl
 
-says_spare : (path : List ℕ) {text : List ℕ} {failed : Type 0} {x before after : List Entry} → Since (Spares path) x before → Says text failed before after → Since (Spares path) x after
+pub says_spare : (path : List ℕ) {text : List ℕ} {failed : Type 0} {x before after : List Entry} → Since (Spares path) x before → Says text failed before after → Since (Spares path) x after
 says_spare path s (said.whole speech) = speech_spares path s speech
 says_spare path s (said.cut f speech) = speech_spares path s speech
 says_spare path s (said.refused f speech) = later (speech_spares path s speech) refl
 
 -- ---- at every moment
 
-spared_moments : {path : List ℕ} {x y : List Entry} → place x path ≡ untouched_place → Since (Spares path) x y → Since (λ now. place now path ≡ untouched_place) x y
+pub spared_moments : {path : List ℕ} {x y : List Entry} → place x path ≡ untouched_place → Since (Spares path) x y → Since (λ now. place now path ≡ untouched_place) x y
 spared_moments e start = start
 spared_moments {path} e (later {past} {entry} since spares) = later (spared_moments e since) (untouched_after path entry (place past) spares (untouched_since since e))
 
-at_moment : (path : List ℕ) (journal : List Entry) → Since (λ now. place now path ≡ untouched_place) [] journal → IsUntouched path journal
+pub at_moment : (path : List ℕ) (journal : List Entry) → Since (λ now. place now path ≡ untouched_place) [] journal → IsUntouched path journal
 at_moment path journal since zero high =
     let whole : length journal - 0 ≡ length journal = omega arith in
     ap (λ n. leaves (drop n journal) path) whole ∙ ap (λ j. leaves j path) (drop-length journal)
@@ -90,7 +89,7 @@ clash e = cc
 same_not_apart : (x : List ℕ) → are_apart x x ≡ false
 same_not_apart x = ap (λ b. not (b || bytes_eq x (temporary_of x) || bytes_eq x (connection_of x))) (same_bytes x)
 
-apart_paths : (x y : List ℕ) → are_apart x y ≡ true → y ≡ x → ⊥
+pub apart_paths : (x y : List ℕ) → are_apart x y ≡ true → y ≡ x → ⊥
 apart_paths x y apart same = clash (sym apart ∙ ap (are_apart x) same ∙ same_not_apart x)
 
 not_any : (a b c : Bool) → b ≡ true → not (a || b || c) ≡ false
@@ -102,10 +101,22 @@ not_any false false c is = clash (sym is)
 temporary_not_apart : (x : List ℕ) → are_apart (temporary_of x) x ≡ false
 temporary_not_apart x = not_any (bytes_eq (temporary_of x) x) (bytes_eq (temporary_of x) (temporary_of x)) (bytes_eq (temporary_of x) (connection_of x)) (same_bytes (temporary_of x))
 
-apart_from_temporary : (x y : List ℕ) → are_apart x y ≡ true → temporary_of y ≡ x → ⊥
+pub apart_from_temporary : (x y : List ℕ) → are_apart x y ≡ true → temporary_of y ≡ x → ⊥
 apart_from_temporary x y apart is = clash (sym apart ∙ ap (λ z. are_apart z y) (sym is) ∙ temporary_not_apart y)
 
-one_ask : {a b : Ask} → command.One a ≡ command.One b → a ≡ b
+last_of_any : (a b c : Bool) → c ≡ true → not (a || b || c) ≡ false
+last_of_any true b c is = refl
+last_of_any false true c is = refl
+last_of_any false false true is = refl
+last_of_any false false false is = clash (sym is)
+
+-- nor from the one whose connection file it is
+pub apart_from_connection : (x y : List ℕ) → are_apart x y ≡ true → connection_of y ≡ x → ⊥
+apart_from_connection x y apart is =
+    clash (sym apart ∙ ap (λ z. are_apart z y) (sym is)
+    ∙ last_of_any (bytes_eq (connection_of y) y) (bytes_eq (connection_of y) (temporary_of y)) (bytes_eq (connection_of y) (connection_of y)) (same_bytes (connection_of y)))
+
+pub one_ask : {a b : Ask} → command.One a ≡ command.One b → a ≡ b
 one_ask e = cc
 
 input_is_other : (words : List (List ℕ)) (a : Ask) → IsJob words a → IsOther words a.input

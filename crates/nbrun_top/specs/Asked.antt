@@ -1,11 +1,19 @@
--- What the words ask for, as far as it is built: one job that only prepares its notebook.
+-- What the words ask for: jobs that execute their notebooks, the exercise, or what executes nothing.
 use Rattle.std.specs.declared.string.String.{String}
-use Rattle.std.specs.Prelude.{◌≡◌, ℕ, Bool, true, not, List, None, map, string_bytes}
+use Rattle.std.specs.Prelude.{◌≡◌, ◌⊎◌, ◌≤◌, ℕ, Bool, true, false, not, List, None, Some, map, string_bytes}
 use Rattle.words.specs.declared.ask.Ask.{Ask}
 use Rattle.words.specs.declared.command.Command.{Command}
 use Rattle.words.specs.declared.command.Command.TheVariants as command
+use Rattle.words.specs.declared.usage.Usage.TheVariants as usage_fault
 use Rattle.words.specs.Asked.{asked}
 use Rattle.words.specs.Refusals.{refusal}
+use Rattle.words.specs.Runnable.{IsRunnable}
+use Rattle.nbrun_top.specs.declared.plain.Plain.{Plain}
+use Rattle.nbrun_top.specs.declared.plain.Plain.TheVariants as plain
+use Rattle.nbrun_top.specs.declared.task.Task.{Task}
+use Rattle.nbrun_top.specs.declared.task.Task.TheVariants as task
+
+-- ---- words that execute nothing
 
 -- the words are a command line that asks for this job, which prepares its notebook and executes nothing
 pub record IsJob (words : List (List ℕ)) (a : Ask) : Type 0 where
@@ -13,16 +21,66 @@ pub record IsJob (words : List (List ℕ)) (a : Ask) : Type 0 where
   pub asks : asked words ≡ command.One a
   pub prepares : a.prepare ≡ true
 
--- a command that isn't built yet: a batch, the exercise, and a job that executes its notebook
-abbrev pub is_not_built : Command → Bool
-is_not_built (command.One a) = not a.prepare
-is_not_built (command.Many file a) = true
-is_not_built (command.Exercise n) = true
+-- ---- words that ask for the exercise
 
--- the words are a command line that asks for one of these
-pub record IsNotBuilt (words : List (List ℕ)) : Type 0 where
+-- the words are a command line that asks for the exercise of so many cells
+pub record IsExercise (words : List (List ℕ)) (cells : ℕ) : Type 0 where
   pub taken : refusal words ≡ None
-  pub other : is_not_built (asked words) ≡ true
+  pub asks : asked words ≡ command.Exercise cells
+
+-- the words don't ask for the exercise
+abbrev pub IsNoExercise : List (List ℕ) → Type 0
+IsNoExercise words = (cells : ℕ) → IsExercise words cells → ⊥
+
+-- ---- words that execute notebooks
+
+-- the words are a command line that asks for this job, which executes its notebook
+pub record IsExecuted (words : List (List ℕ)) (a : Ask) : Type 0 where
+  pub taken : refusal words ≡ None
+  pub asks : asked words ≡ command.One a
+  pub executes : a.prepare ≡ false
+
+-- the words are a command line that asks for the jobs of this file, which have that in common
+pub record IsBatch (words : List (List ℕ)) (file : List ℕ) (common : Ask) : Type 0 where
+  pub taken : refusal words ≡ None
+  pub asks : asked words ≡ command.Many file common
+
+-- a command that executes notebooks
+abbrev pub is_execution : Command → Bool
+is_execution (command.One a) = not a.prepare
+is_execution (command.Many file a) = true
+is_execution (command.Exercise n) = false
+
+-- the words are a command line that executes notebooks
+pub record IsExecuting (words : List (List ℕ)) : Type 0 where
+  pub taken : refusal words ≡ None
+  pub executes : is_execution (asked words) ≡ true
+
+-- the words execute nothing and ask for no exercise: they are refused, or prepare a notebook
+pub record IsPlain (words : List (List ℕ)) : Type 0 where
+  pub executes : IsExecuting words → ⊥
+  pub exercises : IsNoExercise words
+
+-- ---- as they are read
+
+-- the words execute nothing and ask for that; memory may have been refused, whatever they are
+abbrev pub IsPlainOf : List (List ℕ) → Plain → Type 0
+IsPlainOf words (plain.Prepare a) = IsJob words a
+IsPlainOf words (plain.Refused u) = (u ≡ usage_fault.NoMemory) ⊎ (refusal words ≡ Some u)
+
+-- the words ask for that
+abbrev pub IsTaskOf : List (List ℕ) → Task → Type 0
+IsTaskOf words (task.Plain p) = IsPlainOf words p
+IsTaskOf words (task.One a) = IsExecuted words a
+IsTaskOf words (task.Many file a) = IsBatch words file a
+IsTaskOf words (task.Exercise cells) = IsExercise words cells
+
+-- the jobs that execute can be run, and so can the exercise
+abbrev pub IsRunnableTask : Task → Type 0
+IsRunnableTask (task.Plain p) = Unit {0}
+IsRunnableTask (task.One a) = IsRunnable a
+IsRunnableTask (task.Many file a) = IsRunnable a
+IsRunnableTask (task.Exercise cells) = cells ≤ 200
 
 -- the texts of the words
 abbrev pub texts : {Z : Type 0} → List (String Z) → List (List ℕ)

@@ -17,7 +17,6 @@ code_of (end.NotLoaded (fault.NoTranslator language)) = 5
 code_of (end.NotLoaded fault.NoMemory) = 12
 code_of (end.NotSaved f) = 10
 code_of end.NoMemory = 12
-code_of end.NotBuilt = 70
 
 -- how a run ends whose input gives no notebook that takes the parameters
 abbrev pub end_of : LoadFault → End

@@ -6,3 +6,5 @@ pub mod Ran
 pub mod Crash
 pub mod Said
 pub mod Ended
+pub mod Executed
+pub mod Exercised

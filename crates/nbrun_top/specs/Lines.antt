@@ -1,5 +1,5 @@
 -- The lines that are said at the end of a run, each ended by a line feed.
-use Rattle.std.specs.Prelude.{ℕ, List, [], ◌∷◌, ◌++◌, codes}
+use Rattle.std.specs.Prelude.{ℕ, List, [], ◌++◌, codes}
 use Rattle.std.specs.Fmt.{decimal}
 use Rattle.nb_load.specs.Reasons.{reason}
 use Rattle.words.specs.declared.usage.Usage.{Usage}
@@ -40,7 +40,6 @@ last input output end.TooLarge = spoken_line output (codes "too large")
 last input output (end.NotLoaded f) = spoken_line output (reason f)
 last input output (end.NotSaved f) = spoken_line output (save f)
 last input output end.NoMemory = spoken_line (codes "nbrun") (codes "no memory")
-last input output end.NotBuilt = spoken_line (codes "nbrun") (codes "not built")
 
 -- all that is said: a save that was acknowledged, and the last line
 abbrev pub said : List ℕ → List ℕ → End → List ℕ

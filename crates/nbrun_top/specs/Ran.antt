@@ -18,7 +18,7 @@ use Rattle.nbrun_top.specs.declared.end.End.TheVariants as end
 use Rattle.save_disk.specs.declared.save_fault.SaveFault.{SaveFault}
 use Rattle.save_disk.specs.Entries.{SaveOf}
 use Rattle.save_disk.specs.Temporary.{temporary_of}
-use Rattle.nbrun_top.specs.Asked.{IsJob, IsNotBuilt}
+use Rattle.nbrun_top.specs.Asked.{IsJob}
 use Rattle.nb_load.specs.declared.load_fault.LoadFault.{LoadFault}
 use Rattle.nb_load.specs.Loaded.{Accepts, Refuses}
 use Rattle.nbrun_top.specs.Codes.{end_of}
@@ -48,10 +48,9 @@ pub data Prepares (a : Ask) (before : List Entry) : End → List Entry → Type 
   -- memory was refused before anything was written
   no_memory_later : (answer : ReadFile) → Prepares a before end.NoMemory (read_of a answer before)
 
--- a run: where the words are refused, and where they ask for what isn't built, nothing is asked of the disk
+-- a run: where the words are refused, nothing is asked of the disk
 pub data Ran (words : List (List ℕ)) (before : List Entry) : End → List Entry → Type 0 where
   refused : (u : Usage) → refusal words ≡ Some u → Ran words before (end.Refused u) before
-  not_built : IsNotBuilt words → Ran words before end.NotBuilt before
   job : (a : Ask) (e : End) (after : List Entry) → IsJob words a → Prepares a before e after → Ran words before e after
   no_memory : Ran words before end.NoMemory before
 

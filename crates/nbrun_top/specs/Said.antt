@@ -1,5 +1,5 @@
 -- What is said at the end of a run.
-use Rattle.std.specs.Prelude.{◌≡◌, ◌⊎◌, ℕ, List, []}
+use Rattle.std.specs.Prelude.{◌≡◌, ◌⊎◌, ℕ, List, [], codes}
 use Rattle.words.specs.declared.command.Command.{Command}
 use Rattle.words.specs.declared.command.Command.TheVariants as command
 use Rattle.words.specs.Asked.{asked}
@@ -8,12 +8,13 @@ use Rattle.nbrun_top.specs.declared.end.End.{End}
 use Rattle.nbrun_top.specs.declared.end.End.TheVariants as end
 use Rattle.nbrun_top.specs.Lines.{said}
 
--- the paths of the job that a command asks for
+-- the path that the job of a command reads
 abbrev pub input_of : Command → List ℕ
 input_of (command.One a) = a.input
 input_of (command.Many file a) = []
 input_of (command.Exercise n) = []
 
+-- the path that it writes
 abbrev pub output_of : Command → List ℕ
 output_of (command.One a) = a.output
 output_of (command.Many file a) = []
@@ -30,3 +31,7 @@ Speaks input output a = (a.end ≡ end.NoMemory) ⊎ (a.text ≡ said input outp
 -- the same of the paths that the words name
 abbrev pub SpeaksOf : List (List ℕ) → Answer → Type 0
 SpeaksOf words a = (a.end ≡ end.NoMemory) ⊎ (a.text ≡ said_of words a.end)
+
+-- the same of the jobs file
+abbrev pub SpeaksOfFile : List ℕ → Answer → Type 0
+SpeaksOfFile file a = Speaks file (codes "nbrun") a

@@ -24,8 +24,6 @@ pub(crate) enum End {
     NotSaved(SaveFault),
     /// Memory was refused.
     NoMemory,
-    /// The words ask for what isn't built yet.
-    NotBuilt,
 }
 
 impl End {
@@ -44,7 +42,6 @@ impl End {
             End::NotLoaded(LoadFault::NoMemory) => 12,
             End::NotSaved(_) => 10,
             End::NoMemory => 12,
-            End::NotBuilt => 70,
         }
     }
 }

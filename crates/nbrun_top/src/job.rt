@@ -27,7 +27,6 @@ pub(crate) fn prepare<W: Disk>(alloc: Global, ask: &Ask, w: &mut W) -> Answer
     ensures entries { Between W.journal w.old w.new
         (λ before after. Prepares ask.now before result.end after) }
     ensures text { Speaks ask.now.input ask.now.output result }
-    ensures built { result.end ≡ ending.NotBuilt → ⊥ }
     ensures taken { (u : usages.Usage) → result.end ≡ ending.Refused u → ⊥ }
     ensures read_fault { result.end ≡ ending.NotRead → DiskRose W.counts w.old w.new }
     ensures save_fault { (f : fault.SaveFault) → result.end ≡ ending.NotSaved f →
@@ -51,7 +50,6 @@ pub(crate) fn prepare<W: Disk>(alloc: Global, ask: &Ask, w: &mut W) -> Answer
 fn not_loaded(alloc: Global, ask: &Ask, why: LoadFault) -> Answer
     ensures end { (result.end ≡ end_of why) ⊎ (result.end ≡ ending.NoMemory) }
     ensures text { Speaks ask.now.input ask.now.output result }
-    ensures built { result.end ≡ ending.NotBuilt → ⊥ }
     ensures taken { (u : usages.Usage) → result.end ≡ ending.Refused u → ⊥ }
     ensures read { result.end ≡ ending.NotRead → ⊥ }
     ensures saves { (f : fault.SaveFault) → result.end ≡ ending.NotSaved f → ⊥ }
@@ -84,7 +82,6 @@ fn save_of<W: Disk>(alloc: Global, ask: &Ask, notebook: &Notebook, size: usize, 
         (λ before after. SavesAs ask.now.output notebook.now before result.end after) }
     ensures text { Speaks ask.now.input ask.now.output result }
     ensures read_fault { result.end ≡ ending.NotRead → ⊥ }
-    ensures built { result.end ≡ ending.NotBuilt → ⊥ }
     ensures taken { (u : usages.Usage) → result.end ≡ ending.Refused u → ⊥ }
     ensures save_fault { (f : fault.SaveFault) → result.end ≡ ending.NotSaved f →
         DiskRose W.counts w.old w.new }

@@ -1,17 +1,25 @@
 //! The whole program over a world that is handed in: from the words of the command line to the
 //! exit status. Its contract is the promise that nbrun makes; `nbrun_main` calls it with the real
-//! disk and the standard output.
+//! world.
 #![tactic(auto)]
 
 mod answer;
 mod end;
+mod execution;
+mod exercise;
+mod exercise_run;
 mod job;
-mod limits;
+mod jobs_file;
+pub mod laws;
 mod lines;
 mod main_call;
 mod parts;
+mod plain;
+mod plain_run;
 mod reports;
+mod status;
+mod task;
 mod why;
 
-pub use limits::Limits;
+pub use exercise::Exercise;
 pub use main_call::run;

@@ -29,6 +29,5 @@ pub(crate) fn last(alloc: Global, input: &str, output: &str, end: &End) -> Resul
         }
         End::NotSaved(fault) => spoken_line(alloc, output, why::save(*fault).as_bytes()),
         End::NoMemory => spoken_line(alloc, "nbrun", b"no memory"),
-        End::NotBuilt => spoken_line(alloc, "nbrun", b"not built"),
     }
 }

@@ -1,5 +1,5 @@
 //! Words and inputs that are refused, and what is said of them.
-use crate::runs::{disk, gives};
+use crate::runs::{gives, world};
 use std::test::Fail;
 
 /// The status, the words, and the line.
@@ -15,11 +15,12 @@ const WORDS: &str = "\
 2|out.nbrun-tmp out --prepare-only|usage: same path at 1
 2|out.nbrun-kernel.json out --prepare-only|usage: same path at 1
 2|--help|usage: unknown at 0
-70|in out|nbrun: not built
-70|in out -p a 1|nbrun: not built
-70|--jobs jobs|nbrun: not built
-70|--exercise 8|nbrun: not built
-3|absent out --prepare-only|out: cannot read absent";
+2|--exercise 5 --|usage: extra at 2
+4|in out|out: not JSON: syntax at 0
+3|absent out|out: cannot read absent
+3|absent out --prepare-only|out: cannot read absent
+3|--jobs absent|nbrun: cannot read absent
+2|--jobs in|usage: bad jobs at ";
 
 /// The status, the input, and the line.
 const INPUTS: &str = r#"4|{"a":1,"a":2}|out: not JSON: repeated key at 7
@@ -42,11 +43,11 @@ fn refuses(
     code: &str,
     line: &str,
 ) -> Result<bool, Fail> {
-    let mut disk = disk(rt, input, None)?;
+    let mut w = world(rt, input, None)?;
     let mut said = String::from_str(rt.alloc(), line)?;
     said.push('\n')?;
     let code = code.parse::<u8>().map_err(|_| "no number")?;
-    gives(rt, words, &mut disk, code, said.as_str(), None)
+    gives(rt, words, &mut w, code, said.as_str(), None)
 }
 
 #[test]

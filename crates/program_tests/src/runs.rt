@@ -1,47 +1,86 @@
-//! Runs over a disk in memory, on which the input stands as `in` and the output is `out`.
+//! Runs over a world in memory, in which the input stands as `in` and the output is `out`.
+use crate::exercises::Toys;
+use batch_run::Limits;
 use jtext::{Bytes, Text};
-use nbrun_top::{Limits, run};
+use nbrun_top::run;
 use std::test::Fail;
-use world_mem::{Files, MemDisk, Sizes};
+use world_mem::{Files, Kernels, MemWorld, NullKernel, Script, Sizes};
 
-/// A disk that has the input, on which the call with this number fails.
-pub(crate) fn disk(rt: &HostRuntime, input: &[u8], fail: Option<u64>) -> Result<MemDisk, Fail> {
+/// A world without kernels.
+pub(crate) type Quiet = MemWorld<NullKernel>;
+
+/// A world that has the input, in which the call with this number fails.
+pub(crate) fn world(rt: &HostRuntime, input: &[u8], fail: Option<u64>) -> Result<Quiet, Fail> {
+    let mut files = Files::new(rt.alloc());
+    add(rt, &mut files, "in", input)?;
+    world_of(rt, files, fail)
+}
+
+/// Adds a file.
+pub(crate) fn add(
+    rt: &HostRuntime,
+    files: &mut Files,
+    path: &str,
+    bytes: &[u8],
+) -> Result<(), Fail> {
     let alloc = rt.alloc();
-    let mut files = Files::new(alloc);
-    files.push((Text::of(alloc, "in")?, Bytes::of(alloc, input)?))?;
+    files.push((Text::of(alloc, path)?, Bytes::of(alloc, bytes)?))?;
+    Ok(())
+}
+
+/// A world that has these files, in which the call with this number fails.
+pub(crate) fn world_of(rt: &HostRuntime, files: Files, fail: Option<u64>) -> Result<Quiet, Fail> {
+    let alloc = rt.alloc();
     let mut fails = Sizes::new(alloc);
     if let Some(number) = fail {
         fails.push(number)?;
     }
-    Ok(MemDisk::new(alloc, files, fails)?)
+    let script = Script {
+        start_ms: 0,
+        pieces: Sizes::new(alloc),
+        fails,
+        refusals: 0,
+    };
+    Ok(MemWorld::new(alloc, files, Kernels::new(alloc), script)?)
 }
 
 /// What `run` answers to these words, which have spaces between them.
-fn status(rt: &HostRuntime, words: &str, disk: &mut MemDisk) -> Result<u8, Fail> {
+pub(crate) fn status(rt: &HostRuntime, words: &str, w: &mut Quiet) -> Result<u8, Fail> {
+    status_within(rt, words, 1 << 40, w)
+}
+
+/// What it answers with at most that many waits.
+pub(crate) fn status_within(
+    rt: &HostRuntime,
+    words: &str,
+    turns: u64,
+    w: &mut Quiet,
+) -> Result<u8, Fail> {
     let alloc = rt.alloc();
     let mut given = Vec::new(alloc);
     for word in words.split(' ').filter(|word| !word.is_empty()) {
         given.push(String::from_str(alloc, word)?)?;
     }
-    let limits = Limits::usual(Text::of(alloc, "/")?);
-    Ok(run(alloc, given.as_slice(), &limits, disk))
+    let here = Text::of(alloc, "/")?;
+    let limits = Limits { turns, here };
+    Ok(run(alloc, given.as_slice(), &limits, &Toys, w))
 }
 
 /// Whether the run answers this status, says this text, and leaves these bytes at the output.
 pub(crate) fn gives(
     rt: &HostRuntime,
     words: &str,
-    disk: &mut MemDisk,
+    w: &mut Quiet,
     code: u8,
     said: &str,
     output: Option<&str>,
 ) -> Result<bool, Fail> {
-    let answered = status(rt, words, disk)? == code;
+    let answered = status(rt, words, w)? == code;
     let path = Text::of(rt.alloc(), "out")?;
-    let file = disk.file(&path).map(|bytes| bytes.bytes());
+    let file = w.file(&path).map(|bytes| bytes.bytes());
     Ok(
         answered
-            && disk.said().bytes() == said.as_bytes()
+            && w.said().bytes() == said.as_bytes()
             && file == output.map(|text| text.as_bytes()),
     )
 }

@@ -2,7 +2,7 @@
 use crate::notebooks::{
     DEFAULTS, DEFAULTS_SAVED, INJECTED, INJECTED_SAVED, LAB, LAB_SAVED, OLD, OLD_REPORT,
 };
-use crate::runs::{disk, gives};
+use crate::runs::{gives, world};
 use std::test::Fail;
 
 const EMPTY: &str = r#"{"cells":[],"metadata":{},"nbformat":4,"nbformat_minor":5}"#;
@@ -23,8 +23,8 @@ fn saves(
     said: &str,
     saved: &str,
 ) -> Result<bool, Fail> {
-    let mut disk = disk(rt, input.as_bytes(), None)?;
-    gives(rt, words, &mut disk, 0, said, Some(saved))
+    let mut w = world(rt, input.as_bytes(), None)?;
+    gives(rt, words, &mut w, 0, said, Some(saved))
 }
 
 #[test]
@@ -130,11 +130,11 @@ fn fails(rt: &HostRuntime, number: u64, code: u8, output: &str, said: &str) -> R
         "no" => None,
         _ => Some(EMPTY_SAVED),
     };
-    let mut disk = disk(rt, EMPTY.as_bytes(), Some(number))?;
+    let mut w = world(rt, EMPTY.as_bytes(), Some(number))?;
     gives(
         rt,
         "in out --prepare-only",
-        &mut disk,
+        &mut w,
         code,
         said.as_str(),
         output,

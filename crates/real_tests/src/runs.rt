@@ -96,7 +96,10 @@ fn each_refusal_has_its_status_and_leaves_no_output(rt: HostRuntime) -> Result<(
         ("twice absent/out --prepare-only", 4),
         ("julia never --prepare-only -p a 1", 5),
         ("whole absent/out --prepare-only", 10),
-        ("whole never", 70),
+        ("--exercise 201", 2),
+        ("--jobs absent", 3),
+        ("--jobs whole", 2),
+        ("twice never", 4),
     ];
     for (words, code) in rows {
         assert_eq!(rt; answered(&rt, words)?, code, "{words}");
@@ -111,8 +114,9 @@ fn each_refusal_has_its_status_and_leaves_no_output(rt: HostRuntime) -> Result<(
 }
 
 #[test]
-fn help_and_version_are_said(rt: HostRuntime) -> Result<(), Fail> {
+fn help_version_and_an_exercise_are_said(rt: HostRuntime) -> Result<(), Fail> {
     assert_eq!(rt; answered(&rt, "--help")?, 0);
+    assert_eq!(rt; answered(&rt, "--exercise 8")?, 0);
     assert_eq!(rt; answered(&rt, "--version")?, 0);
     Ok(())
 }

@@ -1,24 +1,189 @@
-use Rattle.std.proofs.Common.{◌≡◌, ◌<◌, map, string_bytes, sym, ap, subst}
-use Rattle.world.proofs.MomentsLemmas.{told_then, told_as}
-use Rattle.world.specs.Counts.{Counts}
+use Rattle.std.proofs.Common.{◌<◌, map, string_bytes, subst, arith}
+use Rattle.world.specs.Counts.{Rose}
 use Rattle.world.specs.Moments.{Told}
-use Rattle.said_lines.specs.Speech.{heard}
-use Rattle.nbrun_top.proofs.Heard.{ran_silent}
-use Rattle.nbrun_top.proofs.Runs.{said_text, ended_at}
+use Rattle.world.proofs.MomentsLemmas.{told_as}
+use Rattle.nbrun_top.specs.Asked.{IsPlainOf, IsTaskOf, IsExecuted, IsBatch, IsExercise}
+use Rattle.nbrun_top.proofs.Asked.{no_exercise_executes, one_is_no_exercise, batch_is_no_exercise, one_executes, batch_executes, no_refusal}
+use Rattle.nbrun_top.proofs.Batches.{of_ended}
+use Rattle.nbrun_top.specs.Exercised.{Exercised}
+use Rattle.nbrun_top.proofs.Exercises.{of_no_memory, same_cells}
 use Rattle.nbrun_top.proofs.main_call.status.Goals as goal
 
-pub returns-clause-causes : goal.returns-clause-causes
-returns-clause-causes g c =
+pub returns-in-Plain-clause-silent : goal.returns-in-Plain-clause-silent
+returns-in-Plain-clause-silent g c plain some =
     let words = map string_bytes c.args.words.now in
-    let a = c.answered-answer in
-    told_then a.ensures.ran c.say.ensures.tells (λ x y z ran says.
-    ended_at words a.result.end c.said.result.now c.code-code.result c.unless_not_said.result c.say_faults-faults.result (g.W.Journal.counts c.args.w.now).say (g.W.Journal.counts c.say.new.w).say
-    (said_text words a.result.end a.result.text c.said.result.now a.ensures.text c.said.ensures.memory c.said.ensures.text)
-    c.code-code.ensures c.say_faults-faults.ensures c.unless_not_said.ensures.answers x y z ran says)
+    let is : IsPlainOf words c.in-Plain.plain = subst (λ t. IsTaskOf words t) c.in-Plain.is c.of.ensures.asked in
+    c.run_plain.ensures.silent words is some
 
-pub returns-clause-silent : goal.returns-clause-silent
-returns-clause-silent g c some =
-    let a = c.answered-answer in
-    let same = c.say.ensures.silent (subst (λ n. 0 < n) (sym (ap (λ k. Counts.say k) a.ensures.counts.others)) some) in
-    subst (λ j. Told (g.W.Journal.journal c.args.w.now) j (λ before after. heard after ≡ heard before)) (sym same)
-    (told_as a.ensures.ran (λ x y ran. ran_silent (map string_bytes c.args.words.now) a.result.end x y ran))
+pub returns-in-Plain-clause-executed : goal.returns-in-Plain-clause-executed
+returns-in-Plain-clause-executed g c executing =
+    let words = map string_bytes c.args.words.now in
+    let is : IsPlainOf words c.in-Plain.plain = subst (λ t. IsTaskOf words t) c.in-Plain.is c.of.ensures.asked in
+    told_as (c.run_plain.ensures.causes words is) (λ x y ended new.
+    of_ended words (Rose (g.W.Journal.counts c.args.w.now).say (g.W.Journal.counts c.run_plain.new.w).say) (0 < (g.W.Journal.counts c.run_plain.new.w).say) c.run_plain.result
+    x y executing ended new)
+
+pub returns-in-Plain-clause-exercised : goal.returns-in-Plain-clause-exercised
+returns-in-Plain-clause-exercised g c n exercise =
+    let words = map string_bytes c.args.words.now in
+    let is : IsPlainOf words c.in-Plain.plain = subst (λ t. IsTaskOf words t) c.in-Plain.is c.of.ensures.asked in
+    told_as (c.run_plain.ensures.causes words is) (λ x y ended.
+    of_no_memory words (g.X.Exercise.ends c.args.exercise.now n c.args.limits.now.turns)
+    (Rose (g.W.Journal.counts c.args.w.now).say (g.W.Journal.counts c.run_plain.new.w).say) (0 < (g.W.Journal.counts c.run_plain.new.w).say) c.run_plain.result
+    x y n exercise ended)
+
+pub returns-in-One-clause-exercised : goal.returns-in-One-clause-exercised
+returns-in-One-clause-exercised g c n exercise =
+    let words = map string_bytes c.args.words.now in
+    let is : IsExecuted words c.in-One.ask = subst (λ t. IsTaskOf words t) c.in-One.is c.of.ensures.asked in
+    absurd (one_is_no_exercise words c.in-One.ask is n exercise)
+
+pub returns-in-Many-clause-exercised : goal.returns-in-Many-clause-exercised
+returns-in-Many-clause-exercised g c n exercise =
+    let words = map string_bytes c.args.words.now in
+    let is : IsBatch words c.in-Many.file c.in-Many.common = subst (λ t. IsTaskOf words t) c.in-Many.is c.of.ensures.asked in
+    absurd (batch_is_no_exercise words c.in-Many.file c.in-Many.common is n exercise)
+
+pub returns-in-Exercise-clause-exercised : goal.returns-in-Exercise-clause-exercised
+returns-in-Exercise-clause-exercised g c n exercise =
+    let words = map string_bytes c.args.words.now in
+    let is : IsExercise words c.in-Exercise.cells = subst (λ t. IsTaskOf words t) c.in-Exercise.is c.of.ensures.asked in
+    subst (λ k. Told (g.W.Journal.journal c.args.w.now) (g.W.Journal.journal c.run_exercise.new.w) (λ x y. Exercised (g.X.Exercise.ends c.args.exercise.now k c.args.limits.now.turns)
+    (Rose (g.W.Journal.counts c.args.w.now).say (g.W.Journal.counts c.run_exercise.new.w).say) (0 < (g.W.Journal.counts c.run_exercise.new.w).say) x c.run_exercise.result y))
+    (same_cells words c.in-Exercise.cells n is exercise) c.run_exercise.ensures.exercised
+
+pub returns-in-Exercise-clause-executed : goal.returns-in-Exercise-clause-executed
+returns-in-Exercise-clause-executed g c executing =
+    let words = map string_bytes c.args.words.now in
+    let is : IsExercise words c.in-Exercise.cells = subst (λ t. IsTaskOf words t) c.in-Exercise.is c.of.ensures.asked in
+    absurd (no_exercise_executes words c.in-Exercise.cells executing is)
+
+pub returns-in-Exercise-clause-causes : goal.returns-in-Exercise-clause-causes
+returns-in-Exercise-clause-causes g c plain =
+    let words = map string_bytes c.args.words.now in
+    let is : IsExercise words c.in-Exercise.cells = subst (λ t. IsTaskOf words t) c.in-Exercise.is c.of.ensures.asked in
+    absurd (plain.exercises c.in-Exercise.cells is)
+
+pub returns-in-Exercise-clause-silent : goal.returns-in-Exercise-clause-silent
+returns-in-Exercise-clause-silent g c plain some =
+    let words = map string_bytes c.args.words.now in
+    let is : IsExercise words c.in-Exercise.cells = subst (λ t. IsTaskOf words t) c.in-Exercise.is c.of.ensures.asked in
+    absurd (plain.exercises c.in-Exercise.cells is)
+
+pub returns-in-Plain-clause-refused : goal.returns-in-Plain-clause-refused
+returns-in-Plain-clause-refused g c plain two taken =
+    let words = map string_bytes c.args.words.now in
+    let is : IsPlainOf words c.in-Plain.plain = subst (λ t. IsTaskOf words t) c.in-Plain.is c.of.ensures.asked in
+    let why = c.run_plain.ensures.refused two in
+    absurd (no_refusal words c.in-Plain.plain why.0 why.1 why.2 is taken)
+
+pub returns-in-One-clause-causes : goal.returns-in-One-clause-causes
+returns-in-One-clause-causes g c plain =
+    let words = map string_bytes c.args.words.now in
+    let is : IsExecuted words c.in-One.ask = subst (λ t. IsTaskOf words t) c.in-One.is c.of.ensures.asked in
+    absurd (plain.executes (one_executes words c.in-One.ask is))
+
+pub returns-in-One-clause-silent : goal.returns-in-One-clause-silent
+returns-in-One-clause-silent g c plain some =
+    let words = map string_bytes c.args.words.now in
+    let is : IsExecuted words c.in-One.ask = subst (λ t. IsTaskOf words t) c.in-One.is c.of.ensures.asked in
+    absurd (plain.executes (one_executes words c.in-One.ask is))
+
+pub returns-in-One-clause-executed : goal.returns-in-One-clause-executed
+returns-in-One-clause-executed g c executing =
+    let words = map string_bytes c.args.words.now in
+    let is : IsExecuted words c.in-One.ask = subst (λ t. IsTaskOf words t) c.in-One.is c.of.ensures.asked in
+    c.run_one.ensures.executed words is
+
+pub returns-in-Many-clause-causes : goal.returns-in-Many-clause-causes
+returns-in-Many-clause-causes g c plain =
+    let words = map string_bytes c.args.words.now in
+    let is : IsBatch words c.in-Many.file c.in-Many.common = subst (λ t. IsTaskOf words t) c.in-Many.is c.of.ensures.asked in
+    absurd (plain.executes (batch_executes words c.in-Many.file c.in-Many.common is))
+
+pub returns-in-Many-clause-silent : goal.returns-in-Many-clause-silent
+returns-in-Many-clause-silent g c plain some =
+    let words = map string_bytes c.args.words.now in
+    let is : IsBatch words c.in-Many.file c.in-Many.common = subst (λ t. IsTaskOf words t) c.in-Many.is c.of.ensures.asked in
+    absurd (plain.executes (batch_executes words c.in-Many.file c.in-Many.common is))
+
+pub returns-in-Many-clause-executed : goal.returns-in-Many-clause-executed
+returns-in-Many-clause-executed g c executing =
+    let words = map string_bytes c.args.words.now in
+    let is : IsBatch words c.in-Many.file c.in-Many.common = subst (λ t. IsTaskOf words t) c.in-Many.is c.of.ensures.asked in
+    c.run_file.ensures.executed words is
+
+pub returns-in-One-clause-refused : goal.returns-in-One-clause-refused
+returns-in-One-clause-refused g c plain two taken =
+    let words = map string_bytes c.args.words.now in
+    let is : IsExecuted words c.in-One.ask = subst (λ t. IsTaskOf words t) c.in-One.is c.of.ensures.asked in
+    absurd (plain.executes (one_executes words c.in-One.ask is))
+
+pub returns-in-One-clause-read_fault : goal.returns-in-One-clause-read_fault
+returns-in-One-clause-read_fault g c real three = c.run_one.ensures.counted.cause.read three
+
+pub returns-in-One-clause-save_fault : goal.returns-in-One-clause-save_fault
+returns-in-One-clause-save_fault g c real ten = c.run_one.ensures.counted.cause.save ten
+
+pub returns-in-One-clause-say_fault : goal.returns-in-One-clause-say_fault
+returns-in-One-clause-say_fault g c real eleven = c.run_one.ensures.counted.say eleven
+
+pub returns-in-Many-clause-refused : goal.returns-in-Many-clause-refused
+returns-in-Many-clause-refused g c plain two taken =
+    let words = map string_bytes c.args.words.now in
+    let is : IsBatch words c.in-Many.file c.in-Many.common = subst (λ t. IsTaskOf words t) c.in-Many.is c.of.ensures.asked in
+    absurd (plain.executes (batch_executes words c.in-Many.file c.in-Many.common is))
+
+pub returns-in-Many-clause-read_fault : goal.returns-in-Many-clause-read_fault
+returns-in-Many-clause-read_fault g c real three = c.run_file.ensures.counted.cause.read three
+
+pub returns-in-Many-clause-save_fault : goal.returns-in-Many-clause-save_fault
+returns-in-Many-clause-save_fault g c real ten = c.run_file.ensures.counted.cause.save ten
+
+pub returns-in-Many-clause-say_fault : goal.returns-in-Many-clause-say_fault
+returns-in-Many-clause-say_fault g c real eleven = c.run_file.ensures.counted.say eleven
+
+pub returns-in-Exercise-clause-refused : goal.returns-in-Exercise-clause-refused
+returns-in-Exercise-clause-refused g c plain two taken =
+    let words = map string_bytes c.args.words.now in
+    let is : IsExercise words c.in-Exercise.cells = subst (λ t. IsTaskOf words t) c.in-Exercise.is c.of.ensures.asked in
+    absurd (plain.exercises c.in-Exercise.cells is)
+
+pub returns-in-Exercise-clause-read_fault : goal.returns-in-Exercise-clause-read_fault
+returns-in-Exercise-clause-read_fault g c real three =
+    let words = map string_bytes c.args.words.now in
+    let is : IsExercise words c.in-Exercise.cells = subst (λ t. IsTaskOf words t) c.in-Exercise.is c.of.ensures.asked in
+    absurd (real c.in-Exercise.cells is)
+
+pub returns-in-Exercise-clause-save_fault : goal.returns-in-Exercise-clause-save_fault
+returns-in-Exercise-clause-save_fault g c real ten =
+    let words = map string_bytes c.args.words.now in
+    let is : IsExercise words c.in-Exercise.cells = subst (λ t. IsTaskOf words t) c.in-Exercise.is c.of.ensures.asked in
+    absurd (real c.in-Exercise.cells is)
+
+pub returns-in-Exercise-clause-say_fault : goal.returns-in-Exercise-clause-say_fault
+returns-in-Exercise-clause-say_fault g c real eleven =
+    let words = map string_bytes c.args.words.now in
+    let is : IsExercise words c.in-Exercise.cells = subst (λ t. IsTaskOf words t) c.in-Exercise.is c.of.ensures.asked in
+    absurd (real c.in-Exercise.cells is)
+
+pub returns-in-One-clause-start_fault : goal.returns-in-One-clause-start_fault
+returns-in-One-clause-start_fault g c real six = c.run_one.ensures.counted.cause.start six
+
+pub returns-in-Many-clause-start_fault : goal.returns-in-Many-clause-start_fault
+returns-in-Many-clause-start_fault g c real six = c.run_file.ensures.counted.cause.start six
+
+pub returns-in-Exercise-clause-start_fault : goal.returns-in-Exercise-clause-start_fault
+returns-in-Exercise-clause-start_fault g c real six =
+    let words = map string_bytes c.args.words.now in
+    let is : IsExercise words c.in-Exercise.cells = subst (λ t. IsTaskOf words t) c.in-Exercise.is c.of.ensures.asked in
+    absurd (real c.in-Exercise.cells is)
+
+pub returns-in-Plain-clause-start_fault : goal.returns-in-Plain-clause-start_fault
+returns-in-Plain-clause-start_fault g c real six = absurd (c.run_plain.ensures.starts_none six)
+
+pub returns-in-Plain-clause-waits : goal.returns-in-Plain-clause-waits
+returns-in-Plain-clause-waits g c = omega (arith, c.run_plain.ensures.waits)
+
+pub returns-in-Exercise-clause-waits : goal.returns-in-Exercise-clause-waits
+returns-in-Exercise-clause-waits g c = omega (arith, c.run_exercise.ensures.waits)

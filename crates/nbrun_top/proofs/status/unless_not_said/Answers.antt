@@ -1,8 +1,8 @@
 use Rattle.std.proofs.Common.{refl, subst, sym}
 use Rattle.world.specs.Counts.{Rose}
 use Rattle.nbrun_top.specs.Ended.{Answers, plain, not_said}
-use Rattle.nbrun_top.proofs.main_call.unless_not_said.Goals.{else-code-eq0-via-then-code-eq0+else-has_risen, else-code-eq0-via-else-code-eq0}
-use Rattle.nbrun_top.proofs.main_call.unless_not_said.Goals as goal
+use Rattle.nbrun_top.proofs.status.unless_not_said.Goals.{else-code-eq0-via-then-code-eq0+else-has_risen, else-code-eq0-via-else-code-eq0}
+use Rattle.nbrun_top.proofs.status.unless_not_said.Goals as goal
 
 pub returns-then-has_risen-clause-answers : goal.returns-then-has_risen-clause-answers
 returns-then-has_risen-clause-answers g c =

@@ -1,0 +1,210 @@
+-- What runs that execute notebooks make of the world.
+use Rattle.std.proofs.Common.{◌≡◌, ◌≢◌, inr, ℕ, zero, suc, ◌+◌, ◌<◌, ◌≤◌, ◌&&◌, Bool, true, false, List, [], ◌∷◌, ◌++◌, length, length-append, append_assoc, Option, Some, None, refl, sym, ◌∙◌, ap, subst, arith, if◌then◌else◌}
+use Rattle.std.specs.Prelude.{slice_get}
+use Rattle.std.specs.Str.{bytes_eq}
+use Rattle.nb_model.specs.declared.notebook.Notebook.{Notebook}
+use Rattle.nb_load.specs.Loaded.{Accepts}
+use Rattle.words.specs.declared.ask.Ask.{Ask}
+use Rattle.words.specs.Paths.{connection_of}
+use Rattle.world.specs.declared.entry.Entry.{Entry}
+use Rattle.world.specs.declared.entry.Entry.TheVariants.{Read}
+use Rattle.world.specs.declared.read_file.ReadFile.TheVariants as found
+use Rattle.world.specs.Acked.{acked, syncs_folder, is_renamed}
+use Rattle.world.specs.Counts.{Counts, CountsGrow}
+use Rattle.world.specs.Moments.{Since, start, more as later}
+use Rattle.world.specs.Touched.{Spares}
+use Rattle.world.proofs.MomentsLemmas.{since_then}
+use Rattle.world.proofs.TouchedLemmas.{untouched_since}
+use Rattle.save_disk.specs.Places.{acknowledged}
+use Rattle.save_disk.specs.Temporary.{temporary_of}
+use Rattle.save_course.specs.Course.{IsRested}
+use Rattle.save_course.proofs.CourseLemmas.{course_safe}
+use Rattle.save_course.proofs.RestLemmas.{spared_rest}
+use Rattle.job_end.specs.declared.answer.Answer.{Answer}
+use Rattle.job_saves.specs.Course.{HasSaved, Ends}
+use Rattle.job_saves.proofs.CourseLemmas.{ends_pass}
+use Rattle.job_run.specs.Run.{IsOther}
+use Rattle.job_run.specs.Told.{cause_of}
+use Rattle.job_begin.specs.Begun.{first_of, origin_of, IsCausedIn}
+use Rattle.job_begin.proofs.EndLemmas.{uncaused_in, unread_pass, unread_twelve, other_kernel, twelve_other}
+use Rattle.job_begin.specs.Begun.{HasKernel}
+use Rattle.batch_run.specs.Batch.{Makes, nothing, saves, IsNoPath, IsApart, LeavesOthers, CallsOfJobs, EndsChildren}
+use Rattle.world.specs.Parts.{OnSay, IsOf}
+use Rattle.said_lines.proofs.SpeechLemmas.{says_since}
+use Rattle.said_lines.specs.Speech.{Says}
+use Rattle.nbrun_top.specs.Ended.{Answers, plain}
+use Rattle.nbrun_top.specs.Executed.{DoesNotWrite, IsAlone, AreApart, IsSavedOnly, untouched, saved, IsQuiet, IsUnsaved, NoneWrites, Runs, first_fault}
+use Rattle.nbrun_top.specs.Ran.{IsUntouched}
+use Rattle.nbrun_top.proofs.Spared.{apart_from, says_spare, spared_moments, at_moment}
+use Rattle.nbrun_top.proofs.Statuses.{all_starved, starved_count, starved_fault, starved_at}
+
+-- ---- what no entry touches
+
+pub untouched_path : (path : List ℕ) {journal : List Entry} → Since (Spares path) [] journal → IsUntouched path journal
+untouched_path path {journal} since = at_moment path journal (spared_moments refl since)
+
+neither : (b : Bool) (x y : ℕ) → (if b && false then x else y) ≡ y
+neither true x y = refl
+neither false x y = refl
+
+-- an entry acknowledges nothing where no rename comes before it
+none_waits : (from to : List ℕ) (entry : Entry) (past : List Entry) → is_renamed from to past ≡ false → acked from to (entry ∷ past) ≡ acked from to past
+none_waits from to entry past rested =
+    subst (λ b. (if syncs_folder to entry && b then acked from to past + 1 else acked from to past) ≡ acked from to past) (sym rested)
+    (neither (syncs_folder to entry) (acked from to past + 1) (acked from to past))
+
+none_acked : (output : List ℕ) {journal : List Entry} → Since (Spares output) [] journal → acknowledged output journal ≡ 0
+none_acked output start = refl
+none_acked output (later {past} {entry} since spared) =
+    none_waits (temporary_of output) output entry past (spared_rest output refl since) ∙ none_acked output since
+
+-- ---- one job
+
+module _ (a : Ask) (old new : Counts) (before after : List Entry) (quiet : IsQuiet before) where
+  saved_by : (status : ℕ) (bytes : List ℕ) (n : Notebook) (begin : List Entry) (counts : Counts) (newer : List Entry) (is_open : Bool) → Accepts a bytes n
+      → Since (Spares a.output) before begin → after ≡ newer ++ Read a.input 33554432 (found.Whole bytes) ∷ begin
+      → Ends (origin_of a n begin counts) is_open (Some after) new → (is_open ≡ false → IsUnsaved status) → IsCausedIn a (first_of a n) status
+      → HasKernel a (first_of a n) status (Read a.input 33554432 (found.Whole bytes) ∷ begin) after → IsSavedOnly a status after
+  saved_by status bytes n begin counts newer is_open accepted since split ends shut caused kernel =
+      let first = since_then (quiet a.output) since in
+      let course : HasSaved (origin_of a n begin counts) is_open after = ends.told refl in
+      saved bytes n is_open begin newer accepted split (untouched_path a.output first)
+      (course_safe a.output a.merge (first_of a n) 0 begin (untouched_since first refl) (none_acked a.output first) is_open course.settled after course.is.course) shut caused kernel
+
+  pub saved_only : (answer : Answer) → Makes a (Some answer) old new before after → IsSavedOnly a answer.status after
+  saved_only answer (nothing unread since) = untouched before (untouched_path a.output (since_then (quiet a.output) since)) unread
+  saved_only answer (saves bytes n begin then_ newer accepted caused since grow split ends) =
+      saved_by answer.status bytes n begin then_ newer ends.is_open accepted since split ends.ends ends.shut caused.0 caused.1
+
+  pub stopped_only : (status : ℕ) → status ≡ 12 → Makes a None old new before after → IsSavedOnly a status after
+  stopped_only status is (nothing unread since) = untouched before (untouched_path a.output (since_then (quiet a.output) since))
+      (unread_pass a status before after after after since start (unread_twelve a status after is))
+  stopped_only status is (saves bytes n begin then_ newer accepted caused since grow split ends) =
+      saved_by status bytes n begin then_ newer ends.is_open accepted since split ends.ends (λ e. inr is) (uncaused_in a (first_of a n) status (ap cause_of is))
+      (other_kernel a (first_of a n) status (Read a.input 33554432 (found.Whole bytes) ∷ begin) after (twelve_other status is))
+
+-- ---- what is said behind the jobs
+
+record Front (before after : List Entry) : Type 0 where
+  entries : List Entry
+  split : after ≡ entries ++ before
+
+front : {P : List Entry → Type 0} {before after : List Entry} → Since P before after → Front before after
+front start = record { entries = []; split = refl }
+front (later {past} {entry} since is) = let f = front since in record { entries = entry ∷ f.entries; split = ap (λ j. entry ∷ j) f.split }
+
+append_both : (xs ys zs : List Entry) (past mid : List Entry) → past ≡ ys ++ mid → zs ≡ xs ++ past → zs ≡ (xs ++ ys) ++ mid
+append_both xs ys zs past mid e f = f ∙ ap (λ j. xs ++ j) e ∙ sym (append_assoc xs ys mid)
+
+said_after : (a : Ask) (old mid new : Counts) (before past after : List Entry) → Since (Spares a.output) past after → CountsGrow mid new
+    → Makes a None old mid before past → Makes a None old new before after
+said_after a old mid new before past after say grow (nothing unread since) = nothing tt (since_then since say)
+said_after a old mid new before past after say grow (saves bytes n begin then_ newer accepted caused since grown split ends) =
+    let f = front say in
+    saves bytes n begin then_ (f.entries ++ newer) accepted tt since grown
+    (append_both f.entries newer after past (Read a.input 33554432 (found.Whole bytes) ∷ begin) split f.split)
+    (record {
+      is_open = ends.is_open;
+      ends = ends_pass (origin_of a n begin then_) ends.is_open (Some past) (Some after) mid new (record { so = say }) grow ends.ends;
+    })
+
+-- ---- all jobs
+
+other_of : (output path : List ℕ) → DoesNotWrite output path → IsOther output path
+other_of output path d = record {
+  output_is = apart_from output path d.not_output;
+  temporary = apart_from (temporary_of output) path d.not_temporary;
+  connection = apart_from (connection_of output) path d.not_connection;
+}
+
+none_of : (asks : List Ask) (path : List ℕ) → NoneWrites asks path → IsNoPath asks path
+none_of asks path none k b is = other_of b.output path (none k b is)
+
+apart_of : (asks : List Ask) (i : ℕ) (a : Ask) → IsAlone asks i a → IsApart asks i a
+apart_of asks i a s k b is differs = other_of b.output a.output (s.others k b differs is)
+
+-- a path that is longer than all that the jobs write to
+abbrev far : List Ask → List ℕ
+far [] = 0 ∷ []
+far (a ∷ rest) = connection_of a.output ++ (temporary_of a.output ++ (a.output ++ far rest))
+
+shorter : (x y : List ℕ) → length x < length y → bytes_eq x y ≡ false
+shorter x y less = apart_from x y (λ e. absurd (omega (arith, less, ap (λ z. length z) e)))
+
+far_more : (asks : List Ask) → 1 ≤ length (far asks)
+far_more [] = omega arith
+far_more (a ∷ rest) = omega (
+  arith,
+  far_more rest,
+  length-append (connection_of a.output) (temporary_of a.output ++ (a.output ++ far rest)),
+  length-append (temporary_of a.output) (a.output ++ far rest),
+  length-append a.output (far rest),
+)
+
+abbrev output_in : Option Ask → List ℕ
+output_in None = []
+output_in (Some a) = a.output
+
+far_others : (asks : List Ask) (path : List ℕ) → length (far asks) ≤ length path → IsNoPath asks path
+far_others [] path long k b is = cc
+far_others (a ∷ rest) path long zero b is =
+    let whole = length-append (connection_of a.output) (temporary_of a.output ++ (a.output ++ far rest)) in
+    let next = length-append (temporary_of a.output) (a.output ++ far rest) in
+    let last = length-append a.output (far rest) in
+    subst (λ o. IsOther (output_in o) path) is (record {
+      output_is = shorter a.output path (omega (arith, long, far_more rest, whole, next, last));
+      temporary = shorter (temporary_of a.output) path (omega (arith, long, far_more rest, whole, next, last));
+      connection = shorter (connection_of a.output) path (omega (arith, long, far_more rest, whole, next, last));
+    })
+far_others (a ∷ rest) path long (suc k) b is =
+    let whole = length-append (connection_of a.output) (temporary_of a.output ++ (a.output ++ far rest)) in
+    let next = length-append (temporary_of a.output) (a.output ++ far rest) in
+    let last = length-append a.output (far rest) in
+    far_others rest path (omega (arith, long, whole, next, last)) k b is
+
+module _ (asks : List Ask) (here : List ℕ) (rose : Type 0) (before done after : List Entry) (others : LeavesOthers asks before after) (quiet : IsQuiet before)
+    (alone : AreApart asks) (calls : CallsOfJobs asks here before done) (rest : Since (IsOf OnSay) done after) where
+  runs_with : (answers : List Answer) (code : ℕ) → length answers ≡ length asks
+      → ((i : ℕ) (a : Ask) (answer : Answer) → slice_get asks i ≡ Some a → IsApart asks i a → slice_get answers i ≡ Some answer → IsSavedOnly a answer.status after)
+      → Answers rose (first_fault answers) code → (code ≢ 12 → EndsChildren asks before after) → Runs asks here rose code before after
+  runs_with answers code count jobs status children =
+      let f = front (others (far asks) (far_others asks (far asks) (omega arith))) in
+      record {
+        answers = answers;
+        later = f.entries;
+        split = f.split;
+        run = record {
+          one_each = count;
+          outputs = λ i a answer at is. jobs i a answer at (apart_of asks i a (alone.outputs i a at)) is;
+          inputs = λ i a at. untouched_path a.input (since_then (quiet a.input) (others a.input (none_of asks a.input (alone.inputs i a at))));
+          others = λ path none. untouched_path path (since_then (quiet path) (others path (none_of asks path none)));
+        };
+        status = status;
+        done = done;
+        calls = calls;
+        rest = rest;
+        children = children;
+      }
+
+-- at a journal in which a path was not touched none waits for the sync of its folder
+rested : (output : List ℕ) {before : List Entry} → IsQuiet before → IsRested output before
+rested output quiet = spared_rest output refl (quiet output)
+
+pub runs_done : {here : List ℕ} (asks : List Ask) (answers : List Answer) (old new : Counts) (rose : Type 0) (code : ℕ) (before after : List Entry)
+    → LeavesOthers asks before after → CallsOfJobs asks here before after → EndsChildren asks before after
+    → ((i : ℕ) (a : Ask) → slice_get asks i ≡ Some a → IsApart asks i a → IsRested a.output before → Makes a (slice_get answers i) old new before after)
+    → length answers ≡ length asks → Answers rose (first_fault answers) code → IsQuiet before → AreApart asks → Runs asks here rose code before after
+runs_done {here} asks answers old new rose code before after others calls children jobs count status quiet alone =
+    runs_with asks here rose before after after others quiet alone calls start answers code count
+    (λ i a answer at apart is. saved_only a old new before after quiet answer (subst (λ o. Makes a o old new before after) is (jobs i a at apart (rested a.output quiet)))) status (λ other. children)
+
+pub runs_starved : {here : List ℕ} (asks : List Ask) (old mid new : Counts) (rose cut : Type 0) (line : List ℕ) (code : ℕ) (before past after : List Entry)
+    → LeavesOthers asks before past → CallsOfJobs asks here before past
+    → ((i : ℕ) (a : Ask) → slice_get asks i ≡ Some a → IsApart asks i a → IsRested a.output before → Makes a None old mid before past)
+    → CountsGrow mid new → Says line cut past after → 1 ≤ length asks → code ≡ 12 → IsQuiet before → AreApart asks → Runs asks here rose code before after
+runs_starved {here} asks old mid new rose cut line code before past after others calls jobs grow says some is quiet alone =
+    runs_with asks here rose before past after (λ path apart. says_spare path (others path apart) says) quiet alone calls (says_since says) (all_starved asks) code (starved_count asks)
+    (λ i a answer at apart got. stopped_only a old new before after quiet answer.status (starved_at asks i answer got)
+    (said_after a old mid new before past after (says_spare a.output start says) grow (jobs i a at apart (rested a.output quiet))))
+    (subst (λ n. Answers rose n code) (sym (starved_fault asks some)) (subst (λ n. Answers rose 12 n) (sym is) (plain (λ zero_ failed. cc))))
+    (λ other. absurd (other is))

@@ -1,0 +1,162 @@
+-- What a run makes of the world that executes notebooks, over a journal that was empty at its start, its newest entry first.
+use Rattle.std.specs.Prelude.{◌≡◌, ◌≢◌, ◌⊎◌, ◌==◌, ◌+◌, ◌≤◌, ℕ, List, [], ◌∷◌, ◌++◌, Bool, false, not, length, slice_get, Some, Result, Ok, Err, find, option_map, unwrap_or, codes}
+use Rattle.jtext.specs.declared.json.Json.{Json}
+use Rattle.nb_model.specs.declared.notebook.Notebook.{Notebook}
+use Rattle.nb_load.specs.Loaded.{Accepts}
+use Rattle.words.specs.declared.ask.Ask.{Ask}
+use Rattle.words.specs.declared.usage.Usage.{Usage}
+use Rattle.words.specs.declared.usage.Usage.TheVariants as usage_fault
+use Rattle.words.specs.JobsAsked.{asks_of}
+use Rattle.words.specs.JobsFaults.{Refused}
+use Rattle.words.specs.JobsFile.{IsJobsFile, IsTextOf}
+use Rattle.words.specs.Paths.{connection_of}
+use Rattle.world.specs.declared.entry.Entry.{Entry}
+use Rattle.world.specs.declared.entry.Entry.TheVariants.{Read}
+use Rattle.world.specs.declared.read_file.ReadFile.{ReadFile}
+use Rattle.world.specs.declared.read_file.ReadFile.TheVariants as found
+use Rattle.save_disk.specs.Temporary.{temporary_of}
+use Rattle.save_course.specs.Course.{IsSavedSo}
+use Rattle.said_lines.specs.Speech.{Says}
+use Rattle.world.specs.Counts.{Counts, Rose}
+use Rattle.world.specs.Moments.{Since}
+use Rattle.world.specs.Parts.{OnSay, IsOf}
+use Rattle.world.specs.Touched.{Spares}
+use Rattle.job_end.specs.declared.answer.Answer.{Answer}
+use Rattle.job_begin.specs.Begun.{first_of, IsCausedIn, IsUnread, HasKernel}
+use Rattle.job_begin.specs.Causes.{HasCause}
+use Rattle.batch_run.specs.Batch.{CallsOfJobs, EndsChildren}
+use Rattle.nbrun_top.specs.declared.answer.Answer.{Answer as Last}
+use Rattle.nbrun_top.specs.declared.end.End.{End}
+use Rattle.nbrun_top.specs.declared.end.End.TheVariants as end
+use Rattle.nbrun_top.specs.Asked.{IsExecuted, IsBatch}
+use Rattle.nbrun_top.specs.Codes.{code_of}
+use Rattle.nbrun_top.specs.Ended.{Answers}
+use Rattle.nbrun_top.specs.Lines.{said}
+use Rattle.nbrun_top.specs.Ran.{IsUntouched}
+
+-- ---- the jobs
+
+-- the journal after the read of a jobs file, of which at most 1 MiB is read
+abbrev pub file_read : List ℕ → ReadFile → List Entry → List Entry
+file_read file answer before = Read file 1048576 answer ∷ before
+
+-- the bytes are a jobs file with this path, which asks for these jobs
+pub record IsFileOf (file : List ℕ) (common : Ask) (bytes : List ℕ) (asks : List Ask) : Type 0 where
+  pub tree : Json
+  pub text : IsTextOf bytes tree
+  pub is : IsJobsFile file tree
+  pub asked : asks ≡ asks_of common tree
+
+-- the words ask for these jobs, and this stands before them: nothing, or the read of their file
+pub data AreJobs (words : List (List ℕ)) : List Ask → List Entry → Type 0 where
+  of_words : (a : Ask) → IsExecuted words a → AreJobs words (a ∷ []) []
+  of_file : (file : List ℕ) (common : Ask) (bytes : List ℕ) (asks : List Ask) → IsBatch words file common → IsFileOf file common bytes asks
+      → AreJobs words asks (file_read file (found.Whole bytes) [])
+
+-- why a jobs file gives no jobs, with what is asked of the disk
+pub data GivesNone (file : List ℕ) (before : List Entry) : End → List Entry → Type 0 where
+  cannot_read : GivesNone file before end.NotRead (file_read file found.Failed before)
+  too_large : GivesNone file before (end.Refused (usage_fault.BadJobs [])) (file_read file found.Big before)
+  refused : (bytes : List ℕ) (u : Usage) → Refused file bytes u → GivesNone file before (end.Refused u) (file_read file (found.Whole bytes) before)
+  no_memory : (answer : ReadFile) → GivesNone file before end.NoMemory (file_read file answer before)
+
+-- the read of the file gives these jobs, or the run ends so
+abbrev pub GivesAsks : List ℕ → Ask → List Entry → Result (List Ask) Last → List Entry → Type 0
+GivesAsks file common before (Ok asks) after = (bytes : List ℕ) × IsFileOf file common bytes asks × (after ≡ file_read file (found.Whole bytes) before)
+GivesAsks file common before (Err r) after = GivesNone file before r.end after
+
+-- so may a run end whose file gives no jobs
+abbrev pub IsEndOfFile : End → Type 0
+IsEndOfFile (end.Refused u) = Unit {0}
+IsEndOfFile end.NotRead = Unit {0}
+IsEndOfFile end.NoMemory = Unit {0}
+IsEndOfFile e = ⊥
+
+-- ---- what a job makes of its output
+
+-- a job with this output doesn't write to the path: it is neither the output nor the temporary or the connection file beside it
+pub record DoesNotWrite (output path : List ℕ) : Type 0 where
+  pub not_output : output ≢ path
+  pub not_temporary : temporary_of output ≢ path
+  pub not_connection : connection_of output ≢ path
+
+-- no other job writes to the output of the job with this number
+pub record IsAlone (asks : List Ask) (i : ℕ) (a : Ask) : Type 0 where
+  pub is : slice_get asks i ≡ Some a
+  pub others : (k : ℕ) (b : Ask) → k ≢ i → slice_get asks k ≡ Some b → DoesNotWrite b.output a.output
+
+-- nor does any of these jobs
+abbrev pub NoneWrites : List Ask → List ℕ → Type 0
+NoneWrites asks path = (i : ℕ) (a : Ask) → slice_get asks i ≡ Some a → DoesNotWrite a.output path
+
+-- no job writes to the output of another one, or to the input of any
+pub record AreApart (asks : List Ask) : Type 0 where
+  pub outputs : (i : ℕ) (a : Ask) → slice_get asks i ≡ Some a → IsAlone asks i a
+  pub inputs : (i : ℕ) (a : Ask) → slice_get asks i ≡ Some a → NoneWrites asks a.input
+
+-- a status with which a save may have failed: that of the save, or that of memory that was refused then
+abbrev pub IsUnsaved : ℕ → Type 0
+IsUnsaved status = (status ≡ 10) ⊎ (status ≡ 12)
+
+-- The output of a job that ended with this status wasn't touched; or the bytes of its input give a notebook with the
+-- parameters, nothing had touched the output before they were read, and then it was saved by prefixes of that notebook,
+-- without a failed save unless the status says so. A status that names a cause comes only where there are events that stop the job for
+-- it, and 4 and 5 only where the input gave no notebook, or 5 where no kernel was found for it.
+pub data IsSavedOnly (a : Ask) (status : ℕ) (journal : List Entry) : Type 0 where
+  untouched : (before : List Entry) → IsUntouched a.output journal → IsUnread a status before journal → IsSavedOnly a status journal
+  saved : (bytes : List ℕ) (n : Notebook) (is_open : Bool) (before later : List Entry) → Accepts a bytes n
+      → journal ≡ later ++ Read a.input 33554432 (found.Whole bytes) ∷ before → IsUntouched a.output before
+      → IsSavedSo a.output a.merge (first_of a n) 0 is_open before journal → (is_open ≡ false → IsUnsaved status)
+      → IsCausedIn a (first_of a n) status → HasKernel a (first_of a n) status (Read a.input 33554432 (found.Whole bytes) ∷ before) journal → IsSavedOnly a status journal
+
+-- jobs have ended with these answers, one each, and no other path was written to, each input among them
+pub record HaveRun (asks : List Ask) (answers : List Answer) (journal : List Entry) : Type 0 where
+  pub one_each : length answers ≡ length asks
+  pub outputs : (i : ℕ) (a : Ask) (answer : Answer) → slice_get asks i ≡ Some a → slice_get answers i ≡ Some answer → IsSavedOnly a answer.status journal
+  pub inputs : (i : ℕ) (a : Ask) → slice_get asks i ≡ Some a → IsUntouched a.input journal
+  pub others : (path : List ℕ) → NoneWrites asks path → IsUntouched path journal
+
+-- the status of the first job whose status isn't 0, and 0 where there is none
+abbrev pub first_fault : List Answer → ℕ
+first_fault answers = unwrap_or (option_map (λ (a : Answer). a.status) (find (λ (a : Answer). not (a.status == 0)) answers)) 0
+
+-- no path was touched
+abbrev pub IsQuiet : List Entry → Type 0
+IsQuiet journal = (path : List ℕ) → Since (Spares path) [] journal
+
+-- Jobs have run behind these entries, and the run ends with that status. `done`: when they had ended; behind that at most a
+-- line is said. Each call was one of the loop or of one of the jobs, and each child that was started has its end.
+pub record Runs (asks : List Ask) (here : List ℕ) (rose : Type 0) (code : ℕ) (before after : List Entry) : Type 0 where
+  pub answers : List Answer
+  pub later : List Entry
+  pub split : after ≡ later ++ before
+  pub run : HaveRun asks answers after
+  pub status : Answers rose (first_fault answers) code
+  pub done : List Entry
+  pub calls : CallsOfJobs asks here before done
+  pub rest : Since (IsOf OnSay) done after
+  pub children : code ≢ 12 → EndsChildren asks before after
+
+-- a status of a run that executes comes only where the count of the calls that it tells of rose: 3 and 10 of the disk, 6 of the
+-- random words or of the children, 11 of the says
+pub record IsCounted (old new : Counts) (code : ℕ) : Type 0 where
+  pub cause : HasCause old new code
+  pub say : code ≡ 11 → Rose old.say new.say
+
+-- it was waited at most so often
+abbrev pub WaitsAtMost : {W : Type 0} → (W → Counts) → W → W → ℕ → Type 0
+WaitsAtMost counts old new most = (counts new).waits ≤ (counts old).waits + most
+
+-- the count of random words or that of children rose
+abbrev pub StartRose : {W : Type 0} → (W → Counts) → W → W → Type 0
+StartRose counts old new = (Rose (counts old).rand (counts new).rand) ⊎ (Rose (counts old).child (counts new).child)
+
+-- ---- the run
+
+-- The run in this working folder ended with that status: its jobs have run; or their file gives none, which was said; or memory was refused before
+-- anything was asked of the disk. `rose`: the count of failed says rose in it; `cut`: that count isn't 0 at its end.
+pub data Executed (words : List (List ℕ)) (here : List ℕ) (rose cut : Type 0) : ℕ → List Entry → Type 0 where
+  ran : (asks : List Ask) (begun after : List Entry) (code : ℕ) → AreJobs words asks begun → Runs asks here rose code begun after → Executed words here rose cut code after
+  none : (file : List ℕ) (common : Ask) (e : End) (on_disk after : List Entry) → IsBatch words file common → GivesNone file [] e on_disk
+      → Says (said file (codes "nbrun") e) cut on_disk after → Executed words here rose cut (code_of e) after
+  starved : (after : List Entry) → Says (said [] [] end.NoMemory) cut [] after → Executed words here rose cut 12 after

@@ -1,0 +1,39 @@
+//! Runs that do the exercise.
+ghost use Rattle.std.specs.Prelude.{◌≡◌, ◌≤◌};
+ghost use Rattle.said_lines.specs.Between.{Between, SayRose, SayFailed};
+ghost use Rattle.nbrun_top.specs.Executed.{WaitsAtMost};
+ghost use Rattle.nbrun_top.specs.Exercised.{Exercised};
+
+use crate::execution::starved;
+use crate::exercise::Exercise;
+use crate::status::unless_not_said;
+use batch_run::Limits;
+use jtext::NoMemory;
+use said_lines::say;
+use std::alloc::Global;
+use world::Say;
+
+/// Does the exercise of so many cells, says its line, and answers the exit status.
+pub(crate) fn run_exercise<W: Say, X: Exercise>(
+    alloc: Global,
+    exercise: &X,
+    cells: u32,
+    limits: &Limits,
+    w: &mut W,
+) -> u8
+    requires few { cells ≤ 200 }
+    ensures exercised { Between W.journal w.old w.new (λ before after.
+        Exercised (X.ends exercise.now cells limits.now.turns)
+        (SayRose W.counts w.old w.new) (SayFailed W.counts w.new) before result after) }
+    ensures waits { WaitsAtMost W.counts w.old w.new 0 }
+    ensures heard { result ≡ 0 → SayRose W.counts w.old w.new → ⊥ }
+{
+    let faults = w.say_faults();
+    match exercise.exercise(alloc, cells, limits.turns) {
+        Ok(answer) => {
+            say(w, answer.line.bytes());
+            unless_not_said(w, faults, answer.status)
+        }
+        Err(NoMemory) => starved(w),
+    }
+}

@@ -1,0 +1,90 @@
+//! What a run has left.
+use job_end::Answer;
+use jtext::{List, NoMemory, Text};
+use std::alloc::Global;
+use world::{Entry, KernelSide};
+use world_mem::MemWorld;
+
+/// Whether the job that ended as this one, from 0, has this status.
+pub(crate) fn has_status(answers: &List<Answer>, place: usize, status: u8) -> bool {
+    match answers.get(place) {
+        Some(answer) => answer.status == status,
+        None => false,
+    }
+}
+
+/// Whether just this was said.
+pub(crate) fn has_said<K: KernelSide>(w: &MemWorld<K>, text: &str) -> bool {
+    w.said().bytes() == text.as_bytes()
+}
+
+/// Whether the file at this path holds just this text.
+pub(crate) fn holds<K: KernelSide>(
+    alloc: Global,
+    w: &MemWorld<K>,
+    path: &str,
+    text: &str,
+) -> Result<bool, NoMemory> {
+    match w.file(&Text::of(alloc, path)?) {
+        Some(file) => Ok(file.bytes() == text.as_bytes()),
+        None => Ok(false),
+    }
+}
+
+/// Whether this text stands so often in the file at this path.
+pub(crate) fn has<K: KernelSide>(
+    alloc: Global,
+    w: &MemWorld<K>,
+    path: &str,
+    text: &str,
+    often: usize,
+) -> Result<bool, NoMemory> {
+    match w.file(&Text::of(alloc, path)?) {
+        Some(file) => Ok(count(file.bytes(), text.as_bytes()) == often),
+        None => Ok(false),
+    }
+}
+
+// How often these octets stand in those, also where the places overlap.
+fn count(octets: &[u8], wanted: &[u8]) -> usize {
+    let mut often: usize = 0;
+    for place in 0..octets.len() {
+        if let Some(rest) = octets.get(place..) {
+            if rest.starts_with(wanted) {
+                often = often.saturating_add(1);
+            }
+        }
+    }
+    often
+}
+
+/// The last moment of the journal.
+pub(crate) fn last_moment<K: KernelSide>(w: &MemWorld<K>) -> u64 {
+    let mut last = 0;
+    if let Some(entries) = w.journal() {
+        for entry in entries.iter() {
+            if let Entry::Moment { ms } = entry {
+                last = *ms;
+            }
+        }
+    }
+    last
+}
+
+/// The number of the call that is the third rename.
+pub(crate) fn third_rename<K: KernelSide>(w: &MemWorld<K>) -> u64 {
+    let mut number: u64 = 0;
+    let mut renames: u32 = 0;
+    if let Some(entries) = w.journal() {
+        for entry in entries.iter() {
+            if let Entry::Renamed { .. } = entry {
+                renames = renames.saturating_add(1);
+                if renames == 3 {
+                    return number;
+                }
+            }
+            number = number.saturating_add(1);
+        }
+    }
+    number
+}

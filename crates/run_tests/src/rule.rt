@@ -1,0 +1,148 @@
+//! `Trick`, what a kernel behind a script does otherwise, and the rules that this means.
+
+/// What a kernel behind a script does otherwise than the toy kernel.
+#[derive(Clone, Copy, Drop)]
+pub(crate) enum Trick {
+    /// Nothing.
+    Nothing,
+    /// Its greeting on shell begins with FE.
+    BadGreeting,
+    /// After its handshake on shell it sends the head of a frame of 2^63 octets.
+    HugeFrame,
+    /// After its handshake on control it sends ERROR.
+    ErrorCommand,
+    /// It sends READY twice on shell.
+    SecondReady,
+    /// It sends no idle of the first cell.
+    NoIdle,
+    /// It sends each reply after the idle.
+    LateReply,
+    /// It sends each idle after the reply.
+    LateIdle,
+    /// It sends the stream of the first cell after the idle, and the reply after both.
+    LateStream,
+    /// It signs the stream of the first cell wrongly.
+    BadSignature,
+    /// It sends the stream of the first cell twice.
+    TwoStreams,
+    /// It sends the messages of the first cell for another request.
+    OtherRequest,
+    /// It sends the stream of the first cell once more, for the next request.
+    NextRequest,
+    /// Its IOPub ends in the second message of the first cell.
+    CutOff,
+    /// It sends the stream of the first cell without end.
+    Endless,
+    /// It takes no interrupt.
+    Deaf,
+    /// It sends nothing on the heartbeat.
+    NoEcho,
+}
+
+/// Which octets of a channel a rule is for.
+#[derive(Clone, Copy, Drop)]
+pub(crate) enum Mark {
+    Greeting,
+    Ready,
+    /// Each message after the handshake.
+    Messages,
+    /// The replies to requests of cells.
+    Replies,
+    /// The idles of cells.
+    Idles,
+    /// All that is published for the first cell.
+    First,
+    /// The idle of the first cell.
+    FirstIdle,
+    /// The input of the first cell.
+    FirstInput,
+    /// The stream of the first cell.
+    FirstStream,
+}
+
+/// What is done to what a rule is for.
+#[derive(Clone, Copy, Drop)]
+pub(crate) enum Deed {
+    /// It goes out as it is.
+    Keep,
+    /// It doesn't go out.
+    Drop,
+    /// It goes out twice.
+    Repeat,
+    /// The head of a frame of 2^63 octets goes out after it.
+    AddHuge,
+    /// ERROR goes out after it.
+    AddError,
+    /// Its first octet is FE.
+    Break,
+    /// The last digit of its signature is another.
+    Spoil,
+    /// It is for another request.
+    Swap,
+    /// It goes out, and again for the next request.
+    Echo,
+    /// Half of it goes out, and then the connection ends.
+    Cut,
+    /// It waits until all else was handed out.
+    Hold,
+    /// It waits until the kernel is idle.
+    Late,
+    /// It goes out at each tick, and no other message does.
+    Endless,
+}
+
+/// What a script does to the messages of a channel.
+#[derive(Clone, Copy, Drop)]
+pub(crate) struct Rule {
+    pub(crate) mark: Mark,
+    pub(crate) deed: Deed,
+}
+
+/// This is done to those octets.
+fn doing(mark: Mark, deed: Deed) -> Rule {
+    Rule { mark, deed }
+}
+
+/// The rule for shell.
+pub(crate) fn shell_rule(trick: Trick) -> Rule {
+    match trick {
+        Trick::BadGreeting => doing(Mark::Greeting, Deed::Break),
+        Trick::HugeFrame => doing(Mark::Ready, Deed::AddHuge),
+        Trick::SecondReady => doing(Mark::Ready, Deed::Repeat),
+        Trick::LateReply => doing(Mark::Replies, Deed::Hold),
+        Trick::LateStream => doing(Mark::Replies, Deed::Hold),
+        _ => doing(Mark::Messages, Deed::Keep),
+    }
+}
+
+/// The rule for control.
+pub(crate) fn control_rule(trick: Trick) -> Rule {
+    match trick {
+        Trick::ErrorCommand => doing(Mark::Ready, Deed::AddError),
+        _ => doing(Mark::Messages, Deed::Keep),
+    }
+}
+
+/// The rule for IOPub.
+pub(crate) fn iopub_rule(trick: Trick) -> Rule {
+    match trick {
+        Trick::NoIdle => doing(Mark::FirstIdle, Deed::Drop),
+        Trick::LateIdle => doing(Mark::Idles, Deed::Hold),
+        Trick::LateStream => doing(Mark::FirstStream, Deed::Late),
+        Trick::BadSignature => doing(Mark::FirstStream, Deed::Spoil),
+        Trick::TwoStreams => doing(Mark::FirstStream, Deed::Repeat),
+        Trick::OtherRequest => doing(Mark::First, Deed::Swap),
+        Trick::NextRequest => doing(Mark::FirstStream, Deed::Echo),
+        Trick::CutOff => doing(Mark::FirstInput, Deed::Cut),
+        Trick::Endless => doing(Mark::FirstStream, Deed::Endless),
+        _ => doing(Mark::Messages, Deed::Keep),
+    }
+}
+
+/// The rule for the heartbeat.
+pub(crate) fn heart_rule(trick: Trick) -> Rule {
+    match trick {
+        Trick::NoEcho => doing(Mark::Messages, Deed::Drop),
+        _ => doing(Mark::Messages, Deed::Keep),
+    }
+}

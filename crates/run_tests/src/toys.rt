@@ -1,0 +1,103 @@
+//! Jobs with the toy kernel as it is.
+ghost use Rattle.std.specs.Prelude.{◌≡◌, ◌≤◌, All, IfOk};
+ghost use Rattle.toy_core.specs.Toy.{latest_of};
+
+use crate::checks::{has, has_said, has_status, third_rename};
+use crate::jobs::{run, world_of};
+use crate::notebooks::{TWO, notebook};
+use jtext::NoMemory;
+use kernel_talk::identifier;
+use std::alloc::Global;
+use std::process::Abort;
+use std::test::Fail;
+use toy_core::Toy;
+use world_mem::Kernels;
+
+/// A toy kernel that signs under the key of these two words.
+pub(crate) fn toy(alloc: Global, first: u64, second: u64) -> Result<Toy, NoMemory>
+    ensures { IfOk result (λ toy. latest_of toy ≡ 0) }
+{
+    let key = identifier(alloc, first, second)?;
+    Toy::new(alloc, &key)
+}
+
+/// The toy kernel that signs under the key of these two words, alone.
+pub(crate) fn toys(alloc: Global, first: u64, second: u64) -> Result<Kernels<Toy>, NoMemory>
+    ensures { IfOk result (All (λ toy. latest_of toy ≤ 0)) }
+{
+    let toy = toy(alloc, first, second)?;
+    let mut kernels = Kernels::new(alloc);
+    kernels.push(toy)?;
+    Ok(kernels)
+}
+
+#[test]
+fn messages_signed_with_another_key_are_not_taken(rt: HostRuntime) -> Result<(), Fail> {
+    let alloc = rt.alloc();
+    let input = notebook(alloc, &["print 1"])?;
+    let mut w = world_of(alloc, input.as_str(), toys(alloc, 6, 7)?, &[], &[])?;
+    let answers = run(alloc, &mut w, "in.ipynb out.ipynb --start-timeout 1")?;
+    assert!(rt; has_status(&answers, 0, 7));
+    assert!(rt; has_said(&w, "saved 0/1 out.ipynb\nout.ipynb: kernel not ready\n"));
+    assert!(rt; has(alloc, &w, "out.ipynb", "\"outputs\": []", 1)?);
+    assert!(rt; has(alloc, &w, "out.ipynb", "\"status\": \"pending\"", 1)?);
+    Ok(())
+}
+
+#[test]
+fn a_save_that_fails_ends_the_job(rt: HostRuntime) -> Result<(), Fail> {
+    let alloc = rt.alloc();
+    let mut w = world_of(alloc, TWO, toys(alloc, 2, 3)?, &[], &[])?;
+    run(alloc, &mut w, "in.ipynb out.ipynb")?;
+    let number = third_rename(&w);
+    let mut w = world_of(alloc, TWO, toys(alloc, 2, 3)?, &[], &[number])?;
+    let answers = run(alloc, &mut w, "in.ipynb out.ipynb")?;
+    assert!(rt; has_status(&answers, 0, 10));
+    assert!(rt;
+        has_said(
+            &w,
+            "saved 0/2 out.ipynb\nsaved 1/2 out.ipynb\nout.ipynb: cannot save: rename\n"
+        )
+    );
+    Ok(())
+}
+
+#[test]
+fn a_clear_that_waits_leaves_the_last_output(rt: HostRuntime) -> Result<(), Fail> {
+    let alloc = rt.alloc();
+    let input = notebook(alloc, &["show x 1\\nclearwait"])?;
+    let mut w = world_of(alloc, input.as_str(), toys(alloc, 2, 3)?, &[], &[])?;
+    let answers = run(alloc, &mut w, "in.ipynb out.ipynb")?;
+    assert!(rt; has_status(&answers, 0, 0));
+    assert!(rt;
+        has(
+            alloc,
+            &w,
+            "out.ipynb",
+            "\"output_type\": \"display_data\"",
+            1
+        )?
+    );
+    assert!(rt; has(alloc, &w, "out.ipynb", "\n       \"1\"\n", 1)?);
+    Ok(())
+}
+
+#[test]
+fn an_update_reaches_each_display_with_its_id(rt: HostRuntime) -> Result<(), Fail> {
+    let alloc = rt.alloc();
+    let input = notebook(alloc, &["show x 1\\nshow x 2", "print 3", "update x 9"])?;
+    let mut w = world_of(alloc, input.as_str(), toys(alloc, 2, 3)?, &[], &[])?;
+    let answers = run(alloc, &mut w, "in.ipynb out.ipynb")?;
+    assert!(rt; has_status(&answers, 0, 0));
+    assert!(rt;
+        has(
+            alloc,
+            &w,
+            "out.ipynb",
+            "\"output_type\": \"display_data\"",
+            2
+        )?
+    );
+    assert!(rt; has(alloc, &w, "out.ipynb", "\n       \"9\"\n", 2)?);
+    Ok(())
+}

@@ -1,0 +1,4 @@
+pub mod Counted
+pub mod Exercise
+pub mod Exercised
+pub mod Reported
