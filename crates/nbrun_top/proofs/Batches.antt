@@ -72,10 +72,10 @@ one_apart words a is = record { outputs = alone_in_one a; inputs = input_in_one 
 -- ---- the parts
 
 pub of_one : {here : List ℕ} (words : List (List ℕ)) (a : Ask) (asks : List Ask) (rose cut : Type 0) (code : ℕ) (before after : List Entry) → asks ≡ a ∷ [] → IsExecuted words a
-    → (IsQuiet before → AreApart asks → Runs asks here rose code before after) → before ≡ [] → Executed words here rose cut code after
+    → (IsQuiet before → AreApart asks → Runs asks here rose cut code before after) → before ≡ [] → Executed words here rose cut code after
 of_one {here} words a asks rose cut code before after same is runs new =
     executed.ran (a ∷ []) [] after code (of_words a is)
-    (subst (λ b. Runs (a ∷ []) here rose code b after) new (subst (λ xs. Runs xs here rose code before after) same
+    (subst (λ b. Runs (a ∷ []) here rose cut code b after) new (subst (λ xs. Runs xs here rose cut code before after) same
     (runs (λ path. subst (Since (Spares path) []) (sym new) start) (subst AreApart (sym same) (one_apart words a is)))))
 
 pub of_starved : {here : List ℕ} (words : List (List ℕ)) (rose cut : Type 0) (code : ℕ) (before after : List Entry) → code ≡ 12 → Says (said [] [] end.NoMemory) cut before after → before ≡ []
@@ -84,11 +84,11 @@ of_starved {here} words rose cut code before after is says new =
     subst (λ n. Executed words here rose cut n after) (sym is) (executed.starved after (subst (λ b. Says (said [] [] end.NoMemory) cut b after) new says))
 
 pub of_batch : {here : List ℕ} (words : List (List ℕ)) (file : List ℕ) (common : Ask) (asks : List Ask) (rose cut : Type 0) (code : ℕ) (before read after : List Entry) → IsBatch words file common
-    → GivesAsks file common before (Ok asks) read → (IsQuiet read → AreApart asks → Runs asks here rose code read after) → before ≡ [] → Executed words here rose cut code after
+    → GivesAsks file common before (Ok asks) read → (IsQuiet read → AreApart asks → Runs asks here rose cut code read after) → before ≡ [] → Executed words here rose cut code after
 of_batch {here} words file common asks rose cut code before read after is (bytes, gives, entry) runs new =
     let begun : read ≡ file_read file (found.Whole bytes) [] = entry ∙ ap (λ b. file_read file (found.Whole bytes) b) new in
     executed.ran asks (file_read file (found.Whole bytes) []) after code (of_file file common bytes asks is gives)
-    (subst (λ b. Runs asks here rose code b after) begun
+    (subst (λ b. Runs asks here rose cut code b after) begun
     (runs (λ path. subst (Since (Spares path) []) (sym begun) (later start refl)) (file_apart file common bytes asks gives)))
 
 pub of_none : {here : List ℕ} (words : List (List ℕ)) (file : List ℕ) (common : Ask) (answer : Last) (line : List ℕ) (rose cut : Type 0) (code : ℕ) (before read after : List Entry)

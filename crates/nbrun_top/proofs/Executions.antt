@@ -29,11 +29,11 @@ use Rattle.job_begin.specs.Begun.{first_of, origin_of, IsCausedIn}
 use Rattle.job_begin.proofs.EndLemmas.{uncaused_in, unread_pass, unread_twelve, other_kernel, twelve_other}
 use Rattle.job_begin.specs.Begun.{HasKernel}
 use Rattle.batch_run.specs.Batch.{Makes, nothing, saves, IsNoPath, IsApart, LeavesOthers, CallsOfJobs, EndsChildren}
-use Rattle.world.specs.Parts.{OnSay, IsOf}
-use Rattle.said_lines.proofs.SpeechLemmas.{says_since}
 use Rattle.said_lines.specs.Speech.{Says}
+use Rattle.nbrun_top.specs.declared.end.End.TheVariants as end
 use Rattle.nbrun_top.specs.Ended.{Answers, plain}
-use Rattle.nbrun_top.specs.Executed.{DoesNotWrite, IsAlone, AreApart, IsSavedOnly, untouched, saved, IsQuiet, IsUnsaved, NoneWrites, Runs, first_fault}
+use Rattle.nbrun_top.specs.Executed.{DoesNotWrite, IsAlone, AreApart, IsSavedOnly, untouched, saved, IsQuiet, IsUnsaved, NoneWrites, EndsSpeech, silence, last_line, Runs, first_fault}
+use Rattle.nbrun_top.specs.Lines.{said}
 use Rattle.nbrun_top.specs.Ran.{IsUntouched}
 use Rattle.nbrun_top.proofs.Spared.{apart_from, says_spare, spared_moments, at_moment}
 use Rattle.nbrun_top.proofs.Statuses.{all_starved, starved_count, starved_fault, starved_at}
@@ -162,12 +162,12 @@ far_others (a ∷ rest) path long (suc k) b is =
     let last = length-append a.output (far rest) in
     far_others rest path (omega (arith, long, whole, next, last)) k b is
 
-module _ (asks : List Ask) (here : List ℕ) (rose : Type 0) (before done after : List Entry) (others : LeavesOthers asks before after) (quiet : IsQuiet before)
-    (alone : AreApart asks) (calls : CallsOfJobs asks here before done) (rest : Since (IsOf OnSay) done after) where
-  runs_with : (answers : List Answer) (code : ℕ) → length answers ≡ length asks
+module _ (asks : List Ask) (here : List ℕ) (rose cut : Type 0) (code : ℕ) (before done after : List Entry) (others : LeavesOthers asks before after) (quiet : IsQuiet before)
+    (alone : AreApart asks) (calls : CallsOfJobs asks here before done) (speech : EndsSpeech cut code done after) where
+  runs_with : (answers : List Answer) → length answers ≡ length asks
       → ((i : ℕ) (a : Ask) (answer : Answer) → slice_get asks i ≡ Some a → IsApart asks i a → slice_get answers i ≡ Some answer → IsSavedOnly a answer.status after)
-      → Answers rose (first_fault answers) code → (code ≢ 12 → EndsChildren asks before after) → Runs asks here rose code before after
-  runs_with answers code count jobs status children =
+      → Answers rose (first_fault answers) code → (code ≢ 12 → EndsChildren asks before after) → Runs asks here rose cut code before after
+  runs_with answers count jobs status children =
       let f = front (others (far asks) (far_others asks (far asks) (omega arith))) in
       record {
         answers = answers;
@@ -182,7 +182,7 @@ module _ (asks : List Ask) (here : List ℕ) (rose : Type 0) (before done after 
         status = status;
         done = done;
         calls = calls;
-        rest = rest;
+        speech = speech;
         children = children;
       }
 
@@ -190,20 +190,21 @@ module _ (asks : List Ask) (here : List ℕ) (rose : Type 0) (before done after 
 rested : (output : List ℕ) {before : List Entry} → IsQuiet before → IsRested output before
 rested output quiet = spared_rest output refl (quiet output)
 
-pub runs_done : {here : List ℕ} (asks : List Ask) (answers : List Answer) (old new : Counts) (rose : Type 0) (code : ℕ) (before after : List Entry)
+pub runs_done : {here : List ℕ} (asks : List Ask) (answers : List Answer) (old new : Counts) (rose cut : Type 0) (code : ℕ) (before after : List Entry)
     → LeavesOthers asks before after → CallsOfJobs asks here before after → EndsChildren asks before after
     → ((i : ℕ) (a : Ask) → slice_get asks i ≡ Some a → IsApart asks i a → IsRested a.output before → Makes a (slice_get answers i) old new before after)
-    → length answers ≡ length asks → Answers rose (first_fault answers) code → IsQuiet before → AreApart asks → Runs asks here rose code before after
-runs_done {here} asks answers old new rose code before after others calls children jobs count status quiet alone =
-    runs_with asks here rose before after after others quiet alone calls start answers code count
+    → length answers ≡ length asks → Answers rose (first_fault answers) code → IsQuiet before → AreApart asks → Runs asks here rose cut code before after
+runs_done {here} asks answers old new rose cut code before after others calls children jobs count status quiet alone =
+    runs_with asks here rose cut code before after after others quiet alone calls silence answers count
     (λ i a answer at apart is. saved_only a old new before after quiet answer (subst (λ o. Makes a o old new before after) is (jobs i a at apart (rested a.output quiet)))) status (λ other. children)
 
 pub runs_starved : {here : List ℕ} (asks : List Ask) (old mid new : Counts) (rose cut : Type 0) (line : List ℕ) (code : ℕ) (before past after : List Entry)
     → LeavesOthers asks before past → CallsOfJobs asks here before past
     → ((i : ℕ) (a : Ask) → slice_get asks i ≡ Some a → IsApart asks i a → IsRested a.output before → Makes a None old mid before past)
-    → CountsGrow mid new → Says line cut past after → 1 ≤ length asks → code ≡ 12 → IsQuiet before → AreApart asks → Runs asks here rose code before after
-runs_starved {here} asks old mid new rose cut line code before past after others calls jobs grow says some is quiet alone =
-    runs_with asks here rose before past after (λ path apart. says_spare path (others path apart) says) quiet alone calls (says_since says) (all_starved asks) code (starved_count asks)
+    → CountsGrow mid new → line ≡ said [] [] end.NoMemory → Says line cut past after → 1 ≤ length asks → code ≡ 12 → IsQuiet before → AreApart asks → Runs asks here rose cut code before after
+runs_starved {here} asks old mid new rose cut line code before past after others calls jobs grow text says some is quiet alone =
+    runs_with asks here rose cut code before past after (λ path apart. says_spare path (others path apart) says) quiet alone calls
+    (last_line is (subst (λ t. Says t cut past after) text says)) (all_starved asks) (starved_count asks)
     (λ i a answer at apart got. stopped_only a old new before after quiet answer.status (starved_at asks i answer got)
     (said_after a old mid new before past after (says_spare a.output start says) grow (jobs i a at apart (rested a.output quiet))))
     (subst (λ n. Answers rose n code) (sym (starved_fault asks some)) (subst (λ n. Answers rose 12 n) (sym is) (plain (λ zero_ failed. cc))))

@@ -19,7 +19,6 @@ use Rattle.save_course.specs.Course.{IsSavedSo}
 use Rattle.said_lines.specs.Speech.{Says}
 use Rattle.world.specs.Counts.{Counts, Rose}
 use Rattle.world.specs.Moments.{Since}
-use Rattle.world.specs.Parts.{OnSay, IsOf}
 use Rattle.world.specs.Touched.{Spares}
 use Rattle.job_end.specs.declared.answer.Answer.{Answer}
 use Rattle.job_begin.specs.Begun.{first_of, IsCausedIn, IsUnread, HasKernel}
@@ -124,9 +123,14 @@ first_fault answers = unwrap_or (option_map (λ (a : Answer). a.status) (find (�
 abbrev pub IsQuiet : List Entry → Type 0
 IsQuiet journal = (path : List ℕ) → Since (Spares path) [] journal
 
--- Jobs have run behind these entries, and the run ends with that status. `done`: when they had ended; behind that at most a
--- line is said. Each call was one of the loop or of one of the jobs, and each child that was started has its end.
-pub record Runs (asks : List Ask) (here : List ℕ) (rose : Type 0) (code : ℕ) (before after : List Entry) : Type 0 where
+-- behind the jobs nothing more is said, or where memory was refused the line that says so
+pub data EndsSpeech (cut : Type 0) (code : ℕ) (done : List Entry) : List Entry → Type 0 where
+  silence : EndsSpeech cut code done done
+  last_line : {after : List Entry} → code ≡ 12 → Says (said [] [] end.NoMemory) cut done after → EndsSpeech cut code done after
+
+-- Jobs have run behind these entries, and the run ends with that status. `done`: when they had ended, with what was said since.
+-- Each call was one of the loop or of one of the jobs, and each child that was started has its end.
+pub record Runs (asks : List Ask) (here : List ℕ) (rose cut : Type 0) (code : ℕ) (before after : List Entry) : Type 0 where
   pub answers : List Answer
   pub later : List Entry
   pub split : after ≡ later ++ before
@@ -134,7 +138,7 @@ pub record Runs (asks : List Ask) (here : List ℕ) (rose : Type 0) (code : ℕ)
   pub status : Answers rose (first_fault answers) code
   pub done : List Entry
   pub calls : CallsOfJobs asks here before done
-  pub rest : Since (IsOf OnSay) done after
+  pub speech : EndsSpeech cut code done after
   pub children : code ≢ 12 → EndsChildren asks before after
 
 -- a status of a run that executes comes only where the count of the calls that it tells of rose: 3 and 10 of the disk, 6 of the
@@ -156,7 +160,7 @@ StartRose counts old new = (Rose (counts old).rand (counts new).rand) ⊎ (Rose 
 -- The run in this working folder ended with that status: its jobs have run; or their file gives none, which was said; or memory was refused before
 -- anything was asked of the disk. `rose`: the count of failed says rose in it; `cut`: that count isn't 0 at its end.
 pub data Executed (words : List (List ℕ)) (here : List ℕ) (rose cut : Type 0) : ℕ → List Entry → Type 0 where
-  ran : (asks : List Ask) (begun after : List Entry) (code : ℕ) → AreJobs words asks begun → Runs asks here rose code begun after → Executed words here rose cut code after
+  ran : (asks : List Ask) (begun after : List Entry) (code : ℕ) → AreJobs words asks begun → Runs asks here rose cut code begun after → Executed words here rose cut code after
   none : (file : List ℕ) (common : Ask) (e : End) (on_disk after : List Entry) → IsBatch words file common → GivesNone file [] e on_disk
       → Says (said file (codes "nbrun") e) cut on_disk after → Executed words here rose cut (code_of e) after
   starved : (after : List Entry) → Says (said [] [] end.NoMemory) cut [] after → Executed words here rose cut 12 after

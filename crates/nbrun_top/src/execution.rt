@@ -71,7 +71,8 @@ fn run_all<W: World>(alloc: Global, asks: Asks, limits: &Limits, w: &mut W) -> u
     requires few { length asks ≤ 16 }
     requires runnable { AllByRecursion IsRunnable asks }
     ensures runs { Between W.journal w.old w.new (λ before after. IsQuiet before → AreApart asks →
-        Runs asks limits.now.here (SayRose W.counts w.old w.new) result before after) }
+        Runs asks limits.now.here (SayRose W.counts w.old w.new) (SayFailed W.counts w.new)
+        result before after) }
     ensures counted { IsCounted (W.counts w.old) (W.counts w.new) result }
     ensures waits { WaitsAtMost W.counts w.old w.new limits.now.turns }
     ensures heard { result ≡ 0 → SayRose W.counts w.old w.new → ⊥ }

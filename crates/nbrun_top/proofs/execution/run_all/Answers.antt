@@ -16,7 +16,7 @@ returns-in-Ok-clause-runs g c =
     let status = job_status c.say_faults-faults.result old.say new.say c.first_fault.result c.unless_not_said.result c.in-Ok.answers c.as_slice.result.now c.say_faults-faults.ensures
     c.first_fault.ensures c.as_slice.ensures c.unless_not_said.ensures.answers in
     told_as (told_both (told_both c.in-Ok.ensures.jobs c.in-Ok.ensures.others) (told_both c.in-Ok.ensures.calls (c.in-Ok.ensures.children refl))) (λ x y both quiet alone.
-    runs_done c.args.asks c.in-Ok.answers old new (Rose old.say new.say) c.unless_not_said.result x y both.0.1 both.1.0 both.1.1 both.0.0 c.in-Ok.ensures.one_each status quiet alone)
+    runs_done c.args.asks c.in-Ok.answers old new (Rose old.say new.say) (0 < new.say) c.unless_not_said.result x y both.0.1 both.1.0 both.1.1 both.0.0 c.in-Ok.ensures.one_each status quiet alone)
 
 pub returns-in-Err-clause-runs : goal.returns-in-Err-clause-runs
 returns-in-Err-clause-runs g c =
@@ -25,7 +25,7 @@ returns-in-Err-clause-runs g c =
     let new = g.W.Journal.counts c.starved.new.w in
     told_then (told_both (told_both c.in-Err.ensures.jobs c.in-Err.ensures.others) c.in-Err.ensures.calls) c.starved.ensures.says (λ x y z both says quiet alone.
     runs_starved c.args.asks old mid new (Rose old.say new.say) (0 < new.say) (said [] [] end.NoMemory) c.starved.result x y z both.0.1 both.1 both.0.0
-    (say_grows c.starved.ensures.counts) says c.requires.some c.starved.ensures.status quiet alone)
+    (say_grows c.starved.ensures.counts) refl says c.requires.some c.starved.ensures.status quiet alone)
 
 pub returns-in-Ok-clause-counted : goal.returns-in-Ok-clause-counted
 returns-in-Ok-clause-counted g c =

@@ -14,7 +14,7 @@ returns-in-Ok-clause-executed g c words is =
     let same = ap (λ k. Counts.say k) c.asks_in.ensures.counts.others in
     told_then c.in-Ok.ensures.entries c.run_all.ensures.runs (λ x y z gives runs empty.
     of_batch words c.args.file.now c.args.common.now c.in-Ok.asks (Rose (g.W.Journal.counts c.args.w.now).say new) (0 < new) c.run_all.result x y z is gives
-    (λ quiet alone. subst (λ k. Runs c.in-Ok.asks c.args.limits.now.here (Rose k new) c.run_all.result y z) same (runs quiet alone)) empty)
+    (λ quiet alone. subst (λ k. Runs c.in-Ok.asks c.args.limits.now.here (Rose k new) (0 < new) c.run_all.result y z) same (runs quiet alone)) empty)
 
 pub returns-in-Err-clause-executed : goal.returns-in-Err-clause-executed
 returns-in-Err-clause-executed g c words is =
