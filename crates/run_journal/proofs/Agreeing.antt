@@ -1,5 +1,5 @@
 -- The core's requests and those of the journal go on agreeing, event by event and entry by entry.
-use Rattle.std.proofs.Common.{◌≡◌, inl, inr, ℕ, zero, suc, ◌+◌, ◌<◌, ◌≤◌, List, [], ◌∷◌, ◌++◌, length, map, Bool, true, false, ◌&&◌, ◌||◌, not, cond, Option, Some, None, refl, sym, ◌∙◌, ap, subst, arith, length-append}
+use Rattle.std.proofs.Common.{◌≡◌, inl, inr, ℕ, zero, suc, ◌+◌, ◌<◌, ◌≤◌, List, [], ◌∷◌, ◌++◌, length, map, Bool, true, false, ◌&&◌, ◌||◌, not, cond, Option, Some, None, refl, sym, ◌∙◌, ap, subst, arith}
 use Rattle.std.specs.Prelude.{is_some, option_map, slice_get, IsSomeAnd, ◌==◌, nat_lt, filter}
 use Rattle.std.specs.List.{list_any}
 use Rattle.std.proofs.lemmas.List.{append-nil, length-map}
@@ -22,7 +22,7 @@ use Rattle.run_journal.specs.Requests.{Request, has_idle, first, reply, is_passe
 use Rattle.run_journal.specs.Agreement.{AgreesOn, Agrees, IsOther, moment, looked, lost, broken}
 use Rattle.run_journal.proofs.AlikeLooks.{arrive_nothing}
 use Rattle.run_journal.proofs.Isolation.{no_next}
-use Rattle.run_journal.proofs.Truths.{not_both}
+use Rattle.run_journal.proofs.Truths.{not_both, inside, and_true, one_longer}
 
 -- ---- the core's tests
 
@@ -88,10 +88,7 @@ get_below (x ∷ rs) (suc i) r e = let h = get_below rs i r e in omega (arith, h
 -- a request after a map is one before it
 pub get_mapped : (f : Request → Request) (rs : List Request) (i : ℕ) (r : Request) → slice_get (map f rs) i ≡ Some r → (q : Request) × (slice_get rs i ≡ Some q) × (r ≡ f q)
 get_mapped f [] i r e = cc
-get_mapped f (x ∷ rs) zero r e = (x, refl, inside e)
-  where
-    inside : {a b : Request} → Some a ≡ Some b → b ≡ a
-    inside e = cc
+get_mapped f (x ∷ rs) zero r e = (x, refl, sym (inside e))
 get_mapped f (x ∷ rs) (suc i) r e = get_mapped f rs i r e
 
 -- a request of a list with one more is one of the list, or the one more
@@ -104,10 +101,7 @@ in_more x rs q i r (before e) = before e
 in_more x rs q i r (last e f) = last (ap suc e) f
 
 pub get_pushed : (rs : List Request) (q : Request) (i : ℕ) (r : Request) → slice_get (rs ++ q ∷ []) i ≡ Some r → IsIn rs q i r
-get_pushed [] q zero r e = last refl (inside e)
-  where
-    inside : {a b : Request} → Some a ≡ Some b → b ≡ a
-    inside e = cc
+get_pushed [] q zero r e = last refl (sym (inside e))
 get_pushed [] q (suc i) r e = cc
 get_pushed (x ∷ rs) q zero r e = before e
 get_pushed (x ∷ rs) q (suc i) r e = in_more x rs q i r (get_pushed rs q i r e)
@@ -239,9 +233,6 @@ passed_agrees j k later r a =
 pub last_at : (j : Job) (k m : ℕ) (rs : List Request) (r : Request) → slice_get rs m ≡ Some r → length rs ≡ suc m → is_last_passed j k rs ≡ is_passed j (k + m) r
 last_at j k m [] r e l = cc
 last_at j k zero (x ∷ []) r e l = let n : k ≡ k + 0 = omega arith in ap (λ i. is_passed j i x) n ∙ ap (is_passed j (k + 0)) (inside e)
-  where
-    inside : {a b : Request} → Some a ≡ Some b → a ≡ b
-    inside e = cc
 last_at j k (suc m) (x ∷ []) r e l = cc
 last_at j k zero (x ∷ y ∷ rs) r e l = absurd (omega (arith, l))
 last_at j k (suc m) (x ∷ y ∷ rs) r e l =
@@ -305,10 +296,6 @@ module _ (j : Job) (entry : Entry) (told : List Event) (past : List Entry) where
         ∙ ap (λ n. is_ready j (entry ∷ past) && nat_lt 0 n) (sym saves_more)
         ∙ sym (and_true (is_ready j (entry ∷ past) && nat_lt 0 (acked j (entry ∷ past))) (nat_lt 0 (length j.task.plan)) (lt-ltb 0 (length j.task.plan) p))
         ∙ sym (next_first j (is_acknowledging j (entry ∷ past)) (is_ready j (entry ∷ past)) (acked j (entry ∷ past)) gone (gone_length ∙ l))
-      where
-        and_true : (x y : Bool) → y ≡ true → (x && y) ≡ x
-        and_true true y e = e
-        and_true false y e = refl
 
     -- a later one comes to stand for both
     later_both : (m : ℕ) → length (requests j past) ≡ suc m → stands_at j.task (suc m) (event.Saved ∷ told) ≡ next
@@ -400,7 +387,7 @@ module _ (j : Job) (entry : Entry) (told : List Event) (past : List Entry) where
     all_none : (k : ℕ) → k < length j.task.plan → length (requests j (entry ∷ past)) ≤ k → core.after j.task k (event.Saved ∷ told) ≡ None
     all_none k p h = elim (cases_Bool next) [
       | inl e ↦
-          let l : length (requests j (entry ∷ past)) ≡ length (requests j past) + 1 = ap length (cond-true next (gone ++ fresh_one ∷ []) gone e) ∙ pushed gone fresh_one ∙ ap (λ n. n + 1) gone_length in
+          let l : length (requests j (entry ∷ past)) ≡ length (requests j past) + 1 = ap length (cond-true next (gone ++ fresh_one ∷ []) gone e) ∙ one_longer gone fresh_one ∙ ap (λ n. n + 1) gone_length in
           none_by k p (omega (arith, l, h)) (none_beyond k p (omega (arith, l, h)) a)
       | inr e ↦
           let l : length (requests j (entry ∷ past)) ≡ length (requests j past) = ap length (cond-false next (gone ++ fresh_one ∷ []) gone e) ∙ gone_length in
@@ -413,9 +400,6 @@ module _ (j : Job) (entry : Entry) (told : List Event) (past : List Entry) where
           ])
     ]
       where
-        pushed : (rs : List Request) (q : Request) → length (rs ++ q ∷ []) ≡ length rs + 1
-        pushed rs q = length-append rs (q ∷ [])
-
         none_by : (k : ℕ) → k < length j.task.plan → length (requests j past) ≤ k → stands_at j.task k (event.Saved ∷ told) ≡ false → core.after j.task k (event.Saved ∷ told) ≡ None
         none_by k p m e = after_more j.task k event.Saved told ∙ none_more (stands_at j.task k) event.Saved told (core.after j.task k told) (a.none k p m) e
 

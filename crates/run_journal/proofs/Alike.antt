@@ -34,6 +34,21 @@ pub record Quiet (j : Job) (entry : Entry) : Type 0 where
   pub started : starts j entry ≡ false
   pub lost : ends j entry ≡ false
 
+-- by its parts
+pub quiet_by : (j : Job) (entry : Entry) → moment_of entry ≡ None → ((was : ℕ) → time_after entry was ≡ was) → is_wait entry ≡ false → ((c : Chan) (clock : ℕ) (s : Status) → status_after (place j c) clock entry s ≡ s)
+    → ((c : Chan) → ends_reading (place j c) entry ≡ false) → begins j entry ≡ false → closes j.number entry ≡ false → starts j entry ≡ false → ends j entry ≡ false → Quiet j entry
+quiet_by j entry clock time wait status ended begun closed started lost = record {
+  status = status;
+  clock = clock;
+  time = time;
+  wait = wait;
+  ended = ended;
+  begun = begun;
+  closed = closed;
+  started = started;
+  lost = lost;
+}
+
 -- two entries that are the same to the job
 pub record Same (j : Job) (entry own : Entry) : Type 0 where
   pub status : (c : Chan) (clock : ℕ) (s : Status) → status_after (place j c) clock own s ≡ status_after (place j c) clock entry s
@@ -97,7 +112,7 @@ alike_self j (entry ∷ p) = ours (same_self j entry) refl (alike_self j p)
 
 -- ---- an entry of another job is quiet
 
-chan_small : (c : Chan) → chan_number c < 4
+pub chan_small : (c : Chan) → chan_number c < 4
 chan_small Shell = omega arith
 chan_small Control = omega arith
 chan_small Iopub = omega arith
@@ -131,151 +146,21 @@ no_ack j dir did past e = and_right (syncs_folder j.output (made.DirSynced dir d
 
 -- an entry of another job is quiet
 pub quiet_if_foreign : (j : Job) (entry : Entry) (past : List Entry) → is_of j entry past ≡ false → Quiet j entry
-quiet_if_foreign j (made.Connected conn port how) past e = record {
-  status = λ c clock s. cond-false (is_at (place j c) conn) _ _ (away j c conn e);
-  clock = refl;
-  time = λ was. refl;
-  wait = refl;
-  ended = λ c. refl;
-  begun = e;
-  closed = refl;
-  started = refl;
-  lost = refl;
-}
-quiet_if_foreign j (made.Closed conn) past e = record {
-  status = λ c clock s. cond-false (is_at (place j c) conn) _ _ (away j c conn e);
-  clock = refl;
-  time = λ was. refl;
-  wait = refl;
-  ended = λ c. refl;
-  begun = refl;
-  closed = e;
-  started = refl;
-  lost = refl;
-}
-quiet_if_foreign j (made.Got conn room bytes) past e = record {
-  status = λ c clock s. cond-false (is_at (place j c) conn) _ _ (away j c conn e);
-  clock = refl;
-  time = λ was. refl;
-  wait = refl;
-  ended = λ c. refl;
-  begun = refl;
-  closed = refl;
-  started = refl;
-  lost = refl;
-}
-quiet_if_foreign j (made.Dry conn) past e = record {
-  status = λ c clock s. cond-false (is_at (place j c) conn) _ _ (away j c conn e);
-  clock = refl;
-  time = λ was. refl;
-  wait = refl;
-  ended = λ c. away j c conn e;
-  begun = refl;
-  closed = refl;
-  started = refl;
-  lost = refl;
-}
-quiet_if_foreign j (made.Ended conn by) past e = record {
-  status = λ c clock s. cond-false (is_at (place j c) conn) _ _ (away j c conn e);
-  clock = refl;
-  time = λ was. refl;
-  wait = refl;
-  ended = λ c. away j c conn e;
-  begun = refl;
-  closed = refl;
-  started = refl;
-  lost = e;
-}
-quiet_if_foreign j (made.Refused conn by) past e = record {
-  status = λ c clock s. cond-false (is_at (place j c) conn) _ _ (away j c conn e);
-  clock = refl;
-  time = λ was. refl;
-  wait = refl;
-  ended = λ c. away j c conn e;
-  begun = refl;
-  closed = refl;
-  started = refl;
-  lost = refl;
-}
-quiet_if_foreign j (made.ReadFailed conn) past e = record {
-  status = λ c clock s. cond-false (is_at (place j c) conn) _ _ (away j c conn e);
-  clock = refl;
-  time = λ was. refl;
-  wait = refl;
-  ended = λ c. refl;
-  begun = refl;
-  closed = refl;
-  started = refl;
-  lost = refl;
-}
-quiet_if_foreign j (made.Put conn bytes) past e = record {
-  status = λ c clock s. cond-false (is_at (place j c) conn) _ _ (away j c conn e);
-  clock = refl;
-  time = λ was. refl;
-  wait = refl;
-  ended = λ c. refl;
-  begun = refl;
-  closed = refl;
-  started = refl;
-  lost = refl;
-}
-quiet_if_foreign j (made.Stuck conn) past e = record {
-  status = λ c clock s. cond-false (is_at (place j c) conn) _ _ (away j c conn e);
-  clock = refl;
-  time = λ was. refl;
-  wait = refl;
-  ended = λ c. refl;
-  begun = refl;
-  closed = refl;
-  started = refl;
-  lost = refl;
-}
-quiet_if_foreign j (made.PutFailed conn) past e = record {
-  status = λ c clock s. cond-false (is_at (place j c) conn) _ _ (away j c conn e);
-  clock = refl;
-  time = λ was. refl;
-  wait = refl;
-  ended = λ c. refl;
-  begun = refl;
-  closed = refl;
-  started = refl;
-  lost = refl;
-}
+quiet_if_foreign j (made.Connected conn port how) past e = quiet_by j (made.Connected conn port how) refl (λ was. refl) refl (λ c clock s. cond-false (is_at (place j c) conn) _ _ (away j c conn e)) (λ c. refl) e refl refl refl
+quiet_if_foreign j (made.Closed conn) past e = quiet_by j (made.Closed conn) refl (λ was. refl) refl (λ c clock s. cond-false (is_at (place j c) conn) _ _ (away j c conn e)) (λ c. refl) refl e refl refl
+quiet_if_foreign j (made.Got conn room bytes) past e = quiet_by j (made.Got conn room bytes) refl (λ was. refl) refl (λ c clock s. cond-false (is_at (place j c) conn) _ _ (away j c conn e)) (λ c. refl) refl refl refl refl
+quiet_if_foreign j (made.Dry conn) past e = quiet_by j (made.Dry conn) refl (λ was. refl) refl (λ c clock s. cond-false (is_at (place j c) conn) _ _ (away j c conn e)) (λ c. away j c conn e) refl refl refl refl
+quiet_if_foreign j (made.Ended conn by) past e = quiet_by j (made.Ended conn by) refl (λ was. refl) refl (λ c clock s. cond-false (is_at (place j c) conn) _ _ (away j c conn e)) (λ c. away j c conn e) refl refl refl e
+quiet_if_foreign j (made.Refused conn by) past e = quiet_by j (made.Refused conn by) refl (λ was. refl) refl (λ c clock s. cond-false (is_at (place j c) conn) _ _ (away j c conn e)) (λ c. away j c conn e) refl refl refl refl
+quiet_if_foreign j (made.ReadFailed conn) past e = quiet_by j (made.ReadFailed conn) refl (λ was. refl) refl (λ c clock s. cond-false (is_at (place j c) conn) _ _ (away j c conn e)) (λ c. refl) refl refl refl refl
+quiet_if_foreign j (made.Put conn bytes) past e = quiet_by j (made.Put conn bytes) refl (λ was. refl) refl (λ c clock s. cond-false (is_at (place j c) conn) _ _ (away j c conn e)) (λ c. refl) refl refl refl refl
+quiet_if_foreign j (made.Stuck conn) past e = quiet_by j (made.Stuck conn) refl (λ was. refl) refl (λ c clock s. cond-false (is_at (place j c) conn) _ _ (away j c conn e)) (λ c. refl) refl refl refl refl
+quiet_if_foreign j (made.PutFailed conn) past e = quiet_by j (made.PutFailed conn) refl (λ was. refl) refl (λ c clock s. cond-false (is_at (place j c) conn) _ _ (away j c conn e)) (λ c. refl) refl refl refl refl
 quiet_if_foreign j (made.Waited ms reports did) past e = cc
 quiet_if_foreign j (made.Moment ms) past e = cc
-quiet_if_foreign j (made.Started job argv env dir did) past e = record {
-  status = λ c clock s. refl;
-  clock = refl;
-  time = λ was. refl;
-  wait = refl;
-  ended = λ c. refl;
-  begun = refl;
-  closed = refl;
-  started = e;
-  lost = refl;
-}
-quiet_if_foreign j (made.Looked job status) past e = record {
-  status = λ c clock s. refl;
-  clock = refl;
-  time = λ was. refl;
-  wait = refl;
-  ended = λ c. refl;
-  begun = refl;
-  closed = refl;
-  started = refl;
-  lost = ends_away j job status e;
-}
-quiet_if_foreign j _ past e = record {
-  status = λ c clock s. refl;
-  clock = refl;
-  time = λ was. refl;
-  wait = refl;
-  ended = λ c. refl;
-  begun = refl;
-  closed = refl;
-  started = refl;
-  lost = refl;
-}
+quiet_if_foreign j (made.Started job argv env dir did) past e = quiet_by j (made.Started job argv env dir did) refl (λ was. refl) refl (λ c clock s. refl) (λ c. refl) refl refl e refl
+quiet_if_foreign j (made.Looked job status) past e = quiet_by j (made.Looked job status) refl (λ was. refl) refl (λ c clock s. refl) (λ c. refl) refl refl refl (ends_away j job status e)
+quiet_if_foreign j _ past e = quiet_by j _ refl (λ was. refl) refl (λ c clock s. refl) (λ c. refl) refl refl refl refl
 
 -- and acknowledges none of the job's saves
 pub no_ack_if_foreign : (j : Job) (entry : Entry) (past : List Entry) → is_of j entry past ≡ false → is_acknowledging j (entry ∷ past) ≡ false

@@ -3,6 +3,7 @@ use Rattle.std.proofs.Common.{◌≡◌, inl, inr, ℕ, zero, suc, ◌+◌, ◌<
 use Rattle.std.specs.Prelude.{is_some, option_map, slice_get, slice_index, IsSomeAnd, ◌==◌, nat_lt, if◌then◌else◌}
 use Rattle.std.proofs.lemmas.List.{append-nil, map-append}
 use Rattle.std.proofs.lemmas.Bool.{and_parts, cond-true, cond-false, cases_Bool, eqb-true, eq-eqb, lt-ltb, false_from_ne_true}
+use Rattle.std.proofs.Math.Bool.{and-true}
 use Rattle.world.specs.declared.entry.Entry.{Entry}
 use Rattle.cell_core.specs.declared.event.Event.{Event}
 use Rattle.cell_core.specs.declared.why.Why.{Why}
@@ -10,19 +11,20 @@ use Rattle.cell_core.specs.Task.{Task, cell_of}
 use Rattle.cell_core.specs.Events as events
 use Rattle.cell_core.specs.Requests as core
 use Rattle.cell_core.specs.Saves as core_saves
+use Rattle.cell_core.specs.Laws.{settles as core_settles}
 use Rattle.out_fold.specs.declared.used.Used.{Used}
 use Rattle.run_journal.specs.Codec.{Arrival}
 use Rattle.run_journal.specs.Job.{Job}
 use Rattle.run_journal.specs.Parts.{acked}
 use Rattle.run_journal.specs.Requests.{Request, has_idle, reply, used, used_of, is_over, is_fatal, is_passed, is_last_passed, requests, last_request}
 use Rattle.run_journal.specs.Why.{are_acked, plain_count, plan_end, is_done, is_error, why}
-use Rattle.run_journal.specs.Saves.{Save, save, passes, last_cell, stop_save, stopping, is_complete, closing, run_saves}
+use Rattle.run_journal.specs.Saves.{Save, save, passes, last_cell, stop_save, stopping, is_complete, closing, run_saves, settled_by}
 use Rattle.run_journal.specs.Grow.{ArePassed}
 use Rattle.run_journal.specs.Agreement.{AgreesOn, Agrees}
 use Rattle.run_journal.proofs.Growth.{no_stop}
 use Rattle.run_journal.proofs.Safety.{all_but_last, few_requests}
 use Rattle.run_journal.proofs.Agreeing.{passed_agrees, known, get_some, last_at}
-use Rattle.run_journal.proofs.Truths.{not_both}
+use Rattle.run_journal.proofs.Truths.{not_both, inside, or_rest}
 
 -- ---- the last request
 
@@ -66,14 +68,7 @@ stands j told past a =
 
 -- ---- the saves of passed requests
 
--- how many cells each save settles
-abbrev settles : List Save → List ℕ
-settles ss = map (λ (s : Save). s.settled) ss
-
-abbrev core_settles : List core_saves.Prefix → List ℕ
-core_settles ps = map (λ (p : core_saves.Prefix). p.settled) ps
-
--- what the core settles by the requests from one number on, so many of them
+-- what the core settled_by by the requests from one number on, so many of them
 abbrev settles_from : Task → List Event → ℕ → ℕ → List ℕ
 settles_from task told k zero = []
 settles_from task told k (suc d) = (if core.is_passed_in (core.after task k told) then (cell_of task k + 1) ∷ [] else []) ++ settles_from task told (suc k) d
@@ -93,7 +88,7 @@ passes_from task told k (suc d) =
     ∙ ap (λ v. core_settles (core_saves.passes task k told) ++ v) (one_pass task k (core.is_passed_in (core.after task k told))))
     ∙ append_assoc (core_settles (core_saves.passes task k told)) _ (settles_from task told (suc k) d)
 
--- where none of them is passed the core settles nothing
+-- where none of them is passed the core settled_by nothing
 settles_none : (task : Task) (told : List Event) (k d : ℕ) → ((i : ℕ) → k ≤ i → i < k + d → core.is_passed_in (core.after task i told) ≡ false) → settles_from task told k d ≡ []
 settles_none task told k zero f = refl
 settles_none task told k (suc d) f =
@@ -124,21 +119,21 @@ none_passed j told past a i p h = ap core.is_passed_in (a.none i p h)
 
 -- the saves of passed requests settle the same
 passes_agree : (j : Job) (told : List Event) (past : List Entry) → Agrees j told past → (front : List Used) (k : ℕ) (plan : List ℕ) (rs : List Request) → From j past k plan rs → ArePassed j k rs
-    → settles (passes j front k plan rs) ≡ settles_from j.task told k (length plan)
+    → settled_by (passes j front k plan rs) ≡ settles_from j.task told k (length plan)
 passes_agree j told past a front k [] [] f o = refl
 passes_agree j told past a front k [] (r ∷ rs) f o = refl
 passes_agree j told past a front k (c ∷ plan) [] f o =
     sym (settles_none j.task told k (length (c ∷ plan)) (λ i g h. none_passed j told past a i (let p = f.plan_is in omega (arith, h, p)) (let l = f.length_is in omega (arith, l, g))))
 passes_agree j told past a front k (c ∷ plan) (r ∷ rs) f o = elim (cases_Bool (is_passed j k r)) [
   | inl e ↦
-      ap settles (cond-true (is_passed j k r) (first_save ∷ passes j front_on (k + 1) plan rs) [] e)
-      ∙ ap (λ m. (c + 1) ∷ settles (passes j front_on m plan rs)) one_more
+      ap settled_by (cond-true (is_passed j k r) (first_save ∷ passes j front_on (k + 1) plan rs) [] e)
+      ∙ ap (λ m. (c + 1) ∷ settled_by (passes j front_on m plan rs)) one_more
       ∙ ap (λ v. (c + 1) ∷ v) (passes_agree j told past a front_on (suc k) plan rs (from_next j past k c plan r rs f) (passed_on rs o))
       ∙ ap (λ n. (n + 1) ∷ settles_from j.task told (suc k) (length plan)) (sym cell_is)
       ∙ sym (ap (λ b. cond b ((cell_of j.task k + 1) ∷ []) [] ++ settles_from j.task told (suc k) (length plan)) (known_now ∙ e))
   | inr e ↦
       let no : rs ≡ [] = alone rs o e in
-      ap settles (cond-false (is_passed j k r) (first_save ∷ passes j front_on (k + 1) plan rs) [] e)
+      ap settled_by (cond-false (is_passed j k r) (first_save ∷ passes j front_on (k + 1) plan rs) [] e)
       ∙ sym (ap (λ b. cond b ((cell_of j.task k + 1) ∷ []) [] ++ settles_from j.task told (suc k) (length plan)) (known_now ∙ e)
       ∙ settles_none j.task told (suc k) (length plan) (λ i g h.
       none_passed j told past a i (let p = f.plan_is in omega (arith, h, p)) (let l = f.length_is in let z : length rs ≡ 0 = ap length no in omega (arith, l, z, g))))
@@ -173,9 +168,6 @@ passes_agree j told past a front k (c ∷ plan) (r ∷ rs) f o = elim (cases_Boo
 index_is : (xs : List ℕ) (i x : ℕ) → slice_get xs i ≡ Some x → slice_index xs i ≡ x
 index_is [] i x e = cc
 index_is (y ∷ xs) zero x e = inside e
-  where
-    inside : {a b : ℕ} → Some a ≡ Some b → a ≡ b
-    inside e = cc
 index_is (y ∷ xs) (suc i) x e = index_is xs i x e
 
 from_start : (j : Job) (past : List Entry) → From j past 0 j.task.plan (requests j past)
@@ -187,7 +179,7 @@ from_start j past = record {
 }
 
 -- the saves of passed requests are the same for both
-pub passes_same : (j : Job) (told : List Event) (past : List Entry) → Agrees j told past → core_settles (core_saves.passes j.task (length j.task.plan) told) ≡ settles (passes j [] 0 j.task.plan (requests j past))
+pub passes_same : (j : Job) (told : List Event) (past : List Entry) → Agrees j told past → core_settles (core_saves.passes j.task (length j.task.plan) told) ≡ settled_by (passes j [] 0 j.task.plan (requests j past))
 passes_same j told past a =
     let n : length j.task.plan ≡ 0 + length j.task.plan = omega arith in
     ap (λ m. core_settles (core_saves.passes j.task m told)) n
@@ -252,31 +244,27 @@ end_is n (i ∷ k ∷ plan) = end_is n (k ∷ plan)
 
 -- where each request is passed, each cell of the plan has its save
 all_settle : (j : Job) (front : List Used) (k : ℕ) (plan : List ℕ) (rs : List Request) → length rs ≡ length plan → ArePassed j k rs → ((x : Request) (xs : List Request) → rs ≡ x ∷ xs → is_last_passed j k rs ≡ true)
-    → settles (passes j front k plan rs) ≡ map (λ i. i + 1) plan
+    → settled_by (passes j front k plan rs) ≡ map (λ i. i + 1) plan
 all_settle j front k [] [] l o h = refl
 all_settle j front k [] (r ∷ rs) l o h = cc
 all_settle j front k (c ∷ plan) [] l o h = cc
 all_settle j front k (c ∷ plan) (r ∷ []) l o h =
-    ap settles (cond-true (is_passed j k r) (save j (front ++ used c r ∷ []) (c + 1) None ∷ passes j (front ++ used c r ∷ []) (k + 1) plan []) [] (h r [] refl))
+    ap settled_by (cond-true (is_passed j k r) (save j (front ++ used c r ∷ []) (c + 1) None ∷ passes j (front ++ used c r ∷ []) (k + 1) plan []) [] (h r [] refl))
     ∙ ap (λ v. (c + 1) ∷ v) (all_settle j (front ++ used c r ∷ []) (k + 1) plan [] (omega (arith, l)) tt (λ x xs e. cc))
 all_settle j front k (c ∷ plan) (r ∷ s ∷ rs) l o h =
-    ap settles (cond-true (is_passed j k r) (save j (front ++ used c r ∷ []) (c + 1) None ∷ passes j (front ++ used c r ∷ []) (k + 1) plan (s ∷ rs)) [] o.0)
+    ap settled_by (cond-true (is_passed j k r) (save j (front ++ used c r ∷ []) (c + 1) None ∷ passes j (front ++ used c r ∷ []) (k + 1) plan (s ∷ rs)) [] o.0)
     ∙ ap (λ v. (c + 1) ∷ v) (all_settle j (front ++ used c r ∷ []) (k + 1) plan (s ∷ rs) (omega (arith, l)) o.1 (λ x xs e. h r (s ∷ rs) refl))
 
-complete_settles : (j : Job) (past : List Entry) → is_complete j (requests j past) ≡ true → settles (passes j [] 0 j.task.plan (requests j past)) ≡ map (λ i. i + 1) j.task.plan
+complete_settles : (j : Job) (past : List Entry) → is_complete j (requests j past) ≡ true → settled_by (passes j [] 0 j.task.plan (requests j past)) ≡ map (λ i. i + 1) j.task.plan
 complete_settles j past e =
     let p = and_parts (length (requests j past) == length j.task.plan) (length j.task.plan == 0 || is_last_passed j 0 (requests j past)) e in
     let l : length (requests j past) ≡ length j.task.plan = eqb-true (length (requests j past)) (length j.task.plan) p.0 in
     all_settle j [] 0 j.task.plan (requests j past) l (all_but_last j past) (λ x xs f.
-    or_right (length j.task.plan == 0) (is_last_passed j 0 (requests j past)) p.1
+    or_rest (length j.task.plan == 0) (is_last_passed j 0 (requests j past)) p.1
     (false_from_ne_true (length j.task.plan == 0) (λ z. let n : length j.task.plan ≡ 0 = eqb-true (length j.task.plan) 0 z in let g : length (requests j past) ≡ suc (length xs) = ap length f in absurd (omega (arith, l, n, g)))))
-  where
-    or_right : (x y : Bool) → (x || y) ≡ true → x ≡ false → y ≡ true
-    or_right true y e f = cc
-    or_right false y e f = e
 
 -- the save of the whole notebook is due for both
-closing_same : (j : Job) (told : List Event) (past : List Entry) → Agrees j told past → core_settles (core_saves.closing j.task told) ≡ settles (closing j (requests j past))
+closing_same : (j : Job) (told : List Event) (past : List Entry) → Agrees j told past → core_settles (core_saves.closing j.task told) ≡ settled_by (closing j (requests j past))
 closing_same j told past a =
     ap (λ b. core_settles (cond (b && nat_lt (core_saves.last_settled 0 (core_saves.passes j.task (length j.task.plan) told)) j.task.cells) (record { settled = j.task.cells; stopping_cell = None } ∷ []) []))
     (whole_same j told past (core.standing j.task told) (stands j told past a))
@@ -288,10 +276,10 @@ closing_same j told past a =
           ∙ by (is_complete j (requests j past) && nat_lt (plan_end j.task.plan) j.task.cells)
       | inr e ↦
           ap (λ b. core_settles (cond (b && nat_lt (core_saves.last_settled 0 (core_saves.passes j.task (length j.task.plan) told)) j.task.cells) (record { settled = j.task.cells; stopping_cell = None } ∷ []) [])) e
-          ∙ sym (ap (λ b. settles (cond (b && nat_lt (plan_end j.task.plan) j.task.cells) (save j (used_of j.task.plan (requests j past)) j.task.cells None ∷ []) [])) e)
+          ∙ sym (ap (λ b. settled_by (cond (b && nat_lt (plan_end j.task.plan) j.task.cells) (save j (used_of j.task.plan (requests j past)) j.task.cells None ∷ []) [])) e)
     ]
   where
-    by : (b : Bool) → core_settles (cond b (record { settled = j.task.cells; stopping_cell = None } ∷ []) []) ≡ settles (cond b (save j (used_of j.task.plan (requests j past)) j.task.cells None ∷ []) [])
+    by : (b : Bool) → core_settles (cond b (record { settled = j.task.cells; stopping_cell = None } ∷ []) []) ≡ settled_by (cond b (save j (used_of j.task.plan (requests j past)) j.task.cells None ∷ []) [])
     by true = refl
     by false = refl
 
@@ -307,14 +295,14 @@ last_cell_is j past k (suc m) (c ∷ plan) (r ∷ s ∷ rs) f l h =
     let n : suc k + m ≡ k + suc m = omega arith in
     last_cell_is j past (suc k) m plan (s ∷ rs) (from_next j past k c plan r (s ∷ rs) f) (omega (arith, l)) (omega (arith, h)) ∙ ap (λ i. Some (cell_of j.task i)) n
 
-stopping_same : (j : Job) (told : List Event) (past : List Entry) (o : Option core.Standing) → Stands j told past o → (w : Option Why) → core_settles (core_saves.stopping j.task o w) ≡ settles (stopping j (requests j past) w)
+stopping_same : (j : Job) (told : List Event) (past : List Entry) (o : Option core.Standing) → Stands j told past o → (w : Option Why) → core_settles (core_saves.stopping j.task o w) ≡ settled_by (stopping j (requests j past) w)
 stopping_same j told past None (nothing l) w =
-    sym (ap settles (ap (λ rs. stopping j rs w) (no_length (requests j past) l) ∙ no_stop j w))
+    sym (ap settled_by (ap (λ rs. stopping j rs w) (no_length (requests j past) l) ∙ no_stop j w))
 stopping_same j told past (Some _) (last m q later l e b) None = refl
 stopping_same j told past (Some _) (last m q later l e b) (Some cause) =
     ap (λ x. core_settles (cond (core_saves.is_stop cause) (cond x [] (stop ∷ [])) [])) (last_same j past m q later l e b)
     ∙ by (core_saves.is_stop cause) (is_last_passed j 0 (requests j past))
-    ∙ ap (λ x. settles (cond (core_saves.is_stop cause && not (is_last_passed j 0 (requests j past))) (stop_save j (requests j past) x) [])) (sym cell)
+    ∙ ap (λ x. settled_by (cond (core_saves.is_stop cause && not (is_last_passed j 0 (requests j past))) (stop_save j (requests j past) x) [])) (sym cell)
   where
     stop : core_saves.Prefix
     stop = record { settled = cell_of j.task m + 1; stopping_cell = Some (cell_of j.task m) }
@@ -325,7 +313,7 @@ stopping_same j told past (Some _) (last m q later l e b) (Some cause) =
         let z : 0 + m ≡ m = omega arith in
         last_cell_is j past 0 m j.task.plan (requests j past) (from_start j past) l (let g = few.1 in omega (arith, l, g)) ∙ ap (λ i. Some (cell_of j.task i)) z
 
-    by : (s p : Bool) → core_settles (cond s (cond p [] (stop ∷ [])) []) ≡ settles (cond (s && not p) (stop_save j (requests j past) (Some (cell_of j.task m))) [])
+    by : (s p : Bool) → core_settles (cond s (cond p [] (stop ∷ [])) []) ≡ settled_by (cond (s && not p) (stop_save j (requests j past) (Some (cell_of j.task m))) [])
     by true true = refl
     by true false = refl
     by false p = refl
@@ -334,7 +322,7 @@ stopping_same j told past (Some _) (last m q later l e b) (Some cause) =
 
 -- where the causes agree too, the saves that the core asks for settle what those that are due settle
 pub saves_agree : (j : Job) (told : List Event) (past : List Entry) → Agrees j told past → core_saves.why j.task told ≡ why j past
-    → core_settles (core_saves.saves j.task told) ≡ settles (run_saves j (requests j past) (why j past))
+    → core_settles (core_saves.saves j.task told) ≡ settled_by (run_saves j (requests j past) (why j past))
 saves_agree j told past a w =
     let P = core_saves.passes j.task (length j.task.plan) told in
     let S = core_saves.stopping j.task (core.standing j.task told) (core_saves.why j.task told) in
@@ -342,11 +330,11 @@ saves_agree j told past a w =
     map-append (λ (p : core_saves.Prefix). p.settled) ((core_saves.prepared ∷ P) ++ S) C
     ∙ ap (λ v. v ++ core_settles C) (map-append (λ (p : core_saves.Prefix). p.settled) (core_saves.prepared ∷ P) S)
     ∙ ap (λ v. ((0 ∷ v) ++ core_settles S) ++ core_settles C) (passes_same j told past a)
-    ∙ ap (λ v. ((0 ∷ settles (passes j [] 0 j.task.plan (requests j past))) ++ v) ++ core_settles C)
+    ∙ ap (λ v. ((0 ∷ settled_by (passes j [] 0 j.task.plan (requests j past))) ++ v) ++ core_settles C)
     (ap (λ x. core_settles (core_saves.stopping j.task (core.standing j.task told) x)) w ∙ stopping_same j told past (core.standing j.task told) (stands j told past a) (why j past))
-    ∙ ap (λ v. ((0 ∷ settles (passes j [] 0 j.task.plan (requests j past))) ++ settles (stopping j (requests j past) (why j past))) ++ v) (closing_same j told past a)
+    ∙ ap (λ v. ((0 ∷ settled_by (passes j [] 0 j.task.plan (requests j past))) ++ settled_by (stopping j (requests j past) (why j past))) ++ v) (closing_same j told past a)
     ∙ sym (map-append (λ (s : Save). s.settled) ((save j [] 0 None ∷ passes j [] 0 j.task.plan (requests j past)) ++ stopping j (requests j past) (why j past)) (closing j (requests j past))
-    ∙ ap (λ v. v ++ settles (closing j (requests j past))) (map-append (λ (s : Save). s.settled) (save j [] 0 None ∷ passes j [] 0 j.task.plan (requests j past)) (stopping j (requests j past) (why j past))))
+    ∙ ap (λ v. v ++ settled_by (closing j (requests j past))) (map-append (λ (s : Save). s.settled) (save j [] 0 None ∷ passes j [] 0 j.task.plan (requests j past)) (stopping j (requests j past) (why j past))))
 
 -- ---- the causes that requests tell
 
@@ -354,9 +342,6 @@ saves_agree j told past a w =
 pub last_numbered : (k m : ℕ) (rs : List Request) (q : Request) → length rs ≡ suc m → slice_get rs m ≡ Some q → last_request k rs ≡ Some (k + m, q)
 last_numbered k m [] q l e = cc
 last_numbered k zero (x ∷ []) q l e = let n : k ≡ k + 0 = omega arith in ap (λ i. Some (i, x)) n ∙ ap (λ y. Some (k + 0, y)) (inside e)
-  where
-    inside : {a b : Request} → Some a ≡ Some b → a ≡ b
-    inside e = cc
 last_numbered k (suc m) (x ∷ []) q l e = cc
 last_numbered k zero (x ∷ y ∷ rs) q l e = absurd (omega (arith, l))
 last_numbered k (suc m) (x ∷ y ∷ rs) q l e =
@@ -391,11 +376,7 @@ pub done_same : (j : Job) (told : List Event) (past : List Entry) → Agrees j t
 done_same j told past a p =
     let some : (length j.task.plan == 0) ≡ false = false_from_ne_true (length j.task.plan == 0) (λ f. let n : length j.task.plan ≡ 0 = eqb-true (length j.task.plan) 0 f in absurd (omega (arith, p, n))) in
     ap (λ b. core_saves.is_whole j.task (core.standing j.task told) && (b || length (core_saves.planned j.task told) == events.acked told)) (lt-ltb 0 (length j.task.plan) p)
-    ∙ and_true (core_saves.is_whole j.task (core.standing j.task told))
+    ∙ and-true (core_saves.is_whole j.task (core.standing j.task told))
     ∙ whole_same j told past (core.standing j.task told) (stands j told past a)
     ∙ ap (λ b. length (requests j past) == length j.task.plan && (b || is_last_passed j 0 (requests j past))) some
     ∙ sym (cond-false (length j.task.plan == 0) (are_acked (plain_count j j.given) (acked j past)) (length (requests j past) == length j.task.plan && is_last_passed j 0 (requests j past)) some)
-  where
-    and_true : (x : Bool) → (x && true) ≡ x
-    and_true true = refl
-    and_true false = refl

@@ -1,8 +1,8 @@
 -- By the loop's rules no clock entry comes after the stop, so the core's clock is the journal's wherever it counts.
 use Rattle.std.proofs.Common.{◌≡◌, inl, inr, ℕ, ◌<◌, List, [], ◌∷◌, ◌++◌, length, Bool, true, false, ◌&&◌, ◌||◌, not, cond, Option, Some, None, refl, sym, ◌∙◌, ap, arith}
 use Rattle.std.specs.Prelude.{is_some, if◌then◌else◌, nat_lt, ◌==◌}
-use Rattle.std.specs.List.{list_any}
 use Rattle.std.proofs.lemmas.Bool.{and_parts, or_parts, cases_Bool, cond-true, cond-false, cond_both, eqb-true, false_from_ne_true, not-true}
+use Rattle.std.proofs.Math.Bool.{and-not_self}
 use Rattle.world.specs.declared.chan.Chan.{Chan}
 use Rattle.world.specs.declared.connected.Connected.{Connected}
 use Rattle.world.specs.declared.connected.Connected.TheVariants as connected
@@ -19,7 +19,6 @@ use Rattle.cell_core.specs.declared.why.Why.{Why}
 use Rattle.run_journal.specs.Job.{Job}
 use Rattle.run_journal.specs.Parts.{channels, place, connection, bytes_got, turn_clock, acked, is_acknowledging, is_running}
 use Rattle.run_journal.specs.Arrivals.{is_ready}
-use Rattle.run_journal.specs.Looks.{shows_lost}
 use Rattle.run_journal.specs.Requests.{is_broken, requests, last_request}
 use Rattle.run_journal.specs.Why.{is_done, is_error, why}
 use Rattle.run_journal.specs.Due.{all_along}
@@ -29,9 +28,9 @@ use Rattle.run_journal.specs.Course.{begins_at, clock_event, when_so, ends_look,
 use Rattle.run_journal.specs.Agreement.{IsAmong, BringsNothing, Flows, told_on, is_dated, at_once, draws, drawn_clock, starts_in_turn, holds_no_clock}
 use Rattle.run_journal.proofs.Agreeing.{agree_unheard, ready_unheard}
 use Rattle.run_journal.proofs.Hearing.{none_unready}
-use Rattle.run_journal.proofs.Flowing.{Tells, front, tell_front, rest_at, core_at, events_are, core_nothing, course_agrees}
+use Rattle.run_journal.proofs.Flowing.{Tells, front, tell_front, rest_at, core_at, events_are, core_nothing, course_agrees, lost_at, look_at, broken_at, turn_at}
 use Rattle.run_journal.proofs.Asking.{done_same, error_same}
-use Rattle.run_journal.proofs.Telling.{came_append, add_none, none_when, none_core, any_none}
+use Rattle.run_journal.proofs.Telling.{came_append, add_none, none_when, none_core, any_none, unheld}
 use Rattle.run_journal.proofs.Dating.{Seen, seen, see, run, run_append, seen_on, now_is, whole, clocks_at, late_undated}
 use Rattle.run_journal.proofs.Dropping.{stops, tell_mute, stop_saved, held_none, dropped, whole_told}
 use Rattle.run_journal.proofs.Lasting.{once_rows}
@@ -44,6 +43,7 @@ use Rattle.run_journal.proofs.Showing.{Shown, at, look, shown}
 use Rattle.run_journal.proofs.Keeping.{stopped_cause}
 use Rattle.run_journal.proofs.Settling.{Given, given_before, unstopped_at}
 use Rattle.run_journal.proofs.Truths.{not_both}
+use Rattle.run_journal.proofs.AlikeLooks.{any_agree}
 
 -- ---- before the first wait nothing is read
 
@@ -135,11 +135,7 @@ wait_unacked j _ past w = cc
 
 pub broken_as : (j : Job) (entry : Entry) (past : List Entry) → BringsNothing j entry past → is_broken j (entry ∷ past) ≡ is_broken j past
 unfolding is_broken
-broken_as j entry past b = any_as (λ c. is_some (j.codec.fault c (bytes_got j c (entry ∷ past)))) (λ c. is_some (j.codec.fault c (bytes_got j c past))) (λ c. ap (λ bs. is_some (j.codec.fault c bs)) (b c)) channels
-  where
-    any_as : (f g : Chan → Bool) → ((c : Chan) → f c ≡ g c) → (cs : List Chan) → list_any f cs ≡ list_any g cs
-    any_as f g e [] = refl
-    any_as f g e (c ∷ cs) = ap (λ v. v || list_any f cs) (e c) ∙ ap (λ v. g c || v) (any_as f g e cs)
+broken_as j entry past b = any_agree (λ c. is_some (j.codec.fault c (bytes_got j c (entry ∷ past)))) (λ c. is_some (j.codec.fault c (bytes_got j c past))) (λ c. ap (λ bs. is_some (j.codec.fault c bs)) (b c)) channels
 
 -- so it stops nothing at once
 wait_once : (j : Job) (entry : Entry) (past : List Entry) → 0 < length j.task.plan → Flows j past → is_wait entry ≡ true → is_some (at_once (why j (entry ∷ past))) ≡ is_some (at_once (why j past))
@@ -173,28 +169,16 @@ pub events_clock : (j : Job) (entry : Entry) (past : List Entry) → events.came
 events_clock j entry past none =
     ap (events.came events.is_moment) (events_are j entry past (course j past).late)
     ∙ add_none events.is_moment (core_at j entry past) (rest_at j entry past (course j past).late) false (none_core events.is_moment j entry past (λ b. refl) (λ f. refl) refl)
-    (add_none events.is_moment (((broken ++ begins_at j entry past) ++ turn) ++ lost) look_es false
-    (add_none events.is_moment ((broken ++ begins_at j entry past) ++ turn) lost false
-    (add_none events.is_moment (broken ++ begins_at j entry past) turn false
-    (add_none events.is_moment broken (begins_at j entry past) false (none_when events.is_moment _ event.Broken refl) parts.0) parts.1)
+    (add_none events.is_moment (((broken_at j entry past ++ begins_at j entry past) ++ turn_at j entry past) ++ lost_at j entry past) (look_at j entry past (course j past).late) false
+    (add_none events.is_moment ((broken_at j entry past ++ begins_at j entry past) ++ turn_at j entry past) (lost_at j entry past) false
+    (add_none events.is_moment (broken_at j entry past ++ begins_at j entry past) (turn_at j entry past) false
+    (add_none events.is_moment (broken_at j entry past) (begins_at j entry past) false (none_when events.is_moment _ event.Broken refl) parts.0) parts.1)
     (none_when events.is_moment _ event.Lost refl))
     (cond_both (ends_look j entry past) (event.Looked ∷ (course j past).late ++ when_so (is_late j entry past) event.Lost) [] (λ es. events.came events.is_moment es ≡ false)
     (λ h. add_none events.is_moment (course j past).late _ false (undated_unclocked (course j past).late (late_undated j past)) (none_when events.is_moment (is_late j entry past) event.Lost refl)) (λ h. refl)))
   where
-    broken : List Event
-    broken = when_so (is_broken j (entry ∷ past) && not (is_broken j past)) event.Broken
-
-    turn : List Event
-    turn = if is_running j past then clock_event (turn_clock (entry ∷ past)) else []
-
-    lost : List Event
-    lost = when_so (shows_lost j (entry ∷ past) && not (is_late j entry past)) event.Lost
-
-    look_es : List Event
-    look_es = if ends_look j entry past then event.Looked ∷ (course j past).late ++ when_so (is_late j entry past) event.Lost else []
-
-    parts : (events.came events.is_moment (begins_at j entry past) ≡ false) × (events.came events.is_moment turn ≡ false)
-    parts = or_parts (events.came events.is_moment (begins_at j entry past)) (events.came events.is_moment turn) (sym (came_append events.is_moment (begins_at j entry past) turn) ∙ none)
+    parts : (events.came events.is_moment (begins_at j entry past) ≡ false) × (events.came events.is_moment (turn_at j entry past) ≡ false)
+    parts = or_parts (events.came events.is_moment (begins_at j entry past)) (events.came events.is_moment (turn_at j entry past)) (sym (came_append events.is_moment (begins_at j entry past) (turn_at j entry past)) ∙ none)
 
 -- ---- what is told
 
@@ -292,31 +276,19 @@ gives_clock j _ past e = absurd (no_turn (is_running j past) (has_wait past) e)
 
 module _ (j : Job) (entry : Entry) (past : List Entry) (g : GivesClock j entry past) where
   abbrev pub behind : List Event
-  behind =
-      when_so (shows_lost j (entry ∷ past) && not (is_late j entry past)) event.Lost
-      ++ (if ends_look j entry past then event.Looked ∷ (course j past).late ++ when_so (is_late j entry past) event.Lost else [])
+  behind = lost_at j entry past ++ look_at j entry past (course j past).late
 
   pub gives_first : events_at j entry past (course j past).late ≡ event.Moment g.ms ∷ behind
   gives_first =
       events_are j entry past (course j past).late
       ∙ ap (λ v. v ++ rest_at j entry past (course j past).late) (core_nothing j entry past g.nothing)
-      ∙ ap (λ b. when_so (b && not (is_broken j past)) event.Broken ++ begins_at j entry past ++ (if is_running j past then clock_event (turn_clock (entry ∷ past)) else []) ++ behind_lost ++ behind_look) (broken_as j entry past g.nothing)
-      ∙ ap (λ b. when_so b event.Broken ++ begins_at j entry past ++ (if is_running j past then clock_event (turn_clock (entry ∷ past)) else []) ++ behind_lost ++ behind_look) (none (is_broken j past))
-      ∙ ap (λ v. (v ++ behind_lost) ++ behind_look) g.clocks
-    where
-      none : (b : Bool) → (b && not b) ≡ false
-      none true = refl
-      none false = refl
-
-      behind_lost : List Event
-      behind_lost = when_so (shows_lost j (entry ∷ past) && not (is_late j entry past)) event.Lost
-
-      behind_look : List Event
-      behind_look = if ends_look j entry past then event.Looked ∷ (course j past).late ++ when_so (is_late j entry past) event.Lost else []
+      ∙ ap (λ b. when_so (b && not (is_broken j past)) event.Broken ++ begins_at j entry past ++ turn_at j entry past ++ lost_at j entry past ++ look_at j entry past (course j past).late) (broken_as j entry past g.nothing)
+      ∙ ap (λ b. when_so b event.Broken ++ begins_at j entry past ++ turn_at j entry past ++ lost_at j entry past ++ look_at j entry past (course j past).late) (and-not_self (is_broken j past))
+      ∙ ap (λ v. (v ++ lost_at j entry past) ++ look_at j entry past (course j past).late) g.clocks
 
   pub behind_none : events.came events.is_moment behind ≡ false
   behind_none =
-      add_none events.is_moment (when_so (shows_lost j (entry ∷ past) && not (is_late j entry past)) event.Lost) _ false (none_when events.is_moment _ event.Lost refl)
+      add_none events.is_moment (lost_at j entry past) _ false (none_when events.is_moment _ event.Lost refl)
       (cond_both (ends_look j entry past) (event.Looked ∷ (course j past).late ++ when_so (is_late j entry past) event.Lost) [] (λ es. events.came events.is_moment es ≡ false)
       (λ h. add_none events.is_moment (course j past).late _ false (undated_unclocked (course j past).late (late_undated j past)) (none_when events.is_moment (is_late j entry past) event.Lost refl)) (λ h. refl))
 
@@ -383,7 +355,7 @@ module _ (jobs : List Job) (j : Job) (dec : IsDecoding j.codec) (plan : 0 < leng
             ∙ events_clock j entry past (stopped_clock entry past g s)
         | inr s ↦ elim (cases_Bool (events.came events.is_moment (clocks_at j entry past))) [
           | inl e ↦ first s (gives_clock j entry past e)
-          | inr e ↦ tell_none j events.is_moment told0 late0 (c.held ++ es) (add_none events.is_moment c.held es false (unheld past p.1) (events_clock j entry past e))
+          | inr e ↦ tell_none j events.is_moment told0 late0 (c.held ++ es) (add_none events.is_moment c.held es false (unheld j past p.1) (events_clock j entry past e))
         ]
       ]
     where
@@ -404,10 +376,6 @@ module _ (jobs : List Job) (j : Job) (dec : IsDecoding j.codec) (plan : 0 < leng
 
       late0 : List Event
       late0 = late_then j entry past c.late
-
-      unheld : (past : List Entry) → all_along (holds_no_clock j) past ≡ true → events.came events.is_moment (course j past).held ≡ false
-      unheld [] f = refl
-      unheld (x ∷ past) f = not-true (events.came events.is_moment (course j (x ∷ past)).held) (and_parts (holds_no_clock j (x ∷ past)) (all_along (holds_no_clock j) past) f).0
 
       first : stops j c.told ≡ false → GivesClock j entry past → events.came events.is_moment (course j (entry ∷ past)).unheard ≡ false
       first s v =

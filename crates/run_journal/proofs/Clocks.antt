@@ -27,17 +27,14 @@ use Rattle.run_journal.proofs.Agreeing.{get_below, get_mapped, IsIn, before, las
 use Rattle.run_journal.proofs.Hearing.{coming_for, after_on, none_unready}
 use Rattle.run_journal.proofs.Flowing.{AreOther, held_other, rest_other, late_other, core_nothing, sync_brings_nothing, Tells, front, tell_front, rest_at, core_at, events_are, told_parts, course_agrees}
 use Rattle.run_journal.proofs.Telling.{came_append}
-use Rattle.run_journal.proofs.Moments.{none_some, inside, stood_on, kept_on, is_reply, at_reply, new_on, reply_came, reply_front, reply_behind, no_reply_in, reply_coming, is_mark, at_mark, AreFew, none_through, mark_time, mark_front, mark_behind, no_mark_in, few_none, few_behind, front_none, few_front}
-use Rattle.run_journal.proofs.Truths.{not_both}
+use Rattle.run_journal.proofs.Moments.{none_some, stood_on, kept_on, is_reply, at_reply, new_on, reply_came, reply_front, reply_behind, no_reply_in, reply_coming, is_mark, at_mark, AreFew, none_through, mark_time, mark_front, mark_behind, no_mark_in, few_none, few_behind, front_none, few_front}
+use Rattle.run_journal.proofs.Truths.{not_both, inside, one_longer}
 
 -- ---- one entry
 
 pub first_new : (xs : List (Arrival × ℕ)) (clock : ℕ) (ns : List Arrival) (m : Arrival × ℕ) → first xs ≡ None → first (xs ++ map (λ a. (a, clock)) ns) ≡ Some m → clock ≡ m.1
 first_new [] clock [] m e h = cc
-first_new [] clock (n ∷ ns) m e h = ap (λ (x : Arrival × ℕ). x.1) (of_some h)
-  where
-    of_some : {x y : Arrival × ℕ} → Some x ≡ Some y → x ≡ y
-    of_some e = cc
+first_new [] clock (n ∷ ns) m e h = ap (λ (x : Arrival × ℕ). x.1) (inside h)
 first_new (x ∷ xs) clock ns m e h = cc
 
 pub is_some_and : {P : List Event → Type 0} (o : Option (List Event)) → IsSomeAnd o P → (later : List Event) × (o ≡ Some later) × P later
@@ -64,13 +61,9 @@ module _ (j : Job) (entry : Entry) (past : List Entry) (told held late : List Ev
   next_anew n =
       lt-ltb (length (requests j past)) (length (requests j (entry ∷ past)))
       (let a : length (requests j (entry ∷ past)) ≡ length (map (goes_on j entry past) (requests j past)) + 1
-      = ap (λ (rs : List Request). length rs) (cond-true next _ (map (goes_on j entry past) (requests j past)) n) ∙ pushed (map (goes_on j entry past) (requests j past)) _ in
+      = ap (λ (rs : List Request). length rs) (cond-true next _ (map (goes_on j entry past) (requests j past)) n) ∙ one_longer (map (goes_on j entry past) (requests j past)) _ in
       let l : length (map (goes_on j entry past) (requests j past)) ≡ length (requests j past) = length-map (requests j past) (goes_on j entry past) in
       omega (arith, a, l))
-    where
-      pushed : (rs : List Request) (r : Request) → length (rs ++ r ∷ []) ≡ length rs + 1
-      pushed [] r = refl
-      pushed (x ∷ rs) r = let h = pushed rs r in omega (arith, h)
 
   none_ready : (b : Bool) → events.came is_reply (when_so b event.Ready) ≡ false
   none_ready true = refl

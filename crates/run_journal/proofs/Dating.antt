@@ -12,14 +12,12 @@ use Rattle.cell_core.specs.Deadlines.{is_first_look, is_unanswered, queued}
 use Rattle.cell_core.specs.Events as events
 use Rattle.cell_core.specs.Requests as core
 use Rattle.run_journal.specs.Job.{Job}
-use Rattle.run_journal.specs.Parts.{turn_clock, is_running}
-use Rattle.run_journal.specs.Looks.{shows_lost}
 use Rattle.run_journal.specs.Requests.{or_later, is_broken}
-use Rattle.run_journal.specs.Course.{begins_at, clock_event, when_so, ends_look, is_late, events_at, late_then, course}
+use Rattle.run_journal.specs.Course.{begins_at, when_so, ends_look, is_late, events_at, late_then, course}
 use Rattle.run_journal.specs.Agreement.{told_on, is_dated}
 use Rattle.run_journal.proofs.Agreeing.{after_more, stands_at}
 use Rattle.run_journal.proofs.Moments.{reply_more}
-use Rattle.run_journal.proofs.Flowing.{rest_at, core_at, events_are}
+use Rattle.run_journal.proofs.Flowing.{rest_at, core_at, events_are, broken_at, turn_at, lost_at, look_at}
 use Rattle.run_journal.proofs.Telling.{add_none, none_late, none_core, none_when, some_map}
 
 -- ---- the fold
@@ -298,7 +296,7 @@ end b s = if b then sighted s else s
 
 -- what an entry gives of the clock
 abbrev pub clocks_at : Job → Entry → List Entry → List Event
-clocks_at j entry past = begins_at j entry past ++ (if is_running j past then clock_event (turn_clock (entry ∷ past)) else [])
+clocks_at j entry past = begins_at j entry past ++ turn_at j entry past
 
 -- what the entries of a journal give of the clock and of looks, whatever of it is told
 abbrev pub whole : ℕ → Job → List Entry → Seen
@@ -316,27 +314,15 @@ module _ (d : ℕ) (j : Job) (entry : Entry) (past : List Entry) where
       ap (λ es. run d es s) (events_are j entry past late)
       ∙ run_append d (core_at j entry past) (rest_at j entry past late) s
       ∙ ap (run d (rest_at j entry past late)) (run_undated d (core_at j entry past) s (none_core is_dated j entry past (λ b. refl) (λ f. refl) refl))
-      ∙ run_append d (((broken ++ begins_at j entry past) ++ turn) ++ lost) look s
-      ∙ ap (run d look) (run_append d ((broken ++ begins_at j entry past) ++ turn) lost s)
-      ∙ ap (run d look) (run_undated d lost (run d ((broken ++ begins_at j entry past) ++ turn) s) (none_when is_dated _ event.Lost refl))
-      ∙ ap (run d look) (run_append d (broken ++ begins_at j entry past) turn s)
-      ∙ ap (λ v. run d look (run d turn v)) (run_append d broken (begins_at j entry past) s)
-      ∙ ap (λ v. run d look (run d turn (run d (begins_at j entry past) v))) (run_undated d broken s (none_when is_dated _ event.Broken refl))
-      ∙ ap (run d look) (sym (run_append d (begins_at j entry past) turn s))
+      ∙ run_append d (((broken_at j entry past ++ begins_at j entry past) ++ turn_at j entry past) ++ lost_at j entry past) (look_at j entry past late) s
+      ∙ ap (run d (look_at j entry past late)) (run_append d ((broken_at j entry past ++ begins_at j entry past) ++ turn_at j entry past) (lost_at j entry past) s)
+      ∙ ap (run d (look_at j entry past late)) (run_undated d (lost_at j entry past) (run d ((broken_at j entry past ++ begins_at j entry past) ++ turn_at j entry past) s) (none_when is_dated _ event.Lost refl))
+      ∙ ap (run d (look_at j entry past late)) (run_append d (broken_at j entry past ++ begins_at j entry past) (turn_at j entry past) s)
+      ∙ ap (λ v. run d (look_at j entry past late) (run d (turn_at j entry past) v)) (run_append d (broken_at j entry past) (begins_at j entry past) s)
+      ∙ ap (λ v. run d (look_at j entry past late) (run d (turn_at j entry past) (run d (begins_at j entry past) v))) (run_undated d (broken_at j entry past) s (none_when is_dated _ event.Broken refl))
+      ∙ ap (run d (look_at j entry past late)) (sym (run_append d (begins_at j entry past) (turn_at j entry past) s))
       ∙ by (ends_look j entry past) (run d (clocks_at j entry past) s)
     where
-      broken : List Event
-      broken = when_so (is_broken j (entry ∷ past) && not (is_broken j past)) event.Broken
-
-      turn : List Event
-      turn = if is_running j past then clock_event (turn_clock (entry ∷ past)) else []
-
-      lost : List Event
-      lost = when_so (shows_lost j (entry ∷ past) && not (is_late j entry past)) event.Lost
-
-      look : List Event
-      look = if ends_look j entry past then event.Looked ∷ late ++ when_so (is_late j entry past) event.Lost else []
-
       by : (b : Bool) (v : Seen) → run d (if b then event.Looked ∷ late ++ when_so (is_late j entry past) event.Lost else []) v ≡ end b v
       by true v = run_undated d (late ++ when_so (is_late j entry past) event.Lost) (sighted v) (add_none is_dated late (when_so (is_late j entry past) event.Lost) false none (none_when is_dated (is_late j entry past) event.Lost refl))
       by false v = refl

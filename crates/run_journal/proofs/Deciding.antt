@@ -28,6 +28,7 @@ use Rattle.run_journal.proofs.Stopping.{from_at_once}
 use Rattle.run_journal.proofs.Running.{RanAtWait}
 use Rattle.run_journal.proofs.Interrupting.{ever_lost}
 use Rattle.run_journal.proofs.Rowing.{both, not_ready_same, no_idle_last, last_is, none_last, on, out_same, interrupt_same, standing_after, plus_more}
+use Rattle.run_journal.proofs.Truths.{inside}
 
 -- the first row that holds, by what holds of a time limit where no stream is broken and the kernel isn't lost
 same_rows : (d e b l n i t u : Bool) → (b ≡ false → l ≡ false → t ≡ u)
@@ -136,18 +137,12 @@ module _ (jobs : List Job) (j : Job) (past : List Entry) (dec : IsDecoding j.cod
       no_last : ◌≡◌ {A = Option (ℕ × Request)} None (Some (m, q)) → ⊥
       no_last g = cc
 
-      inside : {x y : ℕ × Request} → Some x ≡ Some y → x ≡ y
-      inside g = cc
-
       under : (o : Option ℕ) → j.task.times.limit_ms ≡ o → deadline j q ≡ Some c → q.clock < c
       under None g d = absurd (no_some (sym (ap (option_map (λ limit. q.clock + limit)) g) ∙ d))
         where
           no_some : None ≡ Some c → ⊥
           no_some x = cc
-      under (Some n) g d = subst (λ v. q.clock < v) (some_in (sym (ap (option_map (λ limit. q.clock + limit)) g) ∙ d)) (plus_more q.clock n (limits n g))
-        where
-          some_in : {x y : ℕ} → Some x ≡ Some y → x ≡ y
-          some_in x = cc
+      under (Some n) g d = subst (λ v. q.clock < v) (inside (sym (ap (option_map (λ limit. q.clock + limit)) g) ∙ d)) (plus_more q.clock n (limits n g))
 
       by : (o : Option core.Standing) → core.standing j.task told ≡ o → Stands j told past o → queued j.task m c told ≡ q.interrupted
       by None g (nothing l) = absurd (no_last (sym (none_last jobs j past k h f t plan l) ∙ e))

@@ -1,5 +1,5 @@
 -- The requests at an earlier moment, before which a deadline had passed.
-use Rattle.std.proofs.Common.{◌≡◌, ◌⊎◌, inl, inr, ℕ, suc, ◌+◌, ◌<◌, ◌≤◌, List, [], ◌∷◌, ◌++◌, length, map, Bool, true, false, ◌&&◌, Option, Some, None, refl, sym, ◌∙◌, ap, subst, arith}
+use Rattle.std.proofs.Common.{◌≡◌, ◌⊎◌, inl, inr, ℕ, suc, ◌+◌, ◌<◌, List, [], ◌∷◌, ◌++◌, length, map, Bool, true, false, ◌&&◌, Option, Some, None, refl, sym, ◌∙◌, ap, subst, arith}
 use Rattle.std.specs.Prelude.{is_some, slice_get, nat_lt}
 use Rattle.std.proofs.lemmas.Bool.{and_parts, and_from, cond-true, cond-false, cases_Bool, lt-ltb}
 use Rattle.world.specs.declared.entry.Entry.{Entry}
@@ -13,11 +13,12 @@ use Rattle.run_journal.specs.Requests.{Request, reply, goes_on, is_next, fresh, 
 use Rattle.run_journal.specs.Due.{all_along}
 use Rattle.run_journal.specs.Grow.{GoesOn, GoOn, no_more, one_more}
 use Rattle.run_journal.specs.Agreement.{rises}
-use Rattle.run_journal.proofs.Growth.{goes, goes_self, begins_then, reply_stays, requests_go_on}
+use Rattle.run_journal.proofs.Growth.{goes, begins_then, reply_stays, requests_go_on, go_self, length_on, goes_self}
 use Rattle.run_journal.proofs.Agreeing.{get_below, get_mapped, IsIn, before, last, get_pushed}
 use Rattle.run_journal.proofs.Asking.{last_numbered}
 use Rattle.run_journal.proofs.Clocks.{first_new}
 use Rattle.run_journal.proofs.Lapse.{Before, here, earlier, ever_before, clock_from}
+use Rattle.run_journal.proofs.Truths.{too_late}
 
 -- ---- lists that go on
 
@@ -30,10 +31,6 @@ goes_then a b = record {
   interrupted = λ e. b.interrupted (a.interrupted e);
 }
 
-go_self : (rs : List Request) → GoOn rs rs
-go_self [] = no_more
-go_self (r ∷ rs) = one_more (goes_self r) (go_self rs)
-
 go_then : {ps qs rs : List Request} → GoOn ps qs → GoOn qs rs → GoOn ps rs
 go_then no_more b = no_more
 go_then (one_more g gs) (one_more f fs) = one_more (goes_then g f) (go_then gs fs)
@@ -41,10 +38,6 @@ go_then (one_more g gs) (one_more f fs) = one_more (goes_then g f) (go_then gs f
 pub go_before : (j : Job) {q past : List Entry} → Before q past → GoOn (requests j q) (requests j past)
 go_before j {q} here = go_self (requests j q)
 go_before j {q} (earlier {past} entry b) = go_then (go_before j b) (requests_go_on j entry past)
-
-pub length_on : {rs ss : List Request} → GoOn rs ss → length rs ≤ length ss
-length_on no_more = omega arith
-length_on (one_more g gs) = let h = length_on gs in omega (arith, h)
 
 pub none_on : {rs ss : List Request} → GoOn rs ss → ss ≡ [] → rs ≡ []
 none_on no_more e = refl
@@ -84,9 +77,6 @@ pub record Was (j : Job) (q : List Entry) (i : ℕ) (r : Request) : Type 0 where
 
 was_on : (j : Job) (q : List Entry) (i : ℕ) (p r : Request) → GoesOn p r → Was j q i p → Was j q i r
 was_on j q i p r g w = record { old = w.old; stands = w.stands; on = goes_then w.on g }
-
-too_late : (d t c : ℕ) → d ≤ t → c ≡ t → c < d → ⊥
-too_late d t c a b e = absurd (omega (arith, a, b, e))
 
 -- one that stood by then
 pub stood_before : (j : Job) (d : ℕ) {q past : List Entry} → Before q past → all_along rises past ≡ true → ever (is_past d) q ≡ true → (i : ℕ) (r : Request) → slice_get (requests j past) i ≡ Some r → r.clock < d → Was j q i r

@@ -1,5 +1,5 @@
 -- What is asked of a notebook: which replies stop the run, who speaks to the kernel, and an input that isn't read.
-use Rattle.std.proofs.Common.{◌≡◌, ◌≢◌, inl, inr, ℕ, ◌≤◌, List, [], ◌∷◌, Bool, true, false, Some, None, codes, refl, sym, ◌∙◌, ap, reverse, ◌+◌, arith}
+use Rattle.std.proofs.Common.{◌≡◌, ◌≢◌, ℕ, ◌≤◌, List, [], ◌∷◌, Bool, true, false, Some, None, codes, refl, sym, ◌∙◌, ap, reverse, ◌+◌, arith}
 use Rattle.std.specs.Str.{bytes_eq, IsUtf8}
 use Rattle.jtext.proofs.Utf8s.{utf8_ascii}
 use Rattle.std.proofs.lemmas.Bool.{and_parts, and_right, and_from, cond-false, ltb-true}
@@ -12,7 +12,6 @@ use Rattle.jtext.specs.Find.{find}
 use Rattle.jtext.specs.Bundle.{is_multiline}
 use Rattle.jtext.specs.Look.{is_object, is_strings, there_and, absent_or}
 use Rattle.jtext.proofs.Depths.{depth-Arr, depth-Obj, depth-Null, depth-Num, depth-Str, highest-le, pairs-le}
-use Rattle.jtext.specs.Number.{IsNumber}
 use Rattle.jtext.specs.Print.{compact}
 use Rattle.jtext.specs.Sound.{Sound}
 use Rattle.jtext.specs.Sound as sound
@@ -35,6 +34,7 @@ use Rattle.nb_model.specs.Values.{is_id_text}
 use Rattle.nb_model.proofs.PreparedLaws.{fields_Obj, object_Obj, string_Str, number_Num, notebook_fits, notebook_tree-fits}
 use Rattle.nb_migrate.specs.Accepted.{Accepted, accepted_notebook}
 use Rattle.nb_migrate.specs.Raised.{is_older_minor, is_older, raised_object}
+use Rattle.nb_migrate.proofs.Digits.{one_digit}
 use Rattle.zmtp_wire.specs.Meaning.{fault_in}
 use Rattle.kernel_talk.specs.Requests.{identifier}
 use Rattle.run_journal.specs.Job.{Job, Refuses}
@@ -146,19 +146,6 @@ all_ascii (c ∷ b) e = let p = and_parts (nat_lt c 128) (list_all (λ c. nat_lt
 ascii : (b : List ℕ) → list_all (λ c. nat_lt c 128) b ≡ true → IsUtf8 b
 ascii b e = utf8_ascii b (all_ascii b e)
 
-digit : (d : ℕ) → 49 ≤ d → d ≤ 57 → IsNumber (d ∷ [])
-digit d e f = record {
-  minus = [];
-  whole = d ∷ [];
-  fraction = [];
-  exponent = [];
-  is_minus = inl refl;
-  is_whole = inr (d, [], e, f, tt, refl);
-  is_fraction = inl refl;
-  is_exponent = inl refl;
-  text = refl;
-}
-
 text : (b : List ℕ) → list_all (λ c. nat_lt c 128) b ≡ true → Sound (json.Str b)
 text b e = sound.text b (ascii b e)
 
@@ -177,8 +164,8 @@ sound_tree =
     sound.object _
     (sound.pair (codes "cells") _ _ (ascii (codes "cells") refl) (sound.array _ (sound.more _ _ sound_cell sound.none))
     (sound.pair (codes "metadata") _ _ (ascii (codes "metadata") refl) (sound.object [] sound.no_pairs)
-    (sound.pair (codes "nbformat") _ _ (ascii (codes "nbformat") refl) (sound.number _ (digit 52 (omega arith) (omega arith)))
-    (sound.pair (codes "nbformat_minor") _ _ (ascii (codes "nbformat_minor") refl) (sound.number _ (digit 53 (omega arith) (omega arith))) sound.no_pairs))))
+    (sound.pair (codes "nbformat") _ _ (ascii (codes "nbformat") refl) (sound.number _ (one_digit 52 (omega arith) (omega arith)))
+    (sound.pair (codes "nbformat_minor") _ _ (ascii (codes "nbformat_minor") refl) (sound.number _ (one_digit 53 (omega arith) (omega arith))) sound.no_pairs))))
 
 keyed_cell : Keyed cell
 keyed_cell =

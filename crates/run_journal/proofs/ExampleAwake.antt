@@ -20,11 +20,7 @@ use Rattle.run_journal.specs.Agreement.{Flows, KeepsTime}
 use Rattle.world.specs.declared.chan.Chan.{Chan}
 use Rattle.world.specs.declared.connected.Connected.TheVariants as connected
 use Rattle.world.specs.declared.did.Did.TheVariants.{Done as done}
-use Rattle.run_journal.proofs.Toy.{job, saved, got, put, dry, closed, wait}
-
--- one cell
-abbrev pub one : Job
-one = record job { task = record { plan = 0 ∷ []; cells = 1; times = job.task.times } }
+use Rattle.run_journal.proofs.Toy.{saved, got, put, dry, closed, wait, one}
 
 -- a connection that was begun, to this port
 abbrev connect : Chan → ℕ → Entry

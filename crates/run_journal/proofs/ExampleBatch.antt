@@ -12,13 +12,9 @@ use Rattle.run_journal.specs.Why.{bad_stream}
 use Rattle.run_journal.specs.Saves.{saves}
 use Rattle.run_journal.specs.Ends.{Done, BadPeer, status_of}
 use Rattle.run_journal.specs.Lines.{Saved, Last, lines}
-use Rattle.run_journal.proofs.Toy.{job, saved, got, put, closed, wait, start, printed}
+use Rattle.run_journal.proofs.Toy.{saved, got, put, closed, wait, start, printed, one}
 
--- one cell each
-abbrev one : Job
-one = record job { task = record { plan = 0 ∷ []; cells = 1; times = job.task.times } }
-
--- the second job
+-- the second job, with one cell as the first
 abbrev two : Job
 two = record one { number = 1; input = codes "in2"; output = codes "out2" }
 

@@ -22,8 +22,8 @@ use Rattle.run_journal.specs.Why.{bad_stream, child_clock, why}
 use Rattle.run_journal.specs.Due.{all_along}
 use Rattle.run_journal.specs.Course.{course}
 use Rattle.run_journal.specs.Agreement.{is_heard, hears_looks, HearsLooks, hears, Hears, Flows, KeepsTime, KeepsRules, holds_no_clock, reads_late, tells_rightly, waits_on}
-use Rattle.run_journal.proofs.Toy.{saved, got, put, dry, wait}
-use Rattle.run_journal.proofs.ExampleAwake.{one, begins, asks}
+use Rattle.run_journal.proofs.Toy.{saved, got, put, dry, wait, one}
+use Rattle.run_journal.proofs.ExampleAwake.{begins, asks}
 
 -- one cell, with these limits
 abbrev limited : Times → Job

@@ -13,7 +13,7 @@ use Rattle.run_journal.specs.Requests.{is_broken, is_interrupted}
 use Rattle.run_journal.specs.Why.{bad_stream, why}
 use Rattle.run_journal.specs.Ends.{Done, NotRead, BadSpec, NotSaved, NoNetwork, Spent, status_of, end_of}
 use Rattle.run_journal.specs.Lines.{Saved, Last, Early, lines, line_text}
-use Rattle.run_journal.proofs.Toy.{job, saved, got, put, dry, begun, wait, turn, start}
+use Rattle.run_journal.proofs.Toy.{job, saved, got, put, dry, begun, wait, turn, start, other}
 
 -- the job whose kernel has no name, and that whose spec is refused
 abbrev unnamed : Job
@@ -26,10 +26,6 @@ unfit = record job { spec_fault = Some (codes "no argv") }
 -- its input is read
 abbrev read : Entry
 read = made.Read (codes "in") 33554432 (found.Whole [])
-
--- another job
-abbrev other : Job
-other = record job { number = 1; input = codes "in2"; output = codes "out2" }
 
 -- one wait alone
 abbrev short : Job

@@ -13,7 +13,6 @@ use Rattle.cell_core.specs.Events as events
 use Rattle.cell_core.specs.Acts.{has_stopped, heard}
 use Rattle.cell_core.specs.Requests as core
 use Rattle.cell_core.specs.Saves as core_saves
-use Rattle.run_journal.specs.Job.{Job}
 use Rattle.run_journal.specs.Parts.{bytes_got, acked, before_shut, is_running}
 use Rattle.run_journal.specs.OfJob.{is_of}
 use Rattle.run_journal.specs.Arrivals.{arrive, is_shaken, can_ask, ask_on, is_ready, arrivals}
@@ -26,8 +25,9 @@ use Rattle.run_journal.specs.Course.{course}
 use Rattle.run_journal.specs.Literal.{start_at}
 use Rattle.run_journal.specs.Order.{begins_unread}
 use Rattle.run_journal.specs.Agreement.{EndsLooks, Flows, IsHeard, at_once}
-use Rattle.run_journal.proofs.Toy.{job, saved, saved_as, got, wait, turn, made_ready, printed, three}
-use Rattle.run_journal.proofs.ExampleAwake.{one, journal}
+use Rattle.run_journal.proofs.Toy.{job, saved, saved_as, got, wait, turn, made_ready, printed, three, one, other}
+use Rattle.run_journal.proofs.ExampleTwoPrints.{journal as done}
+use Rattle.run_journal.proofs.ExampleAwake.{journal}
 use Rattle.run_journal.proofs.ExampleDies.{dying}
 use Rattle.run_journal.proofs.ExampleUnready.{broken}
 
@@ -36,10 +36,6 @@ use Rattle.run_journal.proofs.ExampleUnready.{broken}
 -- where the kernel is ready nothing has stopped the job
 abbrev ready : List Entry
 ready = reverse (made_ready job)
-
--- at its end it has two saves more
-abbrev done : List Entry
-done = reverse (made_ready job ++ turn 50 ++ printed job 2 21 ++ saved job ++ turn 60 ++ printed job 3 22 ++ saved job)
 
 is_ready_then : is_ready job ready ≡ true
 unfolding arrive is_shaken can_ask ask_on looked can_ping ping_on is_silent is_lost ran_out is_broken is_interrupted bad_stream
@@ -53,6 +49,7 @@ one_due : length (saves job ready) ≡ 1
 unfolding arrive is_shaken can_ask ask_on looked can_ping ping_on is_silent is_lost ran_out is_broken is_interrupted bad_stream
 one_due = refl
 
+-- at its end it has two saves more
 three_due : length (saves job done) ≡ 3
 unfolding arrive is_shaken can_ask ask_on looked can_ping ping_on is_silent is_lost ran_out is_broken is_interrupted bad_stream
 three_due = refl
@@ -66,10 +63,6 @@ unfolding arrive is_shaken can_ask ask_on looked can_ping ping_on is_silent is_l
 first_over = refl
 
 -- ---- other jobs
-
--- another job
-abbrev other : Job
-other = record job { number = 1; input = codes "in2"; output = codes "out2" }
 
 its_bytes : is_of job (got other Shell (9 ∷ [])) ready ≡ false
 unfolding arrive is_shaken can_ask ask_on looked can_ping ping_on is_silent is_lost ran_out is_broken is_interrupted bad_stream

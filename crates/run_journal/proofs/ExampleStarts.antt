@@ -14,8 +14,7 @@ use Rattle.run_journal.specs.Why.{child_clock}
 use Rattle.run_journal.specs.Due.{all_along}
 use Rattle.run_journal.specs.Starts.{Launch, ports_of, StartsRightly}
 use Rattle.run_journal.specs.Agreement.{starts_in_turn}
-use Rattle.run_journal.proofs.Toy.{saved}
-use Rattle.run_journal.proofs.ExampleAwake.{one}
+use Rattle.run_journal.proofs.Toy.{saved, one}
 
 -- a kernel whose one word is the path of its connection file
 abbrev spec : Spec

@@ -16,10 +16,10 @@ use Rattle.run_journal.specs.Due.{all_along}
 use Rattle.run_journal.specs.Course.{when_so, in_look, ends_look, is_late, events_at, tell, late_then, told_saved, course}
 use Rattle.run_journal.specs.Agreement.{is_dated, HearsLooks, ends_looks, EndsLooks}
 use Rattle.run_journal.specs.Awake.{is_called_for}
-use Rattle.run_journal.proofs.Flowing.{tell_by, rest_at, core_at, events_are}
+use Rattle.run_journal.proofs.Flowing.{tell_by, rest_at, core_at, events_are, look_at}
 use Rattle.run_journal.proofs.Telling.{empty_is, among_next, among_lost, came_append, is_loss, lost_when, gives_lost}
 use Rattle.run_journal.proofs.Dropping.{stops, dropped, stop_saved, stop_stays, dropped_stops, tell_mute, all_heard, looks_kept}
-use Rattle.run_journal.proofs.Sighting.{or_either, looked_stays, found_in, front_at, end_at, gives_found, knows, finds, late_unlooked, knows_next, finds_next, finds_back}
+use Rattle.run_journal.proofs.Sighting.{or_either, looked_stays, found_in, front_at, gives_found, knows, finds, late_unlooked, knows_next, finds_next, finds_back}
 use Rattle.run_journal.proofs.Truths.{not_both}
 
 -- ---- what holds along a journal
@@ -189,7 +189,7 @@ gives_look j entry past late e =
     ap (events.came events.is_looked) (events_are j entry past late)
     ∙ came_append events.is_looked (core_at j entry past) (rest_at j entry past late)
     ∙ or_right (events.came events.is_looked (core_at j entry past)) _
-    (came_append events.is_looked (front_at j entry past) (end_at j entry past late)
+    (came_append events.is_looked (front_at j entry past) (look_at j entry past late)
     ∙ or_right (events.came events.is_looked (front_at j entry past)) _
     (ap (events.came events.is_looked) (cond-true (ends_look j entry past) (event.Looked ∷ late ++ when_so (is_late j entry past) event.Lost) [] e)))
 

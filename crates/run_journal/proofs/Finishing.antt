@@ -1,8 +1,9 @@
 -- By the loop's rules each look at a job that runs is over before the next wait.
-use Rattle.std.proofs.Common.{◌≡◌, ◌⊎◌, inl, inr, ◌+◌, ◌*◌, ◌<◌, List, [], ◌∷◌, ◌++◌, Bool, true, false, ◌&&◌, ◌||◌, not, cond, refl, sym, ◌∙◌, ap, arith}
+use Rattle.std.proofs.Common.{◌≡◌, ◌⊎◌, inl, inr, ◌+◌, ◌*◌, List, [], ◌∷◌, ◌++◌, Bool, true, false, ◌&&◌, ◌||◌, not, cond, refl, sym, ◌∙◌, ap, arith}
 use Rattle.std.specs.Prelude.{◌==◌}
 use Rattle.std.specs.List.{list_any, list_all}
 use Rattle.std.proofs.lemmas.Bool.{and_parts, or_parts, and_from, cond-false, cases_Bool, eqb-true, eq-eqb, not-true}
+use Rattle.std.proofs.Math.Bool.{or-true}
 use Rattle.world.specs.declared.chan.Chan.{Chan}
 use Rattle.world.specs.declared.chan.Chan.TheVariants.{Shell, Control, Iopub, Heart}
 use Rattle.world.specs.declared.did.Did.TheVariants as did
@@ -26,6 +27,7 @@ use Rattle.run_journal.proofs.Finding.{wait_shows_none}
 use Rattle.run_journal.proofs.Running.{or_off, any_of, rules_before, running_parts, RanAtWait, ran_before, runs_at_wait}
 use Rattle.run_journal.proofs.Rereading.{each_one}
 use Rattle.run_journal.proofs.Truths.{not_both}
+use Rattle.run_journal.proofs.Alike.{chan_small}
 
 -- ---- a wait of a look that another wait follows
 
@@ -43,17 +45,11 @@ short_wait jobs j (made.Waited ms reports did.Done ∷ past) m e w d c =
 short_wait jobs j (made.Waited ms reports did.Failed ∷ past) m e w d c = cc
 short_wait jobs j (entry ∷ past) m e w d c = short_wait jobs j past m (and_parts (looks_once jobs (entry ∷ past)) (all_along (looks_once jobs) past) e).1 w d c
 
-pub number_of : (c : Chan) → chan_number c < 4
-number_of Shell = omega arith
-number_of Control = omega arith
-number_of Iopub = omega arith
-number_of Heart = omega arith
-
 -- a close of one of its connections is one of the job's
 closes_job : (j : Job) (c : Chan) (entry : Entry) → is_closed j c entry ≡ true → closes j.number entry ≡ true
 closes_job j c (made.Closed conn) e =
-    let n = number_of c in
-    let m = number_of conn.chan in
+    let n = chan_small c in
+    let m = chan_small conn.chan in
     let g = eqb-true (4 * j.number + chan_number c) (4 * conn.job + chan_number conn.chan) e in
     eq-eqb conn.job j.number (omega (arith, n, m, g))
 closes_job j c _ e = cc
@@ -136,11 +132,7 @@ module _ (jobs : List Job) (j : Job) (entry : Entry) (past : List Entry) (k : Ke
           (now, over (in_look j (entry ∷ past)) (looked j (entry ∷ past)) (is_wait entry) (looked j past) f now o)
         where
           over : (a b x y : Bool) → ((a && b) && (x || not y)) ≡ false → a ≡ true → y ≡ false → b ≡ false
-          over true true x false f g l = absurd (not_both true refl (sym (or_true x) ∙ f))
-            where
-              or_true : (x : Bool) → (x || true) ≡ true
-              or_true true = refl
-              or_true false = refl
+          over true true x false f g l = absurd (not_both true refl (sym (or-true x) ∙ f))
           over true true x true f g l = cc
           over true false x y f g l = refl
           over false b x y f g l = cc

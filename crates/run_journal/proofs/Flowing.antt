@@ -4,6 +4,7 @@ use Rattle.std.specs.Prelude.{is_some, if◌then◌else◌, filter, map}
 use Rattle.std.specs.List.{list_all}
 use Rattle.std.proofs.lemmas.List.{append-nil}
 use Rattle.std.proofs.lemmas.Bool.{and_parts, cond-true, cond-false, cond_both, cases_Bool}
+use Rattle.std.proofs.Math.Bool.{and-not_self}
 use Rattle.world.specs.declared.chan.Chan.TheVariants.{Shell, Iopub}
 use Rattle.world.specs.declared.entry.Entry.{Entry}
 use Rattle.world.specs.declared.entry.Entry.TheVariants as made
@@ -24,6 +25,7 @@ use Rattle.run_journal.proofs.Growth.{ready_stays}
 use Rattle.run_journal.proofs.Agreeing.{agree_first, agree_other, agree_saved, ready_unheard}
 use Rattle.run_journal.proofs.AlikeLooks.{arrive_nothing}
 use Rattle.run_journal.proofs.Hearing.{IsComing, io, replied, AreComing, coming_for, told_append, none_unready, agree_ready, agree_came}
+use Rattle.run_journal.proofs.Truths.{head_same, tail_same}
 
 -- ---- events that aren't of requests
 
@@ -81,13 +83,7 @@ cuts_more x y xs rs ys zs e (sooner ds f g) = sooner ds (ap (λ v. v ∷ ys) (sy
 cuts : (xs rs ys zs : List Event) → xs ++ rs ≡ ys ++ zs → Cuts xs rs ys zs
 cuts xs rs [] zs e = later xs refl (sym e)
 cuts [] rs (y ∷ ys) zs e = sooner (y ∷ ys) refl e
-cuts (x ∷ xs) rs (y ∷ ys) zs e = cuts_more x y xs rs ys zs (head e) (cuts xs rs ys zs (tail e))
-  where
-    head : {a b : Event} {as_ bs : List Event} → ◌≡◌ {A = List Event} (a ∷ as_) (b ∷ bs) → a ≡ b
-    head e = cc
-
-    tail : {a b : Event} {as_ bs : List Event} → ◌≡◌ {A = List Event} (a ∷ as_) (b ∷ bs) → as_ ≡ bs
-    tail e = cc
+cuts (x ∷ xs) rs (y ∷ ys) zs e = cuts_more x y xs rs ys zs (head_same e) (cuts xs rs ys zs (tail_same e))
 
 -- none of these is an event that isn't of requests
 abbrev AreCore : List Event → Type 0
@@ -182,14 +178,25 @@ late_other j (entry ∷ past) =
 
 -- ---- what an entry gives
 
+-- a stream that breaks by it
+abbrev pub broken_at : Job → Entry → List Entry → List Event
+broken_at j entry past = when_so (is_broken j (entry ∷ past) && not (is_broken j past)) event.Broken
+
+-- the clock of a turn
+abbrev pub turn_at : Job → Entry → List Entry → List Event
+turn_at j entry past = if is_running j past then clock_event (turn_clock (entry ∷ past)) else []
+
+-- a loss that it shows
+abbrev pub lost_at : Job → Entry → List Entry → List Event
+lost_at j entry past = when_so (shows_lost j (entry ∷ past) && not (is_late j entry past)) event.Lost
+
+-- the end of a look, with what waited for it
+abbrev pub look_at : Job → Entry → List Entry → List Event → List Event
+look_at j entry past late = if ends_look j entry past then event.Looked ∷ late ++ when_so (is_late j entry past) event.Lost else []
+
 -- what it gives besides messages and readiness
 abbrev pub rest_at : Job → Entry → List Entry → List Event → List Event
-rest_at j entry past late =
-    when_so (is_broken j (entry ∷ past) && not (is_broken j past)) event.Broken
-    ++ begins_at j entry past
-    ++ (if is_running j past then clock_event (turn_clock (entry ∷ past)) else [])
-    ++ when_so (shows_lost j (entry ∷ past) && not (is_late j entry past)) event.Lost
-    ++ (if ends_look j entry past then event.Looked ∷ late ++ when_so (is_late j entry past) event.Lost else [])
+rest_at j entry past late = broken_at j entry past ++ begins_at j entry past ++ turn_at j entry past ++ lost_at j entry past ++ look_at j entry past late
 
 -- messages and readiness
 abbrev pub core_at : Job → Entry → List Entry → List Event
@@ -218,11 +225,11 @@ five_other as_ bs cs ds es a b c d e =
 pub rest_other : (j : Job) (entry : Entry) (past : List Entry) (late : List Event) → AreOther late → AreOther (rest_at j entry past late)
 rest_other j entry past late o =
     five_other
-    (when_so (is_broken j (entry ∷ past) && not (is_broken j past)) event.Broken)
+    (broken_at j entry past)
     (begins_at j entry past)
-    (if is_running j past then clock_event (turn_clock (entry ∷ past)) else [])
-    (when_so (shows_lost j (entry ∷ past) && not (is_late j entry past)) event.Lost)
-    (if ends_look j entry past then event.Looked ∷ late ++ when_so (is_late j entry past) event.Lost else [])
+    (turn_at j entry past)
+    (lost_at j entry past)
+    (look_at j entry past late)
     (other_when (is_broken j (entry ∷ past) && not (is_broken j past)) event.Broken broken)
     (begins_other j entry past)
     (cond_both (is_running j past) (clock_event (turn_clock (entry ∷ past))) [] AreOther (λ e. clock_other (turn_clock (entry ∷ past))) (λ e. tt))
@@ -248,10 +255,6 @@ core_are j entry past =
     core_append _ _ (coming_core _ (coming_for j (last_request 0 (requests j past)) entry past)) (core_when (is_ready j (entry ∷ past) && not (is_ready j past)))
 
 -- ---- one entry
-
-same_none : (b : Bool) → (b && not b) ≡ false
-same_none true = refl
-same_none false = refl
 
 -- after others, then these, then others
 agree_through : (j : Job) (hs cs ds told : List Event) (past now : List Entry) → AreOther hs → AreOther ds → Agrees j told past
@@ -299,7 +302,7 @@ module _ (j : Job) (entry : Entry) (past : List Entry) (held late told : List Ev
       where
         is : core_at j entry past ≡ came_for j (last_request 0 (requests j past)) entry past
         is = ap (λ b. came_for j (last_request 0 (requests j past)) entry past ++ when_so (b && not (is_ready j past)) event.Ready) ready
-            ∙ ap (λ b. came_for j (last_request 0 (requests j past)) entry past ++ when_so b event.Ready) (same_none (is_ready j past))
+            ∙ ap (λ b. came_for j (last_request 0 (requests j past)) entry past ++ when_so b event.Ready) (and-not_self (is_ready j past))
             ∙ append-nil (came_for j (last_request 0 (requests j past)) entry past)
 
         by : (core_at j entry past ≡ []) ⊎ ((ds : List Event) × (xs ≡ (held ++ core_at j entry past) ++ ds) × (rest_at j entry past late ≡ ds ++ rs)) → Agrees j (told_on xs told) (entry ∷ past)
@@ -339,7 +342,7 @@ core_nothing j entry past same =
     ap (λ es. es ++ when_so (is_ready j (entry ∷ past) && not (is_ready j past)) event.Ready)
     (came_nothing j (last_request 0 (requests j past)) entry past (arrive_nothing j entry past Iopub (same Iopub)) (arrive_nothing j entry past Shell (same Shell)))
     ∙ ap (λ b. when_so (b && not (is_ready j past)) event.Ready) (ready_unheard j entry past same)
-    ∙ ap (λ b. when_so b event.Ready) (same_none (is_ready j past))
+    ∙ ap (λ b. when_so b event.Ready) (and-not_self (is_ready j past))
 
 pub looks_are : (es : List Event) → list_all is_of_looks es ≡ true → AreOther es
 looks_are [] h = tt

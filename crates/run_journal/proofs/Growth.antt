@@ -3,7 +3,7 @@ use Rattle.std.proofs.Common.{◌≡◌, inl, inr, ℕ, ◌+◌, ◌≤◌, List
 use Rattle.std.specs.Prelude.{is_some, nat_lt, ◌==◌}
 use Rattle.std.proofs.lemmas.List.{append-nil}
 use Rattle.std.proofs.lemmas.List.Folds.{list_any-append}
-use Rattle.std.proofs.lemmas.Bool.{and_parts, and_from, and_left, and_right, or_left, not_from_true, cond-true, cond-false, cases_Bool, cond_both, eqb-true}
+use Rattle.std.proofs.lemmas.Bool.{and_parts, and_from, and_left, and_right, or_left, not_from_true, cond-true, cond-false, cases_Bool, cond_both, eqb-true, or_right, or_from}
 use Rattle.world.specs.declared.entry.Entry.{Entry}
 use Rattle.world.specs.Places.{time}
 use Rattle.world.specs.Waits.{moment_of}
@@ -22,6 +22,7 @@ use Rattle.run_journal.specs.Requests.{Request, through_idle, has_idle, own, fir
 use Rattle.run_journal.specs.Why.{when, is_done, plan_end, why}
 use Rattle.run_journal.specs.Saves.{Save, save, passes, is_marked, last_cell, stop_save, stopping, is_complete, closing, run_saves, saves_for, saves_by, saves}
 use Rattle.run_journal.specs.Grow.{GoesOn, GoOn, no_more, one_more}
+use Rattle.run_journal.proofs.Truths.{or_rest}
 
 -- ---- readiness
 
@@ -53,10 +54,6 @@ acked_grows j entry past = cond_both (is_acknowledging j (entry ∷ past)) (acke
 idle_more : (b : Bool) (m : Arrival) (us vs : List Arrival) → (b ≡ false → us ≡ vs) → cond b (m ∷ []) (m ∷ us) ≡ cond b (m ∷ []) (m ∷ vs)
 idle_more true m us vs h = refl
 idle_more false m us vs h = ap (λ ms. m ∷ ms) (h refl)
-
-or_rest : (a b : Bool) → (a || b) ≡ true → a ≡ false → b ≡ true
-or_rest true b e f = cc
-or_rest false b e f = e
 
 -- what comes after an idle isn't used
 pub through_idle_more : (xs ys : List Arrival) → has_idle xs ≡ true → through_idle (xs ++ ys) ≡ through_idle xs
@@ -141,6 +138,15 @@ begins_front x a = record { rest = a.rest; joined = ap (λ v. x ∷ v) a.joined 
 pub goes_self : (r : Request) → GoesOn r r
 goes_self r = record { number = refl; clock = refl; io = begins_self r.io; replies = begins_self r.replies; interrupted = λ e. e }
 
+pub go_self : (rs : List Request) → GoOn rs rs
+go_self [] = no_more
+go_self (r ∷ rs) = one_more (goes_self r) (go_self rs)
+
+-- there are as many at least
+pub length_on : {rs ss : List Request} → GoOn rs ss → length rs ≤ length ss
+length_on no_more = omega arith
+length_on (one_more g gs) = let h = length_on gs in omega (arith, h)
+
 pub go_map : (j : Job) (entry : Entry) (past : List Entry) (rs : List Request) → GoOn rs (map (goes_on j entry past) rs)
 go_map j entry past [] = no_more
 go_map j entry past (r ∷ rs) = one_more (goes j entry past r) (go_map j entry past rs)
@@ -222,18 +228,23 @@ pub plain_saves : (j : Job) (w : Option Why) → run_saves j [] w ≡ run_saves 
 plain_saves j w = ap (λ xs. save j [] 0 None ∷ passes j [] 0 j.task.plan [] ++ xs ++ closing j []) (no_stop j w)
 
 -- the saves while nothing has stopped the job and not all cells are passed
-open_saves : (j : Job) (rs : List Request) → is_complete j rs ≡ false → run_saves j rs None ≡ save j [] 0 None ∷ passes j [] 0 j.task.plan rs
-open_saves j rs e =
+-- with no stop and cells left, the first save and those of requests are due
+pub open_saves : (j : Job) (rs : List Request) (w : Option Why) → is_complete j rs ≡ false → stopping j rs w ≡ [] → run_saves j rs w ≡ save j [] 0 None ∷ passes j [] 0 j.task.plan rs
+open_saves j rs w e none =
     let last : closing j rs ≡ [] = cond-false (is_complete j rs && nat_lt (plan_end j.task.plan) j.task.cells) _ _ (and_left (is_complete j rs) _ e) in
-    ap (λ xs. save j [] 0 None ∷ passes j [] 0 j.task.plan rs ++ [] ++ xs) last
-    ∙ append-nil (save j [] 0 None ∷ passes j [] 0 j.task.plan rs ++ [])
+    ap (λ xs. (save j [] 0 None ∷ passes j [] 0 j.task.plan rs ++ xs) ++ closing j rs) none
+    ∙ ap (λ xs. ((save j [] 0 None ∷ passes j [] 0 j.task.plan rs) ++ []) ++ xs) last
+    ∙ append-nil ((save j [] 0 None ∷ passes j [] 0 j.task.plan rs) ++ [])
     ∙ append-nil (save j [] 0 None ∷ passes j [] 0 j.task.plan rs)
 
+-- whose like begin what is due later
+pub run_begins : (j : Job) (rs ss : List Request) (w : Option Why) → GoOn rs ss → Begins (save j [] 0 None ∷ passes j [] 0 j.task.plan rs) (run_saves j ss w)
+run_begins j rs ss w g =
+    begins_then (begins_front (save j [] 0 None) (passes_grow j [] 0 j.task.plan g))
+    (begins_then (record { rest = stopping j ss w; joined = refl }) (record { rest = closing j ss; joined = refl }))
+
 run_saves_grow : (j : Job) (rs ss : List Request) (w : Option Why) → GoOn rs ss → is_complete j rs ≡ false → Begins (run_saves j rs None) (run_saves j ss w)
-run_saves_grow j rs ss w g e =
-    subst (λ xs. Begins xs (run_saves j ss w)) (sym (open_saves j rs e))
-    (begins_then (begins_front (save j [] 0 None) (passes_grow j [] 0 j.task.plan g))
-    (begins_then (record { rest = stopping j ss w; joined = refl }) (record { rest = closing j ss; joined = refl })))
+run_saves_grow j rs ss w g e = subst (λ xs. Begins xs (run_saves j ss w)) (sym (open_saves j rs None e refl)) (run_begins j rs ss w g)
 
 not_complete : (j : Job) (count : ℕ) (rs : List Request) → (length j.task.plan == 0) ≡ false → is_done j count rs ≡ false → is_complete j rs ≡ false
 not_complete j count rs some e = complete (length j.task.plan == 0) _ (length rs == length j.task.plan) (is_last_passed j 0 rs) some e
@@ -242,26 +253,31 @@ not_complete j count rs some e = complete (length j.task.plan == 0) _ (length rs
     complete true few all last e f = cc
     complete false few all last e f = f
 
+-- where no cell is to run, what is due stays
+pub unplanned_grow : (j : Job) (entry : Entry) (past : List Entry) → (length j.task.plan == 0) ≡ true → Begins (run_saves j (requests j past) (why j past)) (run_saves j (requests j (entry ∷ past)) (why j (entry ∷ past)))
+unplanned_grow j entry past empty =
+    let z : length j.task.plan ≡ 0 = eqb-true (length j.task.plan) 0 empty in
+    let old : run_saves j (requests j past) (why j past) ≡ run_saves j [] None
+    = ap (λ rs. run_saves j rs (why j past)) (no_requests j past z) ∙ plain_saves j (why j past) in
+    let new : run_saves j (requests j (entry ∷ past)) (why j (entry ∷ past)) ≡ run_saves j [] None
+    = ap (λ rs. run_saves j rs (why j (entry ∷ past))) (no_requests j (entry ∷ past) z) ∙ plain_saves j (why j (entry ∷ past)) in
+    begins_as (begins_self _) (new ∙ sym old)
+
+-- what is due by what the job was given grows where a run's saves do
+pub given_grow : (j : Job) (g : Given) (rs ss : List Request) (v w : Option Why) → Begins (run_saves j rs v) (run_saves j ss w) → Begins (saves_for j g rs v) (saves_for j g ss w)
+given_grow j (Refuses status text) rs ss v w b = begins_self _
+given_grow j (Prepares text) rs ss v w b = begins_self _
+given_grow j Runs rs ss v w b = b
+
 -- while nothing has stopped the job, its saves only grow
 pub saves_by_grow : (j : Job) (entry : Entry) (past : List Entry) → why j past ≡ None → Begins (saves_by j past) (saves_by j (entry ∷ past))
-saves_by_grow j entry past none = by_given j.given
-  where
-    by_given : (g : Given) → Begins (saves_for j g (requests j past) (why j past)) (saves_for j g (requests j (entry ∷ past)) (why j (entry ∷ past)))
-    by_given (Refuses status text) = begins_self _
-    by_given (Prepares text) = begins_self _
-    by_given Runs = elim (cases_Bool (length j.task.plan == 0)) [
-      | inl empty ↦
-          let z : length j.task.plan ≡ 0 = eqb-true (length j.task.plan) 0 empty in
-          let old : run_saves j (requests j past) (why j past) ≡ run_saves j [] None
-          = ap (λ rs. run_saves j rs (why j past)) (no_requests j past z) ∙ plain_saves j (why j past) in
-          let new : run_saves j (requests j (entry ∷ past)) (why j (entry ∷ past)) ≡ run_saves j [] None
-          = ap (λ rs. run_saves j rs (why j (entry ∷ past))) (no_requests j (entry ∷ past) z) ∙ plain_saves j (why j (entry ∷ past)) in
-          begins_as (begins_self _) (new ∙ sym old)
-      | inr some ↦
-          subst (λ w. Begins (run_saves j (requests j past) w) (run_saves j (requests j (entry ∷ past)) (why j (entry ∷ past)))) (sym none)
-          (run_saves_grow j (requests j past) (requests j (entry ∷ past)) (why j (entry ∷ past)) (requests_go_on j entry past)
-          (not_complete j (acked j past) (requests j past) some (no_row (is_done j (acked j past) (requests j past)) cause.Done _ none)))
-    ]
+saves_by_grow j entry past none = given_grow j j.given (requests j past) (requests j (entry ∷ past)) (why j past) (why j (entry ∷ past)) (elim (cases_Bool (length j.task.plan == 0)) [
+  | inl empty ↦ unplanned_grow j entry past empty
+  | inr some ↦
+      subst (λ w. Begins (run_saves j (requests j past) w) (run_saves j (requests j (entry ∷ past)) (why j (entry ∷ past)))) (sym none)
+      (run_saves_grow j (requests j past) (requests j (entry ∷ past)) (why j (entry ∷ past)) (requests_go_on j entry past)
+      (not_complete j (acked j past) (requests j past) some (no_row (is_done j (acked j past) (requests j past)) cause.Done _ none)))
+])
 
 -- ---- up to the job's end
 
@@ -272,11 +288,7 @@ before_all j (entry ∷ past) e = cond-false (is_shut j (entry ∷ past)) _ _ e
 
 -- after its first close nothing more is due
 pub saves_end : (j : Job) (entry : Entry) (past : List Entry) → is_shut j past ≡ true → saves j (entry ∷ past) ≡ saves j past
-saves_end j entry past e = ap (saves_by j) (cond-true (closes j.number entry || is_shut j past) _ _ (or_true (closes j.number entry) (is_shut j past) e))
-  where
-    or_true : (a b : Bool) → b ≡ true → (a || b) ≡ true
-    or_true true b e = refl
-    or_true false b e = e
+saves_end j entry past e = ap (saves_by j) (cond-true (closes j.number entry || is_shut j past) _ _ (or_right (closes j.number entry) (is_shut j past) e))
 
 -- a close makes nothing due
 pub saves_close : (j : Job) (entry : Entry) (past : List Entry) → closes j.number entry ≡ true → saves j (entry ∷ past) ≡ saves j past
@@ -290,15 +302,11 @@ saves_grow_open j entry past none = elim (cases_Bool (is_shut j past)) [
     | inl e ↦ begins_as (begins_self _) (saves_close j entry past e)
     | inr on ↦
         let old = before_all j past alive in
-        let new = before_all j (entry ∷ past) (both_false (closes j.number entry) (is_shut j past) on alive) in
+        let new = before_all j (entry ∷ past) (or_from (closes j.number entry) (is_shut j past) on alive) in
         subst (λ xs. Begins xs (saves j (entry ∷ past))) (sym (ap (saves_by j) old))
         (begins_as (saves_by_grow j entry past (none alive)) (ap (saves_by j) new))
   ]
 ]
-  where
-    both_false : (a b : Bool) → a ≡ false → b ≡ false → (a || b) ≡ false
-    both_false true b e f = cc
-    both_false false b e f = f
 
 -- the same with what stopped the job up to its first close
 pub saves_grow : (j : Job) (entry : Entry) (past : List Entry) → why j (before_shut j past) ≡ None → Begins (saves j past) (saves j (entry ∷ past))

@@ -28,7 +28,7 @@ use Rattle.run_journal.proofs.Growth.{goes, idle_stays, reply_stays, ready_stays
 use Rattle.run_journal.proofs.Isolation.{no_next}
 use Rattle.run_journal.proofs.Safety.{all_but_last}
 use Rattle.run_journal.proofs.Agreeing.{stands_at, after_more, not_now, stands_later, none_more, some_now, get_mapped, next_none}
-use Rattle.run_journal.proofs.Truths.{not_both}
+use Rattle.run_journal.proofs.Truths.{not_both, inside, and_true}
 
 -- ---- readiness
 
@@ -72,10 +72,6 @@ module _ (j : Job) (entry : Entry) (told : List Event) (past : List Entry) (acks
         ap (nat_lt 0) (a.acked ∙ sym saves_same)
         ∙ sym (ap (λ b. (b && nat_lt 0 (acked j (entry ∷ past))) && nat_lt 0 (length j.task.plan)) now
         ∙ and_true (nat_lt 0 (acked j (entry ∷ past))) (nat_lt 0 (length j.task.plan)) (lt-ltb 0 (length j.task.plan) p))
-      where
-        and_true : (x y : Bool) → y ≡ true → (x && y) ≡ x
-        and_true true y e = e
-        and_true false y e = refl
 
     next_planned : next ≡ true → 0 < length j.task.plan
     next_planned e = ltb-true 0 (length j.task.plan) (and_parts (is_ready j (entry ∷ past) && nat_lt 0 (acked j (entry ∷ past))) (nat_lt 0 (length j.task.plan)) e).1
@@ -98,9 +94,6 @@ module _ (j : Job) (entry : Entry) (told : List Event) (past : List Entry) (acks
             (subst (λ x. IsSomeAnd x (λ later. AgreesOn j 0 later fresh_one)) (sym (after_more j.task 0 event.Ready told))
             (some_now (λ later. AgreesOn j 0 later fresh_one) (stands_at j.task 0) event.Ready told (core.after j.task 0 told) (a.none 0 (next_planned e) (let n = no_length in omega (arith, n))) (first_both (next_planned e) ∙ e)
             (record { idle = refl; reply = refl })))
-          where
-            inside : {x y : Request} → Some x ≡ Some y → x ≡ y
-            inside e = cc
         one_of (suc k) r e h = cc
 
     ready_none : (k : ℕ) → k < length j.task.plan → length (requests j (entry ∷ past)) ≤ k → core.after j.task k (event.Ready ∷ told) ≡ None
@@ -318,15 +311,9 @@ open_on j entry past k later r on b =
 last_open : (j : Job) (k : ℕ) (rs : List Request) (i : ℕ) (q : Request) → ArePassed j k rs → slice_get rs i ≡ Some q → is_over q ≡ false → last_request k rs ≡ Some (k + i, q)
 last_open j k [] i q h e on = cc
 last_open j k (x ∷ []) zero q h e on = let n : k ≡ k + 0 = omega arith in ap (λ m. Some (m, x)) n ∙ ap (λ y. Some (k + 0, y)) (inside e)
-  where
-    inside : {a b : Request} → Some a ≡ Some b → a ≡ b
-    inside e = cc
 last_open j k (x ∷ []) (suc i) q h e on = cc
 last_open j k (x ∷ y ∷ rs) zero q h e on =
     absurd (not_both (is_over q) (ap is_over (sym (inside e)) ∙ (and_parts (is_over x) (not (is_fatal j k (reply x))) h.0).0) on)
-  where
-    inside : {a b : Request} → Some a ≡ Some b → a ≡ b
-    inside e = cc
 last_open j k (x ∷ y ∷ rs) (suc i) q h e on =
     let n : (k + 1) + i ≡ k + suc i = omega arith in
     last_open j (k + 1) (y ∷ rs) i q h.1 e on ∙ ap (λ m. Some (m, q)) n

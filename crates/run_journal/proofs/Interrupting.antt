@@ -1,5 +1,5 @@
 -- The interrupt of the last request is queued for the core where it is by the journal, as long as nothing else has stopped the job.
-use Rattle.std.proofs.Common.{◌≡◌, ◌⊎◌, inl, inr, ℕ, suc, ◌+◌, ◌<◌, ◌≤◌, List, [], ◌∷◌, length, Bool, true, false, ◌&&◌, ◌||◌, not, Option, Some, None, refl, sym, ◌∙◌, ap, subst, arith}
+use Rattle.std.proofs.Common.{◌≡◌, ◌⊎◌, inl, inr, ℕ, suc, ◌+◌, ◌<◌, List, [], ◌∷◌, length, Bool, true, false, ◌&&◌, ◌||◌, not, Option, Some, None, refl, sym, ◌∙◌, ap, subst, arith}
 use Rattle.std.specs.Prelude.{is_some, option_map, option_to_list, slice_get, if◌then◌else◌}
 use Rattle.std.specs.List.{list_any}
 use Rattle.std.proofs.lemmas.List.Folds.{list_any-append}
@@ -23,7 +23,7 @@ use Rattle.run_journal.specs.Decoding.{IsDecoding}
 use Rattle.run_journal.specs.Awake.{start_deadline, reply_deadline, wait_deadline, request_deadline, deadlines, has_passed, is_called_for, keeps_up}
 use Rattle.run_journal.specs.Course.{ends_look}
 use Rattle.run_journal.specs.Agreement.{BeginsUnread, KeepsRules}
-use Rattle.run_journal.proofs.Growth.{goes, reply_stays}
+use Rattle.run_journal.proofs.Growth.{goes, reply_stays, length_on}
 use Rattle.run_journal.proofs.Telling.{stays_broken, unread_before}
 use Rattle.run_journal.proofs.Sighting.{or_either, looked_stays}
 use Rattle.run_journal.proofs.Finding.{lost_is, lost_parts}
@@ -31,9 +31,9 @@ use Rattle.run_journal.proofs.Dating.{Seen, whole, end}
 use Rattle.run_journal.proofs.Running.{rules_before, RanAtWait, ran_before, runs_at_wait}
 use Rattle.run_journal.proofs.Turning.{first_waited, dates, dates_clock}
 use Rattle.run_journal.proofs.Lapse.{Before, here, earlier, wait_was, ever_before, clock_from, first_ever, first_before, wait_unstopped, ends_parts, clocks_kept, end_queues, then_seen, whole_is, still_now, just_parts, just_from, just_queued}
-use Rattle.run_journal.proofs.Earlier.{length_on, go_before, CameBy, stood, anew, came_by, stood_before, last_before}
+use Rattle.run_journal.proofs.Earlier.{go_before, CameBy, stood, anew, came_by, stood_before, last_before}
 use Rattle.run_journal.proofs.Agreeing.{get_below}
-use Rattle.run_journal.proofs.Truths.{not_both}
+use Rattle.run_journal.proofs.Truths.{not_both, too_late}
 
 -- ---- what has not stopped a job
 
@@ -137,9 +137,6 @@ wait_past entry past = elim (cases_Bool (is_wait entry)) [
   | inr f ↦ subst (λ v. Before v past) (sym (cond-false (is_wait entry) past (before_wait past) f)) (wait_was past)
 ]
 
-late_now : (d t c : ℕ) → d ≤ t → c ≡ t → c < d → ⊥
-late_now d t c a b e = absurd (omega (arith, a, b, e))
-
 end_queued : (b : Bool) (s : Seen) → (end b s).queued ≡ true → ((b ≡ true) × (s.fresh ≡ true)) ⊎ (s.queued ≡ true)
 end_queued true s e = elim (or_either s.fresh s.queued e) [
   | inl f ↦ inl (refl, f)
@@ -165,7 +162,7 @@ module _ (d : ℕ) (jobs : List Job) (j : Job) where
 
     -- none that comes to stand now did so before a clock entry past its deadline
     not_anew : (r : Request) → r.clock ≡ time past → r.clock < d → ever (is_past d) past ≡ true → ⊥
-    not_anew r e l f = late_now d (time past) r.clock (clock_from d past rules.rising f) e l
+    not_anew r e l f = too_late d (time past) r.clock (clock_from d past rules.rising f) e l
 
     now_queued : (i : ℕ) (o : Request) → slice_get (requests j past) i ≡ Some o → length (requests j past) ≡ suc i → reply o ≡ None → deadline j o ≡ Some d → o.clock < d → o.interrupted ≡ false
         → just_ran_out j d (entry ∷ past) ≡ true → (whole d j (entry ∷ past)).queued ≡ true

@@ -24,7 +24,7 @@ use Rattle.run_journal.proofs.Dropping.{stops, tell_mute, stop_saved}
 use Rattle.run_journal.proofs.Lasting.{done_stays, error_stays}
 use Rattle.run_journal.proofs.Rowing.{standing_after}
 use Rattle.run_journal.proofs.Showing.{any_core}
-use Rattle.run_journal.proofs.Truths.{not_both}
+use Rattle.run_journal.proofs.Truths.{not_both, inside}
 
 -- ---- one more acknowledgement
 
@@ -37,9 +37,6 @@ last_under task (suc n) told s e = by (λ f. last_under task n told s f) (core.a
     by ih None f = let g : s.request < n = ih f in omega (arith, g)
     by ih (Some later) f = now (ap (λ (v : core.Standing). v.request) (inside f))
       where
-        inside : {x y : core.Standing} → Some x ≡ Some y → x ≡ y
-        inside i = cc
-
         now : n ≡ s.request → s.request < suc n
         now i = omega (arith, i)
 

@@ -1,6 +1,6 @@
 -- By the loop's rules the core's clock is the journal's wherever it counts, whatever comes after the stop.
-use Rattle.std.proofs.Common.{◌≡◌, ℕ, ◌<◌, List, [], ◌∷◌, length, true, false, ◌&&◌, Some, refl, sym, ◌∙◌}
-use Rattle.std.proofs.lemmas.Bool.{and_parts, and_from, eq-eqb, not-true}
+use Rattle.std.proofs.Common.{◌≡◌, ℕ, ◌<◌, List, [], ◌∷◌, length, true, ◌&&◌, Some, refl, sym, ◌∙◌}
+use Rattle.std.proofs.lemmas.Bool.{and_parts, and_from, eq-eqb}
 use Rattle.world.specs.declared.entry.Entry.{Entry}
 use Rattle.cell_core.specs.Events as events
 use Rattle.run_journal.specs.Job.{Job}
@@ -10,7 +10,7 @@ use Rattle.run_journal.specs.Decoding.{IsDecoding}
 use Rattle.run_journal.specs.Course.{course}
 use Rattle.run_journal.specs.Agreement.{BeginsUnread, Flows, KeepsTime, keeps_time, brings, stands_anew, holds_no_clock, KeepsRules}
 use Rattle.run_journal.proofs.Flowing.{told_parts}
-use Rattle.run_journal.proofs.Telling.{unread_before}
+use Rattle.run_journal.proofs.Telling.{unread_before, unheld}
 use Rattle.run_journal.proofs.Running.{rules_before, RanAtWait, ran_before}
 use Rattle.run_journal.proofs.Turning.{dates}
 use Rattle.run_journal.proofs.Timing.{anew_ready, time_on, implied}
@@ -19,10 +19,6 @@ use Rattle.run_journal.proofs.Clocking.{unclocked, whole_now}
 use Rattle.run_journal.proofs.AskedClocks.{ready_clock, brings_late}
 
 module _ (jobs : List Job) (j : Job) (dec : IsDecoding j.codec) (plan : 0 < length j.task.plan) (limits : (ms : ℕ) → j.task.times.limit_ms ≡ Some ms → 0 < ms) where
-  unheld : (past : List Entry) → all_along (holds_no_clock j) past ≡ true → events.came events.is_moment (course j past).held ≡ false
-  unheld [] e = refl
-  unheld (x ∷ past) e = not-true (events.came events.is_moment (course j (x ∷ past)).held) (and_parts (holds_no_clock j (x ∷ past)) (all_along (holds_no_clock j) past) e).0
-
   -- it is the journal's at an entry
   pub time_next : (entry : Entry) (past : List Entry) → Given jobs j past → all_along (holds_no_clock j) past ≡ true → keeps_time j (entry ∷ past) ≡ true
   time_next entry past b n =
@@ -31,7 +27,7 @@ module _ (jobs : List Job) (j : Job) (dec : IsDecoding j.codec) (plan : 0 < leng
       and_from _ _
       (implied jobs j (is_acknowledging j (entry ∷ past) && stands_anew j entry past) _ (λ e.
       let a = and_parts (is_acknowledging j (entry ∷ past)) (stands_anew j entry past) e in
-      eq-eqb _ _ (sym (time_on jobs j (course j past).held (course j past).told (unheld past n)) ∙ now ∙ i.now (ready_clock jobs j b.rules.among dec past b.rules.awake.only_awake (anew_ready jobs j entry past a.0 a.1)))))
+      eq-eqb _ _ (sym (time_on jobs j (course j past).held (course j past).told (unheld j past n)) ∙ now ∙ i.now (ready_clock jobs j b.rules.among dec past b.rules.awake.only_awake (anew_ready jobs j entry past a.0 a.1)))))
       (implied jobs j (brings j entry past) _ (λ e. eq-eqb _ _ (now ∙ i.now (brings_late jobs j b.rules.among dec entry past b.rules.awake.only_awake e))))
 
   -- so along a journal

@@ -18,7 +18,7 @@ use Rattle.run_journal.specs.Why.{why}
 use Rattle.run_journal.specs.Saves.{saves}
 use Rattle.run_journal.specs.Due.{all_along}
 use Rattle.run_journal.specs.Awake.{implies, is_called_for, keeps_up, reads_clock}
-use Rattle.run_journal.specs.Course.{begins_at, clock_event, in_look, ends_look}
+use Rattle.run_journal.specs.Course.{begins_at, in_look, ends_look}
 use Rattle.run_journal.specs.Agreement.{IsAmong, rises, KeepsRules}
 use Rattle.run_journal.proofs.Growth.{before_all}
 use Rattle.run_journal.proofs.Telling.{add_none, none_begins, none_turn}
@@ -26,7 +26,8 @@ use Rattle.run_journal.proofs.Sighting.{or_either, looked_stays}
 use Rattle.run_journal.proofs.Dating.{Seen, run, see, whole, end, clocks_at}
 use Rattle.run_journal.proofs.Running.{first_kept, all_of, rules_before, running_parts, RanAtWait, ran_before, runs_at_wait}
 use Rattle.run_journal.proofs.Turning.{Still, quiet_entry, quiet_look, still, first_waited, dates}
-use Rattle.run_journal.proofs.Truths.{not_both}
+use Rattle.run_journal.proofs.Truths.{not_both, or_rest}
+use Rattle.run_journal.proofs.Flowing.{turn_at}
 
 -- ---- moments of a journal
 
@@ -194,7 +195,7 @@ module _ (d : ℕ) (j : Job) (entry : Entry) (past : List Entry) where
   pub clocks_kept : (s : Seen) → ((run d (clocks_at j entry past) s).found ≡ s.found) × ((run d (clocks_at j entry past) s).queued ≡ s.queued)
   clocks_kept s =
       unlooked_kept d (clocks_at j entry past) s
-      (add_none events.is_looked (begins_at j entry past) (if is_running j past then clock_event (turn_clock (entry ∷ past)) else []) false
+      (add_none events.is_looked (begins_at j entry past) (turn_at j entry past) false
       (none_begins events.is_looked j entry past (λ ms. refl)) (none_turn events.is_looked (is_running j past) (turn_clock (entry ∷ past)) (λ ms. refl)))
 
 pub end_first : (b : Bool) (s : Seen) → (end b s).first ≡ s.first
@@ -326,14 +327,10 @@ module _ (d : ℕ) (jobs : List Job) (j : Job) where
       first_then : is_some (first_clock d (entry ∷ past)) ≡ true
       first_then = ap (λ (o : Option ℕ). is_some o) (first_before d (wait_was (entry ∷ past)) p.1) ∙ p.1
 
-      either : (a b : Bool) → (a || b) ≡ true → a ≡ false → b ≡ true
-      either true b f g = cc
-      either false b f g = f
-
       by : (just_ran_out j d past ≡ true → is_called_for j (before_wait past) ≡ true → (whole d j past).queued ≡ true) → IsNew entry past → (whole d j (entry ∷ past)).queued ≡ true
       by ih (inl n) =
           let ended = ends_from j entry past (first_waited d (entry ∷ past) first_then) c p.0 n in
-          either (whole d j (entry ∷ past)).fresh (whole d j (entry ∷ past)).queued ((dates d jobs j (entry ∷ past) k h).news first_then p.2)
+          or_rest (whole d j (entry ∷ past)).fresh (whole d j (entry ∷ past)).queued ((dates d jobs j (entry ∷ past) k h).news first_then p.2)
           (ap (λ (s : Seen). s.fresh) (whole_is entry past k h) ∙ end_fresh (ends_look j entry past) (then_seen entry past k h) ended)
       by ih (inr o) =
           let same : before_wait (entry ∷ past) ≡ before_wait past = cond-false (is_wait entry) past (before_wait past) o.0 in

@@ -24,7 +24,7 @@ use Rattle.run_journal.proofs.Growth.{go_map, over_stays, reply_stays, passed_st
 use Rattle.run_journal.proofs.Telling.{came_append, first_rows, journal_rows, bad_is, stays_broken, unread_before, heard_parts}
 use Rattle.run_journal.proofs.Sighting.{or_either}
 use Rattle.run_journal.proofs.Dropping.{dropped}
-use Rattle.run_journal.proofs.Truths.{not_both}
+use Rattle.run_journal.proofs.Truths.{not_both, inside}
 
 -- ---- the last request
 
@@ -143,9 +143,6 @@ unreplied_last j k (x ∷ []) m q e r =
     let same : reply x ≡ None = ap (λ (v : ℕ × Request). reply v.1) (inside e) ∙ r in
     (unpassed (has_idle x.io) (reply x) same, failed (has_idle x.io) (reply x) same)
   where
-    inside : {a b : ℕ × Request} → Some a ≡ Some b → a ≡ b
-    inside i = cc
-
     unpassed : (i : Bool) (o : Option (Arrival × ℕ)) → o ≡ None → ((i && is_some o) && not (is_fatal j k o)) ≡ false
     unpassed true None g = refl
     unpassed false None g = refl

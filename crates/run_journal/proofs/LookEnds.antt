@@ -10,23 +10,22 @@ use Rattle.cell_core.specs.declared.event.Event.{Event}
 use Rattle.cell_core.specs.declared.event.Event.TheVariants as event
 use Rattle.cell_core.specs.Events as events
 use Rattle.run_journal.specs.Job.{Job}
-use Rattle.run_journal.specs.Parts.{turn_clock, acked, is_acknowledging, is_running}
-use Rattle.run_journal.specs.Looks.{looked, shows_lost}
-use Rattle.run_journal.specs.Requests.{is_broken}
+use Rattle.run_journal.specs.Parts.{acked, is_acknowledging}
+use Rattle.run_journal.specs.Looks.{looked}
 use Rattle.run_journal.specs.Due.{all_along}
 use Rattle.run_journal.specs.Awake.{is_called_for, reads_clock}
-use Rattle.run_journal.specs.Course.{begins_at, clock_event, when_so, in_look, ends_look, is_late, events_at, Course, late_then, told_saved, course}
+use Rattle.run_journal.specs.Course.{begins_at, when_so, in_look, ends_look, is_late, events_at, Course, late_then, told_saved, course}
 use Rattle.run_journal.specs.Agreement.{told_on, is_dated, draws, drawn_clock, starts_in_turn, KeepsRules}
-use Rattle.run_journal.proofs.Flowing.{Tells, front, tell_front, rest_at, core_at, events_are}
+use Rattle.run_journal.proofs.Flowing.{Tells, front, tell_front, rest_at, core_at, events_are, broken_at, turn_at, lost_at, look_at}
 use Rattle.run_journal.proofs.Telling.{came_append, add_none, none_when, none_core, is_loss, loss_is}
-use Rattle.run_journal.proofs.Sighting.{found_in, found_append, none_found, front_at, end_at, front_unlooked, finds}
+use Rattle.run_journal.proofs.Sighting.{found_in, found_append, none_found, front_at, front_unlooked, finds, or_more}
 use Rattle.run_journal.proofs.Dating.{Seen, seen, see, run, run_append, whole, clocks_at, late_undated}
 use Rattle.run_journal.proofs.Dropping.{stops, Mute, tell_mute, stop_saved, held_none, dropped, none_dropped, whole_told}
 use Rattle.run_journal.proofs.Running.{or_off, rules_before, RanAtWait, ran_before, start_parts}
 use Rattle.run_journal.proofs.Turning.{quiet_entry, turn_none, drawn_then, clocks_none}
 use Rattle.run_journal.proofs.Lapse.{Before, here, earlier, short_look, ends_from, new_or_old, IsNew, unlooked_kept}
 use Rattle.run_journal.proofs.Showing.{run_found, run_queued}
-use Rattle.run_journal.proofs.Truths.{not_both}
+use Rattle.run_journal.proofs.Truths.{not_both, head_same, tail_same}
 
 -- ---- more events
 
@@ -182,7 +181,7 @@ module _ (j : Job) (entry : Entry) (past : List Entry) where
       all : events_at j entry past (course j past).late ≡ (core_at j entry past ++ front_at j entry past) ++ event.Looked ∷ late_es
       all =
           events_are j entry past (course j past).late
-          ∙ sym (append_assoc (core_at j entry past) (front_at j entry past) (end_at j entry past (course j past).late))
+          ∙ sym (append_assoc (core_at j entry past) (front_at j entry past) (look_at j entry past (course j past).late))
           ∙ ap (λ v. (core_at j entry past ++ front_at j entry past) ++ v) (cond-true (ends_look j entry past) (event.Looked ∷ late_es) [] e)
 
   -- an entry that gives nothing of the clock or of looks
@@ -207,25 +206,13 @@ module _ (jobs : List Job) (j : Job) where
     quiet_then w l waited called =
         ap (events.came is_dated) (events_are j entry past (course j past).late)
         ∙ add_none is_dated (core_at j entry past) (rest_at j entry past (course j past).late) false (none_core is_dated j entry past (λ b. refl) (λ f. refl) refl)
-        (add_none is_dated (((broken ++ begins_at j entry past) ++ turn) ++ lost) look false
-        (add_none is_dated ((broken ++ begins_at j entry past) ++ turn) lost false
-        (add_none is_dated (broken ++ begins_at j entry past) turn false
-        (add_none is_dated broken (begins_at j entry past) false (none_when is_dated _ event.Broken refl) parts.0) parts.1)
+        (add_none is_dated (((broken_at j entry past ++ begins_at j entry past) ++ turn_at j entry past) ++ lost_at j entry past) (look_at j entry past (course j past).late) false
+        (add_none is_dated ((broken_at j entry past ++ begins_at j entry past) ++ turn_at j entry past) (lost_at j entry past) false
+        (add_none is_dated (broken_at j entry past ++ begins_at j entry past) (turn_at j entry past) false
+        (add_none is_dated (broken_at j entry past) (begins_at j entry past) false (none_when is_dated _ event.Broken refl) parts.0) parts.1)
         (none_when is_dated _ event.Lost refl))
         (ap (events.came is_dated) (cond-false (ends_look j entry past) _ [] open_)))
       where
-        broken : List Event
-        broken = when_so (is_broken j (entry ∷ past) && not (is_broken j past)) event.Broken
-
-        turn : List Event
-        turn = if is_running j past then clock_event (turn_clock (entry ∷ past)) else []
-
-        lost : List Event
-        lost = when_so (shows_lost j (entry ∷ past) && not (is_late j entry past)) event.Lost
-
-        look : List Event
-        look = if ends_look j entry past then event.Looked ∷ (course j past).late ++ when_so (is_late j entry past) event.Lost else []
-
         was_not : draws j entry ≡ true → is_some (drawn_clock j past) ≡ false
         was_not e =
             not-true (is_some (drawn_clock j past))
@@ -241,8 +228,8 @@ module _ (jobs : List Job) (j : Job) where
         none : clocks_at j entry past ≡ []
         none = clocks_none 0 jobs j entry past k h undrawn (turn_none entry past still)
 
-        parts : (events.came is_dated (begins_at j entry past) ≡ false) × (events.came is_dated turn ≡ false)
-        parts = or_parts (events.came is_dated (begins_at j entry past)) (events.came is_dated turn) (sym (came_append is_dated (begins_at j entry past) turn) ∙ ap (events.came is_dated) none)
+        parts : (events.came is_dated (begins_at j entry past) ≡ false) × (events.came is_dated (turn_at j entry past) ≡ false)
+        parts = or_parts (events.came is_dated (begins_at j entry past)) (events.came is_dated (turn_at j entry past)) (sym (came_append is_dated (begins_at j entry past) (turn_at j entry past)) ∙ ap (events.came is_dated) none)
 
         open_ : ends_look j entry past ≡ false
         open_ = off (in_look j (entry ∷ past) && looked j (entry ∷ past)) (is_wait entry) (looked j past) w l
@@ -269,20 +256,11 @@ module _ (jobs : List Job) (j : Job) where
 -- one list cut in two ways, the one before an item
 pub cut_at : (ys us as_ : List Event) (x : Event) (post : List Event) → ys ++ us ≡ as_ ++ x ∷ post → ((ds : List Event) × (as_ ≡ ys ++ ds)) ⊎ ((ds : List Event) × (post ≡ ds ++ us))
 cut_at [] us as_ x post e = inl (as_, refl)
-cut_at (y ∷ ys) us [] x post e = inr (ys, sym (tail e))
-  where
-    tail : {a b : Event} {ps qs : List Event} → ◌≡◌ {A = List Event} (a ∷ ps) (b ∷ qs) → ps ≡ qs
-    tail i = cc
-cut_at (y ∷ ys) us (a ∷ as_) x post e = elim (cut_at ys us as_ x post (tail e)) [
-  | inl f ↦ inl (f.0, ap (λ v. a ∷ v) f.1 ∙ ap (λ v. v ∷ (ys ++ f.0)) (sym (head e)))
+cut_at (y ∷ ys) us [] x post e = inr (ys, sym (tail_same e))
+cut_at (y ∷ ys) us (a ∷ as_) x post e = elim (cut_at ys us as_ x post (tail_same e)) [
+  | inl f ↦ inl (f.0, ap (λ v. a ∷ v) f.1 ∙ ap (λ v. v ∷ (ys ++ f.0)) (sym (head_same e)))
   | inr f ↦ inr f
 ]
-  where
-    head : {a b : Event} {ps qs : List Event} → ◌≡◌ {A = List Event} (a ∷ ps) (b ∷ qs) → a ≡ b
-    head i = cc
-
-    tail : {a b : Event} {ps qs : List Event} → ◌≡◌ {A = List Event} (a ∷ ps) (b ∷ qs) → ps ≡ qs
-    tail i = cc
 
 -- what was told stands before the look's end
 module _ (j : Job) (q past : List Entry) (pre post ds : List Event) (open_ : stops j (course j q).told ≡ false) (un : events.came events.is_looked pre ≡ false) (s : Since j q past (pre ++ event.Looked ∷ post))
@@ -312,9 +290,4 @@ module _ (j : Job) (q past : List Entry) (pre post ds : List Event) (open_ : sto
       ap (λ b. events.looked events.is_lost (course j q).told || b)
       (sym (or-false (found_in l (course j q).held)) ∙ ap (λ b. found_in l (course j q).held || b) (sym (none_found (events.came is_loss (course j q).held || l) pre un))
       ∙ sym (found_append l (course j q).held pre) ∙ ap (found_in l) e ∙ found_append l s.ys ds)
-      ∙ more (events.looked events.is_lost (course j q).told) (found_in l s.ys) (found_in (events.came is_loss s.ys || l) ds) (sym (adds_looked s.adds) ∙ f)
-    where
-      more : (a b c : Bool) → (a || b) ≡ true → (a || (b || c)) ≡ true
-      more true b c g = refl
-      more false true c g = refl
-      more false false c g = cc
+      ∙ or_more (events.looked events.is_lost (course j q).told) (found_in l s.ys) (found_in (events.came is_loss s.ys || l) ds) (sym (adds_looked s.adds) ∙ f)

@@ -13,7 +13,7 @@ use Rattle.run_journal.proofs.Agreeing.{stands_at, after_more, not_now, none_mor
 use Rattle.run_journal.proofs.Hearing.{IsComing, io, replied, AreComing, after_on}
 use Rattle.run_journal.proofs.Flowing.{AreOther}
 use Rattle.run_journal.proofs.Telling.{came_append}
-use Rattle.run_journal.proofs.Truths.{not_both}
+use Rattle.run_journal.proofs.Truths.{not_both, inside}
 
 -- ---- one event after another
 
@@ -22,9 +22,6 @@ none_some later e f = by (sym e ∙ f)
   where
     by : None ≡ Some later → ⊥
     by e = cc
-
-pub inside : {x y : List Event} → Some x ≡ Some y → x ≡ y
-inside e = cc
 
 -- the clock when a request came to stand stays
 pub stood_on : (es later told : List Event) → events.time (drop (length (told_on es later)) (told_on es told)) ≡ events.time (drop (length later) told)

@@ -29,12 +29,17 @@ use Rattle.run_journal.specs.Order.{is_nothing, begins_unread, AreLater, ComesLa
 use Rattle.run_journal.proofs.Growth.{no_requests}
 use Rattle.run_journal.proofs.Positions.{literal}
 use Rattle.run_journal.proofs.Reading.{heard_more}
+use Rattle.run_journal.proofs.Truths.{inside, not_both}
 
 -- ---- bytes are added
 
-nothing_is : (bytes : List ℕ) → is_nothing bytes ≡ true → bytes ≡ []
+pub nothing_is : (bytes : List ℕ) → is_nothing bytes ≡ true → bytes ≡ []
 nothing_is [] e = refl
 nothing_is (b ∷ bytes) e = cc
+
+nothing_new : (bytes : List ℕ) → is_nothing bytes ≡ true → [] ≡ bytes ++ []
+nothing_new [] e = refl
+nothing_new (b ∷ bytes) e = cc
 
 -- the bytes are those before, and more
 abbrev pub Adds : List ℕ → List ℕ → Type 0
@@ -49,20 +54,8 @@ adds_by b s t old here away = cond_both b s t (λ (u : Status). Adds old u.got) 
 
 connect_adds : (how : Connected) (port clock : ℕ) (s : Status) → is_nothing s.got ≡ true → Adds s.got (connected_after how port clock s).got
 connect_adds connected.Begun port clock s e = ([], nothing_new s.got e)
-  where
-    nothing_new : (bytes : List ℕ) → is_nothing bytes ≡ true → [] ≡ bytes ++ []
-    nothing_new [] e = refl
-    nothing_new (b ∷ bytes) e = cc
 connect_adds connected.Refused port clock s e = ([], nothing_new s.got e)
-  where
-    nothing_new : (bytes : List ℕ) → is_nothing bytes ≡ true → [] ≡ bytes ++ []
-    nothing_new [] e = refl
-    nothing_new (b ∷ bytes) e = cc
 connect_adds connected.Failed port clock s e = ([], nothing_new s.got e)
-  where
-    nothing_new : (bytes : List ℕ) → is_nothing bytes ≡ true → [] ≡ bytes ++ []
-    nothing_new [] e = refl
-    nothing_new (b ∷ bytes) e = cc
 
 implied : (b x : Bool) → cond b x true ≡ true → b ≡ true → x ≡ true
 implied true x e f = e
@@ -203,18 +196,12 @@ some_alone (Some m) None e = cc
 fatal_alone : (j : Job) (k : ℕ) (o p : Option (Arrival × ℕ)) → option_map without_clock o ≡ option_map without_clock p → is_fatal j k o ≡ is_fatal j k p
 fatal_alone j k None None e = refl
 fatal_alone j k (Some m) (Some n) e = ap (λ (a : Arrival). j.fatal k a.content) (inside e)
-  where
-    inside : {a b : Arrival} → Some a ≡ Some b → a ≡ b
-    inside e = cc
 fatal_alone j k None (Some n) e = cc
 fatal_alone j k (Some m) None e = cc
 
 date_alone : (o p : Option (Arrival × ℕ)) → option_map without_clock o ≡ option_map without_clock p → reply_date o ≡ reply_date p
 date_alone None None e = refl
 date_alone (Some m) (Some n) e = ap (λ (a : Arrival). a.date) (inside e)
-  where
-    inside : {a b : Arrival} → Some a ≡ Some b → a ≡ b
-    inside e = cc
 date_alone None (Some n) e = cc
 date_alone (Some m) None e = cc
 
@@ -343,21 +330,17 @@ error_is j past e =
     (is_not_ready j (requests j past) past) (is_no_idle j (last_request 0 (requests j past)) past) (is_timed_out j (last_request 0 (requests j past)) past) e
 
 -- where the one is done, no reply of the other was fatal
-not_both : (j : Job) (one two : List Entry) → SameForAll (requests j one) (requests j two) → why j one ≡ Some cause.Done → why j two ≡ Some cause.CellError → ⊥
-not_both j one two h e f = elim (cases_Bool (length j.task.plan == 0)) [
+never_mixed : (j : Job) (one two : List Entry) → SameForAll (requests j one) (requests j two) → why j one ≡ Some cause.Done → why j two ≡ Some cause.CellError → ⊥
+never_mixed j one two h e f = elim (cases_Bool (length j.task.plan == 0)) [
   | inl empty ↦ no_last (last_request 0 (requests j two)) (ap (last_request 0) (no_requests j two (eqb-true (length j.task.plan) 0 empty))) (error_is j two f).1
   | inr some ↦
       let a : (length (requests j one) == length j.task.plan && is_last_passed j 0 (requests j one)) ≡ true = sym (cond-false (length j.task.plan == 0) _ _ some) ∙ done_is j one e in
       let b : (length (requests j two) == length j.task.plan && is_last_passed j 0 (requests j two)) ≡ false = sym (cond-false (length j.task.plan == 0) _ _ some) ∙ (error_is j two f).0 in
       let same : (length (requests j one) == length j.task.plan && is_last_passed j 0 (requests j one)) ≡ (length (requests j two) == length j.task.plan && is_last_passed j 0 (requests j two))
       = ap (λ n. n == length j.task.plan && is_last_passed j 0 (requests j one)) (same_length h) ∙ ap (λ x. length (requests j two) == length j.task.plan && x) (same_last j 0 h) in
-      apart (length (requests j two) == length j.task.plan && is_last_passed j 0 (requests j two)) (sym same ∙ a) b
+      not_both (length (requests j two) == length j.task.plan && is_last_passed j 0 (requests j two)) (sym same ∙ a) b
 ]
   where
-    apart : (b : Bool) → b ≡ true → b ≡ false → ⊥
-    apart true e f = cc
-    apart false e f = cc
-
     no_last : (o : Option (ℕ × Request)) → o ≡ None → is_error j o ≡ true → ⊥
     no_last None e f = cc
     no_last (Some r) e f = cc
@@ -366,8 +349,8 @@ not_both j one two h e f = elim (cases_Bool (length j.task.plan == 0)) [
 same_why : (j : Job) (one two : List Entry) → SameForAll (requests j one) (requests j two) → SameForAll (requests j two) (requests j one) → HasAnswered j one → HasAnswered j two → why j one ≡ why j two
 same_why j one two h k (inl e) (inl f) = e ∙ sym f
 same_why j one two h k (inr e) (inr f) = e ∙ sym f
-same_why j one two h k (inl e) (inr f) = absurd (not_both j one two h e f)
-same_why j one two h k (inr e) (inl f) = absurd (not_both j two one k f e)
+same_why j one two h k (inl e) (inr f) = absurd (never_mixed j one two h e f)
+same_why j one two h k (inr e) (inl f) = absurd (never_mixed j two one k f e)
 
 turned : {rs ss : List Request} → SameForAll rs ss → SameForAll ss rs
 turned ends = ends

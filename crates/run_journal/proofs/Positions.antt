@@ -13,10 +13,10 @@ use Rattle.run_journal.specs.Job.{Job}
 use Rattle.run_journal.specs.Parts.{acked, is_acknowledging}
 use Rattle.run_journal.specs.Arrivals.{arrive, arrivals, asked, is_ready}
 use Rattle.run_journal.specs.Requests.{Request, with_interrupt, goes_on, fresh, count_queued, is_next, requests, or_later}
-use Rattle.run_journal.specs.Grow.{GoOn, no_more, one_more}
 use Rattle.run_journal.specs.Literal.{start_at, alone, later_with, is_for, is_reply_for, Literally}
-use Rattle.run_journal.proofs.Growth.{requests_go_on}
+use Rattle.run_journal.proofs.Growth.{requests_go_on, length_on}
 use Rattle.run_journal.proofs.Agreeing.{get_some}
+use Rattle.run_journal.proofs.Truths.{inside}
 
 -- each arrival stands at a position before this one
 abbrev AllBelow : ℕ → List (ℕ × Arrival) → Type 0
@@ -61,15 +61,11 @@ later_append test start xs ys = ap alone (filter-append (λ a. nat_lt start a.0 
 
 -- ---- a request's messages by their positions
 
-go_length : {rs ss : List Request} → GoOn rs ss → length rs ≤ length ss
-go_length no_more = omega arith
-go_length (one_more g gs) = let h = go_length gs in omega (arith, h)
-
 -- so many requests don't stand before there are so many
 not_started : (j : Job) (k : ℕ) (past : List Entry) → length (requests j past) < k → start_at j k past ≡ None
 not_started j k [] h = refl
 not_started j k (entry ∷ past) h =
-    let fewer : length (requests j past) ≤ length (requests j (entry ∷ past)) = go_length (requests_go_on j entry past) in
+    let fewer : length (requests j past) ≤ length (requests j (entry ∷ past)) = length_on (requests_go_on j entry past) in
     ap (λ o. or_later o (if nat_le k (length (requests j (entry ∷ past))) then Some (length past) else None)) (not_started j k past (omega (arith, h, fewer)))
     ∙ cond-false (nat_le k (length (requests j (entry ∷ past)))) _ _ (lt-leb k (length (requests j (entry ∷ past))) h)
 
@@ -135,14 +131,11 @@ module _ (j : Job) where
     | inl below ↦
         let old = get_some (requests j past) i below in
         let is : slice_get (requests j (entry ∷ past)) i ≡ Some (goes_on j entry past old.0) = kept (get_map (goes_on j entry past) (requests j past) i old.0 old.1) in
-        let same : r ≡ goes_on j entry past old.0 = some_same (sym e ∙ is) in
+        let same : r ≡ goes_on j entry past old.0 = inside (sym e ∙ is) in
         subst (λ s. Literally j i (entry ∷ past) s) (sym same) (literal_on i entry past old.0 (literal past i old.0 old.1))
     | inr above ↦ fresh_one (omega (arith, above, length-map (requests j past) (goes_on j entry past))) e
   ]
     where
-      some_same : {a b : Request} → Some a ≡ Some b → a ≡ b
-      some_same h = cc
-
       rs : List Request
       rs = map (goes_on j entry past) (requests j past)
 

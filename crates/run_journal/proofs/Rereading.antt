@@ -5,6 +5,7 @@ use Rattle.std.specs.List.{list_any, list_all}
 use Rattle.std.proofs.lemmas.Bool.{and_parts, and_from}
 use Rattle.world.specs.declared.chan.Chan.{Chan}
 use Rattle.world.specs.declared.chan.Chan.TheVariants.{Shell, Control, Iopub, Heart}
+use Rattle.world.specs.declared.conn.Conn.{Conn}
 use Rattle.world.specs.declared.connected.Connected.{Connected}
 use Rattle.world.specs.declared.connected.Connected.TheVariants as connected
 use Rattle.world.specs.declared.did.Did.{Did}
@@ -21,6 +22,7 @@ use Rattle.run_journal.specs.Agreement.{IsAmong, BeginsUnread, tells_rightly, Te
 use Rattle.run_journal.proofs.Sighting.{or_either}
 use Rattle.run_journal.proofs.Running.{all_of, or_off}
 use Rattle.run_journal.proofs.Truths.{not_both}
+use Rattle.run_journal.proofs.Ordering.{nothing_is}
 
 -- a test holds of each channel
 each_channel : (test : Chan → Bool) → list_all test channels ≡ true → (c : Chan) → test c ≡ true
@@ -31,10 +33,6 @@ each_channel test e Heart = (and_parts (test Heart) true (and_parts (test Iopub)
 
 pub each_one : (test : Job → Chan → Bool) (jobs : List Job) (j : Job) → IsAmong j jobs → list_all (λ i. list_all (test i) channels) jobs ≡ true → (c : Chan) → test j c ≡ true
 each_one test jobs j m e c = each_channel (test j) (all_of (λ i. list_all (test i) channels) jobs j m e) c
-
-pub nothing_is : (bytes : List ℕ) → is_nothing bytes ≡ true → bytes ≡ []
-nothing_is [] e = refl
-nothing_is (b ∷ bytes) e = cc
 
 -- Of a connection: it is awake only while it is up; once refused, or before it was tried, it isn't up and nothing was got on it.
 record Sound (s : Status) (tried : Bool) : Type 0 where
@@ -89,24 +87,29 @@ module _ (j : Job) (c : Chan) where
   connect_next false x how port clock s i f = i
 
   module _ (jobs : List Job) (m : IsAmong j jobs) where
+    -- a connection that was tried is begun again after it was refused
+    was_refused : (conn : Conn) (port : ℕ) (how : Connected) (past : List Entry) → begins_refused jobs (made.Connected conn port how ∷ past) ≡ true → is_at (place j c) conn ≡ true → tried past ≡ true
+        → is_some (connection j c past).refused ≡ true
+    was_refused conn port how past r f e =
+        some_refused (connection j c past).refused
+        (goes (is_at (place j c) conn) (tried past) (may_begin_again j past (connection j c past).refused)
+        (each_one (λ i d. implies (is_its i d conn && list_any (is_connect i d) past) (may_begin_again i past (connection i d past).refused)) jobs j m r c) f e)
+      where
+        goes : (x y z : Bool) → implies (x && y) z ≡ true → x ≡ true → y ≡ true → z ≡ true
+        goes true true z e f g = e
+        goes true false z e f g = cc
+        goes false y z e f g = cc
+
+        some_refused : (v : Option ℕ) → may_begin_again j past v ≡ true → is_some v ≡ true
+        some_refused None g = cc
+        some_refused (Some ms) g = refl
+
     next : (entry : Entry) (past : List Entry) → Sound (connection j c past) (tried past) → in_order jobs (entry ∷ past) ≡ true → begins_refused jobs (entry ∷ past) ≡ true → tells_rightly j c (entry ∷ past) ≡ true
         → Sound (connection j c (entry ∷ past)) (tried (entry ∷ past))
     next (made.Connected conn port how) past i o r t = connect_next (is_at (place j c) conn) (tried past) how port (time past) (connection j c past) i by
       where
         may : (b : Bool) → tried past ≡ b → is_at (place j c) conn ≡ true → (connection j c past).up ≡ false
-        may true e f =
-            (i.refused (some_refused (connection j c past).refused
-            (goes (is_at (place j c) conn) (tried past) (may_begin_again j past (connection j c past).refused)
-            (each_one (λ i d. implies (is_its i d conn && list_any (is_connect i d) past) (may_begin_again i past (connection i d past).refused)) jobs j m r c) f e))).0
-          where
-            goes : (x y z : Bool) → implies (x && y) z ≡ true → x ≡ true → y ≡ true → z ≡ true
-            goes true true z e f g = e
-            goes true false z e f g = cc
-            goes false y z e f g = cc
-
-            some_refused : (v : Option ℕ) → may_begin_again j past v ≡ true → is_some v ≡ true
-            some_refused None g = cc
-            some_refused (Some ms) g = refl
+        may true e f = (i.refused (was_refused conn port how past r f e)).0
         may false e f = (i.untried e).0
 
         by : is_at (place j c) conn ≡ true → (connection j c past).up ≡ false
@@ -146,20 +149,8 @@ module _ (j : Job) (c : Chan) where
     unread : (entry : Entry) (past : List Entry) → Sound (connection j c past) (tried past) → begins_refused jobs (entry ∷ past) ≡ true → begins_unread j c (entry ∷ past) ≡ true
     unread (made.Connected conn port how) past i r = by (is_at (place j c) conn) refl
       where
-        goes : (x y z : Bool) → implies (x && y) z ≡ true → x ≡ true → y ≡ true → z ≡ true
-        goes true true z e f g = e
-        goes true false z e f g = cc
-        goes false y z e f g = cc
-
-        some_refused : (v : Option ℕ) → may_begin_again j past v ≡ true → is_some v ≡ true
-        some_refused None g = cc
-        some_refused (Some ms) g = refl
-
         got : is_at (place j c) conn ≡ true → (b : Bool) → tried past ≡ b → bytes_got j c past ≡ []
-        got f true e =
-            (i.refused (some_refused (connection j c past).refused
-            (goes (is_at (place j c) conn) (tried past) (may_begin_again j past (connection j c past).refused)
-            (each_one (λ i d. implies (is_its i d conn && list_any (is_connect i d) past) (may_begin_again i past (connection i d past).refused)) jobs j m r c) f e))).1
+        got f true e = (i.refused (was_refused conn port how past r f e)).1
         got f false e = (i.untried e).1
 
         by : (b : Bool) → is_at (place j c) conn ≡ b → cond b (is_nothing (bytes_got j c past)) true ≡ true

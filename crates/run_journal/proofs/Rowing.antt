@@ -33,8 +33,9 @@ use Rattle.run_journal.proofs.Turning.{first_waited, dates}
 use Rattle.run_journal.proofs.Lapse.{Before, wait_was, ever_before, rules_at, clock_from, first_ever, first_before, ran_parts, Left, found_ran, ran_found}
 use Rattle.run_journal.proofs.Earlier.{Was, stood_before, replied_before, last_before, ready_stands, go_before, none_on}
 use Rattle.run_journal.proofs.Interrupting.{none_holds, called_start, called_request, no_reply_before, interrupted_queued, queued_interrupted}
-use Rattle.run_journal.proofs.Truths.{not_both}
+use Rattle.run_journal.proofs.Truths.{not_both, inside}
 use Rattle.std.proofs.Math.Bool.{and-false}
+use Rattle.std.proofs.lemmas.List.{nil_from_length}
 use Rattle.run_journal.proofs.Seconds.{first_least, first_last, child_before, ever_past, flagged_before, ready_before, uninterrupted}
 
 -- ---- tests
@@ -53,9 +54,6 @@ pub standing_after : (task : Task) (n : ℕ) (told : List Event) (s : core.Stand
 standing_after task zero told s e = cc
 standing_after task (suc n) told s e = by (λ x. standing_after task n told s x) (core.after task n told) refl
   where
-    inside : {x y : core.Standing} → Some x ≡ Some y → x ≡ y
-    inside i = cc
-
     by : (core.last_below task n told ≡ Some s → core.after task s.request told ≡ Some s.later) → (o : Option (List Event)) → core.after task n told ≡ o → core.after task s.request told ≡ Some s.later
     by ih (Some later) f =
         let same : record { request = n; later = later } ≡ s = inside (sym (ap (λ v. core.or_before n v (core.last_below task n told)) f) ∙ e) in
@@ -65,9 +63,6 @@ standing_after task (suc n) told s e = by (λ x. standing_after task n told s x)
 some_and_at : (P : List Event → Type 0) (o : Option (List Event)) (later : List Event) → o ≡ Some later → IsSomeAnd o P → P later
 some_and_at P None later e h = cc
 some_and_at P (Some v) later e h = subst P (inside e) h
-  where
-    inside : Some v ≡ Some later → v ≡ later
-    inside i = cc
 
 pub over_same : (j : Job) (k : ℕ) (later : List Event) (r : Request) → AgreesOn j k later r → core.is_over later ≡ is_over r
 over_same j k later r a =
@@ -143,15 +138,11 @@ module _ (jobs : List Job) (j : Job) (past : List Entry) (k : KeepsRules jobs j 
       unready : is_ready j (before_wait past) ≡ false
       unready = false_from_ne_true (is_ready j (before_wait past)) (λ r. ready_stands j past (ready_before j (wait_was past) r) acks plan e)
 
-  pub no_items : {A : Type 0} (xs : List A) → length xs ≡ 0 → xs ≡ []
-  no_items [] e = refl
-  no_items (x ∷ xs) e = cc
-
   pub last_is : (m : ℕ) (q : Request) → length (requests j past) ≡ suc m → slice_get (requests j past) m ≡ Some q → last_request 0 (requests j past) ≡ Some (m, q)
   last_is m q l e = let z : 0 + m ≡ m = omega arith in last_numbered 0 m (requests j past) q l e ∙ ap (λ i. Some (i, q)) z
 
   pub none_last : length (requests j past) ≡ 0 → last_request 0 (requests j past) ≡ None
-  none_last l = ap (last_request 0) (no_items (requests j past) l)
+  none_last l = ap (last_request 0) (nil_from_length (requests j past) l)
 
   -- where the child was started, a look that is found by either shows it
   pub child_found : (d : ℕ) → (whole d j past).found ≡ true → is_some (child_clock j past) ≡ true
@@ -328,7 +319,7 @@ module _ (jobs : List Job) (j : Job) (past : List Entry) (k : KeepsRules jobs j 
       some_items (r ∷ rs) m e = refl
 
       by : (o : Option core.Standing) → Stands j told past o → core_saves.is_not_ready j.task o told ≡ is_not_ready j (requests j past) past
-      by None (nothing l) = let e = no_items jobs j past k h f t plan (requests j past) l in not_ready_open e ∙ sym (ap (λ rs. is_not_ready j rs past) e)
+      by None (nothing l) = let e = nil_from_length (requests j past) l in not_ready_open e ∙ sym (ap (λ rs. is_not_ready j rs past) e)
       by (Some _) (last m q later l e a) = some_items (requests j past) m l
 
   -- ---- the last request

@@ -2,7 +2,7 @@
 use Rattle.std.proofs.Common.{◌≡◌, ◌⊎◌, inl, inr, ℕ, zero, suc, ◌+◌, ◌<◌, ◌≤◌, List, [], ◌∷◌, ◌++◌, length, map, Bool, true, false, ◌&&◌, ◌||◌, not, cond, Option, Some, None, refl, sym, ◌∙◌, ap, subst, arith, length-append}
 use Rattle.std.specs.Prelude.{nat_lt, ◌==◌, slice_get, IsSomeAnd}
 use Rattle.std.specs.Str.{bytes_eq}
-use Rattle.std.proofs.lemmas.List.{append-nil, length-map, map-append}
+use Rattle.std.proofs.lemmas.List.{length-map, map-append}
 use Rattle.std.proofs.lemmas.Bool.{and_parts, and_left, and_right, cond-true, cond-false, cond_both, cases_Bool, ltb-true, eqb-true, ne_eqb, not_from_true, or_parts, both_ways, false_from_ne_true}
 use Rattle.std.proofs.lemmas.Slice.Eq.{bytes_eq-Decides}
 use Rattle.world.specs.declared.did.Did.TheVariants.{Done, Failed}
@@ -19,17 +19,17 @@ use Rattle.progress_save.specs.Safe.{IsText, IsLastOrNext, IsPlace, IsSafe}
 use Rattle.cell_core.specs.declared.why.Why.{Why}
 use Rattle.cell_core.specs.declared.why.Why.TheVariants as cause
 use Rattle.zmtp_wire.specs.Meaning.{Begins}
-use Rattle.run_journal.specs.Job.{Job, Given, Refuses, Prepares, Runs}
+use Rattle.run_journal.specs.Job.{Job}
 use Rattle.run_journal.specs.Parts.{acked, is_acknowledging, is_shut}
 use Rattle.run_journal.specs.OfJob.{is_own_path, is_of}
 use Rattle.run_journal.specs.Arrivals.{asked, is_ready}
 use Rattle.run_journal.specs.Requests.{Request, is_last_passed, is_next, with_interrupt, goes_on, fresh, count_queued, requests}
-use Rattle.run_journal.specs.Why.{when, is_done, are_acked, plain_count, plan_end, why}
-use Rattle.run_journal.specs.Saves.{Save, save, passes, is_marked, stopping, is_complete, closing, run_saves, saves_for, saves_by, saves, texts}
-use Rattle.run_journal.specs.Grow.{ArePassed, GoOn, no_more, one_more}
+use Rattle.run_journal.specs.Why.{when, is_done, are_acked, plain_count, why}
+use Rattle.run_journal.specs.Saves.{Save, save, passes, is_marked, stopping, is_complete, run_saves, saves_by, saves, texts}
+use Rattle.run_journal.specs.Grow.{ArePassed}
 use Rattle.run_journal.specs.Safety.{IsSafeNow, StepsSafely}
-use Rattle.run_journal.proofs.Alike.{Quiet, near_self, skips}
-use Rattle.run_journal.proofs.Growth.{passed_stays, goes, goes_self, begins_self, begins_then, begins_as, begins_front, passes_grow, no_requests, no_stop, plain_saves, acked_grows, before_all, saves_end, go_append}
+use Rattle.run_journal.proofs.Alike.{Quiet, near_self, skips, quiet_by}
+use Rattle.run_journal.proofs.Growth.{passed_stays, goes, begins_self, begins_then, begins_as, no_stop, acked_grows, before_all, saves_end, go_append, go_self, open_saves, run_begins, unplanned_grow, given_grow}
 use Rattle.run_journal.proofs.Isolation.{requests_quiet, why_but_done}
 
 -- ---- never two requests at once
@@ -106,10 +106,6 @@ few_requests j (entry ∷ past) =
 
 -- ---- a quiet entry, as one of the job's own saves, takes no save back
 
-go_self : (rs : List Request) → GoOn rs rs
-go_self [] = no_more
-go_self (r ∷ rs) = one_more (goes_self r) (go_self rs)
-
 -- where the next request comes to stand no stop is saved
 no_stop_next : (j : Job) (acks ready : Bool) (saves : ℕ) (rs : List Request) (w : Option Why) → is_next j acks ready saves rs ≡ true → stopping j rs w ≡ []
 no_stop_next j acks ready saves [] w e = no_stop j w
@@ -122,11 +118,7 @@ due_next : (j : Job) (acks ready : Bool) (saves : ℕ) (rs : List Request) (w : 
 due_next j acks ready saves rs w e =
     let few = few_next j acks ready saves rs e in
     let some : is_complete j rs ≡ false = and_left (length rs == length j.task.plan) _ (ne_eqb (length rs) (length j.task.plan) (λ same. absurd (omega (arith, few.1, same)))) in
-    let last : closing j rs ≡ [] = cond-false (is_complete j rs && nat_lt (plan_end j.task.plan) j.task.cells) _ _ (and_left (is_complete j rs) _ some) in
-    ap (λ xs. (save j [] 0 None ∷ passes j [] 0 j.task.plan rs ++ xs) ++ closing j rs) (no_stop_next j acks ready saves rs w e)
-    ∙ ap (λ xs. ((save j [] 0 None ∷ passes j [] 0 j.task.plan rs) ++ []) ++ xs) last
-    ∙ append-nil ((save j [] 0 None ∷ passes j [] 0 j.task.plan rs) ++ [])
-    ∙ append-nil (save j [] 0 None ∷ passes j [] 0 j.task.plan rs)
+    open_saves j rs w some (no_stop_next j acks ready saves rs w e)
 
 done_alike : (j : Job) (m n : ℕ) (rs : List Request) → (length j.task.plan == 0) ≡ false → is_done j m rs ≡ is_done j n rs
 done_alike j m n rs some = cond-false (length j.task.plan == 0) (are_acked (plain_count j j.given) m) _ some ∙ sym (cond-false (length j.task.plan == 0) (are_acked (plain_count j j.given) n) _ some)
@@ -138,38 +130,26 @@ why_quiet j entry past f some same =
     (ap (λ b. when b cause.Done) (done_alike j (acked j (entry ∷ past)) (acked j past) (requests j (entry ∷ past)) some ∙ ap (is_done j (acked j past)) same)) same
 
 saves_by_quiet : (j : Job) (entry : Entry) (past : List Entry) → Quiet j entry → Begins (saves_by j past) (saves_by j (entry ∷ past))
-saves_by_quiet j entry past f = by_given j.given
-  where
-    by_given : (g : Given) → Begins (saves_for j g (requests j past) (why j past)) (saves_for j g (requests j (entry ∷ past)) (why j (entry ∷ past)))
-    by_given (Refuses status text) = begins_self _
-    by_given (Prepares text) = begins_self _
-    by_given Runs = elim (cases_Bool (length j.task.plan == 0)) [
-      | inl empty ↦
-          let z : length j.task.plan ≡ 0 = eqb-true (length j.task.plan) 0 empty in
-          let old : run_saves j (requests j past) (why j past) ≡ run_saves j [] None
-          = ap (λ rs. run_saves j rs (why j past)) (no_requests j past z) ∙ plain_saves j (why j past) in
-          let new : run_saves j (requests j (entry ∷ past)) (why j (entry ∷ past)) ≡ run_saves j [] None
-          = ap (λ rs. run_saves j rs (why j (entry ∷ past))) (no_requests j (entry ∷ past) z) ∙ plain_saves j (why j (entry ∷ past)) in
-          begins_as (begins_self _) (new ∙ sym old)
-      | inr some ↦ elim (cases_Bool (is_next j (is_acknowledging j (entry ∷ past)) (is_ready j (entry ∷ past)) (acked j (entry ∷ past)) (requests j past))) [
-        | inl e ↦
-            let q : Request = with_interrupt j (entry ∷ past) (fresh (count_queued (length (asked j (entry ∷ past)).ids) (requests j past) + 1) (time past)) in
-            let new : requests j (entry ∷ past) ≡ requests j past ++ q ∷ []
-            = requests_quiet j past f ∙ cond-true (is_next j (is_acknowledging j (entry ∷ past)) (is_ready j (entry ∷ past)) (acked j (entry ∷ past)) (requests j past)) _ _ e in
-            let w : Option Why = why j (entry ∷ past) in
-            let ss : List Request = requests j past ++ q ∷ [] in
-            let after : Begins (run_saves j (requests j past) (why j past)) (run_saves j ss w)
-            = subst (λ xs. Begins xs (run_saves j ss w)) (sym (due_next j (is_acknowledging j (entry ∷ past)) (is_ready j (entry ∷ past)) (acked j (entry ∷ past)) (requests j past) (why j past) e))
-            (begins_then (begins_front (save j [] 0 None) (passes_grow j [] 0 j.task.plan (go_append (q ∷ []) (go_self (requests j past)))))
-            (begins_then (record { rest = stopping j ss w; joined = refl }) (record { rest = closing j ss; joined = refl }))) in
-            subst (λ rs. Begins (run_saves j (requests j past) (why j past)) (run_saves j rs w)) (sym new) after
-        | inr e ↦
-            let same : requests j (entry ∷ past) ≡ requests j past
-            = requests_quiet j past f ∙ cond-false (is_next j (is_acknowledging j (entry ∷ past)) (is_ready j (entry ∷ past)) (acked j (entry ∷ past)) (requests j past)) _ _ e in
-            let w : why j (entry ∷ past) ≡ why j past = why_quiet j entry past f some same in
-            begins_as (begins_self _) (ap (λ rs. run_saves j rs (why j (entry ∷ past))) same ∙ ap (run_saves j (requests j past)) w)
-      ]
-    ]
+saves_by_quiet j entry past f = given_grow j j.given (requests j past) (requests j (entry ∷ past)) (why j past) (why j (entry ∷ past)) (elim (cases_Bool (length j.task.plan == 0)) [
+  | inl empty ↦ unplanned_grow j entry past empty
+  | inr some ↦ elim (cases_Bool (is_next j (is_acknowledging j (entry ∷ past)) (is_ready j (entry ∷ past)) (acked j (entry ∷ past)) (requests j past))) [
+    | inl e ↦
+        let q : Request = with_interrupt j (entry ∷ past) (fresh (count_queued (length (asked j (entry ∷ past)).ids) (requests j past) + 1) (time past)) in
+        let new : requests j (entry ∷ past) ≡ requests j past ++ q ∷ []
+        = requests_quiet j past f ∙ cond-true (is_next j (is_acknowledging j (entry ∷ past)) (is_ready j (entry ∷ past)) (acked j (entry ∷ past)) (requests j past)) _ _ e in
+        let w : Option Why = why j (entry ∷ past) in
+        let ss : List Request = requests j past ++ q ∷ [] in
+        let after : Begins (run_saves j (requests j past) (why j past)) (run_saves j ss w)
+        = subst (λ xs. Begins xs (run_saves j ss w)) (sym (due_next j (is_acknowledging j (entry ∷ past)) (is_ready j (entry ∷ past)) (acked j (entry ∷ past)) (requests j past) (why j past) e))
+        (run_begins j (requests j past) ss w (go_append (q ∷ []) (go_self (requests j past)))) in
+        subst (λ rs. Begins (run_saves j (requests j past) (why j past)) (run_saves j rs w)) (sym new) after
+    | inr e ↦
+        let same : requests j (entry ∷ past) ≡ requests j past
+        = requests_quiet j past f ∙ cond-false (is_next j (is_acknowledging j (entry ∷ past)) (is_ready j (entry ∷ past)) (acked j (entry ∷ past)) (requests j past)) _ _ e in
+        let w : why j (entry ∷ past) ≡ why j past = why_quiet j entry past f some same in
+        begins_as (begins_self _) (ap (λ rs. run_saves j rs (why j (entry ∷ past))) same ∙ ap (run_saves j (requests j past)) w)
+  ]
+])
 
 -- at a quiet entry what is due stays due, whatever has stopped the job
 pub saves_quiet : (j : Job) (entry : Entry) (past : List Entry) → Quiet j entry → Begins (saves j past) (saves j (entry ∷ past))
@@ -201,17 +181,7 @@ quiet_on_disk j (made.Killed job) e = cc
 quiet_on_disk j (made.Moment ms) e = cc
 quiet_on_disk j (made.Word word) e = cc
 quiet_on_disk j (made.Said bytes did) e = cc
-quiet_on_disk j _ e = record {
-  status = λ c clock s. refl;
-  clock = refl;
-  time = λ was. refl;
-  wait = refl;
-  ended = λ c. refl;
-  begun = refl;
-  closed = refl;
-  started = refl;
-  lost = refl;
-}
+quiet_on_disk j _ e = quiet_by j _ refl (λ was. refl) refl (λ c clock s. refl) (λ c. refl) refl refl refl refl
 
 -- ---- what other jobs leave at the output
 

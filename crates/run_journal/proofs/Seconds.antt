@@ -1,7 +1,7 @@
 -- What earlier moments have of clocks, starts and interrupts.
-use Rattle.std.proofs.Common.{◌≡◌, ◌⊎◌, inl, inr, ℕ, ◌+◌, ◌<◌, ◌≤◌, List, [], ◌∷◌, length, map, Bool, true, false, ◌&&◌, ◌||◌, not, Option, Some, None, refl, sym, ◌∙◌, ap, subst, arith}
+use Rattle.std.proofs.Common.{◌≡◌, ◌⊎◌, inl, inr, ℕ, ◌+◌, ◌<◌, ◌≤◌, List, [], ◌∷◌, length, map, Bool, true, false, ◌&&◌, not, Option, Some, None, refl, sym, ◌∙◌, ap, subst, arith}
 use Rattle.std.specs.Prelude.{is_some, option_map, slice_get, nat_le, if◌then◌else◌}
-use Rattle.std.proofs.lemmas.Bool.{and_parts, or_left, or_right, cond-true, cond-false, cases_Bool, leb-true, le-leb, not-true}
+use Rattle.std.proofs.lemmas.Bool.{and_parts, or_left, or_right, cond-true, cond-false, cases_Bool, leb-true, le-leb, not-true, or_from}
 use Rattle.world.specs.declared.chan.Chan.TheVariants.{Shell, Iopub}
 use Rattle.world.specs.declared.entry.Entry.{Entry}
 use Rattle.world.specs.Places.{time}
@@ -22,7 +22,7 @@ use Rattle.run_journal.proofs.Turning.{moment_time, still}
 use Rattle.run_journal.proofs.Lapse.{Before, here, earlier, ever_before, clock_from, first_before}
 use Rattle.run_journal.proofs.Earlier.{CameBy, stood, anew, came_by, Was, goes_then}
 use Rattle.run_journal.proofs.Interrupting.{interrupted_parts}
-use Rattle.run_journal.proofs.Truths.{not_both}
+use Rattle.run_journal.proofs.Truths.{not_both, inside, too_late}
 
 -- ---- moments
 
@@ -59,9 +59,6 @@ module _ (d : ℕ) where
         where
           by_test : (b : Bool) → nat_le d t ≡ b → (if b then Some t else None) ≡ Some ms → d ≤ ms
           by_test true g f = subst (λ n. d ≤ n) (inside f) (leb-true d t g)
-            where
-              inside : Some t ≡ Some ms → t ≡ ms
-              inside i = cc
           by_test false g f = cc
 
       by : (first_clock d past ≡ Some ms → d ≤ ms) → (o : Option ℕ) → first_clock d past ≡ o → d ≤ ms
@@ -84,9 +81,6 @@ module _ (d : ℕ) where
           at_moment : (o : Option ℕ) → o ≡ Some t → (if is_at_least d o then o else None) ≡ Some ms → t ≡ ms
           at_moment None i l = cc
           at_moment (Some x) i l = subst (λ n. (if nat_le d n then Some n else None) ≡ Some ms → t ≡ ms) (sym (inside i)) (test (nat_le d t)) l
-            where
-              inside : Some x ≡ Some t → x ≡ t
-              inside i = cc
 
           one : (w : Bool) → (if is_at_least d (if w then moment_of entry else None) then (if w then moment_of entry else None) else None) ≡ Some ms → t ≡ ms
           one true l = at_moment (moment_of entry) f l
@@ -144,10 +138,7 @@ flagged_before j c d {q} (earlier {past} entry b) e f two i r g l dead int = by 
         ] in
         let w = ih o s (subst (λ t. t < d) (sym at) l) dead_o flag in
         (record { old = w.0.old; stands = w.0.stands; on = subst (GoesOn w.0.old) (sym n) (goes_then w.0.on on) }, w.1)
-    by ih (anew n) = absurd (late d (time past) r.clock (clock_from d past p.1 (ever_before (is_past d) b f)) (ap (λ (v : Request). v.clock) n) l)
-      where
-        late : (d t c : ℕ) → d ≤ t → c ≡ t → c < d → ⊥
-        late d t c a b e = absurd (omega (arith, a, b, e))
+    by ih (anew n) = absurd (too_late d (time past) r.clock (clock_from d past p.1 (ever_before (is_past d) b f)) (ap (λ (v : Request). v.clock) n) l)
 
 -- no interrupt is queued where none is asked for
 pub uninterrupted : (j : Job) → j.task.times.interrupt ≡ false → (past : List Entry) (i : ℕ) (r : Request) → slice_get (requests j past) i ≡ Some r → r.interrupted ≡ false
@@ -158,10 +149,6 @@ uninterrupted j e (entry ∷ past) i r g = by (λ o x. uninterrupted j e past i 
     no : (v : Request) → is_interrupted j (entry ∷ past) v ≡ false
     no v = ap (λ b. b && not (is_some (reply v)) && is_just_out j (entry ∷ past) (deadline j v) && not (is_broken j (entry ∷ past)) && not (is_lost j (entry ∷ past))) e
 
-    or_both : (a b : Bool) → a ≡ false → b ≡ false → (a || b) ≡ false
-    or_both true b x y = cc
-    or_both false b x y = y
-
     by : ((o : Request) → slice_get (requests j past) i ≡ Some o → o.interrupted ≡ false) → CameBy j entry past i r → r.interrupted ≡ false
-    by ih (stood o s n) = ap (λ (v : Request). v.interrupted) n ∙ or_both o.interrupted _ (ih o s) (no (with_news j o (arrive j Iopub entry past) (arrive j Shell entry past) (time past)))
+    by ih (stood o s n) = ap (λ (v : Request). v.interrupted) n ∙ or_from o.interrupted _ (ih o s) (no (with_news j o (arrive j Iopub entry past) (arrive j Shell entry past) (time past)))
     by ih (anew n) = ap (λ (v : Request). v.interrupted) n ∙ no (fresh (count_queued (length (asked j (entry ∷ past)).ids) (map (goes_on j entry past) (requests j past)) + 1) (time past))

@@ -2,6 +2,7 @@
 use Rattle.std.proofs.Common.{◌≡◌, ◌⊎◌, inl, inr, ℕ, suc, ◌+◌, ◌<◌, List, [], ◌∷◌, ◌++◌, length, Bool, true, false, ◌&&◌, ◌||◌, not, cond, Option, Some, None, refl, sym, ◌∙◌, ap}
 use Rattle.std.specs.Prelude.{is_some, is_none, option_map, slice_get, if◌then◌else◌}
 use Rattle.std.proofs.lemmas.Bool.{and_parts, and_from, or_left, or_right, cases_Bool, not-true, cond-true, cond-false}
+use Rattle.std.proofs.lemmas.List.{nil_from_length}
 use Rattle.world.specs.declared.entry.Entry.{Entry}
 use Rattle.world.specs.Waits.{has_wait, before_wait}
 use Rattle.cell_core.specs.declared.event.Event.{Event}
@@ -34,8 +35,8 @@ use Rattle.run_journal.proofs.Running.{RanAtWait, child_drawn}
 use Rattle.run_journal.proofs.Turning.{dates, first_waited}
 use Rattle.run_journal.proofs.Lapse.{ran_parts, found_ran, first_ever, ever_before, wait_was}
 use Rattle.run_journal.proofs.Interrupting.{ever_lost, queued_interrupted}
-use Rattle.run_journal.proofs.Rowing.{standing_after, over_same, plus_more, second_by, Calls, not_ready_calls, no_items, last_is, child_found, on, no_idle_calls, plain_calls, second_calls, plus_none}
-use Rattle.run_journal.proofs.Truths.{not_both}
+use Rattle.run_journal.proofs.Rowing.{standing_after, over_same, plus_more, second_by, Calls, not_ready_calls, last_is, child_found, on, no_idle_calls, plain_calls, second_calls, plus_none}
+use Rattle.run_journal.proofs.Truths.{not_both, inside}
 
 -- ---- what more events leave
 
@@ -193,12 +194,9 @@ module _ (jobs : List Job) (j : Job) (past : List Entry) (k : KeepsRules jobs j 
           let at : child_clock j past ≡ Some c = child.1 ∙ ap (λ n. Some n) same in
           late d y_found (not_ready_calls jobs j past k h f t plan r c at)
           (λ z. rest_why j past (or_left (is_not_ready j (requests j past) past) _ (ap (λ rs. is_not_ready j rs past) r ∙ ap (λ o. is_out j j.task.times.start_ms o past) at ∙ z)))
-        where
-          inside : {x y : ℕ} → Some x ≡ Some y → x ≡ y
-          inside i = cc
 
       by : (o : Option core.Standing) → Stands j told past o → core_saves.is_not_ready j.task o told ≡ true → CoreRow
-      by None (nothing l) y = one (no_items jobs j past k h f t plan (requests j past) l) (events.started told) refl y
+      by None (nothing l) y = one (nil_from_length (requests j past) l) (events.started told) refl y
       by (Some _) (last m q later l g a) y = cc
 
   no_idle_row : core_saves.is_no_idle (core.standing j.task told) told ≡ true → CoreRow

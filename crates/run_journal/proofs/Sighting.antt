@@ -2,7 +2,7 @@
 use Rattle.std.proofs.Common.{◌≡◌, ◌⊎◌, inl, inr, ℕ, ◌+◌, List, [], ◌∷◌, ◌++◌, Bool, true, false, ◌&&◌, ◌||◌, not, cond, refl, sym, ◌∙◌, ap, arith, append_assoc}
 use Rattle.std.specs.Prelude.{nat_le, if◌then◌else◌}
 use Rattle.std.specs.List.{list_any, list_all}
-use Rattle.std.proofs.Math.Bool.{or-false, or_comm}
+use Rattle.std.proofs.Math.Bool.{or-false, or_comm, or_assoc}
 use Rattle.std.proofs.lemmas.Bool.{and_parts, or_parts, and_from, or_left, or_right, cond-false, cond_both, leb-true, le-leb}
 use Rattle.world.specs.declared.chan.Chan.{Chan}
 use Rattle.world.specs.declared.connected.Connected.{Connected}
@@ -17,11 +17,10 @@ use Rattle.cell_core.specs.Events as events
 use Rattle.run_journal.specs.Job.{Job}
 use Rattle.run_journal.specs.Parts.{channels, place, connection, turn_clock, is_acknowledging, is_running}
 use Rattle.run_journal.specs.Looks.{is_short_wait, ends_reading, is_drained, looked, shows_lost}
-use Rattle.run_journal.specs.Requests.{is_broken}
-use Rattle.run_journal.specs.Course.{begins_at, clock_event, when_so, ends_look, is_late, events_at, Course, late_then, told_saved, course}
+use Rattle.run_journal.specs.Course.{begins_at, when_so, ends_look, is_late, events_at, Course, late_then, told_saved, course}
 use Rattle.run_journal.specs.Agreement.{told_on}
-use Rattle.run_journal.proofs.Flowing.{Tells, front, tell_front, rest_at, core_at, events_are}
-use Rattle.run_journal.proofs.Telling.{or_swap, or_join, came_append, came_on, add_none, none_then, came_saved, none_when, none_begins, none_turn, none_core, none_late, is_loss, loss_is, lost_when}
+use Rattle.run_journal.proofs.Flowing.{Tells, front, tell_front, rest_at, core_at, events_are, broken_at, turn_at, lost_at, look_at}
+use Rattle.run_journal.proofs.Telling.{or_swap, came_append, came_on, add_none, none_then, came_saved, none_when, none_begins, none_turn, none_core, none_late, is_loss, loss_is, lost_when}
 
 -- ---- tests
 
@@ -118,7 +117,7 @@ found_append lost [] ys = refl
 found_append lost (x ∷ xs) ys =
     ap (λ b. (events.is_looked x && lost) || b)
     (found_append (is_loss x || lost) xs ys ∙ ap (λ b. found_in (is_loss x || lost) xs || found_in b ys) (or_swap (is_loss x) (events.came is_loss xs) lost))
-    ∙ or_join (events.is_looked x && lost) (found_in (is_loss x || lost) xs) (found_in ((is_loss x || events.came is_loss xs) || lost) ys)
+    ∙ sym (or_assoc (events.is_looked x && lost) (found_in (is_loss x || lost) xs) (found_in ((is_loss x || events.came is_loss xs) || lost) ys))
 
 pub none_found : (lost : Bool) (xs : List Event) → events.came events.is_looked xs ≡ false → found_in lost xs ≡ false
 none_found lost [] e = refl
@@ -128,35 +127,28 @@ none_found lost (x ∷ xs) e =
 
 -- ---- what an entry gives
 
--- what it gives before the end of a look, and that end
+-- what it gives before the end of a look
 abbrev pub front_at : Job → Entry → List Entry → List Event
-front_at j entry past =
-    when_so (is_broken j (entry ∷ past) && not (is_broken j past)) event.Broken
-    ++ begins_at j entry past
-    ++ (if is_running j past then clock_event (turn_clock (entry ∷ past)) else [])
-    ++ when_so (shows_lost j (entry ∷ past) && not (is_late j entry past)) event.Lost
-
-abbrev pub end_at : Job → Entry → List Entry → List Event → List Event
-end_at j entry past late = if ends_look j entry past then event.Looked ∷ late ++ when_so (is_late j entry past) event.Lost else []
+front_at j entry past = broken_at j entry past ++ begins_at j entry past ++ turn_at j entry past ++ lost_at j entry past
 
 module _ (j : Job) (entry : Entry) (past : List Entry) where
   pub front_lost : events.came is_loss (front_at j entry past) ≡ (shows_lost j (entry ∷ past) && not (is_late j entry past))
   front_lost =
-      none_then is_loss (when_so (is_broken j (entry ∷ past) && not (is_broken j past)) event.Broken ++ begins_at j entry past ++ (if is_running j past then clock_event (turn_clock (entry ∷ past)) else [])) _ _
-      (add_none is_loss (when_so (is_broken j (entry ∷ past) && not (is_broken j past)) event.Broken ++ begins_at j entry past) (if is_running j past then clock_event (turn_clock (entry ∷ past)) else []) _
-      (add_none is_loss (when_so (is_broken j (entry ∷ past) && not (is_broken j past)) event.Broken) (begins_at j entry past) _ (none_when is_loss _ event.Broken refl) (none_begins is_loss j entry past (λ ms. refl)))
+      none_then is_loss (broken_at j entry past ++ begins_at j entry past ++ turn_at j entry past) _ _
+      (add_none is_loss (broken_at j entry past ++ begins_at j entry past) (turn_at j entry past) _
+      (add_none is_loss (broken_at j entry past) (begins_at j entry past) _ (none_when is_loss _ event.Broken refl) (none_begins is_loss j entry past (λ ms. refl)))
       (none_turn is_loss (is_running j past) (turn_clock (entry ∷ past)) (λ ms. refl)))
       (lost_when (shows_lost j (entry ∷ past) && not (is_late j entry past)))
 
   pub front_unlooked : events.came events.is_looked (front_at j entry past) ≡ false
   front_unlooked =
-      add_none events.is_looked (when_so (is_broken j (entry ∷ past) && not (is_broken j past)) event.Broken ++ begins_at j entry past ++ (if is_running j past then clock_event (turn_clock (entry ∷ past)) else [])) _ _
-      (add_none events.is_looked (when_so (is_broken j (entry ∷ past) && not (is_broken j past)) event.Broken ++ begins_at j entry past) (if is_running j past then clock_event (turn_clock (entry ∷ past)) else []) _
-      (add_none events.is_looked (when_so (is_broken j (entry ∷ past) && not (is_broken j past)) event.Broken) (begins_at j entry past) _ (none_when events.is_looked _ event.Broken refl) (none_begins events.is_looked j entry past (λ ms. refl)))
+      add_none events.is_looked (broken_at j entry past ++ begins_at j entry past ++ turn_at j entry past) _ _
+      (add_none events.is_looked (broken_at j entry past ++ begins_at j entry past) (turn_at j entry past) _
+      (add_none events.is_looked (broken_at j entry past) (begins_at j entry past) _ (none_when events.is_looked _ event.Broken refl) (none_begins events.is_looked j entry past (λ ms. refl)))
       (none_turn events.is_looked (is_running j past) (turn_clock (entry ∷ past)) (λ ms. refl)))
       (none_when events.is_looked _ event.Lost refl)
 
-  pub end_found : (lost : Bool) (late : List Event) → events.came events.is_looked late ≡ false → found_in lost (end_at j entry past late) ≡ (ends_look j entry past && lost)
+  pub end_found : (lost : Bool) (late : List Event) → events.came events.is_looked late ≡ false → found_in lost (look_at j entry past late) ≡ (ends_look j entry past && lost)
   end_found lost late e = by (ends_look j entry past)
     where
       rest : found_in lost (late ++ when_so (is_late j entry past) event.Lost) ≡ false
@@ -174,9 +166,9 @@ module _ (j : Job) (entry : Entry) (past : List Entry) where
       ∙ found_append lost (core_at j entry past) (rest_at j entry past late)
       ∙ ap (λ b. b || found_in (events.came is_loss (core_at j entry past) || lost) (rest_at j entry past late)) (none_found lost (core_at j entry past) (none_core events.is_looked j entry past (λ b. refl) (λ f. refl) refl))
       ∙ ap (λ b. found_in (b || lost) (rest_at j entry past late)) (none_core is_loss j entry past (λ b. refl) (λ f. refl) refl)
-      ∙ found_append lost (front_at j entry past) (end_at j entry past late)
-      ∙ ap (λ b. b || found_in (events.came is_loss (front_at j entry past) || lost) (end_at j entry past late)) (none_found lost (front_at j entry past) front_unlooked)
-      ∙ ap (λ b. found_in (b || lost) (end_at j entry past late)) front_lost
+      ∙ found_append lost (front_at j entry past) (look_at j entry past late)
+      ∙ ap (λ b. b || found_in (events.came is_loss (front_at j entry past) || lost) (look_at j entry past late)) (none_found lost (front_at j entry past) front_unlooked)
+      ∙ ap (λ b. found_in (b || lost) (look_at j entry past late)) front_lost
       ∙ end_found ((shows_lost j (entry ∷ past) && not (is_late j entry past)) || lost) late e
 
 -- ---- the course
@@ -226,10 +218,10 @@ module _ (j : Job) (entry : Entry) (past : List Entry) where
           ∙ ap (λ v. events.came is_loss v || events.came is_loss now.held) (sym g)
           ∙ e
           in
-          sym (or_join (events.came is_loss c.told) (events.came is_loss c.held) (events.came is_loss (events_at j entry past c.late)))
+          or_assoc (events.came is_loss c.told) (events.came is_loss c.held) (events.came is_loss (events_at j entry past c.late))
           ∙ ap (λ b. events.came is_loss c.told || b)
           (sym (came_append is_loss c.held (events_at j entry past c.late)) ∙ ap (events.came is_loss) (sym f) ∙ came_append is_loss xs (now.held ++ now.unheard)
-          ∙ ap (λ b. events.came is_loss xs || b) (came_append is_loss now.held now.unheard) ∙ or_join (events.came is_loss xs) (events.came is_loss now.held) (events.came is_loss now.unheard))
+          ∙ ap (λ b. events.came is_loss xs || b) (came_append is_loss now.held now.unheard) ∙ sym (or_assoc (events.came is_loss xs) (events.came is_loss now.held) (events.came is_loss now.unheard)))
           ∙ ap (λ b. b || ((events.came is_loss xs || events.came is_loss now.held) || events.came is_loss now.unheard)) (sym (came_saved is_loss (is_acknowledging j (entry ∷ past)) c.told refl))
           ∙ or_more (events.came is_loss t) (events.came is_loss xs || events.came is_loss now.held) (events.came is_loss now.unheard) a
 
@@ -255,7 +247,7 @@ module _ (j : Job) (entry : Entry) (past : List Entry) where
       by (front xs f g) =
           let a : (events.looked events.is_lost t || found_in lost (xs ++ now.held)) ≡ finds now =
           ap (λ b. events.looked events.is_lost t || b) (found_append lost xs now.held)
-          ∙ or_join (events.looked events.is_lost t) (found_in lost xs) (found_in (events.came is_loss xs || lost) now.held)
+          ∙ sym (or_assoc (events.looked events.is_lost t) (found_in lost xs) (found_in (events.came is_loss xs || lost) now.held))
           ∙ ap (λ b. b || found_in (events.came is_loss xs || lost) now.held) (sym (found_on xs t))
           ∙ ap (λ b. events.looked events.is_lost (told_on xs t) || found_in b now.held) (sym (came_on is_loss xs t))
           ∙ ap (λ v. events.looked events.is_lost v || found_in (events.came is_loss v) now.held) (sym g)
@@ -266,13 +258,13 @@ module _ (j : Job) (entry : Entry) (past : List Entry) where
           in
           let same : lost ≡ events.came is_loss c.told = came_saved is_loss (is_acknowledging j (entry ∷ past)) c.told refl in (
             last,
-            sym (or_join (events.looked events.is_lost c.told) (found_in (events.came is_loss c.told) c.held) (found_in (knows c) (events_at j entry past c.late)))
+            or_assoc (events.looked events.is_lost c.told) (found_in (events.came is_loss c.told) c.held) (found_in (knows c) (events_at j entry past c.late))
                 ∙ ap (λ b. events.looked events.is_lost c.told || (found_in (events.came is_loss c.told) c.held || found_in b (events_at j entry past c.late))) (or_comm (events.came is_loss c.told) (events.came is_loss c.held))
                 ∙ ap (λ b. events.looked events.is_lost c.told || b) (sym (found_append (events.came is_loss c.told) c.held (events_at j entry past c.late)))
                 ∙ ap (λ b. events.looked events.is_lost c.told || found_in b (c.held ++ events_at j entry past c.late)) (sym same)
                 ∙ ap (λ b. b || found_in lost (c.held ++ events_at j entry past c.late)) (sym (found_saved (is_acknowledging j (entry ∷ past)) c.told))
                 ∙ ap (λ b. events.looked events.is_lost t || b) whole
-                ∙ or_join (events.looked events.is_lost t) (found_in lost (xs ++ now.held)) (found_in last now.unheard)
+                ∙ sym (or_assoc (events.looked events.is_lost t) (found_in lost (xs ++ now.held)) (found_in last now.unheard))
                 ∙ ap (λ b. b || found_in last now.unheard) a,
           )
 

@@ -3,7 +3,7 @@ use Rattle.std.proofs.Common.{◌≡◌, inl, inr, ℕ, List, [], ◌∷◌, len
 use Rattle.std.specs.Prelude.{nat_le, option_map, ◌==◌}
 use Rattle.std.specs.Str.{bytes_eq}
 use Rattle.std.specs.List.{list_any}
-use Rattle.std.proofs.lemmas.Bool.{cond-true, cond-false, cond_both, cases_Bool}
+use Rattle.std.proofs.lemmas.Bool.{cond-true, cond-false, cond_both, cases_Bool, or_parts}
 use Rattle.words.specs.Paths.{temporary_of, connection_of}
 use Rattle.world.specs.declared.connected.Connected.TheVariants as connected
 use Rattle.world.specs.declared.did.Did.TheVariants.{Done, Failed}
@@ -28,10 +28,6 @@ use Rattle.run_journal.proofs.Truths.{not_both}
 
 -- ---- truth values
 
-or_false : (a b : Bool) → (a || b) ≡ false → (a ≡ false) × (b ≡ false)
-or_false true b e = cc
-or_false false b e = (refl, e)
-
 only_of : (i l b c : Bool) → cond i true (cond l false b) ≡ true → (b ≡ true → c ≡ true) → cond i true (cond l false c) ≡ true
 only_of true l b c e h = refl
 only_of false true b c e h = cc
@@ -51,7 +47,7 @@ reads_own j (made.Read path most found ∷ past) e = elim (cases_Bool (is_own_pa
   | inl i ↦
       ap (reads_for j) (cond-true (is_own_path j path || after_read j path (reads_for j past)) (made.Read path most found ∷ of_job j past) (of_job j past) i)
       ∙ only_of (bytes_eq j.input path) (list_any (bytes_eq path) j.inputs) (reads_for j past) (reads_for j (of_job j past)) e (reads_own j past)
-  | inr i ↦ absurd (not_both (after_read j path (reads_for j past)) e (or_false (is_own_path j path) (after_read j path (reads_for j past)) i).1)
+  | inr i ↦ absurd (not_both (after_read j path (reads_for j past)) e (or_parts (is_own_path j path) (after_read j path (reads_for j past)) i).1)
 ]
 reads_own j (entry ∷ past) e = cond_both (is_of j entry past) (own_reports j entry ∷ of_job j past) (of_job j past) (λ xs. reads_for j xs ≡ true) (λ i. reads_own j past e) (λ i. reads_own j past e)
 
@@ -60,9 +56,9 @@ reads_own j (entry ∷ past) e = cond_both (is_of j entry past) (own_reports j e
 own_parts : (j : Job) (path : List ℕ) → is_own_path j path ≡ false
     → (bytes_eq j.output path ≡ false) × (bytes_eq j.input path ≡ false) × (bytes_eq (temporary_of j.output) path ≡ false) × (bytes_eq (connection_of j.output) path ≡ false)
 own_parts j path e =
-    let a = or_false (bytes_eq j.output path || bytes_eq j.input path || bytes_eq (temporary_of j.output) path) (bytes_eq (connection_of j.output) path) e in
-    let b = or_false (bytes_eq j.output path || bytes_eq j.input path) (bytes_eq (temporary_of j.output) path) a.0 in
-    let c = or_false (bytes_eq j.output path) (bytes_eq j.input path) b.0 in
+    let a = or_parts (bytes_eq j.output path || bytes_eq j.input path || bytes_eq (temporary_of j.output) path) (bytes_eq (connection_of j.output) path) e in
+    let b = or_parts (bytes_eq j.output path || bytes_eq j.input path) (bytes_eq (temporary_of j.output) path) a.0 in
+    let c = or_parts (bytes_eq j.output path) (bytes_eq j.input path) b.0 in
     (c.0, c.1, b.1, a.1)
 
 no_end : (b : Bool) (end : End) → b ≡ false → end_if b end ≡ None
@@ -80,7 +76,7 @@ no_file_end j path step e =
 -- an entry of another job ends nothing
 pub fault_theirs : (j : Job) (entry : Entry) (past : List Entry) → is_of j entry past ≡ false → fault_at j entry past ≡ None
 fault_theirs j (made.Read path most found) past e =
-    let parts = or_false (is_own_path j path) (after_read j path (reads_for j past)) e in
+    let parts = or_parts (is_own_path j path) (after_read j path (reads_for j past)) e in
     cond-false (bytes_eq j.input path) (input_end j path found) _ (own_parts j path parts.0).1
     ∙ cond-false (is_own_path j path) None _ parts.0
     ∙ cond-false (after_read j path (reads_for j past)) (spec_end j path found) None parts.1
@@ -88,7 +84,7 @@ fault_theirs j (made.Word None) past e = no_end (reads_for j past) _ e
 fault_theirs j (made.Created path Failed) past e = no_file_end j path _ e
 fault_theirs j (made.Wrote path bytes Failed) past e = no_file_end j path _ e
 fault_theirs j (made.Synced path Failed) past e = no_file_end j path _ e
-fault_theirs j (made.Renamed from to Failed) past e = no_end (bytes_eq j.output to) _ (own_parts j to (or_false (is_own_path j from) (is_own_path j to) e).1).0
+fault_theirs j (made.Renamed from to Failed) past e = no_end (bytes_eq j.output to) _ (own_parts j to (or_parts (is_own_path j from) (is_own_path j to) e).1).0
 fault_theirs j (made.DirSynced dir Failed) past e = no_end (is_onto j past) _ e
 fault_theirs j (made.Ports job None) past e = no_end (job == j.number) _ e
 fault_theirs j (made.Connected conn port connected.Failed) past e = no_end (conn.job == j.number) _ e

@@ -2,8 +2,8 @@
 use Rattle.std.proofs.Common.{◌≡◌, ℕ, ◌<◌, List, [], ◌∷◌, ◌++◌, length, Bool, true, false, ◌&&◌, ◌||◌, not, cond, Option, Some, None, refl, sym, ◌∙◌, ap}
 use Rattle.std.specs.Prelude.{is_some, option_map, if◌then◌else◌}
 use Rattle.std.specs.List.{list_any, list_all}
-use Rattle.std.proofs.Math.Bool.{or-false}
-use Rattle.std.proofs.lemmas.Bool.{and_parts, cond_both}
+use Rattle.std.proofs.Math.Bool.{or-false, or_assoc}
+use Rattle.std.proofs.lemmas.Bool.{and_parts, cond_both, not-true}
 use Rattle.world.specs.declared.chan.Chan.{Chan}
 use Rattle.world.specs.declared.chan.Chan.TheVariants.{Shell, Control, Iopub, Heart}
 use Rattle.world.specs.declared.entry.Entry.{Entry}
@@ -27,10 +27,10 @@ use Rattle.run_journal.specs.Decoding.{IsDecoding}
 use Rattle.run_journal.specs.Due.{all_along}
 use Rattle.run_journal.specs.Order.{begins_unread}
 use Rattle.run_journal.specs.Course.{came_for, begins_at, clock_event, when_so, in_look, ends_look, is_late, events_at, Course, tell, late_then, told_saved, course}
-use Rattle.run_journal.specs.Agreement.{is_heard, IsHeard, Agrees, told_on, is_of_looks, Flows, at_once, BeginsUnread}
+use Rattle.run_journal.specs.Agreement.{is_heard, IsHeard, Agrees, told_on, is_of_looks, Flows, at_once, BeginsUnread, holds_no_clock}
 use Rattle.run_journal.proofs.Ordering.{bytes_more}
 use Rattle.run_journal.proofs.Hearing.{IsComing, io, replied, AreComing, coming_for}
-use Rattle.run_journal.proofs.Flowing.{Tells, front, tell_by, tell_front, rest_at, core_at, events_are, told_parts, course_agrees}
+use Rattle.run_journal.proofs.Flowing.{Tells, front, tell_by, tell_front, rest_at, core_at, events_are, told_parts, course_agrees, broken_at, turn_at, lost_at, look_at}
 use Rattle.run_journal.proofs.Asking.{done_same, error_same}
 
 -- ---- whether an event is among others
@@ -40,14 +40,10 @@ or_swap true true c = refl
 or_swap true false c = refl
 or_swap false b c = refl
 
-pub or_join : (a b c : Bool) → (a || (b || c)) ≡ ((a || b) || c)
-or_join true b c = refl
-or_join false b c = refl
-
 module _ (t : Event → Bool) where
   pub came_append : (xs ys : List Event) → events.came t (xs ++ ys) ≡ (events.came t xs || events.came t ys)
   came_append [] ys = refl
-  came_append (x ∷ xs) ys = ap (λ b. t x || b) (came_append xs ys) ∙ or_join (t x) (events.came t xs) (events.came t ys)
+  came_append (x ∷ xs) ys = ap (λ b. t x || b) (came_append xs ys) ∙ sym (or_assoc (t x) (events.came t xs) (events.came t ys))
 
   pub came_on : (xs told : List Event) → events.came t (told_on xs told) ≡ (events.came t xs || events.came t told)
   came_on [] told = refl
@@ -76,7 +72,7 @@ module _ (t : Event → Bool) where
       ∙ sym (or_swap (events.came t xs) (events.came t told) (events.came t c.held))
       ∙ ap (λ b. events.came t told || (events.came t xs || b)) (sym (add_none c.held c.unheard (events.came t c.held) refl none))
       ∙ ap (λ b. events.came t told || b) (sym (came_append xs (c.held ++ c.unheard)) ∙ ap (events.came t) f ∙ came_append held es)
-      ∙ or_join (events.came t told) (events.came t held) (events.came t es)
+      ∙ sym (or_assoc (events.came t told) (events.came t held) (events.came t es))
 
   module _ (j : Job) (entry : Entry) (past : List Entry) where
     pub among_next : t event.Saved ≡ false → events.came t (course j (entry ∷ past)).unheard ≡ false
@@ -179,10 +175,10 @@ gives_broken : (j : Job) (entry : Entry) (past : List Entry) (late : List Event)
 gives_broken j entry past late none =
     ap (events.came events.is_broken) (events_are j entry past late)
     ∙ none_then events.is_broken (core_at j entry past) (rest_at j entry past late) _ (none_core events.is_broken j entry past (λ b. refl) (λ f. refl) refl)
-    (add_none events.is_broken (when_so (is_broken j (entry ∷ past) && not (is_broken j past)) event.Broken ++ begins_at j entry past ++ (if is_running j past then clock_event (turn_clock (entry ∷ past)) else []) ++ when_so (shows_lost j (entry ∷ past) && not (is_late j entry past)) event.Lost) (if ends_look j entry past then event.Looked ∷ late ++ when_so (is_late j entry past) event.Lost else []) _
-    (add_none events.is_broken (when_so (is_broken j (entry ∷ past) && not (is_broken j past)) event.Broken ++ begins_at j entry past ++ (if is_running j past then clock_event (turn_clock (entry ∷ past)) else [])) (when_so (shows_lost j (entry ∷ past) && not (is_late j entry past)) event.Lost) _
-    (add_none events.is_broken (when_so (is_broken j (entry ∷ past) && not (is_broken j past)) event.Broken ++ begins_at j entry past) (if is_running j past then clock_event (turn_clock (entry ∷ past)) else []) _
-    (add_none events.is_broken (when_so (is_broken j (entry ∷ past) && not (is_broken j past)) event.Broken) (begins_at j entry past) _ (broken_when (is_broken j (entry ∷ past) && not (is_broken j past))) (none_begins events.is_broken j entry past (λ ms. refl)))
+    (add_none events.is_broken (broken_at j entry past ++ begins_at j entry past ++ turn_at j entry past ++ lost_at j entry past) (look_at j entry past late) _
+    (add_none events.is_broken (broken_at j entry past ++ begins_at j entry past ++ turn_at j entry past) (lost_at j entry past) _
+    (add_none events.is_broken (broken_at j entry past ++ begins_at j entry past) (turn_at j entry past) _
+    (add_none events.is_broken (broken_at j entry past) (begins_at j entry past) _ (broken_when (is_broken j (entry ∷ past) && not (is_broken j past))) (none_begins events.is_broken j entry past (λ ms. refl)))
     (none_turn events.is_broken (is_running j past) (turn_clock (entry ∷ past)) (λ ms. refl)))
     (none_when events.is_broken _ event.Lost refl))
     (cond_both (ends_look j entry past) (event.Looked ∷ late ++ when_so (is_late j entry past) event.Lost) [] (λ es. events.came events.is_broken es ≡ false)
@@ -290,11 +286,11 @@ pub gives_lost : (j : Job) (entry : Entry) (past : List Entry) (late : List Even
 gives_lost j entry past late =
     ap (events.came is_loss) (events_are j entry past late)
     ∙ none_then is_loss (core_at j entry past) (rest_at j entry past late) _ (none_core is_loss j entry past (λ b. refl) (λ f. refl) refl)
-    (came_append is_loss (when_so (is_broken j (entry ∷ past) && not (is_broken j past)) event.Broken ++ begins_at j entry past ++ (if is_running j past then clock_event (turn_clock (entry ∷ past)) else []) ++ when_so (shows_lost j (entry ∷ past) && not (is_late j entry past)) event.Lost) (if ends_look j entry past then event.Looked ∷ late ++ when_so (is_late j entry past) event.Lost else [])
-    ∙ ap (λ v. v || events.came is_loss (if ends_look j entry past then event.Looked ∷ late ++ when_so (is_late j entry past) event.Lost else []))
-    (none_then is_loss (when_so (is_broken j (entry ∷ past) && not (is_broken j past)) event.Broken ++ begins_at j entry past ++ (if is_running j past then clock_event (turn_clock (entry ∷ past)) else [])) (when_so (shows_lost j (entry ∷ past) && not (is_late j entry past)) event.Lost) _
-    (add_none is_loss (when_so (is_broken j (entry ∷ past) && not (is_broken j past)) event.Broken ++ begins_at j entry past) (if is_running j past then clock_event (turn_clock (entry ∷ past)) else []) _
-    (add_none is_loss (when_so (is_broken j (entry ∷ past) && not (is_broken j past)) event.Broken) (begins_at j entry past) _ (none_when is_loss _ event.Broken refl) (none_begins is_loss j entry past (λ ms. refl)))
+    (came_append is_loss (broken_at j entry past ++ begins_at j entry past ++ turn_at j entry past ++ lost_at j entry past) (look_at j entry past late)
+    ∙ ap (λ v. v || events.came is_loss (look_at j entry past late))
+    (none_then is_loss (broken_at j entry past ++ begins_at j entry past ++ turn_at j entry past) (lost_at j entry past) _
+    (add_none is_loss (broken_at j entry past ++ begins_at j entry past) (turn_at j entry past) _
+    (add_none is_loss (broken_at j entry past) (begins_at j entry past) _ (none_when is_loss _ event.Broken refl) (none_begins is_loss j entry past (λ ms. refl)))
     (none_turn is_loss (is_running j past) (turn_clock (entry ∷ past)) (λ ms. refl)))
     (lost_when (shows_lost j (entry ∷ past) && not (is_late j entry past))))
     ∙ ap (λ v. (shows_lost j (entry ∷ past) && not (is_late j entry past)) || v) (look_lost (ends_look j entry past) (is_late j entry past) late))
@@ -413,3 +409,8 @@ at_once_same j d plan past u e none =
     ∙ ap (first_rows (is_done j (acked j past) (requests j past)) (is_error j (last_request 0 (requests j past)))) (broken_told j d past u e none ∙ sym (bad_is j past))
     ∙ sym (journal_rows (is_done j (acked j past) (requests j past)) (is_error j (last_request 0 (requests j past))) (is_some (bad_stream j past)) (is_lost j past)
     (is_not_ready j (requests j past) past) (is_no_idle j (last_request 0 (requests j past)) past) (is_timed_out j (last_request 0 (requests j past)) past))
+
+-- where no clock entry waits for a save, none does now
+pub unheld : (j : Job) (past : List Entry) → all_along (holds_no_clock j) past ≡ true → events.came events.is_moment (course j past).held ≡ false
+unheld j [] e = refl
+unheld j (entry ∷ past) e = not-true (events.came events.is_moment (course j (entry ∷ past)).held) (and_parts (holds_no_clock j (entry ∷ past)) (all_along (holds_no_clock j) past) e).0

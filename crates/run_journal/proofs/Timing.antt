@@ -1,7 +1,7 @@
 -- By the loop's rules the core's clock is the journal's wherever it counts.
 use Rattle.std.proofs.Common.{◌≡◌, ◌⊎◌, inl, inr, ℕ, ◌+◌, ◌*◌, List, [], ◌∷◌, ◌++◌, length, Bool, true, false, ◌&&◌, ◌||◌, not, cond, Option, refl, sym, ◌∙◌, ap, arith}
 use Rattle.std.specs.Prelude.{is_some, ◌==◌}
-use Rattle.std.proofs.lemmas.Bool.{and_parts, or_parts, and_from, or_right, cond-true, cond-false, cases_Bool, eqb-true, eq-eqb, ltb-true, false_from_ne_true, not-true}
+use Rattle.std.proofs.lemmas.Bool.{and_parts, or_parts, and_from, or_right, cond-true, cond-false, cases_Bool, eqb-true, eq-eqb, ltb-true, false_from_ne_true}
 use Rattle.world.specs.declared.chan.Chan.{Chan}
 use Rattle.world.specs.declared.connected.Connected.{Connected}
 use Rattle.world.specs.declared.connected.Connected.TheVariants as connected
@@ -25,14 +25,15 @@ use Rattle.run_journal.proofs.Truths.{not_both}
 use Rattle.run_journal.proofs.Agreeing.{ready_unheard}
 use Rattle.run_journal.proofs.Hearing.{none_unready}
 use Rattle.run_journal.proofs.Flowing.{core_nothing, sync_brings_nothing}
-use Rattle.run_journal.proofs.Telling.{unread_before}
+use Rattle.run_journal.proofs.Telling.{unread_before, unheld}
 use Rattle.run_journal.proofs.Dating.{Seen, seen_on, now_is, whole}
 use Rattle.run_journal.proofs.Dropping.{looks_kept, whole_held}
 use Rattle.run_journal.proofs.Running.{or_off, rules_before, RanAtWait, ran_before}
 use Rattle.run_journal.proofs.Turning.{dates}
 use Rattle.run_journal.proofs.Lapse.{here, earlier, first_before}
-use Rattle.run_journal.proofs.Finishing.{number_of}
-use Rattle.run_journal.proofs.Rereading.{nothing_is, begins_unread_by}
+use Rattle.run_journal.proofs.Rereading.{begins_unread_by}
+use Rattle.run_journal.proofs.Alike.{chan_small}
+use Rattle.run_journal.proofs.Ordering.{nothing_is}
 
 -- ---- entries by which no byte comes
 
@@ -51,8 +52,8 @@ its_job j c (made.Got conn room bytes) past e u = ap (λ (s : Status). s.got) (c
   where
     elsewhere : is_at (place j c) conn ≡ true → ⊥
     elsewhere f =
-        let n = number_of c in
-        let m = number_of conn.chan in
+        let n = chan_small c in
+        let m = chan_small conn.chan in
         let g = eqb-true (place j c) (4 * conn.job + chan_number conn.chan) f in
         not_both (conn.job == j.number) (eq-eqb conn.job j.number (omega (arith, n, m, g))) e
 its_job j c (made.Closed conn) past e u = same (is_at (place j c) conn)
@@ -178,13 +179,9 @@ module _ (jobs : List Job) (j : Job) where
       (and_from _ _
       (implied (is_acknowledging j (entry ∷ past) && stands_anew j entry past) _ (λ e.
       let a = and_parts (is_acknowledging j (entry ∷ past)) (stands_anew j entry past) e in
-      eq-eqb _ _ (sym (time_on (course j past).held (course j past).told (unheld past q.1)) ∙ whole_time past m ∙ i.now (ready_late past v.1 p.1 (anew_ready entry past a.0 a.1)))))
+      eq-eqb _ _ (sym (time_on (course j past).held (course j past).told (unheld j past q.1)) ∙ whole_time past m ∙ i.now (ready_late past v.1 p.1 (anew_ready entry past a.0 a.1)))))
       (implied (brings j entry past) _ (λ e. eq-eqb _ _ (whole_time past m ∙ i.now (late entry past v.0 p.0 e)))))
       (kept past (rules_before jobs j entry past k) m (ran_before jobs j entry past k h) v.1 p.1 q.1)
-    where
-      unheld : (past : List Entry) → all_along (holds_no_clock j) past ≡ true → events.came events.is_moment (course j past).held ≡ false
-      unheld [] f = refl
-      unheld (x ∷ past) f = not-true (events.came events.is_moment (course j (x ∷ past)).held) (and_parts (holds_no_clock j (x ∷ past)) (all_along (holds_no_clock j) past) f).0
 
 pub time_is_kept : (jobs : List Job) (j : Job) (past : List Entry) → KeepsRules jobs j past → HearsLooks j past → RanAtWait j past → TellsRightly j past → all_along (reads_late j) past ≡ true → all_along (holds_no_clock j) past ≡ true → KeepsTime j past
 time_is_kept jobs j past k l h t r n = kept jobs j past k l h (begins_unread_by jobs j past k.among k.awake t) r n

@@ -137,6 +137,14 @@ job = record {
   turns = 1000;
 }
 
+-- one with one cell
+abbrev pub one : Job
+one = record job { task = record { plan = 0 ∷ []; cells = 1; times = job.task.times } }
+
+-- another job
+abbrev pub other : Job
+other = record job { number = 1; input = codes "in2"; output = codes "out2" }
+
 -- the same with three cells
 abbrev pub three : Job
 three = record job { task = record { plan = 0 ∷ 1 ∷ 2 ∷ []; cells = 3; times = job.task.times } }

@@ -1,6 +1,36 @@
--- A test answers one way.
-use Rattle.std.proofs.Common.{◌≡◌, Bool, true, false}
+-- Small facts of tests, options and lists.
+use Rattle.std.proofs.Common.{◌≡◌, ℕ, ◌+◌, ◌<◌, ◌≤◌, List, [], ◌∷◌, ◌++◌, length, Bool, true, false, ◌&&◌, ◌||◌, Some, refl, arith, length-append}
 
+-- a test answers one way
 pub not_both : (b : Bool) → b ≡ true → b ≡ false → ⊥
 not_both true e f = cc
 not_both false e f = cc
+
+-- one of two tests holds, and it isn't the first
+pub or_rest : (a b : Bool) → (a || b) ≡ true → a ≡ false → b ≡ true
+or_rest true b e f = cc
+or_rest false b e f = e
+
+-- a test beside one that holds decides
+pub and_true : (a b : Bool) → b ≡ true → (a && b) ≡ a
+and_true true b e = e
+and_true false b e = refl
+
+-- what an option holds
+pub inside : {A : Type 0} {x y : A} → Some x ≡ Some y → x ≡ y
+inside e = cc
+
+-- the first item of a list, and the others
+pub head_same : {A : Type 0} {x y : A} {xs ys : List A} → ◌≡◌ {A = List A} (x ∷ xs) (y ∷ ys) → x ≡ y
+head_same e = cc
+
+pub tail_same : {A : Type 0} {x y : A} {xs ys : List A} → ◌≡◌ {A = List A} (x ∷ xs) (y ∷ ys) → xs ≡ ys
+tail_same e = cc
+
+-- one item more
+pub one_longer : {A : Type 0} (xs : List A) (x : A) → length (xs ++ x ∷ []) ≡ length xs + 1
+one_longer xs x = length-append xs (x ∷ [])
+
+-- a clock before a deadline that the time has reached isn't the time
+pub too_late : (due time clock : ℕ) → due ≤ time → clock ≡ time → clock < due → ⊥
+too_late due time clock a b e = absurd (omega (arith, a, b, e))

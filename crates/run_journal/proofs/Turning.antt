@@ -21,8 +21,9 @@ use Rattle.run_journal.proofs.AlikeLooks.{or_none}
 use Rattle.run_journal.proofs.Sighting.{or_either}
 use Rattle.run_journal.proofs.Turns.{turn_is}
 use Rattle.run_journal.proofs.Dating.{Seen, dated, run, whole, end, clocks_at}
-use Rattle.run_journal.proofs.Truths.{not_both}
+use Rattle.run_journal.proofs.Truths.{not_both, inside}
 use Rattle.run_journal.proofs.Running.{RanAtWait, after_running, any_before, any_of, begun_drawn, first_kept, later_some, or_off, ran_before, rules_before, running_parts, start_parts}
+use Rattle.run_journal.proofs.Flowing.{turn_at}
 
 -- ---- clock entries
 
@@ -155,9 +156,6 @@ moment_draws j _ ms e = refl
 
 pub moment_time : (entry : Entry) (past : List Entry) (t : ℕ) → moment_of entry ≡ Some t → time (entry ∷ past) ≡ t
 moment_time (made.Moment ms) past t e = inside e
-  where
-    inside : Some ms ≡ Some t → ms ≡ t
-    inside i = cc
 moment_time _ past t e = cc
 
 early_first : (d : ℕ) (past : List Entry) (o : Option ℕ) → o ≡ None → or_later (first_clock d past) (if is_at_least d o then o else None) ≡ first_clock d past
@@ -184,18 +182,18 @@ module _ (d : ℕ) (jobs : List Job) (j : Job) (entry : Entry) (past : List Entr
 
   pub clocks_none : draws j entry ≡ false → turn_clock (entry ∷ past) ≡ None → clocks_at j entry past ≡ []
   clocks_none e f =
-      ap (λ es. es ++ (if is_running j past then clock_event (turn_clock (entry ∷ past)) else [])) (begins_is j entry past ∙ cond-false (draws j entry) (event.Moment (time past) ∷ []) [] e)
+      ap (λ es. es ++ turn_at j entry past) (begins_is j entry past ∙ cond-false (draws j entry) (event.Moment (time past) ∷ []) [] e)
       ∙ turn_event (is_running j past) (turn_clock (entry ∷ past)) None f
       ∙ none_given (is_running j past)
 
   clocks_drawn : draws j entry ≡ true → clocks_at j entry past ≡ event.Moment (time past) ∷ []
   clocks_drawn e =
-      ap (λ es. es ++ (if is_running j past then clock_event (turn_clock (entry ∷ past)) else [])) (begins_is j entry past ∙ cond-true (draws j entry) (event.Moment (time past) ∷ []) [] e)
+      ap (λ es. es ++ turn_at j entry past) (begins_is j entry past ∙ cond-true (draws j entry) (event.Moment (time past) ∷ []) [] e)
       ∙ ap (λ es. event.Moment (time past) ∷ es) (turn_event (is_running j past) (turn_clock (entry ∷ past)) None (turn_none entry past (draws_moment j entry e)) ∙ none_given (is_running j past))
 
   clocks_turn : (ms : ℕ) → draws j entry ≡ false → turn_clock (entry ∷ past) ≡ Some ms → is_running j past ≡ true → clocks_at j entry past ≡ event.Moment ms ∷ []
   clocks_turn ms e f r =
-      ap (λ es. es ++ (if is_running j past then clock_event (turn_clock (entry ∷ past)) else [])) (begins_is j entry past ∙ cond-false (draws j entry) (event.Moment (time past) ∷ []) [] e)
+      ap (λ es. es ++ turn_at j entry past) (begins_is j entry past ∙ cond-false (draws j entry) (event.Moment (time past) ∷ []) [] e)
       ∙ turn_event (is_running j past) (turn_clock (entry ∷ past)) (Some ms) f
       ∙ cond-true (is_running j past) (event.Moment ms ∷ []) [] r
 

@@ -3,6 +3,7 @@ use Rattle.std.proofs.Common.{◌≡◌, ◌⊎◌, inl, inr, ℕ, zero, suc, �
 use Rattle.std.specs.Prelude.{is_some, if◌then◌else◌, nat_lt, ◌==◌}
 use Rattle.std.proofs.lemmas.List.{length-map}
 use Rattle.std.proofs.lemmas.Bool.{and_parts, and_from, cases_Bool, cond-true, cond-false, cond_both, eqb-true, ltb-true, false_from_ne_true, not-true, not_from_false}
+use Rattle.std.proofs.Math.Bool.{and-not_self}
 use Rattle.world.specs.declared.did.Did.TheVariants as did
 use Rattle.world.specs.declared.entry.Entry.{Entry}
 use Rattle.world.specs.declared.entry.Entry.TheVariants as made
@@ -17,20 +18,20 @@ use Rattle.cell_core.specs.Requests as core
 use Rattle.cell_core.specs.Saves as core_saves
 use Rattle.run_journal.specs.Job.{Job, Runs}
 use Rattle.run_journal.specs.Parts.{turn_clock, acked, is_acknowledging, is_running, before_shut}
-use Rattle.run_journal.specs.Looks.{looked, shows_lost}
+use Rattle.run_journal.specs.Looks.{looked}
 use Rattle.run_journal.specs.Requests.{is_broken, requests}
 use Rattle.run_journal.specs.Why.{why}
 use Rattle.run_journal.specs.Saves.{Save, saves, saves_by, saves_for, run_saves}
 use Rattle.run_journal.specs.Due.{all_along}
 use Rattle.run_journal.specs.Decoding.{IsDecoding}
 use Rattle.run_journal.specs.Awake.{implies, is_called_for, is_look_due, keeps_up, reads_clock}
-use Rattle.run_journal.specs.Course.{begins_at, clock_event, when_so, ends_look, is_late, events_at, Course, tell, late_then, told_saved, course}
+use Rattle.run_journal.specs.Course.{begins_at, when_so, ends_look, is_late, events_at, Course, tell, late_then, told_saved, course}
 use Rattle.run_journal.specs.Agreement.{IsAmong, BeginsUnread, Flows, KeepsTime, keeps_time, at_once, draws, drawn_clock, starts_in_turn, holds_no_clock, KeepsRules}
 use Rattle.run_journal.proofs.Growth.{before_all}
 use Rattle.run_journal.proofs.Hearing.{none_unready}
-use Rattle.run_journal.proofs.Flowing.{rest_at, events_are, core_nothing, told_parts, course_agrees}
+use Rattle.run_journal.proofs.Flowing.{rest_at, events_are, core_nothing, told_parts, course_agrees, turn_at, lost_at, look_at}
 use Rattle.run_journal.proofs.Asking.{saves_agree}
-use Rattle.run_journal.proofs.Telling.{add_none, unread_before}
+use Rattle.run_journal.proofs.Telling.{add_none, unread_before, unheld}
 use Rattle.run_journal.proofs.Finding.{wait_shows_none}
 use Rattle.run_journal.proofs.Dating.{clocks_at}
 use Rattle.run_journal.proofs.Dropping.{stops}
@@ -183,24 +184,11 @@ module _ (jobs : List Job) (j : Job) (dec : IsDecoding j.codec) (plan : 0 < leng
   wait_none entry past g w e =
       events_are j entry past (course j past).late
       ∙ ap (λ v. v ++ rest_at j entry past (course j past).late) (core_nothing j entry past (wait_brings j entry past w))
-      ∙ ap (λ b. when_so (b && not (is_broken j past)) event.Broken ++ begins_at j entry past ++ turn ++ lost ++ look_es) (broken_as j entry past (wait_brings j entry past w))
-      ∙ ap (λ b. when_so b event.Broken ++ begins_at j entry past ++ turn ++ lost ++ look_es) (same (is_broken j past))
-      ∙ ap (λ v. (v ++ lost) ++ look_es) (clocks_none 0 jobs j entry past g.rules g.ran (wait_draws entry w) (turn_none entry past (wait_moment entry w)))
-      ∙ ap (λ b. when_so (b && not (is_late j entry past)) event.Lost ++ look_es) (wait_shows_none j entry past w)
+      ∙ ap (λ b. when_so (b && not (is_broken j past)) event.Broken ++ begins_at j entry past ++ turn_at j entry past ++ lost_at j entry past ++ look_at j entry past (course j past).late) (broken_as j entry past (wait_brings j entry past w))
+      ∙ ap (λ b. when_so b event.Broken ++ begins_at j entry past ++ turn_at j entry past ++ lost_at j entry past ++ look_at j entry past (course j past).late) (and-not_self (is_broken j past))
+      ∙ ap (λ v. (v ++ lost_at j entry past) ++ look_at j entry past (course j past).late) (clocks_none 0 jobs j entry past g.rules g.ran (wait_draws entry w) (turn_none entry past (wait_moment entry w)))
+      ∙ ap (λ b. when_so (b && not (is_late j entry past)) event.Lost ++ look_at j entry past (course j past).late) (wait_shows_none j entry past w)
       ∙ cond-false (ends_look j entry past) _ [] e
-    where
-      same : (b : Bool) → (b && not b) ≡ false
-      same true = refl
-      same false = refl
-
-      turn : List Event
-      turn = if is_running j past then clock_event (turn_clock (entry ∷ past)) else []
-
-      lost : List Event
-      lost = when_so (shows_lost j (entry ∷ past) && not (is_late j entry past)) event.Lost
-
-      look_es : List Event
-      look_es = if ends_look j entry past then event.Looked ∷ (course j past).late ++ when_so (is_late j entry past) event.Lost else []
 
   -- so nothing was told at it
   wait_told : (entry : Entry) (past : List Entry) → Given jobs j (entry ∷ past) → is_wait entry ≡ true → ends_look j entry past ≡ false → (course j past).held ≡ [] → (course j (entry ∷ past)).told ≡ (course j past).told
@@ -304,9 +292,5 @@ module _ (jobs : List Job) (j : Job) (dec : IsDecoding j.codec) (plan : 0 < leng
       let g : Given jobs j (entry ∷ past) = record { rules = k; ran = h; flows = f; time = t; unread = u } in (
         t,
         and_from (holds_no_clock j (entry ∷ past)) (all_along (holds_no_clock j) past)
-            (not_from_false (events.came events.is_moment (course j (entry ∷ past)).held) (unheld_next entry past g b runs (unheld past i.1))) i.1,
+            (not_from_false (events.came events.is_moment (course j (entry ∷ past)).held) (unheld_next entry past g b runs (unheld j past i.1))) i.1,
       )
-    where
-      unheld : (past : List Entry) → all_along (holds_no_clock j) past ≡ true → events.came events.is_moment (course j past).held ≡ false
-      unheld [] e = refl
-      unheld (x ∷ past) e = not-true (events.came events.is_moment (course j (x ∷ past)).held) (and_parts (holds_no_clock j (x ∷ past)) (all_along (holds_no_clock j) past) e).0

@@ -8,17 +8,14 @@ ghost use Rattle.run_journal.specs.Decoding.{IsDecoding};
 ghost use Rattle.run_journal.specs.Saves.{saves};
 ghost use Rattle.run_journal.specs.Asked.{Setting, IsJobOf, HasNoNotebook};
 
-use zmtp_peer::laws::owed_is_given;
-use zmtp_wire::laws::{no_octets, octets_grow};
+use crate::laws::reading::jupyter_is_read;
 
 /// The bytes of its kernel are read as Jupyter's, so that all that is said of decoding holds of it.
 pub fn asked_jobs_are_read()
     ensures { (a : Ask) (s : Setting) (found : Option ReadFile) (j : Job) → IsJobOf a s found j →
         IsDecoding j.codec }
 {
-    octets_grow();
-    no_octets();
-    owed_is_given();
+    jupyter_is_read();
 }
 
 /// A job whose input gives no notebook has no save, whatever the journal.
