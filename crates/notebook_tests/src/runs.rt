@@ -1,79 +1,16 @@
 //! Notebooks as they are read, prepared and planned.
 use crate::reading::{compact, notebook};
 use nb_model::{Kind, Notebook, code, plan, prepare, tagged};
+use sample_notebooks::{LAB, TWO};
 use std::test::Fail;
 
-/// As JupyterLab saves it: a markdown cell, and a code cell with a picture.
-const SAVED: &str = r#"{
- "cells": [
-  {
-   "cell_type": "markdown",
-   "id": "5ad6f3b2-9d55-4b0c-8b3f-3a1f0b1f7c11",
-   "metadata": {},
-   "source": [
-    "Title\n",
-    "text"
-   ]
-  },
-  {
-   "cell_type": "code",
-   "execution_count": 3,
-   "id": "0c1b7e0e-93f1-4c5c-a7ad-0d5b8a1a2f6c",
-   "metadata": {
-    "tags": [
-     "parameters",
-     "skip-execution"
-    ]
-   },
-   "outputs": [
-    {
-     "data": {
-      "image/png": "iVBORw0KGgo=",
-      "text/plain": [
-       "<Figure>"
-      ]
-     },
-     "metadata": {},
-     "output_type": "display_data"
-    }
-   ],
-   "source": [
-    "a = 1\n",
-    "plot(a)"
-   ]
-  }
- ],
- "metadata": {
-  "kernelspec": {
-   "display_name": "Python 3 (ipykernel)",
-   "language": "python",
-   "name": "python3"
-  },
-  "language_info": {
-   "codemirror_mode": {
-    "name": "ipython",
-    "version": 3
-   },
-   "file_extension": ".py",
-   "mimetype": "text/x-python",
-   "name": "python",
-   "nbconvert_exporter": "python",
-   "pygments_lexer": "ipython3",
-   "version": "3.11.2"
-  }
- },
- "nbformat": 4,
- "nbformat_minor": 5
-}
-"#;
-
-/// A line a cell of it: kind, id, count, outputs, whether it is tagged `parameters`, and its source.
-const CELLS: &str = r#"Markdown 5ad6f3b2-9d55-4b0c-8b3f-3a1f0b1f7c11 - 0 no Title|text
+/// A line a cell of `LAB`: kind, id, count, outputs, whether it is tagged `parameters`, and its source.
+const CELLS: &str = r#"Markdown 5ad6f3b2-9d55-4b0c-8b3f-3a1f0b1f7c11 - 0 no # Title|text
 Code 0c1b7e0e-93f1-4c5c-a7ad-0d5b8a1a2f6c 3 1 yes a = 1|plot(a)"#;
 
 #[test]
 fn a_saved_notebook_is_read(rt: HostRuntime) -> Result<(), Fail> {
-    let n = notebook(&rt, SAVED)?;
+    let n = notebook(&rt, LAB)?;
     assert_eq!(rt; n.cells.len(), 2);
     for (cell, row) in n.cells.as_slice().iter().zip(CELLS.lines()) {
         let count = match &cell.count {
@@ -135,13 +72,9 @@ fn preparation_clears_and_marks(rt: HostRuntime) -> Result<(), Fail> {
     Ok(())
 }
 
-/// Two code cells without a mark, one of them with a count.
-const UNMARKED: &str =
-    r#"{"cells":[{"cell_type":"code","execution_count":null,"id":"a","metadata":{},"outputs":[],"source":"print 1"},{"cell_type":"code","execution_count":7,"id":"b","metadata":{},"outputs":[],"source":["result 2"]}],"metadata":{"kernelspec":{"display_name":"Toy","name":"toy"}},"nbformat":4,"nbformat_minor":5}"#;
-
 #[test]
 fn preparation_marks_what_has_no_mark(rt: HostRuntime) -> Result<(), Fail> {
-    let n = prepare(rt.alloc(), notebook(&rt, UNMARKED)?)?;
+    let n = prepare(rt.alloc(), notebook(&rt, TWO)?)?;
     let metadata =
         r#"{"kernelspec":{"display_name":"Toy","name":"toy"},"papermill":{"exception":null}}"#;
     assert_eq!(rt; compact(&rt, &n.metadata)?.as_str(), metadata);

@@ -3,16 +3,13 @@ use jtext::read;
 use nb_model::{Notebook, of_json, prepare};
 use out_fold::Fold;
 use progress_save::settle;
+use sample_notebooks::TWO;
 use std::test::Fail;
-
-/// The notebook before the run.
-const GIVEN: &str =
-    r#"{"cells":[{"cell_type":"code","execution_count":null,"id":"a","metadata":{},"outputs":[],"source":"print 1"},{"cell_type":"code","execution_count":7,"id":"b","metadata":{},"outputs":[],"source":["result 2"]}],"metadata":{"kernelspec":{"display_name":"Toy","name":"toy"}},"nbformat":4,"nbformat_minor":5}"#;
 
 /// The notebook prepared.
 pub(crate) fn prepared(rt: &HostRuntime) -> Result<Notebook, Fail> {
     let alloc = rt.alloc();
-    let tree = read(alloc, GIVEN.as_bytes(), 128)?;
+    let tree = read(alloc, TWO.as_bytes(), 128)?;
     Ok(prepare(alloc, of_json(alloc, tree)?)?)
 }
 
@@ -28,83 +25,6 @@ pub(crate) fn stopped(rt: &HostRuntime) -> Result<Notebook, Fail> {
     settle(alloc, &mut notebook, &fold, 1, Some(0))?;
     Ok(notebook)
 }
-
-/// Both cells are settled.
-pub(crate) const SETTLED: &str = r#"{
- "cells": [
-  {
-   "cell_type": "code",
-   "execution_count": 1,
-   "id": "a",
-   "metadata": {
-    "execution": {
-     "iopub.execute_input": "2000-01-01T00:00:00.000Z",
-     "iopub.status.busy": "2000-01-01T00:00:00.000Z",
-     "iopub.status.idle": "2000-01-01T00:00:00.000Z",
-     "shell.execute_reply": "2000-01-01T00:00:00.000Z"
-    },
-    "papermill": {
-     "exception": false,
-     "status": "completed"
-    }
-   },
-   "outputs": [
-    {
-     "name": "stdout",
-     "output_type": "stream",
-     "text": [
-      "1\n"
-     ]
-    }
-   ],
-   "source": "print 1"
-  },
-  {
-   "cell_type": "code",
-   "execution_count": 2,
-   "id": "b",
-   "metadata": {
-    "execution": {
-     "iopub.execute_input": "2000-01-01T00:00:00.000Z",
-     "iopub.status.busy": "2000-01-01T00:00:00.000Z",
-     "iopub.status.idle": "2000-01-01T00:00:00.000Z",
-     "shell.execute_reply": "2000-01-01T00:00:00.000Z"
-    },
-    "papermill": {
-     "exception": false,
-     "status": "completed"
-    }
-   },
-   "outputs": [
-    {
-     "data": {
-      "text/plain": [
-       "2"
-      ]
-     },
-     "execution_count": 2,
-     "metadata": {},
-     "output_type": "execute_result"
-    }
-   ],
-   "source": [
-    "result 2"
-   ]
-  }
- ],
- "metadata": {
-  "kernelspec": {
-   "display_name": "Toy",
-   "name": "toy"
-  },
-  "papermill": {
-   "exception": null
-  }
- },
- "nbformat": 4,
- "nbformat_minor": 5
-}
-"#;
 
 /// The first cell is settled, and the run stopped at it; the second waits.
 pub(crate) const STOPPED: &str = r#"{

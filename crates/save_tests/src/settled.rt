@@ -2,13 +2,14 @@
 ghost use Rattle.std.specs.Prelude.{◌≡◌, ◌+◌, ◌<◌, ◌≤◌, length};
 ghost use Rattle.out_fold.specs.Stands.{cells_of, next_of};
 
-use crate::notebooks::{SETTLED, STOPPED, prepared, stopped};
+use crate::notebooks::{STOPPED, prepared, stopped};
 use jcontent::{Content, Shown, State};
 use jtext::{Fields, Json, NoMemory, NumText, Text};
 use nb_model::Notebook;
 use nb_text::text;
 use out_fold::Fold;
 use progress_save::settle;
+use sample_notebooks::TWO_SAVED;
 use std::alloc::Global;
 use std::test::Fail;
 
@@ -80,7 +81,7 @@ fn two_cells_are_settled_one_after_the_other(rt: HostRuntime) -> Result<(), Fail
     step(alloc, &mut notebook, &mut fold, 0, "1", &first)?;
     let second = given(alloc)?;
     step(alloc, &mut notebook, &mut fold, 1, "2", &second)?;
-    assert!(rt; has_text(alloc, &notebook, SETTLED)?);
+    assert!(rt; has_text(alloc, &notebook, TWO_SAVED)?);
     Ok(())
 }
 
