@@ -1,8 +1,4 @@
 //! The fold beside the plain one, over pseudo-random lists of messages.
-ghost use Rattle.std.specs.Prelude.{◌≡◌, ◌<◌, ◌≤◌, length};
-ghost use Rattle.out_fold.specs.Stands.{cells_of, next_of};
-ghost use Rattle.out_fold.specs.Plain.{used_of};
-
 use jcontent::{Content, ReplyIs, Shown, State};
 use jtext::{Fields, Json, NoMemory, NumText, Text, Texts, write_compact};
 use out_fold::{Fold, PlainFold};
@@ -124,128 +120,128 @@ fn content(alloc: Global, random: &mut Random) -> Result<Content, NoMemory> {
     }
 }
 
-fn same_outputs(alloc: Global, fold: &Fold, plain: &PlainFold, cell: u32) -> Result<bool, NoMemory>
-    requires { cell < cells_of fold.now }
-{
-    let outputs = write_compact(alloc, &Json::Arr(fold.outputs(cell)?))?;
-    let plain_outputs = write_compact(alloc, &Json::Arr(plain.outputs(cell)?))?;
-    Ok(outputs.bytes() == plain_outputs.bytes())
+/// The fold and the plain one, which are given the same.
+#[derive(Drop)]
+struct Twins {
+    fold: Fold,
+    plain: PlainFold,
 }
 
-fn same_dates(alloc: Global, fold: &Fold, plain: &PlainFold, cell: u32) -> Result<bool, NoMemory>
-    requires { cell < cells_of fold.now }
-{
-    let dates = write_compact(alloc, &Json::Obj(fold.dates(cell)?))?;
-    let plain_dates = write_compact(alloc, &Json::Obj(plain.dates(cell)?))?;
-    Ok(dates.bytes() == plain_dates.bytes())
-}
+impl Twins {
+    ghost use Rattle.std.specs.Prelude.{◌≡◌, ◌<◌, ◌≤◌, length};
+    ghost use Rattle.out_fold.specs.Stands.{cells_of, next_of};
+    ghost use Rattle.out_fold.specs.Plain.{used_of};
 
-fn same_count(fold: &Fold, plain: &PlainFold, cell: u32) -> bool
-    requires { cell < cells_of fold.now }
-{
-    match (fold.count(cell), plain.count(cell)) {
-        (Some(count), Some(plain_count)) => count.as_str() == plain_count.as_str(),
-        (None, None) => true,
-        _ => false,
+    fn same_outputs(&self, alloc: Global, cell: u32) -> Result<bool, NoMemory>
+        requires { cell < cells_of self.now.fold }
+    {
+        let outputs = write_compact(alloc, &Json::Arr(self.fold.outputs(cell)?))?;
+        let plain_outputs = write_compact(alloc, &Json::Arr(self.plain.outputs(cell)?))?;
+        Ok(outputs.bytes() == plain_outputs.bytes())
     }
-}
 
-/// Whether both say the same of a cell.
-fn agree_on(alloc: Global, fold: &Fold, plain: &PlainFold, cell: u32) -> Result<bool, NoMemory>
-    requires { cell < cells_of fold.now }
-{
-    let outputs = same_outputs(alloc, fold, plain, cell)?;
-    let dates = same_dates(alloc, fold, plain, cell)?;
-    Ok(outputs && dates && same_count(fold, plain, cell))
-}
+    fn same_dates(&self, alloc: Global, cell: u32) -> Result<bool, NoMemory>
+        requires { cell < cells_of self.now.fold }
+    {
+        let dates = write_compact(alloc, &Json::Obj(self.fold.dates(cell)?))?;
+        let plain_dates = write_compact(alloc, &Json::Obj(self.plain.dates(cell)?))?;
+        Ok(dates.bytes() == plain_dates.bytes())
+    }
 
-/// Whether both say the same of every cell.
-fn agree(alloc: Global, fold: &Fold, plain: &PlainFold) -> Result<bool, NoMemory>
-    requires { CELLS ≤ cells_of fold.now }
-{
-    for cell in 0..CELLS {
-        if !agree_on(alloc, fold, plain, cell)? {
-            return Ok(false);
+    fn same_count(&self, cell: u32) -> bool
+        requires { cell < cells_of self.now.fold }
+    {
+        match (self.fold.count(cell), self.plain.count(cell)) {
+            (Some(count), Some(plain_count)) => count.as_str() == plain_count.as_str(),
+            (None, None) => true,
+            _ => false,
         }
     }
-    Ok(true)
-}
 
-/// Gives both the next message.
-fn give(
-    alloc: Global,
-    random: &mut Random,
-    fold: &mut Fold,
-    plain: &mut PlainFold,
-) -> Result<(), NoMemory>
-    requires begun { 0 < next_of fold.old }
-    requires begun_plainly { 0 < length (used_of plain.old) }
-    ensures next { next_of fold.new ≡ next_of fold.old }
-    ensures cells { cells_of fold.new ≡ cells_of fold.old }
-    ensures begun_plainly { length (used_of plain.new) ≡ length (used_of plain.old) }
-{
-    let content = content(alloc, random)?;
-    let date = id(alloc, random)?;
-    fold.take(&content, date.as_ref())?;
-    plain.take(&content, date.as_ref())
-}
-
-/// Gives both the reply.
-fn give_reply(
-    alloc: Global,
-    random: &mut Random,
-    fold: &mut Fold,
-    plain: &mut PlainFold,
-) -> Result<(), NoMemory>
-    requires begun { 0 < next_of fold.old }
-    requires begun_plainly { 0 < length (used_of plain.old) }
-    ensures next { next_of fold.new ≡ next_of fold.old }
-    ensures cells { cells_of fold.new ≡ cells_of fold.old }
-{
-    let date = id(alloc, random)?;
-    fold.reply(date.as_ref())?;
-    plain.reply(date.as_ref())
-}
-
-/// Gives both up to 15 messages and a reply, and says whether they agreed after each.
-fn agree_after_each(
-    alloc: Global,
-    random: &mut Random,
-    fold: &mut Fold,
-    plain: &mut PlainFold,
-) -> Result<bool, NoMemory>
-    requires begun { 0 < next_of fold.old }
-    requires begun_plainly { 0 < length (used_of plain.old) }
-    requires cells { CELLS ≤ cells_of fold.old }
-    ensures next { next_of fold.new ≡ next_of fold.old }
-    ensures cells { cells_of fold.new ≡ cells_of fold.old }
-{
-    for taken in 0..random.below(16) {
-        give(alloc, random, fold, plain)?;
-        if !agree(alloc, fold, plain)? {
-            return Ok(false);
-        }
+    /// Whether both say the same of a cell.
+    fn agree_on(&self, alloc: Global, cell: u32) -> Result<bool, NoMemory>
+        requires { cell < cells_of self.now.fold }
+    {
+        let outputs = self.same_outputs(alloc, cell)?;
+        let dates = self.same_dates(alloc, cell)?;
+        Ok(outputs && dates && self.same_count(cell))
     }
-    give_reply(alloc, random, fold, plain)?;
-    agree(alloc, fold, plain)
+
+    /// Whether both say the same of every cell.
+    fn agree(&self, alloc: Global) -> Result<bool, NoMemory>
+        requires { CELLS ≤ cells_of self.now.fold }
+    {
+        for cell in 0..CELLS {
+            if !self.agree_on(alloc, cell)? {
+                return Ok(false);
+            }
+        }
+        Ok(true)
+    }
+
+    /// Gives both the next message.
+    fn give(&mut self, alloc: Global, random: &mut Random) -> Result<(), NoMemory>
+        requires begun { 0 < next_of self.old.fold }
+        requires begun_plainly { 0 < length (used_of self.old.plain) }
+        ensures next { next_of self.new.fold ≡ next_of self.old.fold }
+        ensures cells { cells_of self.new.fold ≡ cells_of self.old.fold }
+        ensures begun_plainly { length (used_of self.new.plain) ≡ length (used_of self.old.plain) }
+    {
+        let content = content(alloc, random)?;
+        let date = id(alloc, random)?;
+        self.fold.take(&content, date.as_ref())?;
+        self.plain.take(&content, date.as_ref())
+    }
+
+    /// Gives both the reply.
+    fn give_reply(&mut self, alloc: Global, random: &mut Random) -> Result<(), NoMemory>
+        requires begun { 0 < next_of self.old.fold }
+        requires begun_plainly { 0 < length (used_of self.old.plain) }
+        ensures next { next_of self.new.fold ≡ next_of self.old.fold }
+        ensures cells { cells_of self.new.fold ≡ cells_of self.old.fold }
+    {
+        let date = id(alloc, random)?;
+        self.fold.reply(date.as_ref())?;
+        self.plain.reply(date.as_ref())
+    }
+
+    /// Gives both up to 15 messages and a reply, and says whether they agreed after each.
+    fn agree_after_each(&mut self, alloc: Global, random: &mut Random) -> Result<bool, NoMemory>
+        requires begun { 0 < next_of self.old.fold }
+        requires begun_plainly { 0 < length (used_of self.old.plain) }
+        requires cells { CELLS ≤ cells_of self.old.fold }
+        ensures next { next_of self.new.fold ≡ next_of self.old.fold }
+        ensures cells { cells_of self.new.fold ≡ cells_of self.old.fold }
+    {
+        for taken in 0..random.below(16) {
+            self.give(alloc, random)?;
+            if !self.agree(alloc)? {
+                return Ok(false);
+            }
+        }
+        self.give_reply(alloc, random)?;
+        self.agree(alloc)
+    }
 }
 
 /// Whether both agree on a notebook, of which one cell in four isn't executed.
 fn agree_throughout(alloc: Global, seed: u64) -> Result<bool, NoMemory> {
     let mut random = Random { state: seed };
     let merge = random.below(2) == 0;
-    let mut fold = Fold::new(alloc, CELLS, merge)?;
-    let mut plain = PlainFold::new(alloc, merge);
+    let mut twins = Twins {
+        fold: Fold::new(alloc, CELLS, merge)?,
+        plain: PlainFold::new(alloc, merge),
+    };
     for cell in 0..CELLS {
         if random.below(4) > 0 {
-            fold.start(cell);
-            plain.start(cell)?;
-            if !agree_after_each(alloc, &mut random, &mut fold, &mut plain)? {
+            twins.fold.start(cell);
+            twins.plain.start(cell)?;
+            if !twins.agree_after_each(alloc, &mut random)? {
                 return Ok(false);
             }
         }
     }
-    agree(alloc, &fold, &plain)
+    twins.agree(alloc)
 }
 
 #[test]
