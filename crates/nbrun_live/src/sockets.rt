@@ -1,15 +1,13 @@
 //! Notebooks that are executed by a kernel over sockets. This test program is the kernel too.
 use jtext::Text;
 use nbrun_main::run_words;
+use sample_notebooks::TWO;
 use std::process::Abort;
 use std::test::Fail;
 use std::{env, fs, process};
 use toy_core::Toy;
 use toy_host::{connection_in, serve};
 use world_real::RealWorld;
-
-const NOTEBOOK: &str =
-    "{\"cells\":[{\"cell_type\":\"code\",\"execution_count\":null,\"id\":\"a\",\"metadata\":{},\"outputs\":[],\"source\":\"print 1\"},{\"cell_type\":\"code\",\"execution_count\":7,\"id\":\"b\",\"metadata\":{},\"outputs\":[],\"source\":[\"result 2\"]}],\"metadata\":{\"kernelspec\":{\"display_name\":\"Toy\",\"name\":\"toy\"}},\"nbformat\":4,\"nbformat_minor\":5}";
 
 /// As a program of its own, with a connection file behind its test's name: serves the toy kernel.
 /// As a test it does nothing.
@@ -62,7 +60,7 @@ fn answered(rt: &HostRuntime, words: &str) -> Result<u8, Fail> {
 #[test]
 fn a_notebook_is_executed_over_sockets(rt: HostRuntime) -> Result<(), Fail> {
     write_spec(&rt, "kernels")?;
-    fs::write(&rt, "in.ipynb", NOTEBOOK)?;
+    fs::write(&rt, "in.ipynb", TWO)?;
     let words = "in.ipynb out.ipynb --kernel-path kernels --start-timeout 20";
     assert_eq!(rt; answered(&rt, words)?, 0);
     let text = fs::read_to_string(&rt, "out.ipynb")?;

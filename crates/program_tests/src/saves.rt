@@ -1,19 +1,8 @@
 //! Runs that save a notebook, and saves and lines that fail.
-use crate::notebooks::{
-    DEFAULTS, DEFAULTS_SAVED, INJECTED, INJECTED_SAVED, LAB, LAB_SAVED, OLD, OLD_REPORT,
-};
+use crate::notebooks::{INJECTED, INJECTED_SAVED, OLD, OLD_REPORT};
 use crate::runs::{gives, world};
+use sample_notebooks::{DEFAULTS, DEFAULTS_SAVED, EMPTY, EMPTY_SAVED, LAB};
 use std::test::Fail;
-
-const EMPTY: &str = r#"{"cells":[],"metadata":{},"nbformat":4,"nbformat_minor":5}"#;
-
-const EMPTY_SAVED: &str = r#"{
- "cells": [],
- "metadata": {},
- "nbformat": 4,
- "nbformat_minor": 5
-}
-"#;
 
 /// Whether the run of these words on this input says these lines and saves this text.
 fn saves(
@@ -47,9 +36,9 @@ fn a_notebook_of_jupyterlab_keeps_its_tree(rt: HostRuntime) -> Result<(), Fail> 
         saves(
             &rt,
             "in out --prepare-only",
-            LAB,
+            LAB.trim_end(),
             "saved 0/2 out\nout: done\n",
-            LAB_SAVED
+            LAB
         )?
     );
     Ok(())

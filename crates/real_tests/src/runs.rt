@@ -2,46 +2,10 @@
 use crate::worlds::{real_world, remove, status, text, texts};
 use jtext::Fields;
 use nbrun_main::run_words;
+use sample_notebooks::{DEFAULTS, DEFAULTS_SAVED, EMPTY, EMPTY_SAVED};
 use std::test::Fail;
 use std::{env, fs};
 use world::Kids;
-
-const EMPTY: &str = r#"{"cells":[],"metadata":{},"nbformat":4,"nbformat_minor":5}"#;
-
-const EMPTY_SAVED: &str = r#"{
- "cells": [],
- "metadata": {},
- "nbformat": 4,
- "nbformat_minor": 5
-}
-"#;
-
-const DEFAULTS: &str =
-    r#"{"cells":[{"cell_type":"code","execution_count":null,"id":"a","metadata":{"tags":["parameters"]},"outputs":[],"source":["a = 0"]}],"metadata":{},"nbformat":4,"nbformat_minor":5}"#;
-
-/// What follows the source of the injected cell.
-const DEFAULTS_END: &str = r##"
-   "source": [
-    "# Parameters\n",
-    "a = 1e2\n",
-    "b = \"007\"\n",
-    "c = True\n"
-   ]
-  }
- ],
- "metadata": {
-  "papermill": {
-   "parameters": {
-    "a": 1e2,
-    "b": "007",
-    "c": true
-   }
-  }
- },
- "nbformat": 4,
- "nbformat_minor": 5
-}
-"##;
 
 /// A notebook in a language for which there is no translator.
 const JULIA: &str =
@@ -77,8 +41,7 @@ fn parameters_reach_the_file(rt: HostRuntime) -> Result<(), Fail> {
     fs::write(&rt, "defaults", DEFAULTS)?;
     let words = "defaults defaults-saved --prepare-only -p a 1e2 -r b 007 -p c True";
     assert_eq!(rt; answered(&rt, words)?, 0);
-    let saved = fs::read_to_string(&rt, "defaults-saved")?;
-    assert!(rt; saved.as_str().ends_with(DEFAULTS_END));
+    assert!(rt; fs::read_to_string(&rt, "defaults-saved")?.as_str() == DEFAULTS_SAVED);
     remove(&rt, &["defaults", "defaults-saved"])
 }
 

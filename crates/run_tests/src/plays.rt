@@ -4,13 +4,14 @@ ghost use Rattle.toy_core.specs.Toy.{latest_of};
 
 use crate::checks::last_moment;
 use crate::jobs::{run_two, run_within, world_of};
-use crate::notebooks::{TWO, two_with};
+use crate::notebooks::two_with;
 use crate::octets::{part, place_of};
 use crate::rule::Trick;
 use crate::scripted::Scripted;
 use job_end::Answer;
 use jtext::{Bytes, List, NoMemory, Text};
 use kernel_talk::identifier;
+use sample_notebooks::TWO;
 use std::alloc::Global;
 use toy_core::Toy;
 use world::Entry;

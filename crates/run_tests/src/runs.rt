@@ -1,11 +1,12 @@
 //! Whole jobs with the toy kernel as it is.
 use crate::checks::{has_said, has_status, holds};
 use crate::jobs::{run, run_two, world_by, world_of};
-use crate::notebooks::{ONE, TWO, notebook, notebook_with, two_with};
+use crate::notebooks::{notebook, notebook_with};
 use crate::plays::pair;
 use crate::rule::Trick;
 use crate::toys::toys;
 use jtext::NoMemory;
+use sample_notebooks::{TWO, TWO_SAVED};
 use std::alloc::Global;
 use std::process::Abort;
 use std::test::Fail;
@@ -21,8 +22,7 @@ fn ends(alloc: Global, input: &str, words: &str, status: u8, said: &str) -> Resu
 
 // Whether the output is what comes out of `TWO`.
 fn is_two(alloc: Global, w: &MemWorld<Toy>) -> Result<bool, NoMemory> {
-    let text = two_with(alloc, ONE)?;
-    holds(alloc, w, "out.ipynb", text.as_str())
+    holds(alloc, w, "out.ipynb", TWO_SAVED)
 }
 
 #[test]

@@ -1,7 +1,8 @@
 //! Kernels that fall silent, or never do.
-use crate::notebooks::{TWO, notebook};
+use crate::notebooks::notebook;
 use crate::plays::{play, play_within};
 use crate::rule::Trick;
+use sample_notebooks::TWO;
 use std::process::Abort;
 use std::test::Fail;
 

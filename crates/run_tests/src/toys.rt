@@ -4,9 +4,10 @@ ghost use Rattle.toy_core.specs.Toy.{latest_of};
 
 use crate::checks::{has, has_said, has_status, third_rename};
 use crate::jobs::{run, world_of};
-use crate::notebooks::{TWO, notebook};
+use crate::notebooks::notebook;
 use jtext::NoMemory;
 use kernel_talk::identifier;
+use sample_notebooks::TWO;
 use std::alloc::Global;
 use std::process::Abort;
 use std::test::Fail;
@@ -62,42 +63,29 @@ fn a_save_that_fails_ends_the_job(rt: HostRuntime) -> Result<(), Fail> {
     Ok(())
 }
 
-#[test]
-fn a_clear_that_waits_leaves_the_last_output(rt: HostRuntime) -> Result<(), Fail> {
-    let alloc = rt.alloc();
-    let input = notebook(alloc, &["show x 1\\nclearwait"])?;
+// Whether a job on these cells is done, and its output has so many displays, each of this value.
+fn shows(alloc: Global, cells: &[&str], displays: usize, value: &str) -> Result<bool, NoMemory> {
+    let input = notebook(alloc, cells)?;
     let mut w = world_of(alloc, input.as_str(), toys(alloc, 2, 3)?, &[], &[])?;
     let answers = run(alloc, &mut w, "in.ipynb out.ipynb")?;
-    assert!(rt; has_status(&answers, 0, 0));
-    assert!(rt;
-        has(
-            alloc,
-            &w,
-            "out.ipynb",
-            "\"output_type\": \"display_data\"",
-            1
-        )?
-    );
-    assert!(rt; has(alloc, &w, "out.ipynb", "\n       \"1\"\n", 1)?);
+    let display = "\"output_type\": \"display_data\"";
+    let line = format!(in alloc; "\n       \"{value}\"\n")?;
+    Ok(
+        has_status(&answers, 0, 0)
+            && has(alloc, &w, "out.ipynb", display, displays)?
+            && has(alloc, &w, "out.ipynb", line.as_str(), displays)?,
+    )
+}
+
+#[test]
+fn a_clear_that_waits_leaves_the_last_output(rt: HostRuntime) -> Result<(), Fail> {
+    assert!(rt; shows(rt.alloc(), &["show x 1\\nclearwait"], 1, "1")?);
     Ok(())
 }
 
 #[test]
 fn an_update_reaches_each_display_with_its_id(rt: HostRuntime) -> Result<(), Fail> {
-    let alloc = rt.alloc();
-    let input = notebook(alloc, &["show x 1\\nshow x 2", "print 3", "update x 9"])?;
-    let mut w = world_of(alloc, input.as_str(), toys(alloc, 2, 3)?, &[], &[])?;
-    let answers = run(alloc, &mut w, "in.ipynb out.ipynb")?;
-    assert!(rt; has_status(&answers, 0, 0));
-    assert!(rt;
-        has(
-            alloc,
-            &w,
-            "out.ipynb",
-            "\"output_type\": \"display_data\"",
-            2
-        )?
-    );
-    assert!(rt; has(alloc, &w, "out.ipynb", "\n       \"9\"\n", 2)?);
+    let cells = ["show x 1\\nshow x 2", "print 3", "update x 9"];
+    assert!(rt; shows(rt.alloc(), &cells, 2, "9")?);
     Ok(())
 }
