@@ -3,8 +3,6 @@
 #![tactic(auto)]
 
 #[cfg(test)]
-mod fount;
-#[cfg(test)]
 mod reading;
 #[cfg(test)]
 mod steps;

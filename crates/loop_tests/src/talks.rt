@@ -5,7 +5,7 @@ ghost use Rattle.ready_loop.specs.Begins.{IsFresh};
 ghost use Rattle.ready_loop.specs.History.{conn_on};
 ghost use Rattle.ready_loop.specs.States.{IsSound, IsDrained, IsOffered, known_at};
 
-use crate::talk::TalkWorld;
+use crate::talk::talk_world;
 use jtext::Bytes;
 use ready_loop::{Loop, Next};
 use std::test::Fail;
@@ -67,7 +67,7 @@ fn brings<W: World>(l: &mut Loop, w: &mut W, byte: u8) -> bool
 #[test]
 fn queued_bytes_go_out_in_order_and_what_comes_is_read(rt: HostRuntime) -> Result<(), Fail> {
     let alloc = rt.alloc();
-    let mut w = TalkWorld::new();
+    let mut w = talk_world();
     let mut l = Loop::new(alloc, 9)?;
     assert!(rt; start(&mut l, &mut w));
     l.queue(SHELL, Bytes::of(alloc, b"abcd")?)?;
@@ -75,14 +75,14 @@ fn queued_bytes_go_out_in_order_and_what_comes_is_read(rt: HostRuntime) -> Resul
     assert!(rt; is_quiet(&mut l, &mut w));
     assert!(rt; names(&mut l, &mut w, [false; 64]));
     assert!(rt; l.taken(SHELL) == 3);
-    assert!(rt; w.has_put(b"abc"));
+    assert!(rt; w.talk.has_put(b"abc"));
     assert!(rt; l.turn(&mut w, None) == Ok(100));
     assert!(rt; brings(&mut l, &mut w, 1));
     assert!(rt; brings(&mut l, &mut w, 2));
     assert!(rt; is_quiet(&mut l, &mut w));
     assert!(rt; names(&mut l, &mut w, [false; 64]));
     assert!(rt; l.taken(SHELL) == 6);
-    assert!(rt; w.has_put(b"abcdef"));
+    assert!(rt; w.talk.has_put(b"abcdef"));
     Ok(())
 }
 
@@ -93,21 +93,21 @@ fn an_end_is_told_once(rt: HostRuntime) -> Result<(), Fail> {
     named[0] = true;
 
     // A write finds it.
-    let mut w = TalkWorld::new();
+    let mut w = talk_world();
     let mut l = Loop::new(alloc, 9)?;
     assert!(rt; start(&mut l, &mut w));
     l.queue(SHELL, Bytes::of(alloc, b"abcd")?)?;
-    w.ends = true;
+    w.talk.ends = true;
     assert!(rt; names(&mut l, &mut w, named));
     assert!(rt; names(&mut l, &mut w, [false; 64]));
 
     // A read finds it.
-    let mut w = TalkWorld::new();
+    let mut w = talk_world();
     let mut l = Loop::new(alloc, 9)?;
     assert!(rt; start(&mut l, &mut w));
     assert!(rt; names(&mut l, &mut w, [false; 64]));
     assert!(rt; l.turn(&mut w, None) == Ok(100));
-    w.ends = true;
+    w.talk.ends = true;
     let mut buf = [0; 8];
     assert!(rt; l.next(&mut w, &mut buf) == Ok(Next::Ended(SHELL)));
     assert!(rt; is_quiet(&mut l, &mut w));

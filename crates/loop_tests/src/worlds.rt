@@ -1,9 +1,9 @@
 //! Worlds in memory for the tests, and what they tell.
 ghost use Rattle.std.specs.Prelude.{◌≤◌, All, IfOk};
-ghost use Rattle.loop_tests.specs.declared.fount.Fount.{Fount};
+ghost use Rattle.sample_worlds.specs.declared.fount.Fount.{Fount};
 
-use crate::fount::Fount;
 use jtext::NoMemory;
+use sample_worlds::Fount;
 use std::alloc::Global;
 use world::{Chan, Conn, Connected, Entry};
 use world_mem::{Files, Kernels, MemWorld, Script, Sizes};
@@ -21,7 +21,7 @@ pub(crate) fn founts(
     let mut kernels = Kernels::new(alloc);
     for job in 0..jobs {
         let first = if job == 0 { shell } else { others };
-        kernels.push(Fount::new(first, others))?;
+        kernels.push(Fount::new(first, others, None))?;
     }
     Ok(kernels)
 }

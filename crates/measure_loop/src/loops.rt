@@ -1,5 +1,5 @@
 //! The times of a loop.
-use crate::spout::Spout;
+use crate::spout::spouting;
 use crate::steps::{puts, reads, start_all, turns};
 use anyhow::{Result, bail};
 use jtext::Bytes;
@@ -23,7 +23,7 @@ pub fn measure(rt: &HostRuntime, count: u32) -> Result<()> {
 // A turn with 64 connections of which one is awake, and gives 8 bytes.
 fn one_awake(rt: &HostRuntime, count: u32) -> Result<()> {
     let alloc = rt.alloc();
-    let mut w = Spout::new(8);
+    let mut w = spouting(8);
     let Ok(mut l) = Loop::new(alloc, u64::from(count)) else {
         bail!("no memory");
     };
@@ -43,7 +43,7 @@ fn one_awake(rt: &HostRuntime, count: u32) -> Result<()> {
 // 64 MiB through one of 64 connections.
 fn read(rt: &HostRuntime) -> Result<()> {
     let alloc = rt.alloc();
-    let mut w = Spout::new(64 * PIECE);
+    let mut w = spouting(64 * PIECE);
     let Ok(mut l) = Loop::new(alloc, 17) else {
         bail!("no memory");
     };
@@ -63,7 +63,7 @@ fn read(rt: &HostRuntime) -> Result<()> {
 // The same reads without a loop.
 fn read_plainly(rt: &HostRuntime) -> Result<()> {
     let alloc = rt.alloc();
-    let mut w = Spout::new(PIECES as usize * PIECE);
+    let mut w = spouting(PIECES as usize * PIECE);
     let mut buf = vec![in alloc; 0u8; PIECE]?;
     if buf.is_empty() {
         bail!("no buffer");
@@ -80,7 +80,7 @@ fn read_plainly(rt: &HostRuntime) -> Result<()> {
 // 64 MiB that were queued at once, on one of 64 connections that takes 65,536 bytes at a time.
 fn write(rt: &HostRuntime) -> Result<()> {
     let alloc = rt.alloc();
-    let mut w = Spout::new(0);
+    let mut w = spouting(0);
     let Ok(mut l) = Loop::new(alloc, 1) else {
         bail!("no memory");
     };

@@ -12,8 +12,6 @@ mod disk;
 #[cfg(test)]
 mod failures;
 #[cfg(test)]
-mod fount;
-#[cfg(test)]
 mod images;
 #[cfg(test)]
 mod nothing;

@@ -1,6 +1,6 @@
 //! What the tests see of a disk or a world in memory beside its calls.
-use crate::fount::Fount;
 use jtext::Text;
+use sample_worlds::Fount;
 use world::{Disk, Entries, Say};
 use world_mem::{Files, ImageFault, MemDisk, MemWorld};
 

@@ -1,8 +1,8 @@
 //! Worlds for the tests.
 ghost use Rattle.std.specs.Prelude.{◌≡◌, ◌<◌, ◌^◌, IfOk};
 
-use crate::fount::Fount;
 use jtext::{Bytes, NoMemory, Text};
+use sample_worlds::Fount;
 use std::alloc::Global;
 use world_mem::{Files, Kernels, MemWorld, Script, Sizes};
 
@@ -53,7 +53,8 @@ pub(crate) fn script(
     })
 }
 
-/// A world with these files, this script, and one kernel that hands out so many bytes.
+/// A world with these files, this script, and one kernel that hands out so many bytes on each
+/// channel and ends at the moment 1,000.
 pub(crate) fn world(
     alloc: Global,
     rows: &[(&str, &str)],
@@ -63,6 +64,6 @@ pub(crate) fn world(
     requires { script.start_ms < 2 ^ 47 }
 {
     let mut kernels = Kernels::new(alloc);
-    kernels.push(Fount::new(bytes))?;
+    kernels.push(Fount::new(bytes, bytes, Some(1000)))?;
     MemWorld::new(alloc, files(alloc, rows)?, kernels, script)
 }

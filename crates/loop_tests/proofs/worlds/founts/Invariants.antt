@@ -1,5 +1,5 @@
 use Rattle.std.proofs.Common.{◌≤◌, All}
-use Rattle.loop_tests.specs.declared.fount.Fount.{Fount}
+use Rattle.sample_worlds.specs.declared.fount.Fount.{Fount}
 use Rattle.loop_tests.proofs.worlds.founts.Given as goal
 
 abbrev pub invariant-loop-job : goal.invariant-loop-job

@@ -1,16 +1,18 @@
 //! A kernel that hands out bytes.
-ghost use Rattle.std.specs.Prelude.{◌≡◌, ◌<◌, length, true, None};
+ghost use Rattle.std.specs.Prelude.{◌≡◌, ◌<◌, length, true};
 ghost use Rattle.world.specs.Kernel.{Gives};
-ghost use Rattle.loop_tests.specs.Fount.{number_on, poured};
+ghost use Rattle.sample_worlds.specs.Fount.{end_by, number_on, poured};
 
 use jtext::NoMemory;
 use std::alloc::Global;
 use world::{Chan, Give, KernelSide};
 
-/// A kernel that takes up every connection, hands out so many bytes 7 on each channel, and never ends.
+/// A kernel that takes up every connection, hands out so many bytes 7 on each channel, and ends at a
+/// moment or never.
 #[derive(Drop)]
-pub(crate) struct Fount {
+pub struct Fount {
     latest: u64,
+    ends_ms: Option<u64>,
     shell: usize,
     control: usize,
     iopub: usize,
@@ -18,12 +20,14 @@ pub(crate) struct Fount {
 }
 
 impl Fount {
-    /// A kernel with so many bytes on shell and so many on each other channel.
-    pub(crate) fn new(shell: usize, others: usize) -> Fount
-        ensures { result.latest ≡ 0 }
+    /// A kernel with so many bytes on shell and so many on each other channel, to which no moment was
+    /// handed in, and which ends at that moment or never.
+    pub fn new(shell: usize, others: usize, ends_ms: Option<u64>) -> Fount
+        ensures { Fount.latest result ≡ 0 }
     {
         Fount {
             latest: 0,
+            ends_ms,
             shell,
             control: others,
             iopub: others,
@@ -40,7 +44,7 @@ impl KernelSide for Fount {
     ghost gives = { λ k chan now room.
         poured (number_on chan k.shell k.control k.iopub k.heart) room };
 
-    ghost exits = { λ k now. None };
+    ghost exits = { λ k now. end_by k.ends_ms now };
 
     ghost stands = { λ k calls. Unit {0} };
 
@@ -78,8 +82,11 @@ impl KernelSide for Fount {
         }
     }
 
-    fn exited(&self, _now: u64) -> Option<i32> {
-        None
+    fn exited(&self, now: u64) -> Option<i32> {
+        match self.ends_ms {
+            Some(end) if now >= end => Some(0),
+            _ => None,
+        }
     }
 }
 
