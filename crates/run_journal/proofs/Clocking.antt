@@ -9,7 +9,7 @@ use Rattle.world.specs.declared.connected.Connected.TheVariants as connected
 use Rattle.world.specs.declared.did.Did.TheVariants as did
 use Rattle.world.specs.declared.entry.Entry.{Entry}
 use Rattle.world.specs.declared.entry.Entry.TheVariants as made
-use Rattle.world.specs.Places.{Status, is_at, is_read, is_write, connected_after, closed_after, got_after, ended_after, refused_after, time}
+use Rattle.world.specs.Places.{Status, is_at, connected_after, closed_after, got_after, ended_after, refused_after, time}
 use Rattle.world.specs.Waits.{is_wait, has_wait, is_after_wait, moment_of}
 use Rattle.cell_core.specs.declared.event.Event.{Event}
 use Rattle.cell_core.specs.declared.event.Event.TheVariants as event
@@ -23,7 +23,7 @@ use Rattle.run_journal.specs.Requests.{is_broken, requests, last_request}
 use Rattle.run_journal.specs.Why.{is_done, is_error, why}
 use Rattle.run_journal.specs.Due.{all_along}
 use Rattle.run_journal.specs.Decoding.{IsDecoding}
-use Rattle.run_journal.specs.Awake.{implies, in_order, reads_clock}
+use Rattle.run_journal.specs.Awake.{in_order, reads_clock}
 use Rattle.run_journal.specs.Course.{begins_at, clock_event, when_so, ends_look, is_late, events_at, Course, tell, late_then, told_saved, course}
 use Rattle.run_journal.specs.Agreement.{IsAmong, BringsNothing, Flows, told_on, is_dated, at_once, draws, drawn_clock, starts_in_turn, holds_no_clock}
 use Rattle.run_journal.proofs.Agreeing.{agree_unheard, ready_unheard}
@@ -38,11 +38,11 @@ use Rattle.run_journal.proofs.Running.{or_off, start_parts}
 use Rattle.run_journal.proofs.Turning.{quiet_entry, turn_none, drawn_then, clocks_none}
 use Rattle.run_journal.proofs.Turns.{turn_is}
 use Rattle.run_journal.proofs.Lapse.{short_look}
-use Rattle.run_journal.proofs.Rereading.{each_one}
+use Rattle.run_journal.proofs.Rereading.{read_awake}
 use Rattle.run_journal.proofs.Showing.{Shown, at, look, shown}
 use Rattle.run_journal.proofs.Keeping.{stopped_cause}
 use Rattle.run_journal.proofs.Settling.{Given, given_before, unstopped_at}
-use Rattle.run_journal.proofs.Truths.{not_both}
+use Rattle.run_journal.proofs.Truths.{not_both, if_some}
 use Rattle.run_journal.proofs.AlikeLooks.{any_agree}
 
 -- ---- before the first wait nothing is read
@@ -65,15 +65,7 @@ module _ (jobs : List Job) (j : Job) (c : Chan) (m : IsAmong j jobs) where
   unread_next (made.Connected conn port how) past i o w = at_its (is_at (place j c) conn) _ (connection j c past) (λ f. begun_unread how port (time past) (connection j c past) i) i
   unread_next (made.Closed conn) past i o w = at_its (is_at (place j c) conn) (closed_after (connection j c past)) (connection j c past) (λ f. record { asleep = refl; empty = i.empty }) i
   unread_next (made.Got conn room bytes) past i o w =
-      at_its (is_at (place j c) conn) (got_after bytes (connection j c past)) (connection j c past) (λ f. absurd (not_both (connection j c past).awake (awake f) i.asleep)) i
-    where
-      off : (x y : Bool) → (implies x y && true) ≡ true → x ≡ true → y ≡ true
-      off true true e f = refl
-      off true false e f = cc
-      off false y e f = cc
-
-      awake : is_at (place j c) conn ≡ true → (connection j c past).awake ≡ true
-      awake f = off (is_at (place j c) conn) (connection j c past).awake (each_one (λ i d. implies (is_read (place i d) (made.Got conn room bytes)) (connection i d past).awake && implies (is_write (place i d) (made.Got conn room bytes)) (connection i d past).writable) jobs j m o c) f
+      at_its (is_at (place j c) conn) (got_after bytes (connection j c past)) (connection j c past) (λ f. absurd (not_both (connection j c past).awake (read_awake jobs j c m conn room bytes past o f) i.asleep)) i
   unread_next (made.Dry conn) past i o w = at_its (is_at (place j c) conn) _ (connection j c past) (λ f. record { asleep = refl; empty = i.empty }) i
   unread_next (made.Ended conn by) past i o w = at_its (is_at (place j c) conn) (ended_after (connection j c past)) (connection j c past) (λ f. record { asleep = refl; empty = i.empty }) i
   unread_next (made.Refused conn by) past i o w = at_its (is_at (place j c) conn) (refused_after (time past) (connection j c past)) (connection j c past) (λ f. record { asleep = refl; empty = i.empty }) i
@@ -326,14 +318,10 @@ module _ (jobs : List Job) (j : Job) (dec : IsDecoding j.codec) (plan : 0 < leng
       still : has_wait past ≡ true → moment_of entry ≡ None → events.came events.is_moment (clocks_at j entry past) ≡ false
       still w e = ap (events.came events.is_moment) (clocks_none 0 jobs j entry past g.rules g.ran (undrawn w) (turn_none entry past e))
 
-      after : (v : Bool) (ms : ℕ) → (if v then moment_of entry else None) ≡ Some ms → v ≡ true
-      after true ms f = refl
-      after false ms f = cc
-
       at_clock : has_wait past ≡ true → (o : Option ℕ) → moment_of entry ≡ o → is_some (at_once (why j past)) ≡ true → events.came events.is_moment (clocks_at j entry past) ≡ false
       at_clock w None e y = still w e
       at_clock w (Some ms) e y =
-          absurd (after_wait past b (after (is_after_wait past) ms (sym (turn_is jobs entry past reads) ∙ cond-true (has_wait past) (moment_of entry) None w ∙ e)) y)
+          absurd (after_wait past b (if_some (is_after_wait past) (moment_of entry) ms (sym (turn_is jobs entry past reads) ∙ cond-true (has_wait past) (moment_of entry) None w ∙ e)) y)
 
       by : Shown jobs j past b.rules b.ran b.flows b.time plan dec b.unread limits → events.came events.is_moment (clocks_at j entry past) ≡ false
       by (look w c l y) = still w (quiet_entry jobs j entry past g.rules.among reads w c (short_look j past l))

@@ -20,7 +20,7 @@ use Rattle.run_journal.specs.Order.{is_nothing, begins_unread}
 use Rattle.run_journal.specs.Awake.{Awake, implies, is_its, is_connect, may_begin_again, in_order, begins_refused}
 use Rattle.run_journal.specs.Agreement.{IsAmong, BeginsUnread, tells_rightly, TellsRightly}
 use Rattle.run_journal.proofs.Sighting.{or_either}
-use Rattle.run_journal.proofs.Running.{all_of, or_off}
+use Rattle.run_journal.proofs.Running.{all_of, or_off, by_both}
 use Rattle.run_journal.proofs.Truths.{not_both}
 use Rattle.run_journal.proofs.Ordering.{nothing_is}
 
@@ -33,6 +33,17 @@ each_channel test e Heart = (and_parts (test Heart) true (and_parts (test Iopub)
 
 pub each_one : (test : Job → Chan → Bool) (jobs : List Job) (j : Job) → IsAmong j jobs → list_all (λ i. list_all (test i) channels) jobs ≡ true → (c : Chan) → test j c ≡ true
 each_one test jobs j m e c = each_channel (test j) (all_of (λ i. list_all (test i) channels) jobs j m e) c
+
+-- a connection that bytes are read from was awake
+pub read_awake : (jobs : List Job) (j : Job) (c : Chan) → IsAmong j jobs → (conn : Conn) (room : ℕ) (bytes : List ℕ) (past : List Entry) → in_order jobs (made.Got conn room bytes ∷ past) ≡ true → is_at (place j c) conn ≡ true → (connection j c past).awake ≡ true
+read_awake jobs j c m conn room bytes past o =
+    off (is_at (place j c) conn) (connection j c past).awake
+    (each_one (λ i d. implies (is_read (place i d) (made.Got conn room bytes)) (connection i d past).awake && implies (is_write (place i d) (made.Got conn room bytes)) (connection i d past).writable) jobs j m o c)
+  where
+    off : (x y : Bool) → (implies x y && true) ≡ true → x ≡ true → y ≡ true
+    off true true e f = refl
+    off true false e f = cc
+    off false y e f = cc
 
 -- Of a connection: it is awake only while it is up; once refused, or before it was tried, it isn't up and nothing was got on it.
 record Sound (s : Status) (tried : Bool) : Type 0 where
@@ -92,14 +103,9 @@ module _ (j : Job) (c : Chan) where
         → is_some (connection j c past).refused ≡ true
     was_refused conn port how past r f e =
         some_refused (connection j c past).refused
-        (goes (is_at (place j c) conn) (tried past) (may_begin_again j past (connection j c past).refused)
+        (by_both (is_at (place j c) conn) (tried past) (may_begin_again j past (connection j c past).refused)
         (each_one (λ i d. implies (is_its i d conn && list_any (is_connect i d) past) (may_begin_again i past (connection i d past).refused)) jobs j m r c) f e)
       where
-        goes : (x y z : Bool) → implies (x && y) z ≡ true → x ≡ true → y ≡ true → z ≡ true
-        goes true true z e f g = e
-        goes true false z e f g = cc
-        goes false y z e f g = cc
-
         some_refused : (v : Option ℕ) → may_begin_again j past v ≡ true → is_some v ≡ true
         some_refused None g = cc
         some_refused (Some ms) g = refl
@@ -116,15 +122,7 @@ module _ (j : Job) (c : Chan) where
         by f = may (tried past) refl f
     next (made.Closed conn) past i o r t = at_its (is_at (place j c) conn) (closed_after (connection j c past)) (connection j c past) (tried past) (λ f. record { awake = λ g. cc; refused = λ g. cc; untried = λ g. (refl, (i.untried g).1) }) i
     next (made.Got conn room bytes) past i o r t =
-        at_its (is_at (place j c) conn) (got_after bytes (connection j c past)) (connection j c past) (tried past) (λ f. at_got (connection j c past) (tried past) bytes i (awake f)) i
-      where
-        off : (x y : Bool) → (implies x y && true) ≡ true → x ≡ true → y ≡ true
-        off true true e f = refl
-        off true false e f = cc
-        off false y e f = cc
-
-        awake : is_at (place j c) conn ≡ true → (connection j c past).awake ≡ true
-        awake f = off (is_at (place j c) conn) (connection j c past).awake (each_one (λ i d. implies (is_read (place i d) (made.Got conn room bytes)) (connection i d past).awake && implies (is_write (place i d) (made.Got conn room bytes)) (connection i d past).writable) jobs j m o c) f
+        at_its (is_at (place j c) conn) (got_after bytes (connection j c past)) (connection j c past) (tried past) (λ f. at_got (connection j c past) (tried past) bytes i (read_awake jobs j c m conn room bytes past o f)) i
     next (made.Dry conn) past i o r t = at_its (is_at (place j c) conn) _ (connection j c past) (tried past) (λ f. record { awake = λ g. cc; refused = i.refused; untried = i.untried }) i
     next (made.Ended conn by) past i o r t =
         at_its (is_at (place j c) conn) (ended_after (connection j c past)) (connection j c past) (tried past) (λ f. record { awake = λ g. cc; refused = λ g. (refl, (i.refused g).1); untried = λ g. (refl, (i.untried g).1) }) i

@@ -36,6 +36,7 @@ use Rattle.run_journal.proofs.Interrupting.{none_holds, called_start, called_req
 use Rattle.run_journal.proofs.Truths.{not_both, inside}
 use Rattle.std.proofs.Math.Bool.{and-false}
 use Rattle.std.proofs.lemmas.List.{nil_from_length}
+use Rattle.std.proofs.Math.Nat.{lt_of_lt_of_le}
 use Rattle.run_journal.proofs.Seconds.{first_least, first_last, child_before, ever_past, flagged_before, ready_before, uninterrupted}
 
 -- ---- tests
@@ -88,6 +89,10 @@ pub plus_more : (x n : ℕ) → 0 < n → x < x + n
 plus_more x n h = omega (arith, h)
 
 -- ---- what calls for a look by a deadline that the core has
+
+-- a moment past it by nothing is it
+pub plus_none : (j : Job) (d : ℕ) (p : List Entry) → ran_out j (d + 0) p ≡ ran_out j d p
+plus_none j d p = let z : d + 0 ≡ d = omega arith in ap (λ n. ran_out j n p) z
 
 module _ (jobs : List Job) (j : Job) (past : List Entry) (k : KeepsRules jobs j past) (h : RanAtWait j past) (f : Flows j past) (t : KeepsTime j past) (plan : 0 < length j.task.plan) where
   agrees : Agrees j (course j past).told past
@@ -191,10 +196,7 @@ module _ (jobs : List Job) (j : Job) (past : List Entry) (k : KeepsRules jobs j 
     module _ (r : reply q ≡ None) (c : ℕ) (dead : deadline j q ≡ Some c) (under : q.clock < c) where
       -- the request at an earlier moment past a deadline
       pub was : (d : ℕ) → c ≤ d → {p : List Entry} → Before p past → ever (is_past d) p ≡ true → Was j p m q
-      was d n x y = stood_before j d x k.rising y m q e (less q.clock c d under n)
-        where
-          less : (x y z : ℕ) → x < y → y ≤ z → x < z
-          less x y z f g = omega (arith, f, g)
+      was d n x y = stood_before j d x k.rising y m q e (lt_of_lt_of_le under n)
 
       pub was_none : {p : List Entry} (w : Was j p m q) → reply w.old ≡ None
       was_none w = no_reply_before w.old q (reply_stays w.old q w.on) r
@@ -215,9 +217,6 @@ module _ (jobs : List Job) (j : Job) (past : List Entry) (k : KeepsRules jobs j 
           ∙ ap (λ o. wait_deadline j p w.old (option_map (λ v. v.1) o)) (was_none w)
           ∙ ap (reply_deadline j p w.old) (was_dead w)
 
-      pub plus_none : (d : ℕ) (p : List Entry) → ran_out j (d + 0) p ≡ ran_out j d p
-      plus_none d p = let z : d + 0 ≡ d = omega arith in ap (λ n. ran_out j n p) z
-
       -- without an interrupt
       pub plain_calls : j.task.times.interrupt ≡ false → Calls c
       plain_calls i = record {
@@ -226,7 +225,7 @@ module _ (jobs : List Job) (j : Job) (past : List Entry) (k : KeepsRules jobs j 
             (deadline_at (wait_was past) w ∙ cond-false w.old.interrupted _ (c ∷ []) (uninterrupted j i (before_wait past) m w.old w.stands)) p;
         left = λ y. let w = was c (omega arith) y.before (left_past c y) in
             not_both (is_timed_out j (last_request 0 (requests j y.at)) y.at)
-            (row_at y.before w ∙ ap (λ v. is_out j 0 v y.at) (cond-false j.task.times.interrupt _ (Some c) i) ∙ plus_none c y.at ∙ y.held) (none_holds j y.at y.unstopped).3;
+            (row_at y.before w ∙ ap (λ v. is_out j 0 v y.at) (cond-false j.task.times.interrupt _ (Some c) i) ∙ plus_none j c y.at ∙ y.held) (none_holds j y.at y.unstopped).3;
       }
 
       -- with one, which is queued
@@ -239,7 +238,7 @@ module _ (jobs : List Job) (j : Job) (past : List Entry) (k : KeepsRules jobs j 
             not_both (is_timed_out j (last_request 0 (requests j y.at)) y.at)
             (row_at y.before w.0
             ∙ ap (λ v. is_out j 0 v y.at) (cond-true j.task.times.interrupt _ (Some c) i ∙ cond-true w.0.old.interrupted _ None w.1 ∙ ap (option_map (λ n. n + interrupt_ms)) (first_then y.before (left_past d y)))
-            ∙ plus_none d y.at ∙ y.held) (none_holds j y.at y.unstopped).3;
+            ∙ plus_none j d y.at ∙ y.held) (none_holds j y.at y.unstopped).3;
       }
         where
           d : ℕ
@@ -255,11 +254,8 @@ module _ (jobs : List Job) (j : Job) (past : List Entry) (k : KeepsRules jobs j 
           first_then {p} x y = sym (first_before c x (first_ever c p ∙ ever_past c d more p y)) ∙ first
 
           then_is : {p : List Entry} → Before p past → ever (is_past d) p ≡ true → (w : Was j p m q) × (w.old.interrupted ≡ true)
-          then_is {p} x y = flagged_before j c d x k.rising y (two (first_last c p ms (first_then x y))) m q e (less q.clock c d under more) dead flag
+          then_is {p} x y = flagged_before j c d x k.rising y (two (first_last c p ms (first_then x y))) m q e (lt_of_lt_of_le under more) dead flag
             where
-              less : (x y z : ℕ) → x < y → y ≤ z → x < z
-              less x y z f g = omega (arith, f, g)
-
               late : (t n : ℕ) → n + 10000 ≤ t → t ≡ n → ⊥
               late t n f g = absurd (omega (arith, f, g))
 
@@ -346,9 +342,6 @@ module _ (jobs : List Job) (j : Job) (past : List Entry) (k : KeepsRules jobs j 
 
     module _ (dec : IsDecoding j.codec) (u : BeginsUnread j past) (b : is_broken j past ≡ false) (lost : is_lost j past ≡ false) (bc : events.came events.is_broken told ≡ false) (lc : events.looked events.is_lost told ≡ false)
         (r : reply q ≡ None) (c : ℕ) (dead : deadline j q ≡ Some c) (under : q.clock < c) where
-      more_none : (d : ℕ) (p : List Entry) → ran_out j (d + 0) p ≡ ran_out j d p
-      more_none = plus_none jobs j past k h f t plan m q l e r c dead under
-
       -- without an interrupt
       plain_out : j.task.times.interrupt ≡ false → events.looked (events.is_turn_at c) told ≡ ran_out j c past
       plain_out i = found_same c (plain_calls jobs j past k h f t plan m q l e r c dead under i)
@@ -380,7 +373,7 @@ module _ (jobs : List Job) (j : Job) (past : List Entry) (k : KeepsRules jobs j 
           second : j.task.times.interrupt ≡ true → (v : Bool) → q.interrupted ≡ v → (o : Option ℕ) → first_clock c past ≡ o
               → (v && looked_by (option_map (λ n. n + interrupt_ms) o) told) ≡ is_out j 0 (if v then option_map (λ n. n + interrupt_ms) o else None) past
           second i true g None f = refl
-          second i true g (Some ms) f = second_out i g ms f ∙ sym (more_none (ms + interrupt_ms) past)
+          second i true g (Some ms) f = second_out i g ms f ∙ sym (plus_none j (ms + interrupt_ms) past)
           second i false g o f = refl
 
           by : (i : Bool) → j.task.times.interrupt ≡ i
@@ -390,4 +383,4 @@ module _ (jobs : List Job) (j : Job) (past : List Entry) (k : KeepsRules jobs j 
               ap (λ v. v && looked_by (second_deadline c told) told) (interrupt_same g)
               ∙ ap (λ v. q.interrupted && looked_by v told) second_is
               ∙ second g q.interrupted refl (first_clock c past) refl
-          by false g = plain_out g ∙ sym (more_none c past)
+          by false g = plain_out g ∙ sym (plus_none j c past)

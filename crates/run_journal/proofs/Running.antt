@@ -86,14 +86,15 @@ pub wait_closes_none : (j : Job) (entry : Entry) → is_wait entry ≡ true → 
 wait_closes_none j (made.Waited ms reports how) e = refl
 wait_closes_none j _ e = cc
 
+-- what two tests imply holds where both do
+pub by_both : (x y z : Bool) → implies (x && y) z ≡ true → x ≡ true → y ≡ true → z ≡ true
+by_both true true z e f g = e
+by_both true false z e f g = cc
+by_both false y z e f g = cc
+
 pub early_at : (jobs : List Job) (j : Job) (entry : Entry) (past : List Entry) → IsAmong j jobs → begins_early jobs (entry ∷ past) ≡ true → begins j entry ≡ true → has_wait past ≡ true → list_any (begins j) past ≡ true
 early_at jobs j (made.Connected conn port how) past m e b w =
-    by (conn.job == j.number) (has_wait past) (list_any (begins j) past) (all_of (λ i. implies (conn.job == i.number && has_wait past) (list_any (begins i) past)) jobs j m e) b w
-  where
-    by : (x y z : Bool) → implies (x && y) z ≡ true → x ≡ true → y ≡ true → z ≡ true
-    by true true z e f g = e
-    by true false z e f g = cc
-    by false y z e f g = cc
+    by_both (conn.job == j.number) (has_wait past) (list_any (begins j) past) (all_of (λ i. implies (conn.job == i.number && has_wait past) (list_any (begins i) past)) jobs j m e) b w
 early_at jobs j _ past m e b w = cc
 
 -- one that began did so before the last wait, if there was one

@@ -229,7 +229,7 @@ module _ (jobs : List Job) (j : Job) (past : List Entry) (k : KeepsRules jobs j 
         ∙ ap (λ (v : Option (Arrival × ℕ)). not (is_some v) && is_out j 0 (last_deadline j q past (deadline j q)) past) r
         ∙ ap (λ v. is_out j 0 (last_deadline j q past v) past) dead
         ∙ ap (λ v. is_out j 0 v past) w
-        ∙ plus_none jobs j past k h f t plan m q l g r c dead under d past
+        ∙ plus_none j d past
         ∙ z)))
 
     plain_row : (c : ℕ) → deadline j q ≡ Some c → q.clock < c → j.task.times.interrupt ≡ false → events.looked (events.is_turn_at c) told ≡ true → CoreRow

@@ -1,5 +1,6 @@
 -- Small facts of tests, options and lists.
-use Rattle.std.proofs.Common.{◌≡◌, ℕ, ◌+◌, ◌<◌, ◌≤◌, List, [], ◌∷◌, ◌++◌, length, Bool, true, false, ◌&&◌, ◌||◌, Some, refl, arith, length-append}
+use Rattle.std.proofs.Common.{◌≡◌, ℕ, ◌+◌, ◌<◌, ◌≤◌, List, [], ◌∷◌, ◌++◌, length, Bool, true, false, ◌&&◌, ◌||◌, Option, Some, None, refl, arith, length-append}
+use Rattle.std.specs.Prelude.{if◌then◌else◌}
 
 -- a test answers one way
 pub not_both : (b : Bool) → b ≡ true → b ≡ false → ⊥
@@ -19,6 +20,11 @@ and_true false b e = refl
 -- what an option holds
 pub inside : {A : Type 0} {x y : A} → Some x ≡ Some y → x ≡ y
 inside e = cc
+
+-- it was chosen where it holds something
+pub if_some : {A : Type 0} (b : Bool) (o : Option A) (x : A) → (if b then o else None) ≡ Some x → b ≡ true
+if_some true o x e = refl
+if_some false o x e = cc
 
 -- the first item of a list, and the others
 pub head_same : {A : Type 0} {x y : A} {xs ys : List A} → ◌≡◌ {A = List A} (x ∷ xs) (y ∷ ys) → x ≡ y

@@ -43,7 +43,7 @@ use Rattle.run_journal.proofs.Keeping.{unstopped_heard, stopped_cause}
 use Rattle.run_journal.proofs.Settling.{Given, given_before, unstopped_at, none_some}
 use Rattle.run_journal.proofs.Clocking.{wait_brings, wait_unacked, broken_as, not_ready, not_at_once, events_clock, tell_none_held, held_awaits, GivesClock, gives_clock, gives_first, behind, behind_none}
 use Rattle.run_journal.proofs.KeptTime.{time_next}
-use Rattle.run_journal.proofs.Truths.{not_both}
+use Rattle.run_journal.proofs.Truths.{not_both, if_some}
 
 drop_past : {X : Type 0} (n : ℕ) (xs : List X) → length xs ≤ n → drop n xs ≡ []
 drop_past zero [] h = refl
@@ -232,15 +232,11 @@ module _ (jobs : List Job) (j : Job) (dec : IsDecoding j.codec) (plan : 0 < leng
       undrawn w = false_from_ne_true (draws j entry) (λ d.
           not_both (is_some (drawn_clock j past)) (drawn_then 0 jobs j entry past g.rules g.ran w) (not-true (is_some (drawn_clock j past)) (and_parts (not (is_some (drawn_clock j past))) (nat_lt 0 (acked j past)) (start d)).0))
 
-      after : (v : Bool) (ms : ℕ) → (if v then moment_of entry else None) ≡ Some ms → v ≡ true
-      after true ms f = refl
-      after false ms f = cc
-
       waited : has_wait past ≡ true → (o : Option ℕ) → moment_of entry ≡ o → (stops j (course j past).told ≡ false) × (awaits_saved j.task (course j past).told ≡ false)
       waited w None f = absurd (none (undrawn w) (turn_none entry past f))
       waited w (Some ms) f =
           calm_after entry past g b runs
-          (after (is_after_wait past) ms (sym (turn_is jobs entry past (and_parts (reads_clock jobs (entry ∷ past)) (all_along (reads_clock jobs) past) g.rules.awake.clock).0) ∙ cond-true (has_wait past) (moment_of entry) None w ∙ f))
+          (if_some (is_after_wait past) (moment_of entry) ms (sym (turn_is jobs entry past (and_parts (reads_clock jobs (entry ∷ past)) (all_along (reads_clock jobs) past) g.rules.awake.clock).0) ∙ cond-true (has_wait past) (moment_of entry) None w ∙ f))
           (ap (λ (o : Option ℕ). is_some o) f)
 
       first : has_wait past ≡ false → (draws j entry ≡ true) ⊎ (draws j entry ≡ false) → 0 < acked j past
