@@ -1,6 +1,6 @@
 -- How a run begins and ends.
-use Rattle.std.proofs.Common.{◌≡◌, ℕ, ◌<◌, List, ◌∷◌, length, Option, Some, None, Result, Ok, Err, false, refl, sym, ◌∙◌, ap, subst, arith}
-use Rattle.std.specs.Prelude.{slice_get, IfOk}
+use Rattle.std.proofs.Common.{◌≡◌, ℕ, Bool, ◌<◌, List, ◌∷◌, length, Option, Some, None, Result, Ok, Err, true, false, refl, sym, ◌∙◌, ap, subst, arith}
+use Rattle.std.specs.Prelude.{slice_get, IfOk, IfSome}
 use Rattle.std.proofs.lemmas.Option.{slice_get_within}
 use Rattle.jtext.specs.declared.no_memory.NoMemory.{NoMemory}
 use Rattle.words.specs.declared.ask.Ask.{Ask}
@@ -15,54 +15,80 @@ use Rattle.world.proofs.MomentsLemmas.{told_start, since_as}
 use Rattle.ready_loop.specs.Offers.{Extends}
 use Rattle.ready_loop.proofs.TableLemmas.{some_is}
 use Rattle.job_end.specs.declared.answer.Answer.{Answer}
+use Rattle.cell_core.specs.Task.{Task}
 use Rattle.job_saves.specs.Course.{Origin}
 use Rattle.job_saves.proofs.CourseLemmas.{job_ends}
 use Rattle.nb_model.specs.declared.notebook.Notebook.{Notebook}
-use Rattle.job_begin.specs.Begun.{origin_of, first_of}
+use Rattle.job_begin.specs.Begun.{origin_of, first_of, counted_task}
 use Rattle.batch_run.specs.declared.slot.Slot.{Slot}
 use Rattle.batch_run.specs.declared.slot.Slot.TheVariants.{Waiting, Running, Ended}
-use Rattle.batch_run.specs.Batch.{HasStopped, EndsBy, EndsUnread, EndsRead, IsEndOf, AreEnds, Makes, nothing, saves, MakesEach, LeavesOthers, CallsOfJobs, EndsChildren}
+use Rattle.batch_run.specs.Batch.{HasStopped, HasWaited, EndsBy, EndsUnread, EndsRead, AreEnds, Makes, nothing, saves, MakesEach, LeavesOthers, CallsOfJobs, CallsOfRun, EndsChildren, IsClean}
 use Rattle.job_saves.specs.Children.{has_child, HasEnd}
+use Rattle.job_saves.specs.Speaking.{IsWhole, SpeaksWhole}
 use Rattle.batch_run.proofs.CallLemmas.{run_spares}
-use Rattle.batch_run.specs.Stands.{Outset, SlotPlays, SlotEnds, SlotRuns, SlotTask, SlotKernel, SlotCounted, Stands, waits, spared, begun, AllStand, AllEnded, AreAnswers, HasEnded, answer_of, answers_of}
+use Rattle.batch_run.specs.Stands.{Outset, IsIdle, SlotPlays, SlotEnds, SlotRuns, SlotTask, SlotKernel, SlotCounted, EndCounted, Stands, waits, spared, begun, AllStand, AllEnded, AreAnswers, HasEnded, answer_of, answers_of}
 use Rattle.batch_run.proofs.JournalLemmas.{has, extension, told_at}
 use Rattle.batch_run.proofs.SlotLemmas.{are_answers}
 
 -- ---- the begin
 
-pub all_start : (asks : List Ask) (slots : List Slot) (p : Option (List Entry)) (c : Counts) (here : List ℕ) → length slots ≡ length asks
-    → ((i : ℕ) (slot : Slot) → slice_get slots i ≡ Some slot → slot ≡ Waiting) → AllStand asks p (record { here = here; counts = c; waits = c.waits }) slots p c
-all_start asks slots p c here size waiting = record {
+pub all_start : (asks : List Ask) (slots : List Slot) (p : Option (List Entry)) (c : Counts) (here : List ℕ) (most : ℕ) (clean : Bool) → length slots ≡ length asks
+    → ((i : ℕ) (slot : Slot) → slice_get slots i ≡ Some slot → slot ≡ Waiting) → (clean ≡ true → SpeaksWhole p c) → (clean ≡ true → (n : ℕ) → IsIdle n p)
+    → AllStand asks p (record { here = here; counts = c; waits = c.waits; most = most; clean = clean }) slots p c
+all_start asks slots p c here most clean size waiting spoken idle = record {
   size = size;
   grow = grow_start c;
   waits = omega arith;
+  waited = omega arith;
   told = told_start (λ x. start);
   calls = told_start (λ x. start);
+  spoken = spoken;
+  idle = λ e i a at got. idle e i;
   plays = λ i a slot at got. subst (λ x. SlotPlays i a x) (sym (waiting i slot got)) tt;
   ends = λ i a slot at got. subst (λ x. SlotEnds i x p p) (sym (waiting i slot got)) (λ h. h);
-  counted = λ i a slot at got. subst (λ x. SlotCounted a c x p c) (sym (waiting i slot got)) tt;
+  counted = λ i a slot at got. subst (λ x. SlotCounted a c most x p c) (sym (waiting i slot got)) tt;
   each = λ before past st e i a slot at got apart rested.
       waits (waiting i slot got) (subst (λ x. Since (Spares a.output) before x) (some_is (sym st ∙ e)) start);
 }
 
+-- what holds of the journals holds where they are told
+told_of : (p q : Option (List Entry)) (R S : List Entry → List Entry → Type 0) → Told p q R
+    → ((x y : List Entry) → p ≡ Some x → q ≡ Some y → S x y) → Told p q S
+told_of p None R S told so = record { so = tt }
+told_of None (Some y) R S told so = absurd told.so
+told_of (Some x) (Some y) R S told so = record { so = so x y refl refl }
+
+-- the journal before a clean run
+clean_speaks : (p : Option (List Entry)) (c : Counts) (x : List Entry) → p ≡ Some x → IsClean x → SpeaksWhole p c
+clean_speaks p c x st h = λ none. subst (λ j. IfSome j IsWhole) (sym st) h.whole
+
+clean_idle : (p : Option (List Entry)) (x : List Entry) → p ≡ Some x → IsClean x → (n : ℕ) → IsIdle n p
+clean_idle p x st h n = subst (IsIdle n) (sym st) (record { childless = h.childless n; portless = h.portless n })
+
+-- the calls of a run, by how it stands at its end where it began so
+pub run_calls : (asks : List Ask) (here : List ℕ) (p q : Option (List Entry)) (c : Counts) → Told p q Extends
+    → ((clean : Bool) → (clean ≡ true → SpeaksWhole p c) → (clean ≡ true → (n : ℕ) → IsIdle n p) → Told p q (CallsOfJobs asks here clean)) → Told p q (CallsOfRun asks here)
+run_calls asks here p q c told calls = told_of p q Extends (CallsOfRun asks here) told (λ x y st f clean begins.
+    told_at p q (CallsOfJobs asks here clean) x y (calls clean (λ e. clean_speaks p c x st (begins e)) (λ e. clean_idle p x st (begins e))) st f)
+
 -- ---- the end
 
-stopped : (o : Origin) (slot : Slot) (j : Option (List Entry)) (d : Counts) → SlotRuns o slot j d → HasStopped o j d
-stopped o Waiting j d r = absurd r
-stopped o (Running job) j d r = record { is_open = r.is_open; ends = job_ends o job.run.book r.is_open j d r.stands }
-stopped o (Ended answer) j d r = record { is_open = r.is_open; ends = r.ends }
+stopped : (o : Origin) (task : Option Task) (slot : Slot) (j : Option (List Entry)) (d : Counts) → SlotRuns o task slot j d → HasStopped o j d
+stopped o task Waiting j d r = absurd r
+stopped o task (Running job) j d r = record { is_open = r.is_open; ends = job_ends o job.run.book r.is_open j d r.stands }
+stopped o task (Ended answer) j d r = record { is_open = r.is_open; ends = r.ends }
 
-ends_by : (o : Origin) (slot : Slot) (j : Option (List Entry)) (d : Counts) → HasEnded slot → SlotRuns o slot j d → EndsBy o (answer_of (Some slot)) j d
-ends_by o Waiting j d h r = absurd h
-ends_by o (Running job) j d h r = absurd h
-ends_by o (Ended answer) j d h r = r
+ends_by : (o : Origin) (task : Option Task) (slot : Slot) (j : Option (List Entry)) (d : Counts) → HasEnded slot → SlotRuns o task slot j d → EndsBy o task (answer_of (Some slot)) j d
+ends_by o task Waiting j d h r = absurd h
+ends_by o task (Running job) j d h r = absurd h
+ends_by o task (Ended answer) j d h r = r
 
 made_stopped : (a : Ask) (from : Counts) (before past : List Entry) (d : Counts) (slot : Slot) → Stands a from before past d slot → Makes a None from d before past
 made_stopped a from before past d slot (waits e h) = nothing tt h
 made_stopped a from before past d slot (spared answer e u h) = nothing tt h
 made_stopped a from before past d slot (begun bytes n begin then acc h g ext of kernel r) =
     let front = extension ext in
-    saves bytes n begin then front.0 acc tt h g front.1 (stopped (origin_of a n begin then) slot (Some past) d r)
+    saves bytes n begin then front.0 acc tt h g front.1 (stopped (origin_of a n begin then) (counted_task a (first_of a n)) slot (Some past) d r)
 
 slot_read : (a : Ask) (first : Notebook) (slot : Slot) (x y : List Entry) → SlotTask a first slot → SlotKernel a first slot x y → EndsRead a first (answer_of (Some slot)) x y
 slot_read a first Waiting x y of kernel = tt
@@ -75,14 +101,7 @@ made_ended a from before past d slot ended (waits e h) = nothing (subst (λ x. E
 made_ended a from before past d slot ended (spared answer e u h) = nothing (subst (λ x. EndsUnread a (answer_of (Some x)) before past) (sym e) u) h
 made_ended a from before past d slot ended (begun bytes n begin then acc h g ext of kernel r) =
     let front = extension ext in
-    saves bytes n begin then front.0 acc (slot_read a (first_of a n) slot (Read a.input 33554432 (found.Whole bytes) ∷ begin) past of kernel) h g front.1 (ends_by (origin_of a n begin then) slot (Some past) d ended r)
-
--- what holds of the journals holds where they are told
-told_of : (p q : Option (List Entry)) (R S : List Entry → List Entry → Type 0) → Told p q R
-    → ((x y : List Entry) → p ≡ Some x → q ≡ Some y → S x y) → Told p q S
-told_of p None R S told so = record { so = tt }
-told_of None (Some y) R S told so = absurd told.so
-told_of (Some x) (Some y) R S told so = record { so = so x y refl refl }
+    saves bytes n begin then front.0 acc (slot_read a (first_of a n) slot (Read a.input 33554432 (found.Whole bytes) ∷ begin) past of kernel) h g front.1 (ends_by (origin_of a n begin then) (counted_task a (first_of a n)) slot (Some past) d ended r)
 
 module _ (asks : List Ask) (first : Option (List Entry)) (from : Outset) (slots : List Slot) (q : Option (List Entry)) (d : Counts)
     (s : AllStand asks first from slots q d) where
@@ -100,20 +119,29 @@ module _ (asks : List Ask) (first : Option (List Entry)) (from : Outset) (slots 
       subst (λ o. Makes a o from.counts d x y) (sym (are.each i ∙ ap answer_of slot.1))
       (made_ended a from.counts x y d slot.0 (ended.each i slot.0 slot.1) (s.each x y st f i a slot.0 at slot.1 apart rested)))
 
-  slot_end : (a : Ask) (slot : Slot) (answer : Answer) → answer_of (Some slot) ≡ Some answer → SlotCounted a from.counts slot q d → IsEndOf a from.counts d answer
+  slot_end : (a : Ask) (slot : Slot) (answer : Answer) → answer_of (Some slot) ≡ Some answer → SlotCounted a from.counts from.most slot q d
+      → EndCounted a from.counts from.most answer d
   slot_end a Waiting answer is h = absurd (cc)
   slot_end a (Running j) answer is h = absurd (cc)
-  slot_end a (Ended x) answer is h = subst (IsEndOf a from.counts d) (some_is is) h
+  slot_end a (Ended x) answer is h = subst (λ y. EndCounted a from.counts from.most y d) (some_is is) h
 
   -- each answer is that of an end
   pub are_ends : (answers : List Answer) → AreAnswers slots answers → AreEnds asks from.counts d answers
   are_ends answers are i a answer at got =
       let slot = slot_at i a at in
-      slot_end a slot.0 answer (sym (are.each i ∙ ap answer_of slot.1) ∙ got) (s.counted i a slot.0 at slot.1)
+      (slot_end a slot.0 answer (sym (are.each i ∙ ap answer_of slot.1) ∙ got) (s.counted i a slot.0 at slot.1)).is
+
+  -- 16 is that of one only where all waits were made
+  pub end_spent : (answers : List Answer) → AreAnswers slots answers → (i : ℕ) (answer : Answer) → slice_get answers i ≡ Some answer → answer.status ≡ 16 → HasWaited from.most d
+  end_spent answers are i answer got is =
+      let low : i < length answers = slice_get_within answers i answer got in
+      let own = has asks i (omega (arith, low, are.size, s.size)) in
+      let slot = slot_at i own.0 own.1 in
+      (slot_end own.0 slot.0 answer (sym (are.each i ∙ ap answer_of slot.1) ∙ got) (s.counted i own.0 slot.0 own.1 slot.1)).spent is
 
   pub others_left : Told first q (LeavesOthers asks)
-  others_left = told_of first q (CallsOfJobs asks from.here) (LeavesOthers asks) s.calls (λ x y st f path none.
-      since_as (run_spares asks from.here path none) (told_at first q (CallsOfJobs asks from.here) x y s.calls st f))
+  others_left = told_of first q (CallsOfJobs asks from.here from.clean) (LeavesOthers asks) s.calls (λ x y st f path none.
+      since_as (run_spares asks from.here path from.clean none) (told_at first q (CallsOfJobs asks from.here from.clean) x y s.calls st f))
 
   ended_at : (i : ℕ) (slot : Slot) (x y : List Entry) → HasEnded slot → SlotEnds i slot first q → first ≡ Some x → q ≡ Some y → has_child i x ≡ false → has_child i y ≡ false
   ended_at i Waiting x y ended keeps st f h = absurd ended
@@ -136,6 +164,11 @@ module _ (asks : List Ask) (first : Option (List Entry)) (from : Outset) (slots 
   pub ends_by_answers : (result : Result (List Answer) NoMemory) → IfOk result (λ answers. answers ≡ answers_of slots) → IfOk result (AreEnds asks from.counts d)
   ends_by_answers (Ok answers) is = are_ends asks first from slots q d s answers (subst (AreAnswers slots) (sym is) (are_answers ended))
   ends_by_answers (Err e) is = tt
+
+  pub spent_by : (result : Result (List Answer) NoMemory) → IfOk result (λ answers. answers ≡ answers_of slots)
+      → IfOk result (λ answers. (i : ℕ) (answer : Answer) → slice_get answers i ≡ Some answer → answer.status ≡ 16 → HasWaited from.most d)
+  spent_by (Ok answers) is = end_spent asks first from slots q d s answers (subst (AreAnswers slots) (sym is) (are_answers ended))
+  spent_by (Err e) is = tt
 
   pub count_by : (result : Result (List Answer) NoMemory) → IfOk result (λ answers. answers ≡ answers_of slots) → IfOk result (λ answers. length answers ≡ length asks)
   count_by (Ok answers) is = ap length is ∙ (are_answers ended).size ∙ s.size

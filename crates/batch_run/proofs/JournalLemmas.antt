@@ -3,7 +3,7 @@ use Rattle.std.proofs.Common.{◌≡◌, ◌≢◌, ◌↔◌, ◌^◌, ◌-◌,
 use Rattle.std.specs.Prelude.{slice_get, IfSome}
 use Rattle.world.specs.declared.entry.Entry.{Entry}
 use Rattle.world.specs.declared.entry.Entry.TheVariants as made
-use Rattle.world.specs.Counts.{Counts, CountsGrow}
+use Rattle.world.specs.Counts.{Counts, CountsGrow, Rose}
 use Rattle.world.proofs.CountsLemmas.{net_grows, wait_grows, grow_same}
 use Rattle.ready_loop.specs.declared.fault.LoopFault.{LoopFault}
 use Rattle.ready_loop.specs.declared.fault.LoopFault.TheVariants.{NetFault, Spent}
@@ -15,6 +15,7 @@ use Rattle.world.proofs.MomentsLemmas.{told_as, since_as}
 use Rattle.said_lines.specs.Speech.{Says}
 use Rattle.said_lines.proofs.SpeechLemmas.{says_since}
 use Rattle.ready_loop.specs.Offers.{Extends}
+use Rattle.batch_run.specs.Batch.{HasWaited}
 use Rattle.ready_loop.proofs.TableLemmas.{some_is}
 
 -- ---- lists
@@ -110,37 +111,51 @@ turn_grows (Err Spent) old new h goes = grow_same h
 
 -- ---- waits
 
-waited : (a b : ℕ) → b ≡ min (a + 1) (2 ^ 64 - 1) → b ≤ a + 1
-waited a b is = grind (arith, is)
+waited : (a b : ℕ) → b ≡ min (a + 1) (2 ^ 64 - 1) → (b ≤ a + 1) × (min (a + 1) (2 ^ 64 - 1) ≤ b)
+waited a b is = (grind (arith, is), grind (arith, is))
+
+-- what a call that waits, or may, does to the counts: so many waits came
+pub record Counted (old new : Counts) (left rest : ℕ) : Type 0 where
+  pub few : new.waits ≤ old.waits + (left - rest)
+  pub all : HasWaited (old.waits + (left - rest)) new
+  pub less : rest ≤ left
+
+waits_once : (old new : Counts) (left rest : ℕ) → new.waits ≡ min (old.waits + 1) (2 ^ 64 - 1) → rest ≡ left - 1 → (left ≡ 0 → ⊥) → Counted old new left rest
+waits_once old new left rest counted is some =
+    let once = waited old.waits new.waits counted in
+    let one : left - rest ≡ 1 = omega (arith, some, is) in
+    record { few = omega (arith, one, once.0); all = subst (λ n. HasWaited (old.waits + n) new) (sym one) once.1; less = omega (arith, is) }
+
+waits_never : (old new : Counts) (left rest : ℕ) → new.waits ≡ old.waits → left - rest ≡ 0 → rest ≤ left → Counted old new left rest
+waits_never old new left rest still none less = record { few = omega (arith, still, none); all = omega (arith, still, none); less = less }
 
 pub look_waits : (result : Result (List Bool) LoopFault) (old new : Counts) (left rest : ℕ) → LookCounts result old new → rest ≡ left_after result left
-    → (result ≡ Err Spent) ↔ (left ≡ 0) → (new.waits ≤ old.waits + (left - rest)) × (rest ≤ left)
+    → (result ≡ Err Spent) ↔ (left ≡ 0) → Counted old new left rest
 look_waits (Ok names) old new left rest h is spent =
-    let some : left ≢ 0 = λ none. let e = spent.1 none in absurd (cc) in
-    let once = waited old.waits new.waits (ap (λ (c : Counts). c.waits) h.others) in
-    (omega (arith, some, once, is), omega (arith, is))
+    waits_once old new left rest (ap (λ (c : Counts). c.waits) h.others) is (λ none. let e = spent.1 none in absurd (cc))
 look_waits (Err (NetFault None)) old new left rest h is spent =
-    let some : left ≢ 0 = λ none. let e = spent.1 none in absurd (cc) in
-    let once = waited old.waits new.waits (ap (λ (c : Counts). c.waits) h.others) in
-    (omega (arith, some, once, is), omega (arith, is))
-look_waits (Err (NetFault (Some conn))) old new left rest h is spent =
-    let still = ap (λ (c : Counts). c.waits) h.others in
-    (omega (arith, still, is), omega (arith, is))
-look_waits (Err Spent) old new left rest h is spent =
-    let still = ap (λ (c : Counts). c.waits) h in
-    (omega (arith, still, is), omega (arith, is))
+    waits_once old new left rest (ap (λ (c : Counts). c.waits) h.others) is (λ none. let e = spent.1 none in absurd (cc))
+look_waits (Err (NetFault (Some conn))) old new left rest h is spent = waits_never old new left rest (ap (λ (c : Counts). c.waits) h.others) (omega (arith, is)) (omega (arith, is))
+look_waits (Err Spent) old new left rest h is spent = waits_never old new left rest (ap (λ (c : Counts). c.waits) h) (omega (arith, is)) (omega (arith, is))
 
 pub turn_waits : (result : Result ℕ LoopFault) (old new : Counts) (left rest : ℕ) → TurnCounts result old new → rest ≡ left - 1
-    → (result ≡ Err Spent) ↔ (left ≡ 0) → (new.waits ≤ old.waits + (left - rest)) × (rest ≤ left)
+    → (result ≡ Err Spent) ↔ (left ≡ 0) → Counted old new left rest
 turn_waits (Ok ms) old new left rest h is spent =
-    let some : left ≢ 0 = λ none. let e = spent.1 none in absurd (cc) in
-    let once = waited old.waits new.waits (ap (λ (c : Counts). c.waits) h.0.others) in
-    (omega (arith, some, once, is), omega (arith, is))
+    waits_once old new left rest (ap (λ (c : Counts). c.waits) h.0.others) is (λ none. let e = spent.1 none in absurd (cc))
 turn_waits (Err (NetFault None)) old new left rest h is spent =
-    let some : left ≢ 0 = λ none. let e = spent.1 none in absurd (cc) in
-    let once = waited old.waits new.waits (ap (λ (c : Counts). c.waits) h.others) in
-    (omega (arith, some, once, is), omega (arith, is))
+    waits_once old new left rest (ap (λ (c : Counts). c.waits) h.others) is (λ none. let e = spent.1 none in absurd (cc))
 turn_waits (Err (NetFault (Some conn))) old new left rest h is spent = absurd h
 turn_waits (Err Spent) old new left rest h is spent =
-    let still = ap (λ (c : Counts). c.waits) h in
-    (omega (arith, still, is), omega (arith, is))
+    let none = spent.0 refl in waits_never old new left rest (ap (λ (c : Counts). c.waits) h) (omega (arith, is, none)) (omega (arith, is))
+
+-- ---- why a call of the loop failed
+
+pub look_fails : (fault : LoopFault) (old new : Counts) → LookCounts (Err fault) old new → (fault ≡ Spent → ⊥) → Rose old.net new.net
+look_fails (NetFault None) old new h other = h.net.cause tt
+look_fails (NetFault (Some conn)) old new h other = h.net.cause tt
+look_fails Spent old new h other = absurd (other refl)
+
+pub turn_fails : (fault : LoopFault) (old new : Counts) → TurnCounts (Err fault) old new → (fault ≡ Spent → ⊥) → Rose old.net new.net
+turn_fails (NetFault None) old new h other = h.net.cause tt
+turn_fails (NetFault (Some conn)) old new h other = absurd h
+turn_fails Spent old new h other = absurd (other refl)

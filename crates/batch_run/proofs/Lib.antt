@@ -1,4 +1,5 @@
 pub mod CallLemmas
+pub mod CauseLemmas
 pub mod EndLemmas
 pub mod JournalLemmas
 pub mod LineLemmas

@@ -1,5 +1,6 @@
 -- What each call of the loop leaves of what is kept beside it.
-use Rattle.std.proofs.Common.{◌≡◌, ◌≢◌, inl, inr, ◌+◌, ◌*◌, ◌<◌, ◌≤◌, ◌||◌, ◌/◌, ℕ, Bool, true, false, List, length, replicate, set, suc, zero, Option, Some, None, Ok, Err, slice_get, arith, refl, sym, ◌∙◌, ap, subst}
+use Rattle.std.proofs.Common.{◌≡◌, ◌≢◌, inl, inr, ◌+◌, ◌*◌, ◌<◌, ◌≤◌, ◌||◌, ◌/◌, ℕ, Bool, true, false, List, length, replicate, set, suc, zero, Option, Some, None, Result, Ok, Err, slice_get, arith, refl, sym, ◌∙◌, ap, subst}
+use Rattle.std.specs.Prelude.{IsErr}
 use Rattle.std.proofs.Math.Nat.{mul-div-le, lt-div-mul-add}
 use Rattle.std.proofs.lemmas.Bool.{cases_eq, cases_lt, eq-eqb, ne_eqb, false≢true}
 use Rattle.std.proofs.lemmas.List.{length-set}
@@ -10,6 +11,8 @@ use Rattle.world.specs.Places.{chan_number, place_of, is_at}
 use Rattle.ready_loop.specs.declared.fault.LoopFault.{LoopFault}
 use Rattle.ready_loop.specs.declared.fault.LoopFault.TheVariants.{NetFault, Spent}
 use Rattle.ready_loop.specs.declared.link.Link.{Link}
+use Rattle.ready_loop.specs.declared.next.Next.{Next}
+use Rattle.ready_loop.specs.declared.next.Next.TheVariants as next
 use Rattle.ready_loop.specs.declared.readiness.Loop.{Loop}
 use Rattle.ready_loop.specs.Begins.{IsFresh, IsBegun, is_of_job, failed_closed}
 use Rattle.ready_loop.specs.History.{conn_on}
@@ -232,6 +235,34 @@ none_begun {begun} none size = record {
       let low : p < 64 = subst (λ n. p < n) size (slice_get_within begun p true e) in
       absurd (false≢true (some_is (sym (none.each p low) ∙ e)));
 }
+
+-- ---- answers
+
+abbrev ok_or : {A E : Type 0} → A → Result A E → A
+ok_or other (Ok x) = x
+ok_or other (Err e) = other
+
+pub ok_same : {A E F : Type 0} (x y : A) → ◌≡◌ {A = Result A E} (Ok x) (Ok y) → ◌≡◌ {A = Result A F} (Ok x) (Ok y)
+ok_same x y is = ap Ok (ap (ok_or x) is)
+
+-- an answer that is a fault, and one that tells of more
+pub err_not : {A E B : Type 0} (r : Result A E) {x : A} → IsErr r → r ≡ Ok x → B
+err_not r bad is = absurd (false≢true (subst IsErr is bad))
+
+pub err_other : {A E : Type 0} (e : E) (x : A) → ◌≡◌ {A = Result A E} (Err e) (Ok x) → ⊥
+err_other e x is = absurd (cc)
+
+pub some_not : {A E B : Type 0} (x : A) → ◌≡◌ {A = Result (Option A) E} (Ok (Some x)) (Ok None) → B
+some_not x is = let no : Some x ≡ None = ap (ok_or None) is in absurd (cc)
+
+abbrev pub is_quiet : Next → Bool
+is_quiet (next.Piece conn n) = false
+is_quiet (next.Ended conn) = false
+is_quiet (next.Refused conn) = false
+is_quiet next.Quiet = true
+
+pub not_quiet : {E : Type 0} (x y : Next) → x ≡ y → is_quiet y ≡ false → ◌≡◌ {A = Result Next E} (Ok x) (Ok next.Quiet) → ⊥
+not_quiet x y same other is = false≢true (sym other ∙ ap is_quiet (sym same ∙ ap (ok_or x) is))
 
 -- ---- the jobs that were looked at
 

@@ -1,5 +1,5 @@
 -- What a run makes of its jobs' outputs. A journal has its newest entry first.
-use Rattle.std.specs.Prelude.{◌≡◌, ◌≢◌, ◌⊎◌, ℕ, List, ◌∷◌, ◌++◌, Bool, true, false, Option, Some, None, IfSome, Result, Ok, Err, slice_get}
+use Rattle.std.specs.Prelude.{◌≡◌, ◌≢◌, ◌⊎◌, ◌≤◌, ◌+◌, ◌-◌, ◌^◌, min, ℕ, List, ◌∷◌, ◌++◌, Bool, true, false, Option, Some, None, IfSome, Result, Ok, Err, slice_get}
 use Rattle.nb_model.specs.declared.notebook.Notebook.{Notebook}
 use Rattle.nb_load.specs.Loaded.{Accepts}
 use Rattle.words.specs.declared.ask.Ask.{Ask}
@@ -10,13 +10,15 @@ use Rattle.world.specs.Counts.{Counts, CountsGrow}
 use Rattle.world.specs.Moments.{Since}
 use Rattle.world.specs.Touched.{Spares}
 use Rattle.save_course.specs.Course.{IsRested}
+use Rattle.cell_core.specs.Task.{Task}
 use Rattle.job_end.specs.declared.answer.Answer.{Answer}
 use Rattle.job_saves.specs.Course.{Origin, Ends}
 use Rattle.job_run.specs.Run.{EndsWith, IsOther}
 use Rattle.ready_loop.specs.Standing.{IsOfLoop}
-use Rattle.job_saves.specs.Calls.{Cast, IsAnswer, IsCall}
-use Rattle.job_saves.specs.Children.{has_child}
-use Rattle.job_begin.specs.Begun.{origin_of, first_of, IsCausedIn, IsUnread, HasKernel}
+use Rattle.job_saves.specs.Calls.{Cast, IsCall}
+use Rattle.job_saves.specs.Children.{has_child, ports_of}
+use Rattle.job_saves.specs.Speaking.{IsAnswer, IsWhole}
+use Rattle.job_begin.specs.Begun.{origin_of, first_of, counted_task, IsCausedIn, IsUnread, HasKernel}
 use Rattle.job_begin.specs.Causes.{HasCause}
 
 -- the output of a job is no path of another one
@@ -38,9 +40,9 @@ pub record HasStopped (o : Origin) (journal : Option (List Entry)) (counts : Cou
   pub ends : Ends o is_open journal counts
 
 -- a job that began so has ended, with an answer where there is one
-abbrev pub EndsBy : Origin → Option Answer → Option (List Entry) → Counts → Type 0
-EndsBy o (Some answer) journal counts = EndsWith o answer journal counts
-EndsBy o None journal counts = HasStopped o journal counts
+abbrev pub EndsBy : Origin → Option Task → Option Answer → Option (List Entry) → Counts → Type 0
+EndsBy o task (Some answer) journal counts = EndsWith o task answer journal counts
+EndsBy o task None journal counts = HasStopped o journal counts
 
 -- the answer of a job whose input gave no notebook says so
 abbrev pub EndsUnread : Ask → Option Answer → List Entry → List Entry → Type 0
@@ -59,14 +61,14 @@ pub data Makes (a : Ask) (answer : Option Answer) (old new : Counts) (before : L
   saves : (bytes : List ℕ) (n : Notebook) (begin : List Entry) (then : Counts) (later : List Entry) {after : List Entry} → Accepts a bytes n
       → EndsRead a (first_of a n) answer (Read a.input 33554432 (found.Whole bytes) ∷ begin) after → Since (Spares a.output) before begin → CountsGrow old then
       → after ≡ later ++ Read a.input 33554432 (found.Whole bytes) ∷ begin
-      → EndsBy (origin_of a n begin then) answer (Some after) new → Makes a answer old new before after
+      → EndsBy (origin_of a n begin then) (counted_task a (first_of a n)) answer (Some after) new → Makes a answer old new before after
 
 -- so it does with each whose output is no path of another, where no rename onto it waited for its folder's sync
 abbrev pub MakesEach : {E : Type 0} → List Ask → Result (List Answer) E → Counts → Counts → List Entry → List Entry → Type 0
 MakesEach asks result old new before after = (i : ℕ) (a : Ask) → slice_get asks i ≡ Some a → IsApart asks i a → IsRested a.output before
     → Makes a (answer_at i result) old new before after
 
--- The answer of a job is that of an end. Its statuses 3, 6 and 10 come only where a count of failed calls rose.
+-- The answer of a job is that of an end. Its statuses 3, 6, 10 and 14 come only where a count of failed calls rose.
 pub record IsEndOf (a : Ask) (old new : Counts) (answer : Answer) : Type 0 where
   pub is : IsAnswer a.output answer
   pub cause : HasCause old new answer.status
@@ -75,21 +77,40 @@ pub record IsEndOf (a : Ask) (old new : Counts) (answer : Answer) : Type 0 where
 abbrev pub AreEnds : List Ask → Counts → Counts → List Answer → Type 0
 AreEnds asks old new answers = (i : ℕ) (a : Ask) (answer : Answer) → slice_get asks i ≡ Some a → slice_get answers i ≡ Some answer → IsEndOf a old new answer
 
+-- so many waits were counted, or the count stands at the last value of a `u64`
+abbrev pub HasWaited : ℕ → Counts → Type 0
+HasWaited most counts = min most (2 ^ 64 - 1) ≤ counts.waits
+
+-- 16 comes only where a run has made all of its waits
+abbrev pub EndSpent : ℕ → Counts → Counts → List Answer → Type 0
+EndSpent turns old new answers = (i : ℕ) (answer : Answer) → slice_get answers i ≡ Some answer → answer.status ≡ 16 → HasWaited (old.waits + turns) new
+
 -- and all other paths are left alone
 abbrev pub LeavesOthers : List Ask → List Entry → List Entry → Type 0
 LeavesOthers asks before after = (path : List ℕ) → IsNoPath asks path → Since (Spares path) before after
 
--- the jobs of a run by their numbers, in this working folder, which may start their children
-abbrev pub cast_of : List Ask → List ℕ → Cast
-cast_of asks here = record { job = λ number. slice_get asks number; here = here; starts = true }
+-- the jobs of a run by their numbers, in this working folder, which may start their children, and whether they began clean
+abbrev pub cast_of : List Ask → List ℕ → Bool → Cast
+cast_of asks here clean = record { job = λ number. slice_get asks number; here = here; starts = true; clean = clean }
+
+-- a run begins clean: what was heard ends with a whole line, no child is there, and no ports were asked for
+pub record IsClean (before : List Entry) : Type 0 where
+  pub whole : IsWhole before
+  pub childless : (number : ℕ) → has_child number before ≡ false
+  pub portless : (number : ℕ) → ports_of number before ≡ None
 
 -- the newest entry is a call of one of the jobs, or of the loop
 abbrev pub IsRunCall : Cast → List Entry → Type 0
 IsRunCall c now = IsCall c now ⊎ IsOfLoop now
 
--- so is each that was made
-abbrev pub CallsOfJobs : List Ask → List ℕ → List Entry → List Entry → Type 0
-CallsOfJobs asks here before after = Since (IsRunCall (cast_of asks here)) before after
+-- so is each that was made; where the run began `clean`, each line was said whole behind whole ones, up to one that was cut, and a
+-- child was started only where none was there
+abbrev pub CallsOfJobs : List Ask → List ℕ → Bool → List Entry → List Entry → Type 0
+CallsOfJobs asks here clean before after = Since (IsRunCall (cast_of asks here clean)) before after
+
+-- the calls of a run, which began clean or not
+abbrev pub CallsOfRun : List Ask → List ℕ → List Entry → List Entry → Type 0
+CallsOfRun asks here before after = (clean : Bool) → (clean ≡ true → IsClean before) → CallsOfJobs asks here clean before after
 
 -- each child that was started has its end
 abbrev pub EndsChildren : List Ask → List Entry → List Entry → Type 0

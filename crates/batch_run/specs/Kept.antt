@@ -1,6 +1,7 @@
 -- What is kept of the connections of the jobs of a run.
 use Rattle.std.specs.Prelude.{◌≡◌, ◌<◌, ◌≤◌, ◌+◌, ◌*◌, ℕ, List, Bool, true, false, Some, Result, Ok, Err, slice_get, slice_set}
 use Rattle.world.specs.declared.conn.Conn.{Conn}
+use Rattle.world.specs.Counts.{Counts, Rose}
 use Rattle.ready_loop.specs.declared.fault.LoopFault.{LoopFault}
 use Rattle.ready_loop.specs.declared.fault.LoopFault.TheVariants.{NetFault}
 use Rattle.ready_loop.specs.declared.readiness.Loop.{Loop}
@@ -47,6 +48,12 @@ abbrev pub goes_on : Fault → Bool
 goes_on (fault.OfJob job) = true
 goes_on fault.OfAll = false
 goes_on fault.Spent = false
+
+-- why a fault ends jobs: a call of the network has failed; or this, where no wait is left
+abbrev pub FaultCause : Counts → Counts → Type 0 → Fault → Type 0
+FaultCause old new none_left (fault.OfJob job) = Rose old.net new.net
+FaultCause old new none_left fault.OfAll = Rose old.net new.net
+FaultCause old new none_left fault.Spent = none_left
 
 -- whether a call has used up some of them, where jobs go on: a fault
 abbrev pub is_fault : {T : Type 0} → Result T Fault → Bool

@@ -1,37 +1,43 @@
 -- How the jobs of a run stand while it lasts.
-use Rattle.std.specs.Prelude.{◌≡◌, ◌≢◌, ℕ, ◌+◌, ◌-◌, ◌<◌, ◌≤◌, List, [], ◌∷◌, length, Option, Some, None, Result, Ok, Err, slice_get, slice_set}
+use Rattle.std.specs.Prelude.{◌≡◌, ◌≢◌, ℕ, Bool, true, ◌+◌, ◌-◌, ◌<◌, ◌≤◌, List, [], ◌∷◌, length, Option, Some, None, Result, Ok, Err, slice_get, slice_set}
 use Rattle.nb_model.specs.declared.notebook.Notebook.{Notebook}
 use Rattle.nb_load.specs.Loaded.{Accepts}
 use Rattle.words.specs.declared.ask.Ask.{Ask}
 use Rattle.world.specs.declared.entry.Entry.{Entry}
 use Rattle.world.specs.declared.entry.Entry.TheVariants.{Read}
 use Rattle.world.specs.declared.read_file.ReadFile.TheVariants as found
-use Rattle.world.specs.Counts.{Counts, CountsGrow}
+use Rattle.world.specs.Counts.{Counts, CountsGrow, Rose}
 use Rattle.world.specs.Moments.{Since, Told}
 use Rattle.world.specs.Touched.{Spares}
 use Rattle.words.specs.Paths.{connection_of}
 use Rattle.save_course.specs.Course.{IsRested}
+use Rattle.cell_core.specs.Task.{Task}
 use Rattle.ready_loop.specs.Offers.{Extends}
 use Rattle.job_end.specs.declared.answer.Answer.{Answer}
 use Rattle.job_notebook.specs.State.{output_of}
-use Rattle.job_saves.specs.Calls.{IsAnswer}
-use Rattle.job_saves.specs.Children.{KeepsEnd}
+use Rattle.job_saves.specs.Children.{KeepsEnd, HasEnd, AsksNone}
+use Rattle.job_saves.specs.Speaking.{IsAnswer, SpeaksWhole}
 use Rattle.job_saves.specs.Course.{Origin}
 use Rattle.job_run.specs.declared.job.Job.{Job}
-use Rattle.job_run.specs.Run.{Runs, RunsCounted, EndsWith, number_of}
+use Rattle.job_run.specs.Run.{Runs, RunsCounted, EndsWith, IsLost, IsSpent, number_of, outcome_of}
 use Rattle.job_run.specs.Task.{task_for, task_of_job, output_of_job}
-use Rattle.job_begin.specs.Begun.{origin_of, first_of, IsCausedIn, IsUnread, HasKernel}
+use Rattle.job_begin.specs.Begun.{origin_of, first_of, counted_task, IsCausedIn, IsUnread, HasKernel}
 use Rattle.batch_run.specs.declared.slot.Slot.{Slot}
 use Rattle.batch_run.specs.declared.slot.Slot.TheVariants.{Waiting, Running, Ended}
-use Rattle.batch_run.specs.Batch.{IsApart, IsEndOf, CallsOfJobs}
+use Rattle.batch_run.specs.declared.fault.Fault.{Fault}
+use Rattle.batch_run.specs.Batch.{IsApart, IsEndOf, HasWaited, CallsOfJobs}
+use Rattle.batch_run.specs.Kept.{FaultCause}
 
--- what a run begins with: its working folder, and the counts of its world; and how often may have been waited by now
+-- what a run begins with: its working folder, the counts of its world, and whether it begins clean; and the count of waits by
+-- now, and at most
 pub record Outset : Type 0 where
   pub here : List ℕ
   pub counts : Counts
   pub waits : ℕ
+  pub most : ℕ
+  pub clean : Bool
 
--- the same, where may have been waited so often more
+-- the same, where was waited so often more
 abbrev pub more_waits : ℕ → Outset → Outset
 more_waits n from = record from { waits = from.waits + n }
 
@@ -55,10 +61,10 @@ SlotEnds number (Running j) start journal = Unit {0}
 SlotEnds number (Ended answer) start journal = KeepsEnd number start journal
 
 -- a job that began so is on its course, or has ended
-abbrev pub SlotRuns : Origin → Slot → Option (List Entry) → Counts → Type 0
-SlotRuns o Waiting journal counts = ⊥
-SlotRuns o (Running j) journal counts = Runs o j journal counts
-SlotRuns o (Ended answer) journal counts = EndsWith o answer journal counts
+abbrev pub SlotRuns : Origin → Option Task → Slot → Option (List Entry) → Counts → Type 0
+SlotRuns o task Waiting journal counts = ⊥
+SlotRuns o task (Running j) journal counts = Runs o j journal counts
+SlotRuns o task (Ended answer) journal counts = EndsWith o task answer journal counts
 
 -- its core executes the cells of the notebook that is first saved, or it has ended by such a cause
 abbrev pub SlotTask : Ask → Notebook → Slot → Type 0
@@ -72,11 +78,24 @@ SlotKernel a first Waiting before past = Unit {0}
 SlotKernel a first (Running j) before past = Unit {0}
 SlotKernel a first (Ended answer) before past = HasKernel a first answer.status before past
 
+-- What stands of a job that runs by the counts alone. It has ended by the network only where the count of its failed calls
+-- rose, and by the number of waits only where all were made.
+pub record JobCounted (a : Ask) (from : Counts) (most : ℕ) (j : Job) (journal : Option (List Entry)) (counts : Counts) : Type 0 where
+  pub output : output_of_job j ≡ a.output
+  pub runs : RunsCounted from j journal counts
+  pub lost : IsLost (outcome_of j) → Rose from.net counts.net
+  pub spent : IsSpent (outcome_of j) → HasWaited most counts
+
+-- what stands of one that has ended
+pub record EndCounted (a : Ask) (from : Counts) (most : ℕ) (answer : Answer) (counts : Counts) : Type 0 where
+  pub is : IsEndOf a from counts answer
+  pub spent : answer.status ≡ 16 → HasWaited most counts
+
 -- what stands of a job by the counts alone, whatever the world tells
-abbrev pub SlotCounted : Ask → Counts → Slot → Option (List Entry) → Counts → Type 0
-SlotCounted a from Waiting journal counts = Unit {0}
-SlotCounted a from (Running j) journal counts = (output_of_job j ≡ a.output) × RunsCounted from j journal counts
-SlotCounted a from (Ended answer) journal counts = IsEndOf a from counts answer
+abbrev pub SlotCounted : Ask → Counts → ℕ → Slot → Option (List Entry) → Counts → Type 0
+SlotCounted a from most Waiting journal counts = Unit {0}
+SlotCounted a from most (Running j) journal counts = JobCounted a from most j journal counts
+SlotCounted a from most (Ended answer) journal counts = EndCounted a from most answer counts
 
 -- how a job of a run stands
 pub data Stands (a : Ask) (from : Counts) (before past : List Entry) (counts : Counts) (slot : Slot) : Type 0 where
@@ -86,18 +105,26 @@ pub data Stands (a : Ask) (from : Counts) (before past : List Entry) (counts : C
       → Since (Spares a.output) before begin → CountsGrow from then
       → Extends (Read a.input 33554432 (found.Whole bytes) ∷ begin) past → SlotTask a (first_of a n) slot
       → SlotKernel a (first_of a n) slot (Read a.input 33554432 (found.Whole bytes) ∷ begin) past
-      → SlotRuns (origin_of a n begin then) slot (Some past) counts → Stands a from before past counts slot
+      → SlotRuns (origin_of a n begin then) (counted_task a (first_of a n)) slot (Some past) counts → Stands a from before past counts slot
+
+-- a job that has not begun has no child, and has asked for no ports
+pub record IsIdle (number : ℕ) (journal : Option (List Entry)) : Type 0 where
+  pub childless : HasEnd number journal
+  pub portless : AsksNone number journal
 
 -- how all do, since a world was in this state
 pub record AllStand (asks : List Ask) (start : Option (List Entry)) (from : Outset) (slots : List Slot) (journal : Option (List Entry)) (counts : Counts) : Type 0 where
   pub size : length slots ≡ length asks
   pub grow : CountsGrow from.counts counts
   pub waits : counts.waits ≤ from.waits
+  pub waited : HasWaited from.waits counts
   pub told : Told start journal Extends
-  pub calls : Told start journal (CallsOfJobs asks from.here)
+  pub calls : Told start journal (CallsOfJobs asks from.here from.clean)
+  pub spoken : from.clean ≡ true → SpeaksWhole journal counts
+  pub idle : from.clean ≡ true → (i : ℕ) (a : Ask) → slice_get asks i ≡ Some a → slice_get slots i ≡ Some Waiting → IsIdle i journal
   pub plays : (i : ℕ) (a : Ask) (slot : Slot) → slice_get asks i ≡ Some a → slice_get slots i ≡ Some slot → SlotPlays i a slot
   pub ends : (i : ℕ) (a : Ask) (slot : Slot) → slice_get asks i ≡ Some a → slice_get slots i ≡ Some slot → SlotEnds i slot start journal
-  pub counted : (i : ℕ) (a : Ask) (slot : Slot) → slice_get asks i ≡ Some a → slice_get slots i ≡ Some slot → SlotCounted a from.counts slot journal counts
+  pub counted : (i : ℕ) (a : Ask) (slot : Slot) → slice_get asks i ≡ Some a → slice_get slots i ≡ Some slot → SlotCounted a from.counts from.most slot journal counts
   pub each : (before past : List Entry) → start ≡ Some before → journal ≡ Some past
       → (i : ℕ) (a : Ask) (slot : Slot) → slice_get asks i ≡ Some a → slice_get slots i ≡ Some slot
       → IsApart asks i a → IsRested a.output before → Stands a from.counts before past counts slot
@@ -120,22 +147,39 @@ abbrev pub KeepsAll : {W : Type 0} → (W → Option (List Entry)) → (W → Co
 KeepsAll journal counts old new was now = (asks : List Ask) (start : Option (List Entry)) (from : Outset)
     → AllStand asks start from was (journal old) (counts old) → AllStand asks start from now (journal new) (counts new)
 
--- so do calls that may wait as often as waits were used up
+-- so do calls that wait as often as waits were used up, where those left are all that a run has yet
 abbrev pub KeepsWaiting : {W : Type 0} → (W → Option (List Entry)) → (W → Counts) → W → W → ℕ → ℕ → List Slot → List Slot → Type 0
 KeepsWaiting journal counts old new left rest was now = (asks : List Ask) (start : Option (List Entry)) (from : Outset)
-    → AllStand asks start from was (journal old) (counts old) → AllStand asks start (more_waits (left - rest) from) now (journal new) (counts new)
+    → from.waits + left ≡ from.most → AllStand asks start from was (journal old) (counts old) → AllStand asks start (more_waits (left - rest) from) now (journal new) (counts new)
 
 -- so does what calls nothing of the world
 abbrev pub StayAll : List Slot → List Slot → Type 0
 StayAll was now = (asks : List Ask) (start : Option (List Entry)) (from : Outset) (journal : Option (List Entry)) (counts : Counts)
     → AllStand asks start from was journal counts → AllStand asks start from now journal counts
 
+-- so it does where there is such a cause since the outset
+abbrev pub StayAllIf : (Outset → Counts → Type 0) → List Slot → List Slot → Type 0
+StayAllIf why was now = (asks : List Ask) (start : Option (List Entry)) (from : Outset) (journal : Option (List Entry)) (counts : Counts)
+    → why from counts → AllStand asks start from was journal counts → AllStand asks start from now journal counts
+
+-- a call of the network has failed since the outset
+abbrev pub IsCutOff : Outset → Counts → Type 0
+IsCutOff from counts = Rose from.counts.net counts.net
+
+-- all waits of the run were made
+abbrev pub IsOutOfWaits : Outset → Counts → Type 0
+IsOutOfWaits from counts = HasWaited from.most counts
+
+-- what a fault ends has such a cause
+abbrev pub IsFaultOf : Fault → Outset → Counts → Type 0
+IsFaultOf f from counts = FaultCause from.counts counts (IsOutOfWaits from counts) f
+
 -- so do those that touch no path
 abbrev pub KeepsEach : {W : Type 0} → (W → Option (List Entry)) → (W → Counts) → W → W → Type 0
 KeepsEach journal counts old new = (asks : List Ask) (start : Option (List Entry)) (from : Outset) (slots : List Slot)
     → AllStand asks start from slots (journal old) (counts old) → AllStand asks start from slots (journal new) (counts new)
 
--- and those of the loop that may wait
+-- and those of the loop that wait
 abbrev pub KeepsEachWaiting : {W : Type 0} → (W → Option (List Entry)) → (W → Counts) → W → W → ℕ → ℕ → Type 0
 KeepsEachWaiting journal counts old new left rest = (asks : List Ask) (start : Option (List Entry)) (from : Outset) (slots : List Slot)
     → AllStand asks start from slots (journal old) (counts old) → AllStand asks start (more_waits (left - rest) from) slots (journal new) (counts new)
@@ -151,9 +195,16 @@ abbrev pub SlotStays : Slot → Slot → Type 0
 SlotStays was now = (asks : List Ask) (start : Option (List Entry)) (from : Outset) (slots : List Slot) (k : ℕ) (journal : Option (List Entry)) (counts : Counts)
     → slice_get slots k ≡ Some was → AllStand asks start from slots journal counts → AllStand asks start from (slice_set slots k now) journal counts
 
+-- so it does where there is such a cause
+abbrev pub SlotStaysIf : (Outset → Counts → Type 0) → Slot → Slot → Type 0
+SlotStaysIf why was now = (asks : List Ask) (start : Option (List Entry)) (from : Outset) (slots : List Slot) (k : ℕ) (journal : Option (List Entry)) (counts : Counts)
+    → why from counts → slice_get slots k ≡ Some was → AllStand asks start from slots journal counts → AllStand asks start from (slice_set slots k now) journal counts
+
 -- calls that leave the jobs as they stand: each is one of theirs or of the loop, touches no path and starts no child
-pub record PassBy (asks : List Ask) (here : List ℕ) (old new : Option (List Entry)) (was now : Counts) : Type 0 where
-  pub calls : Told old new (CallsOfJobs asks here)
+pub record PassBy (asks : List Ask) (here : List ℕ) (clean : Bool) (old new : Option (List Entry)) (was now : Counts) : Type 0 where
+  pub calls : Told old new (CallsOfJobs asks here clean)
+  pub spoken : clean ≡ true → SpeaksWhole old was → SpeaksWhole new now
+  pub idle : (number : ℕ) → IsIdle number old → IsIdle number new
   pub spares : (path : List ℕ) → Told old new (Since (Spares path))
   pub ends : (number : ℕ) → KeepsEnd number old new
   pub grow : CountsGrow was now

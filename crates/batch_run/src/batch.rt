@@ -1,12 +1,13 @@
 //! `run_jobs`, the jobs of a run.
-ghost use Rattle.std.specs.Prelude.{◌≡◌, ◌<◌, ◌≤◌, ◌+◌, IfOk, IsOk, OnOk, List as Plain, Option as Maybe, length};
+ghost use Rattle.std.specs.Prelude.{◌≡◌, ◌<◌, ◌≤◌, ◌+◌, ◌-◌, IfOk, OnOk, List as Plain, Option as Maybe, length};
 ghost use Rattle.std.specs.List.{AllByRecursion};
 ghost use Rattle.ready_loop.specs.States.{IsDrained, waits_left};
 ghost use Rattle.words.specs.Runnable.{IsRunnable};
 ghost use Rattle.said_lines.specs.Between.{Between};
 ghost use Rattle.world.specs.declared.entry.Entry.{Entry};
 ghost use Rattle.world.specs.Counts.{Counts, CountsGrow};
-ghost use Rattle.batch_run.specs.Batch.{AreEnds, CallsOfJobs, EndsChildren, LeavesOthers, MakesEach};
+ghost use Rattle.batch_run.specs.Batch.{AreEnds, CallsOfRun, EndSpent, EndsChildren, LeavesOthers};
+ghost use Rattle.batch_run.specs.Batch.{MakesEach};
 ghost use Rattle.batch_run.specs.Kept.{IsFreshFrom};
 ghost use Rattle.batch_run.specs.Stands.{AllEnded, AllStand, Outset, WaitingFrom, more_waits};
 ghost use Rattle.batch_run.specs.Lines.{waits_of};
@@ -37,9 +38,9 @@ pub fn run_jobs<W: World>(
         (MakesEach asks result (W.counts w.old) (W.counts w.new)) }
     // Each call is one of the loop or of one of the jobs: none reads or writes another file, starts
     // another program than the kernel that is asked for, or says another line.
-    ensures calls { Between W.journal w.old w.new (CallsOfJobs asks limits.now.here) }
+    ensures calls { Between W.journal w.old w.new (CallsOfRun asks limits.now.here) }
     // In the end each child that was started has its end.
-    ensures children { IsOk result → Between W.journal w.old w.new (EndsChildren asks) }
+    ensures children { Between W.journal w.old w.new (EndsChildren asks) }
     // All other paths are left alone, and no count falls.
     ensures others { Between W.journal w.old w.new (LeavesOthers asks) }
     ensures counts { CountsGrow (W.counts w.old) (W.counts w.new) }
@@ -47,8 +48,11 @@ pub fn run_jobs<W: World>(
     ensures waits { (W.counts w.new).waits ≤ (W.counts w.old).waits + limits.now.turns }
     // One answer a job.
     ensures one_each { IfOk result (λ answers. length answers ≡ length asks) }
-    // Each is that of an end. 3, 6 and 10 come only where a count of failed calls rose.
+    // Each is that of an end. 3, 6, 10 and 14 come only where a count of failed calls rose, 16 only
+    // where it made all of its waits.
     ensures ends { IfOk result (AreEnds asks (W.counts w.old) (W.counts w.new)) }
+    ensures spent { IfOk result
+        (EndSpent limits.now.turns (W.counts w.old) (W.counts w.new)) }
 {
     match Running::new(alloc, asks.len(), limits.turns) {
         Ok(running) => answers_of(w, asks, limits, running),
@@ -72,13 +76,15 @@ fn answers_of<W: World>(
     requires left { waits_of running.lines ≡ limits.now.turns }
     ensures jobs { Between W.journal w.old w.new
         (MakesEach asks result (W.counts w.old) (W.counts w.new)) }
-    ensures calls { Between W.journal w.old w.new (CallsOfJobs asks limits.now.here) }
-    ensures children { IsOk result → Between W.journal w.old w.new (EndsChildren asks) }
+    ensures calls { Between W.journal w.old w.new (CallsOfRun asks limits.now.here) }
+    ensures children { Between W.journal w.old w.new (EndsChildren asks) }
     ensures others { Between W.journal w.old w.new (LeavesOthers asks) }
     ensures counts { CountsGrow (W.counts w.old) (W.counts w.new) }
     ensures waits { (W.counts w.new).waits ≤ (W.counts w.old).waits + limits.now.turns }
     ensures one_each { IfOk result (λ answers. length answers ≡ length asks) }
     ensures ends { IfOk result (AreEnds asks (W.counts w.old) (W.counts w.new)) }
+    ensures spent { IfOk result
+        (EndSpent limits.now.turns (W.counts w.old) (W.counts w.new)) }
 {
     let mut running = running;
     match carried_out(w, asks, limits, &mut running) {
@@ -105,9 +111,10 @@ fn carried_out<W: World>(
     requires room { 0 < length running.old.buf.items }
     ensures ended { OnOk result (AllEnded running.new.jobs.slots.items) }
     ensures stands { (start : Maybe (Plain Entry)) (from : Outset) →
-        from.here ≡ limits.now.here →
+        from.here ≡ limits.now.here → from.waits + waits_of running.old.lines ≡ from.most →
         AllStand asks start from running.old.jobs.slots.items (W.journal w.old) (W.counts w.old) →
-        AllStand asks start (more_waits (waits_of running.old.lines) from)
+        AllStand asks start
+        (more_waits (waits_of running.old.lines - waits_of running.new.lines) from)
         running.new.jobs.slots.items (W.journal w.new) (W.counts w.new) }
 {
     match begin_all(w, asks, limits, running) {

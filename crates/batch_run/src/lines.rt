@@ -27,8 +27,10 @@ impl Lines {
     ghost use Rattle.ready_loop.specs.declared.next.Next.{Next as Found};
     ghost use Rattle.ready_loop.specs.declared.next.Next.TheVariants.{Quiet};
     ghost use Rattle.ready_loop.specs.States.{MayWait, IsDrained, IsOffered, waits_left};
-    ghost use Rattle.batch_run.specs.Kept.{Falls, NoneLost, NoneLostBelow, IsFreshFrom, goes_on, is_fault, is_wait};
-    ghost use Rattle.batch_run.specs.Lines.{budget, waits_of};
+    ghost use Rattle.batch_run.specs.Kept.{Falls, FaultCause, NoneLost, NoneLostBelow, IsFreshFrom};
+    ghost use Rattle.batch_run.specs.Kept.{goes_on, is_fault, is_wait};
+    ghost use Rattle.world.specs.Counts.{Rose};
+    ghost use Rattle.batch_run.specs.Lines.{budget, reads_of, waits_of};
     ghost use Rattle.batch_run.specs.Stands.{KeepsEach, KeepsEachWaiting};
 
     /// No connection, and so many waits.
@@ -57,6 +59,7 @@ impl Lines {
         ensures fresh { IsFreshFrom (job + 1) self.new.connections }
         ensures waits { waits_left self.new.connections ≡ waits_left self.old.connections }
         ensures drained { IsDrained self.old.connections → IsDrained self.new.connections }
+        ensures cause { IfErr result (λ _. Rose (W.counts w.old).net (W.counts w.new).net) }
     {
         match self.connections.begin(w, job, wanted.ports, wanted.heart) {
             Ok(()) => {
@@ -100,6 +103,7 @@ impl Lines {
         ensures offered { OnOk result (IsOffered self.new.connections) }
         ensures drained { IsDrained self.old.connections → IsDrained self.new.connections }
         ensures budget { Falls (is_fault result) (budget self.old) (budget self.new) }
+        ensures cause { IfErr result (FaultCause (W.counts w.old) (W.counts w.new) ⊥) }
     {
         match self.connections.offer(w) {
             Ok(ends) => Ok(ends),
@@ -121,6 +125,8 @@ impl Lines {
         ensures left { waits_of self.new ≤ waits_of self.old }
         ensures drained { IfErr result (λ f. goes_on f ≡ true → IsDrained self.new.connections) }
         ensures budget { Falls (is_wait result) (budget self.old) (budget self.new) }
+        ensures cause { IfErr result
+            (FaultCause (W.counts w.old) (W.counts w.new) (waits_of self.old ≡ 0)) }
     {
         match self.connections.look(w, looks) {
             Ok(ends) => Ok(ends),
@@ -141,6 +147,8 @@ impl Lines {
         ensures ends { IfErr result (λ f. goes_on f ≡ false) }
         ensures bound { IfOk result (λ ms. ms < 2 ^ 47) }
         ensures budget { Falls (is_wait result) (budget self.old) (budget self.new) }
+        ensures cause { IfErr result
+            (FaultCause (W.counts w.old) (W.counts w.new) (waits_of self.old ≡ 0)) }
     {
         match self.connections.turn(w, due) {
             // The moment that the turn gave.
@@ -157,6 +165,8 @@ impl Lines {
         ensures left { waits_of self.new ≡ waits_of self.old }
         ensures quiet { result ≡ Ok Quiet → IsDrained self.new.connections }
         ensures budget { Falls (is_fault result) (budget self.old) (budget self.new) }
+        ensures reads { (result ≡ Ok Quiet → ⊥) → reads_of self.new < reads_of self.old }
+        ensures cause { IfErr result (FaultCause (W.counts w.old) (W.counts w.new) ⊥) }
     {
         match self.connections.next(w, buf) {
             Ok(next) => Ok(next),

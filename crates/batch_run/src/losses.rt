@@ -1,5 +1,6 @@
 //! `Losses`, the jobs that are lost by a connection.
 ghost use Rattle.std.specs.Prelude.{◌≡◌, ◌<◌, ◌≤◌, ℕ, false, length, slice_set, slice_get, Some};
+ghost use Rattle.ready_loop.specs.Offers.{IsOfConn};
 ghost use Rattle.batch_run.specs.Kept.{Falls, Notes, Loses, NoneLost, goes_on};
 
 use crate::fault::Fault;
@@ -35,6 +36,7 @@ impl Losses {
     /// Takes the fault of a call: the job that it names is lost, or all are.
     pub(crate) fn note(&mut self, fault: LoopFault) -> Fault
         ensures notes { Notes fault self.old.jobs self.new.jobs }
+        ensures net { IsOfConn fault → result ≡ Fault.Spent → ⊥ }
         ensures left { Falls (goes_on result) self.old.left self.new.left }
     {
         match fault {
@@ -47,6 +49,7 @@ impl Losses {
     /// A call of a connection of this job has failed.
     pub(crate) fn lose(&mut self, job: u8) -> Fault
         ensures notes { Loses job self.old.jobs self.new.jobs }
+        ensures net { result ≡ Fault.Spent → ⊥ }
         ensures left { Falls (goes_on result) self.old.left self.new.left }
     {
         if job >= 16 || self.left == 0 {

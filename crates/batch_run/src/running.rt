@@ -180,14 +180,16 @@ impl Running {
         self.jobs.finish(w, usize::from(number));
     }
 
-    /// Without memory: closes the connections of each job that runs, and ends its child.
+    /// Without memory: closes the connections of each job, and ends the child of each that runs.
     pub(crate) fn abandon<W: World>(&mut self, w: &mut W)
+        ensures ended { AllEnded self.new.jobs.slots.items }
+        ensures left { waits_of self.new.lines ≡ waits_of self.old.lines }
         ensures stands { KeepsAll W.journal W.counts w.old w.new self.old.jobs.slots.items
             self.new.jobs.slots.items }
     {
         for number in 0..self.jobs.len() {
             self.lines.close(w, number as u8);
-            self.jobs.end_child(w, number);
+            self.jobs.stop(w, number);
         }
     }
 

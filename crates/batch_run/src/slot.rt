@@ -20,6 +20,7 @@ pub(crate) enum Slot {
 impl Slot {
     ghost use Rattle.std.specs.Prelude.{◌<◌, ◌^◌};
     ghost use Rattle.batch_run.specs.Stands.{HasEnded, SlotKeeps, SlotStays};
+    ghost use Rattle.batch_run.specs.Stands.{IsCutOff, IsOutOfWaits, SlotStaysIf};
 
     /// What the job has queued on this channel and hasn't handed out.
     pub(crate) fn queued(&mut self, chan: Chan) -> Option<Bytes>
@@ -97,9 +98,9 @@ impl Slot {
         }
     }
 
-    /// Ends the job by the network.
+    /// Ends the job by the network, of which a call has failed.
     pub(crate) fn lose(&mut self) -> Result<(), NoMemory>
-        ensures { SlotStays self.old self.new }
+        ensures { SlotStaysIf IsCutOff self.old self.new }
     {
         match self {
             Slot::Running(job) => job.lose_network(),
@@ -107,9 +108,9 @@ impl Slot {
         }
     }
 
-    /// Ends the job by the number of waits.
+    /// Ends the job by the number of waits, which were all made.
     pub(crate) fn spend(&mut self) -> Result<(), NoMemory>
-        ensures { SlotStays self.old self.new }
+        ensures { SlotStaysIf IsOutOfWaits self.old self.new }
     {
         match self {
             Slot::Running(job) => job.spend(),
@@ -117,14 +118,13 @@ impl Slot {
         }
     }
 
-    /// Ends the child.
-    pub(crate) fn end_child<W: World>(&mut self, w: &mut W)
-        ensures { SlotKeeps W.journal W.counts w.old w.new self.old self.new }
+    /// Ends the child of a job that runs, without a word.
+    pub(crate) fn stop<W: World>(&mut self, alloc: Global, w: &mut W)
+        ensures ended { HasEnded self.new }
+        ensures stands { SlotKeeps W.journal W.counts w.old w.new self.old self.new }
     {
-        match self {
-            Slot::Running(job) => job.end_child(w),
-            Slot::Waiting | Slot::Ended(_) => {}
-        }
+        let slot = mem::replace(self, Slot::Waiting);
+        *self = Slot::Ended(end_of(alloc, w, slot));
     }
 
     /// Ends the child of a job that runs, and says how it ended.
@@ -134,6 +134,17 @@ impl Slot {
     {
         let slot = mem::replace(self, Slot::Waiting);
         *self = Slot::Ended(ended(alloc, w, slot));
+    }
+}
+
+/// How a job ended: of one that runs the child is ended.
+fn end_of<W: World>(alloc: Global, w: &mut W, slot: Slot) -> Answer
+    ensures { SlotKeeps W.journal W.counts w.old w.new slot (Slot.Ended result) }
+{
+    match slot {
+        Slot::Running(job) => job.finish(w),
+        Slot::Ended(answer) => answer,
+        Slot::Waiting => Answer::starved(alloc),
     }
 }
 

@@ -6,7 +6,8 @@ use world::{Chan, World};
 
 impl Jobs {
     ghost use Rattle.std.specs.Prelude.{◌≡◌, ◌<◌, ◌+◌, ◌^◌, length};
-    ghost use Rattle.batch_run.specs.Stands.{KeepsAll, KeepsOthers, StayAll, WaitingFrom};
+    ghost use Rattle.batch_run.specs.Stands.{EndedBelow, KeepsAll, KeepsOthers, StayAll};
+    ghost use Rattle.batch_run.specs.Stands.{IsCutOff, IsOutOfWaits, StayAllIf, WaitingFrom};
 
     /// What a job has queued on this channel and hasn't handed out.
     pub(crate) fn queued(&mut self, number: usize, chan: Chan) -> Option<Bytes>
@@ -155,12 +156,12 @@ impl Jobs {
         self.slots[number].on_looked(w)
     }
 
-    /// Ends a job that runs by the network.
+    /// Ends a job that runs by the network, of which a call has failed.
     pub(crate) fn lose(&mut self, number: usize) -> Result<(), NoMemory>
         ensures size { length self.new.slots.items ≡ length self.old.slots.items }
         ensures waiting { WaitingFrom (number + 1) self.old.slots.items →
             WaitingFrom (number + 1) self.new.slots.items }
-        ensures stands { StayAll self.old.slots.items self.new.slots.items }
+        ensures stands { StayAllIf IsCutOff self.old.slots.items self.new.slots.items }
         ensures others { KeepsOthers number self.old.slots.items self.new.slots.items }
     {
         if number >= self.slots.len() {
@@ -169,9 +170,9 @@ impl Jobs {
         self.slots[number].lose()
     }
 
-    /// Ends each job that runs by the network.
+    /// Ends each job that runs by the network, of which a call has failed.
     pub(crate) fn lose_all(&mut self) -> Result<(), NoMemory>
-        ensures stands { StayAll self.old.slots.items self.new.slots.items }
+        ensures stands { StayAllIf IsCutOff self.old.slots.items self.new.slots.items }
     {
         for number in 0..16usize {
             self.lose(number)?;
@@ -179,9 +180,9 @@ impl Jobs {
         Ok(())
     }
 
-    /// Ends each job that runs by the number of waits.
+    /// Ends each job that runs by the number of waits, which were all made.
     pub(crate) fn spend_all(&mut self) -> Result<(), NoMemory>
-        ensures stands { StayAll self.old.slots.items self.new.slots.items }
+        ensures stands { StayAllIf IsOutOfWaits self.old.slots.items self.new.slots.items }
     {
         for number in 0..16usize {
             self.spend(number)?;
@@ -190,7 +191,7 @@ impl Jobs {
     }
 
     fn spend(&mut self, number: usize) -> Result<(), NoMemory>
-        ensures stands { StayAll self.old.slots.items self.new.slots.items }
+        ensures stands { StayAllIf IsOutOfWaits self.old.slots.items self.new.slots.items }
     {
         if number >= self.slots.len() {
             return Ok(());
@@ -199,12 +200,15 @@ impl Jobs {
     }
 
     /// Ends the child of a job that runs, without a word.
-    pub(crate) fn end_child<W: World>(&mut self, w: &mut W, number: usize)
+    pub(crate) fn stop<W: World>(&mut self, w: &mut W, number: usize)
+        ensures ended { EndedBelow number self.old.slots.items →
+            EndedBelow (number + 1) self.new.slots.items }
+        ensures size { length self.new.slots.items ≡ length self.old.slots.items }
         ensures stands { KeepsAll W.journal W.counts w.old w.new self.old.slots.items
             self.new.slots.items }
     {
         if number < self.slots.len() {
-            self.slots[number].end_child(w);
+            self.slots[number].stop(self.alloc, w);
         }
     }
 }

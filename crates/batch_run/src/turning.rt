@@ -10,17 +10,14 @@ use world::{Chan, Conn, World};
 /// The four channels.
 const CHANS: [Chan; 4] = [Chan::Shell, Chan::Control, Chan::Iopub, Chan::Heart];
 
-/// The most reads after one wait: 64 on each of the 64 connections, and one that ends it.
-const READS: u32 = 64 * 65;
-
 impl Running {
     ghost use Rattle.std.specs.Prelude.{◌≡◌, ◌<◌, ◌≤◌, ◌^◌, ℕ, Ok, Some, None, true, false, IfOk, OnOk};
     ghost use Rattle.std.specs.Prelude.{length};
     ghost use Rattle.ready_loop.specs.States.{IsDrained, IsOffered};
     ghost use Rattle.batch_run.specs.Kept.{Falls, NoneLost, goes_on};
-    ghost use Rattle.batch_run.specs.Lines.{budget, waits_of};
+    ghost use Rattle.batch_run.specs.Lines.{budget, reads_of, waits_of};
     ghost use Rattle.batch_run.specs.Stands.{AllEnded, ChangesOne, KeepsAll, KeepsOthers};
-    ghost use Rattle.batch_run.specs.Stands.{KeepsWaiting, StayAll};
+    ghost use Rattle.batch_run.specs.Stands.{IsFaultOf, KeepsWaiting, StayAll, StayAllIf};
     ghost use Rattle.batch_run.specs.declared.fault.Fault.TheVariants.{OfJob};
 
     /// Turn after turn, until each job has ended.
@@ -165,7 +162,8 @@ impl Running {
         ensures goes { IfOk result (λ b. b ≡ goes_on fault) }
         ensures lines { self.new.lines ≡ self.old.lines }
         ensures buf { self.new.buf ≡ self.old.buf }
-        ensures stands { StayAll self.old.jobs.slots.items self.new.jobs.slots.items }
+        ensures stands { StayAllIf (IsFaultOf fault) self.old.jobs.slots.items
+            self.new.jobs.slots.items }
         ensures others { (job : ℕ) → fault ≡ OfJob job →
             KeepsOthers job self.old.jobs.slots.items self.new.jobs.slots.items }
     {
@@ -276,14 +274,13 @@ impl Running {
             self.new.jobs.slots.items }
         ensures left { waits_of self.new.lines ≡ waits_of self.old.lines }
     {
-        for _ in 0..=READS {
+        loop {
             match self.read_one(w) {
                 Ok(None) => {}
                 Ok(Some(goes_on)) => return Ok(goes_on),
                 Err(refused) => return Err(refused),
             }
         }
-        self.on_fault(Fault::OfAll)
     }
 
     // Reads one connection. What its peer does changes its own job alone. Where no more is to be
@@ -296,6 +293,7 @@ impl Running {
         ensures stands { KeepsAll W.journal W.counts w.old w.new self.old.jobs.slots.items
             self.new.jobs.slots.items }
         ensures left { waits_of self.new.lines ≡ waits_of self.old.lines }
+        ensures reads { result ≡ Ok None → reads_of self.new.lines < reads_of self.old.lines }
         ensures one { result ≡ Ok None →
             ChangesOne self.old.jobs.slots.items self.new.jobs.slots.items }
     {
@@ -319,7 +317,8 @@ impl Running {
         ensures ends { result ≡ Ok (Some true) → ⊥ }
         ensures lines { self.new.lines ≡ self.old.lines }
         ensures buf { self.new.buf ≡ self.old.buf }
-        ensures stands { StayAll self.old.jobs.slots.items self.new.jobs.slots.items }
+        ensures stands { StayAllIf (IsFaultOf fault) self.old.jobs.slots.items
+            self.new.jobs.slots.items }
         ensures one { result ≡ Ok None →
             ChangesOne self.old.jobs.slots.items self.new.jobs.slots.items }
     {

@@ -1,7 +1,8 @@
 -- What the steps of a job's begin make together.
 use Rattle.std.proofs.Common.{◌≡◌, inl, inr, ℕ, Bool, true, false, List, [], ◌∷◌, ◌++◌, length, Option, Some, None, Result, Ok, Err, refl, sym, ap, subst, ◌∙◌, arith, length-append}
-use Rattle.std.specs.Prelude.{IfSome, IfErr}
+use Rattle.std.specs.Prelude.{IfSome, IfOk, IfErr}
 use Rattle.nb_model.specs.declared.notebook.Notebook.{Notebook}
+use Rattle.nb_model.specs.Prepared.{prepared_notebook}
 use Rattle.words.specs.declared.ask.Ask.{Ask}
 use Rattle.world.specs.declared.entry.Entry.{Entry}
 use Rattle.world.specs.declared.entry.Entry.TheVariants as made
@@ -10,28 +11,37 @@ use Rattle.world.specs.Moments.{Since, start, more as later, Told}
 use Rattle.world.specs.Touched.{Spares}
 use Rattle.world.proofs.CountsLemmas.{grow_start}
 use Rattle.world.proofs.MomentsLemmas.{told_as as moments_as}
+use Rattle.world.specs.Parts.{OnDisk, IsOf}
 use Rattle.world.specs.declared.read_file.ReadFile.{ReadFile}
+use Rattle.world.specs.declared.read_file.ReadFile.TheVariants as answer
 use Rattle.kernel_start.specs.declared.kernel.Kernel.{Kernel}
 use Rattle.kernel_start.specs.declared.kernel_fault.KernelFault.{KernelFault}
-use Rattle.kernel_start.specs.Finding.{Finds, found, FindsBy, IsFound, read_entries}
+use Rattle.kernel_start.specs.Finding.{HasGoodName, Finds, no_name, bad_name, no_path, not_read, too_large, no_bytes, bad_spec, no_spec, found, FindsBy, read_entries, spec_path}
 use Rattle.save_course.specs.Course.{begins, IsRested}
 use Rattle.job_end.specs.declared.answer.Answer.{Answer}
 use Rattle.job_end.specs.declared.end.End.{End}
 use Rattle.job_end.specs.declared.end.End.TheVariants as end
 use Rattle.job_end.specs.Answers.{Answers, said, starved}
 use Rattle.job_end.specs.Statuses.{status_of}
-use Rattle.job_saves.specs.Course.{Origin, IsFor, IsSaved, HasSaved, HasCalled, HasPart, Begins, Ends, keeps_open}
-use Rattle.job_saves.specs.Calls.{Cast, IsKernelOf, IsCallBy, IsCall}
-use Rattle.job_saves.specs.Children.{KeepsEnd}
+use Rattle.job_saves.specs.Course.{Origin, IsFor, IsSaved, HasSaved, HasCalled, HasPart, CountsWork, Begins, Ends, keeps_open}
+use Rattle.job_saves.specs.Calls.{Cast, IsCallBy, IsCall}
+use Rattle.job_saves.specs.Children.{KeepsEnd, AsksNone}
+use Rattle.job_saves.specs.Reads.{IsInputOf, IsNotebookOf, IsKernelOf}
 use Rattle.job_saves.proofs.ChildLemmas.{told_keeps_end}
+use Rattle.job_saves.proofs.KeptLemmas.{part_quiet, part_keeps_end, part_asks_none}
+use Rattle.job_saves.proofs.ReadLemmas.{notebook_later}
 use Rattle.job_saves.proofs.ToldLemmas.{told_by}
 use Rattle.job_notebook.specs.declared.notebook.JobNotebook.{JobNotebook}
 use Rattle.job_notebook.specs.State.{merge_of, output_of}
-use Rattle.job_saves.proofs.CourseLemmas.{told_as, begins_pass, work_start}
+use Rattle.job_saves.proofs.CourseLemmas.{told_as, told_on, calls_on, begins_pass, work_start}
 use Rattle.job_run.specs.declared.job.Job.{Job}
-use Rattle.job_run.specs.Run.{StartsAs, BeginsAs, Runs, IsUnsaved, IsCastAs, StartsInRole, HasRole}
+use Rattle.cell_core.specs.Task.{Task}
+use Rattle.job_run.proofs.TurnLemmas.{new_passes, begins_rested}
+use Rattle.job_run.specs.Run.{StartsAs, BeginsAs, BeginsNew, Runs, IsUnsaved, IsCastAs, HasNoChild, HasNoPorts, StartsInRole, HasRole}
 use Rattle.job_begin.specs.Causes.{HasCause}
-use Rattle.job_begin.specs.Begun.{Begun, with_notebook, HasRead, AnswersAs, BeginsWith, FindsKernel, IsOpen, origin_of, first_of}
+use Rattle.job_begin.proofs.CountLemmas.{answer_counts}
+use Rattle.job_begin.specs.Steps.{EndsCounted}
+use Rattle.job_begin.specs.Begun.{counted_task, Begun, with_notebook, HasRead, AnswersAs, BeginsWith, FindsKernel, IsOpen, origin_of, first_of}
 
 -- ---- an end without a save
 
@@ -72,18 +82,23 @@ called cast since from (Err e) k d h = h
 
 -- the job that is asked for alone
 abbrev pub sole : Ask → List ℕ → Bool → Cast
-sole a here starts = record { job = λ n. Some a; here = here; starts = starts }
+sole a here starts = record { job = λ n. Some a; here = here; starts = starts; clean = false }
+
+-- so its calls are called for
+sole_calls : (a : Ask) (here : List ℕ) (starts : Bool) (since : List Entry) (j : Option (List Entry)) (c : Counts) → IfSome j (Since (IsCall (sole a here starts)) since)
+    → HasCalled (sole a here starts) since c j c
+sole_calls a here starts since j c held = record { told = held; counts_work = work_start c; spoken = λ e. absurd (cc) }
 
 module _ {E : Type 0} (a : Ask) (number : ℕ) (here : List ℕ) (result : Result Job E) (c d : Counts) where
   abbrev Calls : Option (List Entry) → Option (List Entry) → Type 0
-  Calls j k = (cast : Cast) (since : List Entry) (from : Counts) → IsCastAs cast number a here → HasCalled cast since from j c → StartsInRole cast since from result k d
+  Calls j k = (cast : Cast) (since : List Entry) (from : Counts) → IsCastAs cast number a here → HasNoChild cast number j → HasNoPorts cast number j → HasCalled cast since from j c
+      → StartsInRole cast since from result k d
 
   pub told_appends : (j k : Option (List Entry)) → Calls j k → Told j k Appends
   told_appends j k calls =
       let cast : Cast = sole a here true in
       told_adds (told_by (IsCall cast) j k (λ since held.
-      (called cast since c result k d (calls cast since c (record { has = refl; folder = refl; starts = refl })
-      (record { told = held; counts_work = work_start c }))).told))
+      (called cast since c result k d (calls cast since c (record { has = refl; folder = refl; starts = refl }) (λ e. absurd (cc)) (λ e. absurd (cc)) (sole_calls a here true since j c held))).told))
     where
       told_adds : {i m : Option (List Entry)} {P : List Entry → Type 0} → Told i m (Since P) → Told i m Appends
       told_adds told = moments_as told (λ x y s. appends s)
@@ -91,38 +106,94 @@ module _ {E : Type 0} (a : Ask) (number : ℕ) (here : List ℕ) (result : Resul
 -- ---- children
 
 -- calls of a job that start none
-pub none_started : (a : Ask) (n : ℕ) (j k : Option (List Entry)) → ((cast : Cast) (number : ℕ) → cast.job number ≡ Some a → Told j k (Since (IsCall cast))) → KeepsEnd n j k
-none_started a n j k calls = told_keeps_end (sole a [] false) n (λ number b has starts. absurd (cc)) j k (calls (sole a [] false) 0 refl)
-
 pub none_started_in : (a : Ask) (n : ℕ) (j k : Option (List Entry)) (c d : Counts)
     → ((cast : Cast) (number : ℕ) (since : List Entry) (from : Counts) → cast.job number ≡ Some a → HasCalled cast since from j c → HasCalled cast since from k d)
     → KeepsEnd n j k
 none_started_in a n j k c d calls =
     let cast : Cast = sole a [] false in
-    told_keeps_end cast n (λ number b has starts. absurd (cc)) j k
-    (told_by (IsCall cast) j k (λ since held. (calls cast 0 since c refl (record { told = held; counts_work = work_start c })).told))
+    told_keeps_end cast n (λ number b has starts. absurd (cc)) j k (told_by (IsCall cast) j k (λ since held. (calls cast 0 since c refl (sole_calls a [] false since j c held)).told))
+
+-- calls of the disk alone
+pub disk_keeps_end : (n : ℕ) (j k : Option (List Entry)) → Told j k (Since (IsOf OnDisk)) → KeepsEnd n j k
+disk_keeps_end n j k told = part_keeps_end n j k (λ e. absurd (cc)) told
+
+pub disk_asks_none : (n : ℕ) (j k : Option (List Entry)) → Told j k (Since (IsOf OnDisk)) → AsksNone n j → AsksNone n k
+disk_asks_none n j k told = part_asks_none n j k (λ e. absurd (cc)) told
+
+pub disk_calls : (cast : Cast) (since : List Entry) (from c d : Counts) (j k : Option (List Entry)) → Told j k (Since (IsCall cast)) → Told j k (Since (IsOf OnDisk)) → CountsWork c d
+    → HasCalled cast since from j c → HasCalled cast since from k d
+disk_calls cast since from c d j k told part work so = calls_on cast since from c d j k told (part_quiet (λ e. absurd (cc)) part) work so
 
 -- ---- the calls of the begin
 
-pub reads_input : (a : Ask) (cast : Cast) (number : ℕ) → cast.job number ≡ Some a → (answer : ReadFile) → IsCallBy cast (made.Read a.input 33554432 answer)
-reads_input a cast number has answer = record { number = number; ask = a; has = has; is = inl (refl, refl) }
+pub reads_input : (a : Ask) (cast : Cast) (number : ℕ) → cast.job number ≡ Some a → (answer : ReadFile) (past : List Entry)
+    → IsCallBy cast past (made.Read a.input 33554432 answer)
+reads_input a cast number has answer past = record { number = number; ask = a; has = has; is = inl (refl, refl) }
 
-pub finds_called : (a : Ask) (n : Notebook) (result : Result Kernel KernelFault) (cast : Cast) (number : ℕ) → cast.job number ≡ Some a
-    → (before after : List Entry) → FindsBy a n result before after → Since (IsCall cast) before after
-finds_called a n result cast number has before after f = subst (Since (IsCall cast) before) (sym f.ends) (read f.answer)
-  where
-    read : (answer : Option ReadFile) → Since (IsCall cast) before (read_entries a n answer before)
-    read None = start
-    read (Some answer) = later start (record { number = number; ask = a; has = has; is = inr (n, refl, refl) })
+-- the notebook that was read
+pub input_read : (a : Ask) (n : Notebook) (j k : Option (List Entry)) → Told j k (HasRead a n) → IfSome k (λ past. IsInputOf a past n)
+input_read a n j None told = tt
+input_read a n None (Some y) told = absurd told.so
+input_read a n (Some x) (Some y) told =
+    let h : HasRead a n x y = told.so in
+    record { bytes = h.bytes; read = record { later = []; before = x; is = h.is }; accepted = h.accepted }
+
+-- and the same, prepared
+pub input_prepared : (a : Ask) (n m : Notebook) (j : Option (List Entry)) → m ≡ prepared_notebook n → IfSome j (λ past. IsInputOf a past n) → IfSome j (λ past. IsNotebookOf a past m)
+input_prepared a n m j is read = told_as j (λ past. IsInputOf a past n) (λ past. IsNotebookOf a past m) (λ past h. record { given = n; input = h; is = is }) read
+
+named_by : (a : Ask) (n : Notebook) (answer : Option ReadFile) (result : Result Kernel KernelFault) → Finds a n answer result → (r : ReadFile) → answer ≡ Some r → HasGoodName a n
+named_by a n _ _ (no_name none) r is = absurd (cc)
+named_by a n _ _ (bad_name has bad) r is = absurd (cc)
+named_by a n _ _ (no_path good) r is = good
+named_by a n _ _ (not_read good) r is = good
+named_by a n _ _ (too_large good) r is = good
+named_by a n _ _ (no_bytes good) r is = good
+named_by a n _ _ (bad_spec good refuses) r is = good
+named_by a n _ _ (no_spec good) r is = good
+named_by a n _ _ (found good says folder) r is = good
+
+module _ (a : Ask) (n : Notebook) (result : Result Kernel KernelFault) (cast : Cast) (number : ℕ) (has : cast.job number ≡ Some a) (before : List Entry) (own : IsNotebookOf a before n) where
+  spec_read : (answer : Option ReadFile) → Finds a n answer result → Since (IsCall cast) before (read_entries a n answer before)
+  spec_read None finds = start
+  spec_read (Some r) finds = later start (record {
+    number = number;
+    ask = a;
+    has = has;
+    is = inr (record { notebook = n; own = own; named = named_by a n (Some r) result finds r refl; is = refl }, refl);
+  })
+
+  finds_called : (after : List Entry) → FindsBy a n result before after → Since (IsCall cast) before after
+  finds_called after f = subst (Since (IsCall cast) before) (sym f.ends) (spec_read f.answer f.finds)
+
+pub finds_told : (a : Ask) (n : Notebook) (result : Result Kernel KernelFault) (cast : Cast) (number : ℕ) → cast.job number ≡ Some a → (j k : Option (List Entry))
+    → IfSome j (λ past. IsNotebookOf a past n) → Told j k (FindsBy a n result) → Told j k (Since (IsCall cast))
+finds_told a n result cast number has j None own told = record { so = tt }
+finds_told a n result cast number has None (Some y) own told = absurd told.so
+finds_told a n result cast number has (Some x) (Some y) own told = record { so = finds_called a n result cast number has x own y told.so }
 
 -- a kernel that was found is one that was asked for
-pub kernel_found : (a : Ask) (n : Notebook) (answer : Option ReadFile) (kernel : Kernel) → Finds a n answer (Ok kernel) → IsKernelOf a kernel
-kernel_found a n answer kernel (found {bytes} good says folder) = record { bytes = bytes; says = says; notebook = n; folder = folder }
+kernel_found : (a : Ask) (n : Notebook) (answer : Option ReadFile) (kernel : Kernel) (before after : List Entry) → Finds a n answer (Ok kernel) → after ≡ read_entries a n answer before
+    → IsNotebookOf a before n → IsKernelOf a after kernel
+kernel_found a n _ kernel before after (found {bytes} good says folder) ends own = record {
+  notebook = n;
+  own = subst (λ past. IsNotebookOf a past n) (sym ends) (notebook_later a n (any before (made.Read (spec_path a n) 1048576 (answer.Whole bytes))) own);
+  named = good;
+  bytes = bytes;
+  read = record { later = []; before = before; is = ends };
+  says = says;
+  folder = folder;
+}
+  where
+    any : (past : List Entry) (entry : Entry) → Since (λ (now : List Entry). Unit {0}) past (entry ∷ past)
+    any past entry = later start tt
 
-pub kernel_by : (a : Ask) (n : Notebook) (result : Result Kernel KernelFault) (kernel : Kernel) → result ≡ Ok kernel → IsFound a n result → IsKernelOf a kernel
-kernel_by a n result kernel is f =
-    let at : IsFound a n (Ok kernel) = subst (IsFound a n) is f in
-    kernel_found a n at.0 kernel at.1
+pub kernel_told : (a : Ask) (n : Notebook) (result : Result Kernel KernelFault) (ended : Result Kernel End) (j k : Option (List Entry)) → IfOk ended (λ kernel. result ≡ Ok kernel)
+    → Told j k (FindsBy a n result) → IfSome j (λ past. IsNotebookOf a past n) → IfOk ended (λ kernel. IfSome k (λ past. IsKernelOf a past kernel))
+kernel_told a n result (Err e) j k same told own = tt
+kernel_told a n result (Ok kernel) j k same told own =
+    told_on j k (FindsBy a n result) (λ past. IsNotebookOf a past n) (λ past. IsKernelOf a past kernel) told own
+    (λ x y h f. kernel_found a n f.answer kernel x y (subst (Finds a n f.answer) same f.finds) f.ends h)
 
 -- ---- the answer of an end
 
@@ -152,9 +223,9 @@ answer_shuts output e answer said h = inl (unsaved_status e h)
 answer_shuts output e answer starved h = inr refl
 
 pub answered : (output : List ℕ) (begun : Result Job End) (result : Result Job Answer) → AnswersAs output begun result
-    → (o : Origin) (j : Option (List Entry)) (c : Counts) → IfErr result (λ answer. HasCause o.counts c answer.status) → StartsAs o begun j c → BeginsAs o result j c
-answered output (Ok j) (Ok k) same o journal c caused h = subst (λ x. Runs o x journal c) (sym same) h
-answered output (Err e) (Err answer) answers o journal c caused h = record {
+    → (o : Origin) (task : Option Task) (j : Option (List Entry)) (c : Counts) → IfErr begun (EndsCounted o task j) → IfErr result (λ answer. HasCause o.counts c answer.status) → StartsAs o begun j c → BeginsAs o task result j c
+answered output (Ok j) (Ok k) same o task journal c count caused h = subst (λ x. Runs o x journal c) (sym same) h
+answered output (Err e) (Err answer) answers o task journal c count caused h = record {
   is_open = keeps_open e;
   ends = h;
   shut = answer_shuts output e answer answers;
@@ -162,9 +233,10 @@ answered output (Err e) (Err answer) answers o journal c caused h = record {
     | inl read ↦ caused.read read
     | inr save ↦ caused.save save
   ];
+  counted = answer_counts output e answer o task journal answers count;
 }
-answered output (Ok j) (Err answer) wrong o journal c caused h = absurd wrong
-answered output (Err e) (Ok k) wrong o journal c caused h = absurd wrong
+answered output (Ok j) (Err answer) wrong o task journal c count caused h = absurd wrong
+answered output (Err e) (Ok k) wrong o task journal c count caused h = absurd wrong
 
 pub answered_role : (output : List ℕ) (begun : Result Job End) (result : Result Job Answer) → AnswersAs output begun result
     → (cast : Cast) (since : List Entry) (from : Counts) (j : Option (List Entry)) (c : Counts) → StartsInRole cast since from begun j c → StartsInRole cast since from result j c
@@ -184,32 +256,37 @@ answered_left output P (Err e) (Ok k) wrong h = absurd wrong
 
 module _ (a : Ask) (n : Notebook) (begun : Result Job End) (mid new : Counts) where
   abbrev SavesOn : Option (List Entry) → Option (List Entry) → Type 0
-  SavesOn j k = (o : Origin) → IsFor a.output a.merge (first_of a n) o → Begins o j mid → StartsAs o begun k new
+  SavesOn j k = (o : Origin) → IsFor a.output a.merge (first_of a n) o → Begins o j mid → BeginsNew o j → StartsAs o begun k new
+
+  abbrev CountsOn : Option (List Entry) → Option (List Entry) → Type 0
+  CountsOn j k = (o : Origin) → IsFor a.output a.merge (first_of a n) o → Begins o j mid → BeginsNew o j → IfErr begun (EndsCounted o (counted_task a (first_of a n)) k)
 
   rose_of : (o : Origin) (k : Option (List Entry)) → o.counts ≡ mid → StartsAs o begun k new → (e : End) → begun ≡ Err e → keeps_open e ≡ false → Rose mid.disk new.disk
   rose_of o k at h e is shut =
       let ended : StartsAs o (Err e) k new = subst (λ r. StartsAs o r k new) is h in
       subst (λ c. Rose c.disk new.disk) at (ended.cause shut)
 
-  saved_from : (j k : Option (List Entry)) (before : List Entry) → SavesOn j k → IfSome j (IsSaved (origin_of a n before mid) true 0) → StartsAs (origin_of a n before mid) begun k new
-  saved_from j k before goes told = goes (origin_of a n before mid) (record { output_is = refl; merge_is = refl; first_is = refl }) (record { told = λ on. told; grow = grow_start mid })
+  saved_from : (j k : Option (List Entry)) (before : List Entry) → SavesOn j k → IfSome j (IsSaved (origin_of a n before mid) true 0) → BeginsNew (origin_of a n before mid) j
+      → StartsAs (origin_of a n before mid) begun k new
+  saved_from j k before goes told fresh =
+      goes (origin_of a n before mid) (record { output_is = refl; merge_is = refl; first_is = refl }) (record { told = λ on. told; grow = grow_start mid }) fresh
 
   -- a save that has failed has its cause, whatever the journal tells
   pub save_rose : (i j k : Option (List Entry)) → Told i j (HasRead a n) → SavesOn j k → (e : End) → begun ≡ Err e → keeps_open e ≡ false → Rose mid.disk new.disk
-  save_rose i None k read goes = rose_of (origin_of a n [] mid) k refl (saved_from None k [] goes tt)
+  save_rose i None k read goes = rose_of (origin_of a n [] mid) k refl (saved_from None k [] goes tt (λ fresh. tt))
   save_rose None (Some x) k read goes = absurd read.so
   save_rose (Some before) (Some x) k read goes =
       let h : HasRead a n before x = read.so in
       let rested : IsRested a.output x = subst (IsRested a.output) (sym h.is) refl in
-      rose_of (origin_of a n x mid) k refl (saved_from (Some x) k x goes (record { course = begins; rested = rested }))
+      rose_of (origin_of a n x mid) k refl (saved_from (Some x) k x goes (record { course = begins; rested = rested }) (λ fresh. fresh.none))
 
   pub begun_so : (result : Result Job Answer) (old : Counts) (i j k : Option (List Entry)) → AnswersAs a.output begun result → IfErr result (λ answer. HasCause old new answer.status)
-      → BeginsWith a (first_of a n) result → ((x y : List Entry) → j ≡ Some x → k ≡ Some y → FindsKernel a (first_of a n) result x y) → Told i j (HasRead a n) → Told i j (Since (Spares a.output)) → CountsGrow old mid → SavesOn j k → Told j k Appends
+      → BeginsWith a (first_of a n) result → ((x y : List Entry) → j ≡ Some x → k ≡ Some y → FindsKernel a (first_of a n) result x y) → Told i j (HasRead a n) → Told i j (Since (Spares a.output)) → CountsGrow old mid → SavesOn j k → CountsOn j k → Told j k Appends
       → Told i k (λ before after. IsRested a.output before → Begun a result old new before after)
-  begun_so result old i j None answers caused task kernel read spared grow goes more = record { so = tt }
-  begun_so result old i None (Some y) answers caused task kernel read spared grow goes more = absurd more.so
-  begun_so result old None (Some x) (Some y) answers caused task kernel read spared grow goes more = absurd read.so
-  begun_so result old (Some before) (Some x) (Some y) answers caused task kernel read spared grow goes more =
+  begun_so result old i j None answers caused task kernel read spared grow goes counts more = record { so = tt }
+  begun_so result old i None (Some y) answers caused task kernel read spared grow goes counts more = absurd more.so
+  begun_so result old None (Some x) (Some y) answers caused task kernel read spared grow goes counts more = absurd read.so
+  begun_so result old (Some before) (Some x) (Some y) answers caused task kernel read spared grow goes counts more =
       let h : HasRead a n before x = read.so in
       let m : Appends x y = more.so in
       let o : Origin = origin_of a n before old in
@@ -217,6 +294,7 @@ module _ (a : Ask) (n : Notebook) (begun : Result Job End) (mid new : Counts) wh
         so = λ rested.
             let first : Begins o (Some before) old = record { told = λ on. record { course = begins; rested = rested }; grow = grow_start old } in
             let b : Begins o (Some x) mid = begins_pass o (Some before) (Some x) old mid spared grow first in
+            let fresh : BeginsNew o (Some x) = new_passes o (Some before) (Some x) (begins_rested o (Some before) old first) spared (λ fresh. fresh.none) in
             let for : IsFor a.output a.merge (first_of a n) o = record { output_is = refl; merge_is = refl; first_is = refl } in
-            with_notebook h.bytes n m.added h.accepted (m.is ∙ ap (λ past. m.added ++ past) h.is) task (subst (λ z. FindsKernel a (first_of a n) result z y) h.is (kernel x y refl refl)) (answered a.output begun result answers o (Some y) new caused (goes o for b));
+            with_notebook h.bytes n m.added h.accepted (m.is ∙ ap (λ past. m.added ++ past) h.is) task (subst (λ z. FindsKernel a (first_of a n) result z y) h.is (kernel x y refl refl)) (answered a.output begun result answers o (counted_task a (first_of a n)) (Some y) new (counts o for b fresh) caused (goes o for b fresh));
       }

@@ -1,5 +1,5 @@
 -- By which cause a job ends whose begin ends it.
-use Rattle.std.proofs.Common.{◌≡◌, ◌⊎◌, inl, inr, ◌<◌, ℕ, List, [], ◌∷◌, length, false, Option, Some, None, Result, Ok, Err, refl, sym, ◌∙◌, ap, subst}
+use Rattle.std.proofs.Common.{◌≡◌, ◌⊎◌, inl, inr, ◌<◌, ℕ, List, [], ◌∷◌, length, true, false, Option, Some, None, Result, Ok, Err, refl, sym, ◌∙◌, ap, subst}
 use Rattle.std.specs.Prelude.{IfOk, IfErr}
 use Rattle.nb_model.specs.declared.notebook.Notebook.{Notebook}
 use Rattle.nb_model.specs.Planned.{plan}
@@ -30,10 +30,10 @@ use Rattle.job_end.specs.Answers.{Answers, said, starved, starved_answer}
 use Rattle.job_end.specs.Statuses.{status_of}
 use Rattle.job_saves.specs.Course.{Origin, IsFor, Begins}
 use Rattle.job_run.specs.declared.job.Job.{Job}
-use Rattle.job_run.specs.Run.{Runs, RunsCounted, StartsAs}
-use Rattle.job_run.specs.Task.{task_for, task_of_job, output_of_job}
-use Rattle.job_saves.specs.Calls.{IsAnswer}
-use Rattle.job_run.specs.Told.{EndsBy, StartsBy, IsEnding, IsCaused, cause_of}
+use Rattle.job_run.specs.Run.{Runs, RunsCounted, BeginsNew, StartsAs, outcome_of, HasPorts}
+use Rattle.job_run.specs.Task.{ports_of_job, task_for, task_of_job, output_of_job}
+use Rattle.job_saves.specs.Speaking.{IsAnswer}
+use Rattle.job_run.specs.Told.{EndsJob, StartsBy, IsEnding, IsCaused, cause_of}
 use Rattle.job_run.proofs.StopLemmas.{why_in, start_caused}
 use Rattle.job_begin.specs.Begun.{AnswersAs, IsCausedIn, IsUncaused, IsEndOfSaving, StartsWith, BeginsWith, FindsKernel, GivesNone, not_read, too_large, refused, no_memory, not_asked, IsUnread, status_by, LooksInVain, KernelEnds, HasKernel, first_of}
 
@@ -119,15 +119,33 @@ module _ (output : List ℕ) where
   answered_output to (Ok j) (Err answer) wrong h = absurd wrong
   answered_output to (Err e) (Ok k) wrong h = absurd wrong
 
+  pub answered_fresh : (begun : Result Job End) (result : Result Job Answer) → AnswersAs output begun result → IfOk begun (λ j. outcome_of j ≡ None)
+      → IfOk result (λ j. outcome_of j ≡ None)
+  answered_fresh (Ok j) (Ok k) same h = ap outcome_of same ∙ h
+  answered_fresh (Err e) (Err answer) answers h = tt
+  answered_fresh (Ok j) (Err answer) wrong h = absurd wrong
+  answered_fresh (Err e) (Ok k) wrong h = absurd wrong
+
+  pub answered_ports : (number : ℕ) (journal : Option (List Entry)) (begun : Result Job End) (result : Result Job Answer) → AnswersAs output begun result
+      → IfOk begun (λ j. HasPorts number (ports_of_job j) journal) → IfOk result (λ j. HasPorts number (ports_of_job j) journal)
+  answered_ports number journal (Ok j) (Ok k) same h = subst (λ (x : Job). HasPorts number (ports_of_job x) journal) (sym same) h
+  answered_ports number journal (Err e) (Err answer) answers h = tt
+  answered_ports number journal (Ok j) (Err answer) wrong h = absurd wrong
+  answered_ports number journal (Err e) (Ok k) wrong h = absurd wrong
+
+  -- what isn't watched says nothing of its saves
+  unwatched_new : (o : Origin) (j : Option (List Entry)) → o.is_watched ≡ false → BeginsNew o j
+  unwatched_new o j off fresh = let no : true ≡ false = sym fresh.watched ∙ off in absurd (cc)
+
   -- what stands of it by the counts alone
   pub counted : (a : Ask) (n : Notebook) (begun : Result Job End) (result : Result Job Answer) (old mid new : Counts) (i j : Option (List Entry)) → AnswersAs output begun result
-      → CountsGrow old mid → ((o : Origin) → IsFor a.output a.merge (first_of a n) o → Begins o i mid → StartsAs o begun j new)
+      → CountsGrow old mid → ((o : Origin) → IsFor a.output a.merge (first_of a n) o → Begins o i mid → BeginsNew o i → StartsAs o begun j new)
       → IfOk result (λ job. RunsCounted old job j new)
   counted a n (Ok x) (Ok y) old mid new i j same grow goes =
       let o : Origin = record { is_watched = false; output = a.output; merge = a.merge; first = first_of a n; before = []; counts = mid } in
       let for : IsFor a.output a.merge (first_of a n) o = record { output_is = refl; merge_is = refl; first_is = refl } in
       let begins : Begins o i mid = record { told = λ on. absurd (cc); grow = grow_start mid } in
-      record { origin = o; unwatched = refl; grow = grow; runs = subst (λ z. Runs o z j new) (sym same) (goes o for begins) }
+      record { origin = o; unwatched = refl; grow = grow; runs = subst (λ z. Runs o z j new) (sym same) (goes o for begins (unwatched_new o i refl)) }
   counted a n (Err e) (Err answer) old mid new i j answers grow goes = tt
   counted a n (Ok x) (Err answer) old mid new i j wrong grow goes = absurd wrong
   counted a n (Err e) (Ok y) old mid new i j wrong grow goes = absurd wrong
@@ -157,7 +175,7 @@ start_other task end.NoMemory s = (λ is. absurd (cc), λ is. absurd (cc))
 start_other task (end.NoIdle cell) s = (λ is. absurd (cc), λ is. absurd (cc))
 start_other task end.NetFault s = (λ is. absurd (cc), λ is. absurd (cc))
 start_other task (end.BadPeer chan f) s = (λ is. absurd (cc), λ is. absurd (cc))
-start_other task end.Spent s = (λ is. absurd (cc), λ is. absurd (cc))
+start_other task end.Spent s = absurd s
 
 saving_other : (e : End) → IsEndOfSaving e → IsOther (status_of e)
 saving_other end.Done s = (λ is. absurd (cc), λ is. absurd (cc))
@@ -215,7 +233,7 @@ looked_by a first result j k (Ok kernel) by told = tt
 looked_by a first result j k (Err e) by told = looked_ends a first result j k e by told
 
 -- no run ends with 4 or 5
-run_other : (task : Task) (e : End) → EndsBy task e → IsOther (status_of e)
+run_other : (task : Task) (e : End) → EndsJob task e → IsOther (status_of e)
 run_other task end.Done s = (λ is. absurd (cc), λ is. absurd (cc))
 run_other task (end.CellError cell name) s = (λ is. absurd (cc), λ is. absurd (cc))
 run_other task (end.NotRead path) s = absurd s
@@ -236,7 +254,7 @@ run_other task end.NetFault s = (λ is. absurd (cc), λ is. absurd (cc))
 run_other task (end.BadPeer chan f) s = (λ is. absurd (cc), λ is. absurd (cc))
 run_other task end.Spent s = (λ is. absurd (cc), λ is. absurd (cc))
 
-answer_other : (output : List ℕ) (task : Task) (e : End) (a : Answer) → Answers output e a → EndsBy task e → IsOther a.status
+answer_other : (output : List ℕ) (task : Task) (e : End) (a : Answer) → Answers output e a → EndsJob task e → IsOther a.status
 answer_other output task e _ said s = run_other task e s
 answer_other output task e _ starved s = (λ is. absurd (cc), λ is. absurd (cc))
 

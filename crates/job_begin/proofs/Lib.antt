@@ -1,4 +1,5 @@
 mod BeginLemmas
 pub mod CauseLemmas
 mod CellCounts
+mod CountLemmas
 pub mod EndLemmas

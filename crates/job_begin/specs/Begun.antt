@@ -3,6 +3,7 @@ use Rattle.std.specs.Prelude.{◌≡◌, ◌≢◌, ◌⊎◌, ◌<◌, ℕ, Lis
 use Rattle.nb_model.specs.declared.notebook.Notebook.{Notebook}
 use Rattle.nb_model.specs.Prepared.{prepared_notebook}
 use Rattle.nb_model.specs.Planned.{plan}
+use Rattle.cell_core.specs.Task.{Task}
 use Rattle.cell_core.specs.declared.why.Why.{Why}
 use Rattle.cell_core.specs.declared.why.Why.TheVariants as why
 use Rattle.nb_load.specs.declared.load_fault.LoadFault.{LoadFault}
@@ -37,6 +38,10 @@ first_of a n = if a.prepare then n else prepared_notebook n
 -- the saves of that job begin so
 abbrev pub origin_of : Ask → Notebook → List Entry → Counts → Origin
 origin_of a n before counts = record { is_watched = true; output = a.output; merge = a.merge; first = first_of a n; before = before; counts = counts }
+
+-- the task whose events bring its end, unless nothing is executed
+abbrev pub counted_task : Ask → Notebook → Option Task
+counted_task a first = if a.prepare then None else Some (task_for a first)
 
 -- A status of a job whose notebook is first saved so names a cause only where there are events that stop its core for it. 0
 -- comes too where it has no cell to execute.
@@ -125,7 +130,7 @@ pub data Begun (a : Ask) (result : Result Job Answer) (old new : Counts) (before
   with_notebook : (bytes : List ℕ) (n : Notebook) (later : List Entry) {after : List Entry} → Accepts a bytes n
       → after ≡ later ++ Read a.input 33554432 (found.Whole bytes) ∷ before
       → BeginsWith a (first_of a n) result → FindsKernel a (first_of a n) result (Read a.input 33554432 (found.Whole bytes) ∷ before) after
-      → BeginsAs (origin_of a n before old) result (Some after) new → Begun a result old new before after
+      → BeginsAs (origin_of a n before old) (counted_task a (first_of a n)) result (Some after) new → Begun a result old new before after
 
 -- the input was read, and its bytes give this notebook with its parameters
 pub record HasRead (a : Ask) (n : Notebook) (before after : List Entry) : Type 0 where

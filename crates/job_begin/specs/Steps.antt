@@ -1,35 +1,66 @@
 -- What the steps of a job's begin make of the world, for each job that hasn't saved yet.
-use Rattle.std.specs.Prelude.{◌≡◌, ℕ, List, Bool, Option, Some, Result, IfErr}
+use Rattle.std.specs.Prelude.{◌≡◌, ℕ, ◌+◌, zero, suc, List, Bool, Option, Some, IfSome, Result, Ok, Err, IfErr}
 use Rattle.nb_model.specs.declared.notebook.Notebook.{Notebook}
 use Rattle.words.specs.declared.ask.Ask.{Ask}
 use Rattle.world.specs.declared.entry.Entry.{Entry}
 use Rattle.world.specs.Counts.{Counts}
+use Rattle.world.specs.Moments.{Told}
+use Rattle.save_disk.specs.Places.{acknowledged}
+use Rattle.cell_core.specs.Task.{Task}
 use Rattle.job_end.specs.declared.end.End.{End}
+use Rattle.job_end.specs.declared.end.End.TheVariants as end
+use Rattle.job_end.specs.Statuses.{status_of}
 use Rattle.job_saves.specs.Calls.{Cast}
 use Rattle.job_saves.specs.Children.{KeepsEnd}
 use Rattle.job_saves.specs.Course.{Origin, IsFor, HasCalled, Begins, Ends}
 use Rattle.job_run.specs.declared.job.Job.{Job}
-use Rattle.job_run.specs.Run.{IsCastAs, StartsAs, StartsInRole}
+use Rattle.job_run.specs.Counted.{IsCausedAfter}
+use Rattle.job_run.specs.Run.{IsNew, BeginsNew, IsCastAs, HasNoChild, HasNoPorts, StartsAs, StartsInRole}
+use Rattle.job_begin.specs.Begun.{counted_task}
 
 -- calls save this notebook and end the job; no save has failed in them where `is_open`
 abbrev pub SavesFor : {W : Type 0} → (W → Option (List Entry)) → (W → Counts) → W → W → Ask → Notebook → Bool → Type 0
 SavesFor journal counts old new a first is_open = (o : Origin) → IsFor a.output a.merge first o → Begins o (journal old) (counts old)
     → Ends o is_open (journal new) (counts new)
 
--- calls save this notebook, and the job runs or has ended
+-- calls save this notebook, of which nothing was saved before, and the job runs or has ended
 abbrev pub StartsFor : {W : Type 0} → (W → Option (List Entry)) → (W → Counts) → W → W → Ask → Notebook → Result Job End → Type 0
 StartsFor journal counts old new a first result = (o : Origin) → IsFor a.output a.merge first o → Begins o (journal old) (counts old)
-    → StartsAs o result (journal new) (counts new)
+    → BeginsNew o (journal old) → StartsAs o result (journal new) (counts new)
+
+-- a job ended so: of the events of this task that brought the end as many are saves as were acknowledged
+abbrev pub EndsCounted : Origin → Option Task → Option (List Entry) → End → Type 0
+EndsCounted o task journal e = (t : Task) → task ≡ Some t → IsNew o → IfSome journal (λ past. IsCausedAfter (acknowledged o.output past) t (status_of e))
+
+-- the same of calls of a job of which nothing was saved before, where they end it
+abbrev pub CountsEnd : {W : Type 0} → (W → Option (List Entry)) → (W → Counts) → W → W → Ask → Notebook → Result Job End → Type 0
+CountsEnd journal counts old new a first result = (o : Origin) → IsFor a.output a.merge first o → Begins o (journal old) (counts old)
+    → BeginsNew o (journal old) → IfErr result (EndsCounted o (counted_task a first) (journal new))
+
+-- how many saves follow that of the notebook as it waits, where none of its so many cells is executed: one if it has cells
+abbrev pub closing_saves : ℕ → ℕ
+closing_saves zero = 0
+closing_saves (suc n) = 1
+
+-- calls by which so many saves of this output are acknowledged
+abbrev pub Acknowledges : {W : Type 0} → (W → Option (List Entry)) → W → W → List ℕ → ℕ → Type 0
+Acknowledges journal old new output n = Told (journal old) (journal new) (λ before after. acknowledged output after ≡ acknowledged output before + n)
+
+-- the end of a job that was to save its notebook, and nothing more
+abbrev pub end_by : {U : Type 0} → Result U End → End
+end_by (Ok u) = end.Done
+end_by (Err e) = e
 
 -- calls of a job that ends are those of the job that is asked for
 abbrev pub EndsInRole : {W : Type 0} → (W → Option (List Entry)) → (W → Counts) → W → W → Ask → Type 0
 EndsInRole journal counts old new a = (c : Cast) (number : ℕ) (since : List Entry) (from : Counts) → c.job number ≡ Some a
     → HasCalled c since from (journal old) (counts old) → HasCalled c since from (journal new) (counts new)
 
--- the same of a job that runs or has ended, in this working folder
+-- the same of a job that runs or has ended, in this working folder; where the jobs began clean, no child of its number is
+-- there and it has asked for no ports
 abbrev pub BeginsInRole : {W E : Type 0} → (W → Option (List Entry)) → (W → Counts) → W → W → ℕ → Ask → List ℕ → Result Job E → Type 0
 BeginsInRole journal counts old new number a here result = (c : Cast) (since : List Entry) (from : Counts) → IsCastAs c number a here
-    → HasCalled c since from (journal old) (counts old) → StartsInRole c since from result (journal new) (counts new)
+    → HasNoChild c number (journal old) → HasNoPorts c number (journal old) → HasCalled c since from (journal old) (counts old) → StartsInRole c since from result (journal new) (counts new)
 
 -- a job that has ended left no child without its end
 abbrev pub LeavesNone : {W E : Type 0} → (W → Option (List Entry)) → W → W → ℕ → Result Job E → Type 0

@@ -1,5 +1,6 @@
 //! `begin`, the begin of a job.
-ghost use Rattle.std.specs.Prelude.{◌≡◌, ◌⊎◌, ◌<◌, ◌^◌, ℕ, List, false, length, Err, IfOk, IfErr, OnOk};
+ghost use Rattle.std.specs.Prelude.{◌≡◌, ◌⊎◌, ◌<◌, ◌^◌, ◌+◌, ℕ, List, false, length, None, Ok, Err};
+ghost use Rattle.std.specs.Prelude.{IfSome, IfOk, IfErr, OnOk};
 ghost use Rattle.std.specs.Str.{bytes_eq};
 ghost use Rattle.job_begin.specs.Begun.{Begun, HasRead, AnswersAs, IsOpen, first_of};
 ghost use Rattle.job_begin.specs.Begun.{StartsWith, IsUncaused, IsEndOfSaving};
@@ -8,21 +9,23 @@ ghost use Rattle.job_end.specs.declared.end.End.TheVariants as ending;
 ghost use Rattle.kernel_start.specs.declared.kernel_fault.KernelFault as faults;
 ghost use Rattle.job_end.specs.Statuses.{status_of};
 ghost use Rattle.job_begin.specs.Causes.{HasCause};
-ghost use Rattle.job_begin.specs.Steps.{SavesFor, StartsFor, EndsInRole};
+ghost use Rattle.job_begin.specs.Steps.{SavesFor, StartsFor, CountsEnd, EndsInRole};
+ghost use Rattle.job_begin.specs.Steps.{Acknowledges, closing_saves, end_by};
 ghost use Rattle.job_begin.specs.Steps.{BeginsInRole, LeavesNone};
 ghost use Rattle.job_notebook.specs.State.{notebook_of, settled_of, merge_of, output_of, KeepsRead};
-ghost use Rattle.job_saves.specs.Calls.{Cast, IsAnswer, IsKernelOf, IsCall};
+ghost use Rattle.job_saves.specs.Calls.{Cast, IsCall};
+ghost use Rattle.job_saves.specs.Reads.{IsInputOf, IsNotebookOf, IsKernelOf};
+ghost use Rattle.job_saves.specs.Speaking.{IsAnswer};
 ghost use Rattle.job_saves.specs.Course.{GoesOn, CallsOwn, CountsWork};
 ghost use Rattle.job_saves.specs.Course.{IsEndOfRun, IsEndOfSave, stays_open, keeps_open};
-ghost use Rattle.job_run.specs.Run.{EndCause, RunsCounted};
-ghost use Rattle.job_run.specs.Task.{output_of_job};
+ghost use Rattle.job_run.specs.Run.{EndCause, RunsCounted, outcome_of, HasPorts};
+ghost use Rattle.job_run.specs.Task.{output_of_job, ports_of_job};
 ghost use Rattle.save_course.specs.Course.{IsRested};
-ghost use Rattle.kernel_start.specs.Finding.{IsFound, IsNotRead};
-ghost use Rattle.nb_model.specs.declared.notebook.Notebook as notebooks;
-ghost use Rattle.words.specs.declared.ask.Ask as asks;
+ghost use Rattle.kernel_start.specs.Finding.{IsNotRead};
 ghost use Rattle.words.specs.Runnable.{IsRunnable};
 ghost use Rattle.world.specs.Counts.{Counts, CountsGrow, Rose};
 ghost use Rattle.world.specs.Moments.{Told, Since};
+ghost use Rattle.world.specs.Parts.{IsOf, OnDisk};
 ghost use Rattle.world.specs.Touched.{Spares};
 
 use crate::laws::{causes_stay, jobs_end_unsaved};
@@ -54,23 +57,30 @@ pub fn begin<W: World>(
     requires number { number < 16 }
     requires ask { IsRunnable ask }
 
-    // What its saves are a course of, where no rename onto the output waited for its folder's sync.
+    // What its saves are a course of, where no rename onto the output waited for its folder's sync;
+    // where none was acknowledged before, as many saves as were since are among the events that the
+    // core of the job was told, or that brought the end of one that was to be executed.
     ensures begun { Told (W.journal w.old) (W.journal w.new) (λ before after.
         IsRested ask.output before →
         Begun ask result (W.counts w.old) (W.counts w.new) before after) }
-    // Its calls are those of the job that was asked for, and no other job's.
+    // Its calls are those of the job that was asked for, and no other job's, where no child of its
+    // number is there or the jobs didn't begin clean.
     ensures calls { BeginsInRole W.journal W.counts w.old w.new number ask here.now result }
     // Where it has ended a child that was started has its end.
     ensures left { LeavesNone W.journal w.old w.new number result }
-    // Statuses 3, 6 and 10 come only where a count of failed calls rose.
+    // Statuses 3, 6, 10 and 14 come only where a count of failed calls rose, and 16 never.
     ensures cause { IfErr result (λ answer.
         HasCause (W.counts w.old) (W.counts w.new) answer.status) }
+    ensures spent { IfErr result (λ answer. answer.status ≡ 16 → ⊥) }
     // The status and the line are those of an end; where it runs, its last line names its output.
     ensures answer { IfErr result (IsAnswer ask.output) }
     ensures output { IfOk result (λ j. output_of_job j ≡ ask.output) }
-    // Where it runs, a save that fails comes only where a count rose, whatever the world tells.
+    // Where it runs it has not ended, and a save that fails comes only where a count rose, whatever
+    // the world tells.
     ensures runs { IfOk result (λ j.
         RunsCounted (W.counts w.old) j (W.journal w.new) (W.counts w.new)) }
+    ensures fresh { IfOk result (λ j. outcome_of j ≡ None) }
+    ensures ports { IfOk result (λ j. HasPorts number (ports_of_job j) (W.journal w.new)) }
 {
     laws::other_calls_pass();
     let Ok(output) = ask.output.copy(alloc) else {
@@ -101,6 +111,7 @@ fn input_of<W: Disk>(alloc: Global, w: &mut W, ask: &Ask) -> Result<Notebook, En
         Told (W.journal w.old) (W.journal w.new) (HasRead ask.now notebook)) }
     ensures others { (path : List ℕ) →
         Told (W.journal w.old) (W.journal w.new) (Since (Spares path)) }
+    ensures part { Told (W.journal w.old) (W.journal w.new) (Since (IsOf OnDisk)) }
     ensures calls { (c : Cast) (number : ℕ) → c.job number ≡ Some ask.now →
         Told (W.journal w.old) (W.journal w.new) (Since (IsCall c)) }
     ensures work { CountsWork (W.counts w.old) (W.counts w.new) }
@@ -148,13 +159,17 @@ fn begin_with<W: World>(
     requires ask { IsRunnable ask }
     requires few { length notebook.cells < 2 ^ 32 }
     ensures course { StartsFor W.journal W.counts w.old w.new ask (first_of ask notebook) result }
-    ensures calls { BeginsInRole W.journal W.counts w.old w.new number ask here.now result }
+    ensures counted { CountsEnd W.journal W.counts w.old w.new ask (first_of ask notebook) result }
+    ensures calls { IfSome (W.journal w.old) (λ past. IsInputOf ask past notebook) →
+        BeginsInRole W.journal W.counts w.old w.new number ask here.now result }
     ensures left { LeavesNone W.journal w.old w.new number result }
     ensures cause { IfErr result (EndCause (W.counts w.old) (W.counts w.new)) }
     ensures task { StartsWith ask (first_of ask notebook) result }
     ensures kernel { IfErr result
         (KernelEnds ask (first_of ask notebook) (W.journal w.old) (W.journal w.new)) }
     ensures output { IfOk result (λ j. output_of_job j ≡ ask.output) }
+    ensures fresh { IfOk result (λ j. outcome_of j ≡ None) }
+    ensures ports { IfOk result (λ j. HasPorts number (ports_of_job j) (W.journal w.new)) }
 {
     jobs_end_unsaved();
     if ask.prepare {
@@ -172,6 +187,7 @@ fn end_of(saved: Result<(), End>) -> End
     ensures open { keeps_open result ≡ stays_open saved }
     ensures own { IfErr saved IsEndOfRun → IsEndOfRun result }
     ensures kind { IfErr saved IsEndOfSave → IsEndOfSaving result }
+    ensures answer { result ≡ end_by saved }
 {
     match saved {
         Ok(()) => End::Done,
@@ -222,6 +238,8 @@ fn save_twice<W: Disk + Say>(
 ) -> Result<(), End>
     requires { length notebook.cells < 2 ^ 32 }
     ensures course { SavesFor W.journal W.counts w.old w.new ask.now notebook (stays_open result) }
+    ensures acked { OnOk result (Acknowledges W.journal w.old w.new ask.now.output
+        (1 + closing_saves (length notebook.cells))) }
     ensures calls { EndsInRole W.journal W.counts w.old w.new ask.now }
     ensures own { IfErr result IsEndOfRun }
     ensures kind { IfErr result IsEndOfSave }
@@ -240,6 +258,8 @@ fn save_done<W: Disk + Say>(w: &mut W, book: &mut JobNotebook) -> Result<(), End
     requires few { length (notebook_of book.old).cells < 2 ^ 32 }
     requires settled { settled_of book.old ≡ 0 }
     ensures course { GoesOn W.journal W.counts w.old w.new book.old book.new (stays_open result) }
+    ensures acked { OnOk result (Acknowledges W.journal w.old w.new (output_of book.old)
+        (closing_saves (length (notebook_of book.old).cells))) }
     ensures calls { CallsOwn W.journal W.counts w.old w.new book.old book.new }
     ensures own { IfErr result IsEndOfRun }
     ensures kind { IfErr result IsEndOfSave }
@@ -264,13 +284,17 @@ fn execute<W: World>(
     requires ask { IsRunnable ask }
     requires few { length notebook.cells < 2 ^ 32 }
     ensures course { StartsFor W.journal W.counts w.old w.new ask notebook result }
-    ensures calls { BeginsInRole W.journal W.counts w.old w.new number ask here.now result }
+    ensures counted { CountsEnd W.journal W.counts w.old w.new ask notebook result }
+    ensures calls { IfSome (W.journal w.old) (λ past. IsNotebookOf ask past notebook) →
+        BeginsInRole W.journal W.counts w.old w.new number ask here.now result }
     ensures left { LeavesNone W.journal w.old w.new number result }
     ensures cause { IfErr result (EndCause (W.counts w.old) (W.counts w.new)) }
     ensures task { ask.prepare ≡ false → StartsWith ask notebook result }
     ensures kernel { IfErr result
         (KernelEnds ask notebook (W.journal w.old) (W.journal w.new)) }
     ensures output { IfOk result (λ j. output_of_job j ≡ ask.output) }
+    ensures fresh { IfOk result (λ j. outcome_of j ≡ None) }
+    ensures ports { IfOk result (λ j. HasPorts number (ports_of_job j) (W.journal w.new)) }
 {
     laws::other_calls_pass();
     jobs_end_unsaved();
@@ -298,12 +322,16 @@ fn kernel_of<W: Disk>(
     ask: &Ask,
     notebook: &Notebook,
 ) -> Result<Kernel, End>
-    ensures found { IfOk result (IsKernelOf ask.now) }
+    ensures found { IfSome (W.journal w.old) (λ past. IsNotebookOf ask.now past notebook.now) →
+        IfOk result (λ kernel.
+        IfSome (W.journal w.new) (λ past. IsKernelOf ask.now past kernel)) }
     ensures kernel { IfErr result
         (KernelEnds ask.now notebook.now (W.journal w.old) (W.journal w.new)) }
     ensures others { (path : List ℕ) →
         Told (W.journal w.old) (W.journal w.new) (Since (Spares path)) }
+    ensures part { Told (W.journal w.old) (W.journal w.new) (Since (IsOf OnDisk)) }
     ensures calls { (c : Cast) (number : ℕ) → c.job number ≡ Some ask.now →
+        IfSome (W.journal w.old) (λ past. IsNotebookOf ask.now past notebook.now) →
         Told (W.journal w.old) (W.journal w.new) (Since (IsCall c)) }
     ensures work { CountsWork (W.counts w.old) (W.counts w.new) }
     ensures cause { IfErr result (EndCause (W.counts w.old) (W.counts w.new)) }
@@ -315,8 +343,7 @@ fn kernel_of<W: Disk>(
 
 /// The kernel that was found, or how its job ends.
 fn found_or_end(found: Result<Kernel, KernelFault>) -> Result<Kernel, End>
-    ensures found { (a : asks.Ask) (n : notebooks.Notebook) → IsFound a n found →
-        IfOk result (IsKernelOf a) }
+    ensures found { IfOk result (λ kernel. found ≡ Ok kernel) }
     ensures fault { IfErr result (λ end.
         (f : faults.KernelFault) × (found ≡ Err f) × (status_of end ≡ status_by f)) }
     ensures cause { (old new : Counts) → (IsNotRead found → Rose old.disk new.disk) →

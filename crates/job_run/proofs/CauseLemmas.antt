@@ -1,9 +1,9 @@
 -- The causes of ends, by the counts.
-use Rattle.std.proofs.Common.{◌⊎◌, inl, inr, ℕ, ◌≤◌, List, [], Option, Some, None, Result, Ok, Err, refl, arith}
+use Rattle.std.proofs.Common.{◌≡◌, ◌⊎◌, inl, inr, ℕ, ◌≤◌, List, [], Option, Some, None, Result, Ok, Err, refl, sym, ap, ◌∙◌, arith}
 use Rattle.std.specs.Prelude.{false, IfSome, IfErr}
 use Rattle.world.specs.declared.entry.Entry.{Entry}
 use Rattle.world.specs.Counts.{Counts, CountsGrow, Rose}
-use Rattle.world.specs.Moments.{Since, start}
+use Rattle.world.specs.Moments.{Since, start, Told}
 use Rattle.world.proofs.CountsLemmas.{grow_start}
 use Rattle.words.specs.declared.ask.Ask.{Ask}
 use Rattle.job_end.specs.declared.end.End.{End}
@@ -11,12 +11,14 @@ use Rattle.job_end.specs.declared.end.End.TheVariants as end
 use Rattle.job_notebook.specs.declared.notebook.JobNotebook.{JobNotebook}
 use Rattle.job_notebook.specs.State.{output_of}
 use Rattle.job_saves.specs.Calls.{Cast, IsCall}
-use Rattle.job_saves.specs.Children.{KeepsEnd}
-use Rattle.job_saves.specs.Course.{IsEndOfRun, HasPart}
-use Rattle.job_saves.proofs.ChildLemmas.{StartsNone, told_keeps_end}
+use Rattle.job_saves.specs.Children.{KeepsEnd, AsksNone}
+use Rattle.job_saves.specs.Course.{HasPart, KeepsPart}
+use Rattle.job_saves.proofs.ChildLemmas.{told_asks_none, StartsNone, told_keeps_end}
 use Rattle.job_saves.proofs.CourseLemmas.{work_start}
 use Rattle.job_saves.proofs.ToldLemmas.{told_by}
 use Rattle.job_run.specs.Run.{EndCause}
+use Rattle.job_run.specs.Told.{EndsBy}
+use Rattle.cell_core.specs.Task.{Task}
 
 rose_within : (a b c d : ℕ) → a ≤ b → c ≤ d → Rose b c → Rose a d
 rose_within a b c d more later rose = grind (arith, more, later, rose)
@@ -44,9 +46,9 @@ cause_within old mid late new (end.NotSaved f) grow more h = tt
 cause_within old mid late new end.NoConnectionFile grow more h = rose_within old.disk mid.disk late.disk new.disk grow.disk more.disk h
 cause_within old mid late new end.NoMemory grow more h = tt
 cause_within old mid late new (end.NoIdle cell) grow more h = tt
-cause_within old mid late new end.NetFault grow more h = tt
+cause_within old mid late new end.NetFault grow more h = rose_within old.net mid.net late.net new.net grow.net more.net h
 cause_within old mid late new (end.BadPeer chan f) grow more h = tt
-cause_within old mid late new end.Spent grow more h = tt
+cause_within old mid late new end.Spent grow more h = h
 
 pub cause_stays : (old mid new : Counts) (e : End) → CountsGrow old mid → EndCause mid new e → EndCause old new e
 cause_stays old mid new e grow h = cause_within old mid new new e grow (grow_start new) h
@@ -58,27 +60,27 @@ causes_within old mid late new (Err e) grow more h = cause_within old mid late n
 pub causes_stay : {A : Type 0} (old mid new : Counts) (r : Result A End) → CountsGrow old mid → IfErr r (EndCause mid new) → IfErr r (EndCause old new)
 causes_stay old mid new r grow h = causes_within old mid new new r grow (grow_start new) h
 
--- an end of a run has no cause to show here
-pub own_caused : (old new : Counts) (e : End) → IsEndOfRun e → EndCause old new e
-own_caused old new end.Done own = tt
-own_caused old new (end.CellError cell name) own = tt
-own_caused old new (end.NotRead path) own = absurd own
-own_caused old new end.TooLarge own = tt
-own_caused old new (end.NotLoaded f) own = tt
-own_caused old new end.NoKernelName own = tt
-own_caused old new end.BadKernelName own = tt
-own_caused old new (end.BadSpec f) own = tt
-own_caused old new end.NotStarted own = absurd own
-own_caused old new end.NotReady own = tt
-own_caused old new end.KernelLost own = tt
-own_caused old new (end.TimedOut cell) own = tt
-own_caused old new (end.NotSaved f) own = tt
-own_caused old new end.NoConnectionFile own = absurd own
-own_caused old new end.NoMemory own = tt
-own_caused old new (end.NoIdle cell) own = tt
-own_caused old new end.NetFault own = tt
-own_caused old new (end.BadPeer chan f) own = tt
-own_caused old new end.Spent own = tt
+-- what ends a run by itself has no cause to show here
+pub own_caused : (task : Task) (old new : Counts) (e : End) → EndsBy task e → EndCause old new e
+own_caused task old new end.Done own = tt
+own_caused task old new (end.CellError cell name) own = tt
+own_caused task old new (end.NotRead path) own = absurd own
+own_caused task old new end.TooLarge own = absurd own
+own_caused task old new (end.NotLoaded f) own = absurd own
+own_caused task old new end.NoKernelName own = absurd own
+own_caused task old new end.BadKernelName own = absurd own
+own_caused task old new (end.BadSpec f) own = absurd own
+own_caused task old new end.NotStarted own = absurd own
+own_caused task old new end.NotReady own = tt
+own_caused task old new end.KernelLost own = tt
+own_caused task old new (end.TimedOut cell) own = tt
+own_caused task old new (end.NotSaved f) own = tt
+own_caused task old new end.NoConnectionFile own = absurd own
+own_caused task old new end.NoMemory own = tt
+own_caused task old new (end.NoIdle cell) own = tt
+own_caused task old new end.NetFault own = absurd own
+own_caused task old new (end.BadPeer chan f) own = tt
+own_caused task old new end.Spent own = absurd own
 
 -- ---- calls of a job that starts no child
 
@@ -104,7 +106,7 @@ job_on output = record {
 
 -- no other, and no child is started
 abbrev alone : List ℕ → Cast
-alone output = record { job = λ n. Some (job_on output); here = []; starts = false }
+alone output = record { job = λ n. Some (job_on output); here = []; starts = false; clean = false }
 
 starts_none : (output : List ℕ) (n : ℕ) → StartsNone (alone output) n
 starts_none output n number a has starts = absurd (cc)
@@ -116,7 +118,7 @@ has_part was j c since held = record {
   ask = job_on (output_of was);
   has = refl;
   output = refl;
-  so = record { told = held; counts_work = work_start c };
+  so = record { told = held; counts_work = work_start c; spoken = λ e. absurd (cc) };
 }
 
 abbrev or_none : Option (List Entry) → List Entry
@@ -127,14 +129,39 @@ at_start : (P : List Entry → Type 0) (p : Option (List Entry)) → IfSome p (S
 at_start P None = tt
 at_start P (Some x) = start
 
+abbrev ask_in : List ℕ → Option Ask → List ℕ
+ask_in other None = other
+ask_in other (Some a) = a.output
+
 module _ (was now : JobNotebook) (j k : Option (List Entry)) (c d : Counts)
     (calls : (cast : Cast) (since : List Entry) (from : Counts) → HasPart cast since from was j c → HasPart cast since from now k d) where
   -- no count falls
   pub calls_grow : CountsGrow c d
   calls_grow = (calls (alone (output_of was)) (or_none j) c (has_part was j c (or_none j) (at_start (IsCall (alone (output_of was))) j))).so.counts_work.grow
 
+  pub calls_told : Told j k (Since (IsCall (alone (output_of was))))
+  calls_told = told_by (IsCall (alone (output_of was))) j k (λ since held. (calls (alone (output_of was)) since c (has_part was j c since held)).so.told)
+
   -- and no child is left without its end
   pub calls_end : (n : ℕ) → KeepsEnd n j k
-  calls_end n =
-      told_keeps_end (alone (output_of was)) n (starts_none (output_of was) n) j k
-      (told_by (IsCall (alone (output_of was))) j k (λ since held. (calls (alone (output_of was)) since c (has_part was j c since held)).so.told))
+  calls_end n = told_keeps_end (alone (output_of was)) n (starts_none (output_of was) n) j k calls_told
+
+  -- nor are ports asked for
+  pub calls_ask_none : (n : ℕ) → AsksNone n j → AsksNone n k
+  calls_ask_none n = told_asks_none (alone (output_of was)) n (starts_none (output_of was) n) j k calls_told
+
+  -- they are of the same output
+  pub calls_output : output_of now ≡ output_of was
+  calls_output =
+      let part = calls (alone (output_of was)) (or_none j) c (has_part was j c (or_none j) (at_start (IsCall (alone (output_of was))) j)) in
+      part.output ∙ ap (ask_in (output_of was)) (sym part.has)
+
+-- ---- what keeps its part keeps its output
+
+abbrev no_counts : Counts
+no_counts = record { disk = 0; net = 0; waits = 0; child = 0; rand = 0; say = 0; last = 0 }
+
+pub part_output : (was now : JobNotebook) → KeepsPart was now → output_of now ≡ output_of was
+part_output was now keeps =
+    let part = keeps (alone (output_of was)) [] no_counts None no_counts (has_part was None no_counts [] tt) in
+    part.output ∙ ap (ask_in (output_of was)) (sym part.has)

@@ -5,7 +5,7 @@ use Rattle.jmsg.specs.declared.decoded.Decoded.{Decoded}
 use Rattle.jmsg.specs.declared.decoded.Decoded.TheVariants.{Good}
 use Rattle.jmsg.specs.declared.message.Message.{Message}
 use Rattle.jmsg.specs.Signed.{Decodes, Signed}
-use Rattle.job_run.specs.Heard.{IsContent}
+use Rattle.job_run.specs.Heard.{IsContent, IsFrom}
 
 signed_content : (key : List ℕ) (parts : List (List ℕ)) (m : Message) → Signed key parts m → IsContent m.content
 signed_content key parts m s = record {
@@ -13,5 +13,8 @@ signed_content key parts m s = record {
   nests = s.2.is_content.nests;
 }
 
-pub good_content : (key : List ℕ) (parts : List (List ℕ)) (d : Decoded) (m : Message) → d ≡ Good m → Decodes key parts d → IsContent m.content
-good_content key parts d m is decodes = signed_content key parts m (subst (Decodes key parts) is decodes)
+pub good_from : (key : List ℕ) (parts : List (List ℕ)) (d : Decoded) (m : Message) → d ≡ Good m → Decodes key parts d → IsFrom key m
+good_from key parts d m is decodes = record { parts = parts; signed = subst (Decodes key parts) is decodes }
+
+pub from_content : (key : List ℕ) (m : Message) → IsFrom key m → IsContent m.content
+from_content key m from = signed_content key from.parts m from.signed

@@ -1,10 +1,14 @@
+pub mod AskLemmas
 pub mod BeginLemmas
 pub mod CauseLemmas
+pub mod CountLemmas
 pub mod HeardLemmas
 pub mod HoldLemmas
 pub mod LaunchLemmas
 pub mod OutcomeLemmas
+pub mod PartLemmas
 pub mod RunLemmas
 pub mod StopLemmas
 pub mod ToldLemmas
+pub mod TurnLemmas
 pub mod WorkLemmas

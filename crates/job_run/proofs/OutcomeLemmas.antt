@@ -1,5 +1,9 @@
 -- What the status of a job says of its saves.
-use Rattle.std.proofs.Common.{◌≡◌, inl, inr, ℕ, ◌==◌, ◌||◌, true, false, List, refl, subst}
+use Rattle.std.proofs.Common.{◌≡◌, inl, inr, ℕ, ◌==◌, ◌||◌, Bool, true, false, List, Result, Ok, Err, refl, sym, ap, subst, ◌∙◌}
+use Rattle.std.specs.Prelude.{IfErr}
+use Rattle.nb_load.specs.declared.load_fault.LoadFault.{LoadFault}
+use Rattle.nb_load.specs.declared.load_fault.LoadFault.TheVariants as load
+use Rattle.cell_core.specs.Task.{Task}
 use Rattle.job_end.specs.declared.answer.Answer.{Answer}
 use Rattle.job_end.specs.declared.end.End.{End}
 use Rattle.job_end.specs.declared.end.End.TheVariants as end
@@ -7,6 +11,7 @@ use Rattle.job_end.specs.Answers.{Answers, said, starved}
 use Rattle.job_end.specs.Statuses.{status_of}
 use Rattle.job_saves.specs.Course.{keeps_open, IsEndOfRun}
 use Rattle.job_run.specs.Run.{IsUnsaved, IsFileStatus}
+use Rattle.job_run.specs.Told.{EndsBy}
 
 -- another status
 neither : {A : Type 0} (n : ℕ) → ((n == 3) || (n == 10)) ≡ false → IsFileStatus n → A
@@ -51,3 +56,87 @@ starved_shut a is = inr is
 
 pub starved_fails : (a : Answer) → a.status ≡ 12 → IsFileStatus a.status → ⊥
 starved_fails a is h = neither 12 refl (subst IsFileStatus is h)
+
+-- ---- the ends from outside
+
+-- another number
+differs : {A : Type 0} (test : ℕ → Bool) (m n : ℕ) → test n ≡ true → test m ≡ false → m ≡ n → A
+differs test m n is_one is_none e = let both : true ≡ false = sym is_one ∙ subst (λ k. test k ≡ false) e is_none in absurd (cc)
+
+not_loaded : {A : Type 0} (test : ℕ → Bool) (n : ℕ) (f : LoadFault) → test n ≡ true → test 4 ≡ false → test 5 ≡ false → test 12 ≡ false → status_of (end.NotLoaded f) ≡ n → A
+not_loaded test n (load.NotJson f) is_one four five twelve h = differs test 4 n is_one four h
+not_loaded test n (load.NotNotebook f) is_one four five twelve h = differs test 4 n is_one four h
+not_loaded test n (load.NoTranslator language) is_one four five twelve h = differs test 5 n is_one five h
+not_loaded test n load.NoMemory is_one four five twelve h = differs test 12 n is_one twelve h
+
+lost_end : (e : End) → status_of e ≡ 14 → e ≡ end.NetFault
+lost_end end.Done h = differs (λ m. m == 14) 0 14 refl refl h
+lost_end (end.CellError cell name) h = differs (λ m. m == 14) 1 14 refl refl h
+lost_end (end.NotRead path) h = differs (λ m. m == 14) 3 14 refl refl h
+lost_end end.TooLarge h = differs (λ m. m == 14) 4 14 refl refl h
+lost_end (end.NotLoaded f) h = not_loaded (λ m. m == 14) 14 f refl refl refl refl h
+lost_end end.NoKernelName h = differs (λ m. m == 14) 5 14 refl refl h
+lost_end end.BadKernelName h = differs (λ m. m == 14) 5 14 refl refl h
+lost_end (end.BadSpec f) h = differs (λ m. m == 14) 5 14 refl refl h
+lost_end end.NotStarted h = differs (λ m. m == 14) 6 14 refl refl h
+lost_end end.NotReady h = differs (λ m. m == 14) 7 14 refl refl h
+lost_end end.KernelLost h = differs (λ m. m == 14) 8 14 refl refl h
+lost_end (end.TimedOut cell) h = differs (λ m. m == 14) 9 14 refl refl h
+lost_end (end.NotSaved f) h = differs (λ m. m == 14) 10 14 refl refl h
+lost_end end.NoConnectionFile h = differs (λ m. m == 14) 10 14 refl refl h
+lost_end end.NoMemory h = differs (λ m. m == 14) 12 14 refl refl h
+lost_end (end.NoIdle cell) h = differs (λ m. m == 14) 13 14 refl refl h
+lost_end end.NetFault h = refl
+lost_end (end.BadPeer chan f) h = differs (λ m. m == 14) 15 14 refl refl h
+lost_end end.Spent h = differs (λ m. m == 14) 16 14 refl refl h
+
+-- the network ends a job with the status of that alone
+pub lost_by : (output : List ℕ) (e : End) (a : Answer) → Answers output e a → a.status ≡ 14 → e ≡ end.NetFault
+lost_by output e _ said h = lost_end e h
+lost_by output e _ starved h = differs (λ m. m == 14) 12 14 refl refl h
+
+pub starved_lost : (a : Answer) → a.status ≡ 12 → a.status ≡ 14 → ⊥
+starved_lost a is h = differs (λ m. m == 14) 12 14 refl refl (sym is ∙ h)
+
+spent_end : (e : End) → status_of e ≡ 16 → e ≡ end.Spent
+spent_end end.Done h = differs (λ m. m == 16) 0 16 refl refl h
+spent_end (end.CellError cell name) h = differs (λ m. m == 16) 1 16 refl refl h
+spent_end (end.NotRead path) h = differs (λ m. m == 16) 3 16 refl refl h
+spent_end end.TooLarge h = differs (λ m. m == 16) 4 16 refl refl h
+spent_end (end.NotLoaded f) h = not_loaded (λ m. m == 16) 16 f refl refl refl refl h
+spent_end end.NoKernelName h = differs (λ m. m == 16) 5 16 refl refl h
+spent_end end.BadKernelName h = differs (λ m. m == 16) 5 16 refl refl h
+spent_end (end.BadSpec f) h = differs (λ m. m == 16) 5 16 refl refl h
+spent_end end.NotStarted h = differs (λ m. m == 16) 6 16 refl refl h
+spent_end end.NotReady h = differs (λ m. m == 16) 7 16 refl refl h
+spent_end end.KernelLost h = differs (λ m. m == 16) 8 16 refl refl h
+spent_end (end.TimedOut cell) h = differs (λ m. m == 16) 9 16 refl refl h
+spent_end (end.NotSaved f) h = differs (λ m. m == 16) 10 16 refl refl h
+spent_end end.NoConnectionFile h = differs (λ m. m == 16) 10 16 refl refl h
+spent_end end.NoMemory h = differs (λ m. m == 16) 12 16 refl refl h
+spent_end (end.NoIdle cell) h = differs (λ m. m == 16) 13 16 refl refl h
+spent_end end.NetFault h = differs (λ m. m == 16) 14 16 refl refl h
+spent_end (end.BadPeer chan f) h = differs (λ m. m == 16) 15 16 refl refl h
+spent_end end.Spent h = refl
+
+-- the budget of turns ends it so alone
+pub spent_by : (output : List ℕ) (e : End) (a : Answer) → Answers output e a → a.status ≡ 16 → e ≡ end.Spent
+spent_by output e _ said h = spent_end e h
+spent_by output e _ starved h = differs (λ m. m == 16) 12 16 refl refl h
+
+pub starved_spent : (a : Answer) → a.status ≡ 12 → a.status ≡ 16 → ⊥
+starved_spent a is h = differs (λ m. m == 16) 12 16 refl refl (sym is ∙ h)
+
+abbrev end_in : End → Result (Unit {0}) End → End
+end_in other (Ok u) = other
+end_in other (Err e) = e
+
+pub err_same : (r : Result (Unit {0}) End) (e f : End) → r ≡ Err e → r ≡ Err f → e ≡ f
+err_same r e f is at = ap (end_in e) (sym is ∙ at)
+
+-- what a run ends by itself is neither
+pub not_lost : {A : Type 0} (task : Task) (r : Result A End) → IfErr r (EndsBy task) → r ≡ Err end.NetFault → ⊥
+not_lost task r own is = subst (λ q. IfErr q (EndsBy task)) is own
+
+pub not_spent : {A : Type 0} (task : Task) (r : Result A End) → IfErr r (EndsBy task) → r ≡ Err end.Spent → ⊥
+not_spent task r own is = subst (λ q. IfErr q (EndsBy task)) is own

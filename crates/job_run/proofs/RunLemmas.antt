@@ -1,12 +1,16 @@
 -- Calls of a job go on with its course.
-use Rattle.std.proofs.Common.{◌≡◌, ℕ, Bool, true, false, List, Option, Some, None, is_some, refl, sym, ap, subst}
+use Rattle.std.specs.Prelude.{IfSome}
+use Rattle.std.proofs.Common.{◌≡◌, ◌≢◌, ℕ, Bool, true, false, List, Option, Some, None, is_some, refl, sym, ap, subst}
+use Rattle.std.specs.Prelude.{IfSome}
 use Rattle.std.specs.Str.{bytes_eq}
 use Rattle.world.specs.Counts.{CountsGrow}
 use Rattle.world.specs.Moments.{Since, start, more as later, Told, Tells}
 use Rattle.world.specs.Touched.{touches, Spares}
 use Rattle.world.proofs.MomentsLemmas.{tells_as}
 use Rattle.job_end.specs.Answers.{starved_answer}
+use Rattle.world.specs.Parts.{OnSay, part_of}
 use Rattle.job_saves.proofs.CourseLemmas.{others_pass, calls_part, job_ends}
+use Rattle.job_saves.proofs.KeptLemmas.{entry_quiet}
 use Rattle.job_run.proofs.OutcomeLemmas.{starved_shut, starved_fails}
 use Rattle.world.specs.declared.entry.Entry.{Entry}
 use Rattle.world.specs.Counts.{Counts}
@@ -17,7 +21,14 @@ use Rattle.job_saves.specs.Calls.{Cast, IsCallBy, IsCall}
 use Rattle.job_run.specs.declared.execution.Execution.{Execution}
 use Rattle.job_run.specs.declared.job.Job.{Job}
 use Rattle.job_run.specs.declared.paths.Paths.{Paths}
-use Rattle.job_run.specs.Run.{Runs, HasEnded, HasFailed, EndsWith, IsRole, HasRole}
+use Rattle.cell_core.specs.declared.act.Act.TheVariants.{Nothing}
+use Rattle.job_notebook.specs.State.{output_of}
+use Rattle.save_disk.specs.Places.{acknowledged}
+use Rattle.job_run.specs.Counted.{IsCounted, IsCountedIn}
+use Rattle.cell_core.specs.Task.{Task}
+use Rattle.job_run.specs.Task.{task_of_job}
+use Rattle.job_run.proofs.TurnLemmas.{running_count, count_passes, ended_count, starved_count}
+use Rattle.job_run.specs.Run.{IsNew, CountsAll, Runs, HasEnded, HasFailed, EndsWith, IsRole, HasRole}
 
 not_both : {A : Type 0} (b : Bool) → b ≡ true → b ≡ false → A
 not_both b e f = let no : true ≡ false = subst (λ c. c ≡ false) e f in absurd (cc)
@@ -41,14 +52,19 @@ pub turns : (o : Origin) (was now : Job) (mid : JobNotebook) (j k : Option (List
     → now.paths.connection ≡ was.paths.connection
     → (is_open ≡ false → HasEnded now.outcome)
     → (HasFailed now.outcome → is_open ≡ false)
+    → (IsNew o → output_of was.run.book ≡ o.output → output_of now.run.book ≡ o.output → IfSome j (λ past. IsCounted was.run Nothing (acknowledged o.output past))
+    → IfSome k (λ past. IsCountedIn now.outcome now.run (acknowledged o.output past)))
     → Runs o was j c → Runs o now k d
-turns o was now mid j k c d is_open running goes stays path shut fails r = record {
-  is_open = is_open;
-  stands = stays o is_open k d (goes (runs_open o was j c running r));
-  apart = subst (λ p. bytes_eq p o.output ≡ false) (sym path) r.apart;
-  shut = shut;
-  fails = fails;
-}
+turns o was now mid j k c d is_open running goes stays path shut fails counts r =
+    let stands = stays o is_open k d (goes (runs_open o was j c running r)) in
+    record {
+      is_open = is_open;
+      stands = stands;
+      apart = subst (λ p. bytes_eq p o.output ≡ false) (sym path) r.apart;
+      shut = shut;
+      fails = fails;
+      counted = λ fresh. counts fresh r.stands.output stands.output (running_count was.outcome was.run o.output j running (r.counted fresh));
+    }
 
 role_on : (cast : Cast) (was now : Job) → now.number ≡ was.number → now.paths ≡ was.paths → IsRole cast was.number was.paths → IsRole cast now.number now.paths
 role_on cast was now number paths r =
@@ -67,14 +83,25 @@ plays_on cast since from was now mid j k c d calls stays number paths r = record
 
 -- other calls leave a job on its course
 pub passes : (o : Origin) (was now : Job) (i k : Option (List Entry)) (c d : Counts) → now.run ≡ was.run → now.paths ≡ was.paths → now.outcome ≡ was.outcome
-    → ((is_open : Bool) → Stands o was.run.book is_open i c → Stands o was.run.book is_open k d) → Runs o was i c → Runs o now k d
-passes o was now i k c d run path outcome on r = record {
+    → Told i k (Since (Spares o.output)) → CountsGrow c d → Runs o was i c → Runs o now k d
+passes o was now i k c d run path outcome told grow r = record {
   is_open = r.is_open;
-  stands = subst (λ (x : Execution). Stands o x.book r.is_open k d) (sym run) (on r.is_open r.stands);
+  stands = subst (λ (x : Execution). Stands o x.book r.is_open k d) (sym run) (others_pass o was.run.book r.is_open i k c d told grow r.stands);
   apart = subst (λ (p : Paths). bytes_eq p.connection o.output ≡ false) (sym path) r.apart;
   shut = λ e. subst HasEnded (sym outcome) (r.shut e);
   fails = λ f. r.fails (subst HasFailed outcome f);
+  counted = λ fresh. subst (λ (x : Execution). IfSome k (λ past. IsCountedIn now.outcome x (acknowledged o.output past))) (sym run)
+      (subst (λ a. IfSome k (λ past. IsCountedIn a was.run (acknowledged o.output past))) (sym outcome)
+      (count_passes o was.run.book r.is_open was.run was.outcome i k told (r.stands.told fresh.watched) (r.counted fresh)));
 }
+
+pub told_spares : (path : List ℕ) (j k : Option (List Entry)) (entry : Entry) → touches path entry ≡ false → Tells j k entry → Told j k (Since (Spares path))
+told_spares path j k entry spared tells = tells_as tells (λ past. later start spared)
+
+-- one call that doesn't touch its output
+pub passes_one : (o : Origin) (was now : Job) (i k : Option (List Entry)) (c d : Counts) (entry : Entry) → now.run ≡ was.run → now.paths ≡ was.paths → now.outcome ≡ was.outcome
+    → touches o.output entry ≡ false → Tells i k entry → CountsGrow c d → Runs o was i c → Runs o now k d
+passes_one o was now i k c d entry run path outcome spared tells grow r = passes o was now i k c d run path outcome (told_spares o.output i k entry spared tells) grow r
 
 -- calls of the job beside its execution
 pub passes_role : (cast : Cast) (since : List Entry) (from : Counts) (was now : Job) (i k : Option (List Entry)) (c d : Counts) → now.run ≡ was.run
@@ -87,51 +114,65 @@ passes_role cast since from was now i k c d run number paths on r = record {
 
 -- ---- single entries
 
-told_spares : (path : List ℕ) (j k : Option (List Entry)) (entry : Entry) → touches path entry ≡ false → Tells j k entry → Told j k (Since (Spares path))
-told_spares path j k entry spared tells = tells_as tells (λ past. later start spared)
+told_called : (cast : Cast) (j k : Option (List Entry)) (entry : Entry) → ((past : List Entry) → IsCallBy cast past entry) → Tells j k entry → Told j k (Since (IsCall cast))
+told_called cast j k entry is tells = tells_as tells (λ past. later start (is past))
 
-pub entry_passes : (o : Origin) (b : JobNotebook) (is_open : Bool) (j k : Option (List Entry)) (c d : Counts) (entry : Entry) → touches o.output entry ≡ false → Tells j k entry
-    → CountsGrow c d → Stands o b is_open j c → Stands o b is_open k d
-entry_passes o b is_open j k c d entry spared tells grow s = others_pass o b is_open j k c d (told_spares o.output j k entry spared tells) grow s
+-- one call of the job, which says nothing
+pub entry_called : (cast : Cast) (since : List Entry) (from : Counts) (b : JobNotebook) (j k : Option (List Entry)) (c d : Counts) (entry : Entry)
+    → ((past : List Entry) → IsCallBy cast past entry) → part_of entry ≢ OnSay → Tells j k entry → CountsWork c d → HasPart cast since from b j c → HasPart cast since from b k d
+entry_called cast since from b j k c d entry is other tells work s =
+    calls_part cast since from c d b b j k refl (told_called cast j k entry is tells) (entry_quiet entry other tells) work s
 
-told_called : (cast : Cast) (j k : Option (List Entry)) (entry : Entry) → IsCallBy cast entry → Tells j k entry → Told j k (Since (IsCall cast))
-told_called cast j k entry is tells = tells_as tells (λ past. later start is)
+called_at : (cast : Cast) (j k : Option (List Entry)) (entry : Entry) → IfSome j (λ past. IsCallBy cast past entry) → Tells j k entry → Told j k (Since (IsCall cast))
+called_at cast j None entry is tells = record { so = tt }
+called_at cast None (Some y) entry is tells = absurd tells.so
+called_at cast (Some x) (Some y) entry is tells = record { so = subst (Since (IsCall cast) x) (sym tells.so) (later start is) }
 
--- one call of the job
-pub entry_called : (cast : Cast) (since : List Entry) (from : Counts) (b : JobNotebook) (j k : Option (List Entry)) (c d : Counts) (entry : Entry) → IsCallBy cast entry
-    → Tells j k entry → CountsWork c d → HasPart cast since from b j c → HasPart cast since from b k d
-entry_called cast since from b j k c d entry is tells work s = calls_part cast since from c d b b j k refl (told_called cast j k entry is tells) work s
+-- the same of a call that is one by what was told before
+pub asked_called : (cast : Cast) (since : List Entry) (from : Counts) (b : JobNotebook) (j k : Option (List Entry)) (c d : Counts) (entry : Entry)
+    → IfSome j (λ past. IsCallBy cast past entry) → part_of entry ≢ OnSay → Tells j k entry → CountsWork c d → HasPart cast since from b j c → HasPart cast since from b k d
+asked_called cast since from b j k c d entry is other tells work s =
+    calls_part cast since from c d b b j k refl (called_at cast j k entry is tells) (entry_quiet entry other tells) work s
 
 -- ---- the end
 
-pub ends_with : (o : Origin) (j : Job) (a : Answer) (journal : Option (List Entry)) (counts : Counts) → j.outcome ≡ Some a → Runs o j journal counts → EndsWith o a journal counts
+pub ends_with : (o : Origin) (j : Job) (a : Answer) (journal : Option (List Entry)) (counts : Counts) → j.outcome ≡ Some a → Runs o j journal counts
+    → EndsWith o (Some (task_of_job j)) a journal counts
 ends_with o j a journal counts is r = record {
   is_open = r.is_open;
   ends = job_ends o j.run.book r.is_open journal counts r.stands;
   shut = λ e. subst HasEnded is (r.shut e);
   fails = λ f. r.stands.cause (r.fails (subst HasFailed (sym is) f));
+  counted = λ t same fresh. ended_count o.output j.run a (task_of_job j) t journal refl same (subst (λ out. IfSome journal (λ past. IsCountedIn out j.run (acknowledged o.output past))) is (r.counted fresh));
 }
 
 pub ends_starved : (o : Origin) (j : Job) (a : Answer) (journal : Option (List Entry)) (counts : Counts) → j.outcome ≡ None → a ≡ starved_answer → Runs o j journal counts
-    → EndsWith o a journal counts
+    → EndsWith o (Some (task_of_job j)) a journal counts
 ends_starved o j a journal counts is starved r = record {
   is_open = r.is_open;
   ends = job_ends o j.run.book r.is_open journal counts r.stands;
   shut = λ e. starved_shut a (ap (λ (x : Answer). x.status) starved);
   fails = λ f. absurd (starved_fails a (ap (λ (x : Answer). x.status) starved) f);
+  counted = λ t same fresh. starved_count o.output a t journal starved;
 }
+
+-- what brought its end isn't asked for
+pub uncounted : (o : Origin) (task : Option Task) (a : Answer) (journal : Option (List Entry)) (counts : Counts) → EndsWith o task a journal counts → EndsWith o None a journal counts
+uncounted o task a journal counts e = record { is_open = e.is_open; ends = e.ends; shut = e.shut; fails = e.fails; counted = λ t same. absurd (cc) }
 
 -- ---- the begin
 
 -- a job whose first save was made
 pub begun : (o : Origin) (j : Job) (x : Execution) (paths : Paths) (journal : Option (List Entry)) (counts : Counts) → j.run ≡ x → j.paths ≡ paths → j.outcome ≡ None
-    → Stands o x.book true journal counts → bytes_eq paths.connection o.output ≡ false → Runs o j journal counts
-begun o j x paths journal counts run path outcome s apart = record {
+    → Stands o x.book true journal counts → bytes_eq paths.connection o.output ≡ false → CountsAll o None x journal → Runs o j journal counts
+begun o j x paths journal counts run path outcome s apart counted = record {
   is_open = true;
   stands = subst (λ (y : Execution). Stands o y.book true journal counts) (sym run) s;
   apart = subst (λ (p : Paths). bytes_eq p.connection o.output ≡ false) (sym path) apart;
   shut = λ e. absurd (cc);
   fails = λ f. let none : HasFailed None = subst HasFailed outcome f in absurd none;
+  counted = λ fresh. subst (λ (y : Execution). IfSome journal (λ past. IsCountedIn j.outcome y (acknowledged o.output past))) (sym run)
+      (subst (λ out. IfSome journal (λ past. IsCountedIn out x (acknowledged o.output past))) (sym outcome) (counted fresh));
 }
 
 pub begun_role : (cast : Cast) (since : List Entry) (from : Counts) (j : Job) (x : Execution) (number : ℕ) (paths : Paths) (journal : Option (List Entry)) (counts : Counts)

@@ -10,7 +10,7 @@ use Rattle.cell_core.specs.declared.why.Why.TheVariants as why
 use Rattle.cell_core.specs.declared.act.Act.{Act}
 use Rattle.cell_core.specs.declared.act.Act.TheVariants.{Stop}
 use Rattle.cell_core.specs.Acts.{Meets, IsTimely, act_of, heard, has_stopped, wants_look_of}
-use Rattle.cell_core.specs.Events.{came, is_broken, is_saved, is_lost, looked, time}
+use Rattle.cell_core.specs.Events.{acked, came, is_broken, is_saved, is_lost, looked, time}
 use Rattle.cell_core.specs.Requests.{standing}
 use Rattle.cell_core.specs.Saves.{is_done, is_cell_error, is_not_ready, is_no_idle, is_timed_out}
 use Rattle.cell_core.specs.Saves.{why as why_of}
@@ -18,7 +18,8 @@ use Rattle.cell_core.specs.StandsFor.{StandsFor, task_of, awaits_saved_of}
 use Rattle.cell_core.specs.Task.{Task}
 use Rattle.cell_core.proofs.Looks.{timely}
 use Rattle.cell_core.proofs.OverRuns.{stopped_where}
-use Rattle.job_run.specs.Told.{Tells, Hears, MayCome, StopsFor}
+use Rattle.job_run.specs.Told.{Tells, Hears, MayCome, Stopping, StopsFor}
+use Rattle.job_run.specs.Counted.{TellsOf, StopsAfter}
 
 -- ---- the clock
 
@@ -130,13 +131,26 @@ module _ (old new : Core) (clock : ℕ) (is_named : Bool) (e : Event) (act : Act
   pub hears_more : Hears old clock is_named → Hears new clock is_named
   hears_more h = ∥∥₁_map h tells_more
 
-  pub stops_more : Hears old clock is_named → (cause : Why) → act ≡ Stop cause → StopsFor (task_of new) cause
-  stops_more h cause is = ∥∥₁_map h (λ t. record {
+  stopping : (t : Tells old clock is_named) (cause : Why) → act ≡ Stop cause → Stopping (task_of new) cause
+  stopping t cause is = record {
     event = e;
     past = t.events;
     meets = subst (λ q. Meets q (e ∷ t.events)) (sym steps.same) (meets_now t);
     stops = subst (λ q. act_of q e t.events ≡ Stop cause) (sym steps.same) (sym (steps.act_is t.events t.stands (timely_now t)) ∙ is);
-  })
+  }
+
+  pub stops_more : Hears old clock is_named → (cause : Why) → act ≡ Stop cause → StopsFor (task_of new) cause
+  stops_more h cause is = ∥∥₁_map h (λ t. stopping t cause is)
+
+  -- so many of the events are saves
+  pub counts_more : (n m : ℕ) → ((past : List Event) → acked past ≡ n → acked (e ∷ past) ≡ m) → ∥ TellsOf old clock is_named n ∥₁ → ∥ TellsOf new clock is_named m ∥₁
+  unfolding tells_more
+  counts_more n m more h = ∥∥₁_map h (λ t. record { tells = tells_more t.tells; count = more t.tells.events t.count })
+
+  pub stops_after : (n m : ℕ) → ((past : List Event) → acked past ≡ n → acked (e ∷ past) ≡ m) → ∥ TellsOf old clock is_named n ∥₁ → (cause : Why) → act ≡ Stop cause
+      → StopsAfter m (task_of new) cause
+  unfolding stopping
+  stops_after n m more h cause is = ∥∥₁_map h (λ t. record { stopping = stopping t.tells cause is; count = more t.tells.events t.count })
 
   pub names_more : Hears old clock is_named → act ≡ Stop why.BadPeer → is_named ≡ true
   names_more h is = ∥∥₁_elim h (Bool-set is_named true) (λ t.
@@ -144,14 +158,28 @@ module _ (old new : Core) (clock : ℕ) (is_named : Bool) (e : Event) (act : Act
 
 -- ---- a clock that goes on
 
+tell_later : (core : Core) (clock later : ℕ) (is_named : Bool) → clock ≤ later → Tells core clock is_named → Tells core later is_named
+tell_later core clock later is_named on t =
+    let timed : time (heard (task_of core) t.events) ≤ later = omega (arith, on, t.timed) in
+    record { events = t.events; stands = t.stands; meets = t.meets; timed = timed; named = t.named }
+
 pub hears_later : (core : Core) (clock later : ℕ) (is_named : Bool) → clock ≤ later → Hears core clock is_named → Hears core later is_named
-hears_later core clock later is_named on h =
-    ∥∥₁_map h (λ t. let timed : time (heard (task_of core) t.events) ≤ later = omega (arith, on, t.timed) in
-    record { events = t.events; stands = t.stands; meets = t.meets; timed = timed; named = t.named })
+hears_later core clock later is_named on h = ∥∥₁_map h (λ t. tell_later core clock later is_named on t)
+
+pub tells_later : (core : Core) (clock later : ℕ) (is_named : Bool) (n : ℕ) → clock ≤ later → ∥ TellsOf core clock is_named n ∥₁ → ∥ TellsOf core later is_named n ∥₁
+unfolding tell_later
+tells_later core clock later is_named n on h = ∥∥₁_map h (λ t. record { tells = tell_later core clock later is_named on t.tells; count = t.count })
 
 -- a stream that is named
+tell_named : (core : Core) (clock : ℕ) (is_named : Bool) → Tells core clock is_named → Tells core clock true
+tell_named core clock is_named t = record { events = t.events; stands = t.stands; meets = t.meets; timed = t.timed; named = λ e. refl }
+
 pub hears_named : (core : Core) (clock : ℕ) (is_named : Bool) → Hears core clock is_named → Hears core clock true
-hears_named core clock is_named h = ∥∥₁_map h (λ t. record { events = t.events; stands = t.stands; meets = t.meets; timed = t.timed; named = λ e. refl })
+hears_named core clock is_named h = ∥∥₁_map h (λ t. tell_named core clock is_named t)
+
+pub tells_named : (core : Core) (clock : ℕ) (is_named : Bool) (n : ℕ) → ∥ TellsOf core clock is_named n ∥₁ → ∥ TellsOf core clock true n ∥₁
+unfolding tell_named
+tells_named core clock is_named n h = ∥∥₁_map h (λ t. record { tells = tell_named core clock is_named t.tells; count = t.count })
 
 -- where no save is awaited and no last look is wanted, the clock may be read
 pub moment_may : (core : Core) (clock : ℕ) (is_named : Bool) → awaits_saved_of core ≡ false

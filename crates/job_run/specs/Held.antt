@@ -1,7 +1,7 @@
 -- How the parts of an execution agree: its core, its notebook and the request that stands.
-use Rattle.std.specs.Prelude.{◌≡◌, ℕ, ◌<◌, ◌≤◌, ◌^◌, length, true, false, is_some}
+use Rattle.std.specs.Prelude.{◌≡◌, ℕ, ◌+◌, ◌<◌, ◌≤◌, ◌^◌, length, true, false, is_some}
 use Rattle.cell_core.specs.declared.act.Act.{Act}
-use Rattle.cell_core.specs.declared.act.Act.TheVariants.{Stop}
+use Rattle.cell_core.specs.declared.act.Act.TheVariants.{Nothing, Send, Interrupt, Stop}
 use Rattle.cell_core.specs.declared.why.Why.{Why}
 use Rattle.cell_core.specs.declared.why.Why.TheVariants.{BadPeer}
 use Rattle.cell_core.specs.Holds.{is_save}
@@ -9,6 +9,7 @@ use Rattle.cell_core.specs.Sending.{IsInOrder, SendsOn, next_of}
 use Rattle.cell_core.specs.StandsFor.{task_of, awaits_saved_of}
 use Rattle.job_notebook.specs.State.{notebook_of, settled_of, begun_of}
 use Rattle.job_run.specs.Told.{Hears, StopsFor}
+use Rattle.job_run.specs.Counted.{IsCounted}
 use Rattle.job_run.specs.declared.execution.Execution.{Execution}
 
 -- the cells to run are in order, no cell has begun or is settled beyond those of the core, and the core was told what came
@@ -44,6 +45,21 @@ IsSaid old new = new ≡ record old { session = new.session; lines = new.lines }
 abbrev pub IsAsked : Execution → Execution → Type 0
 IsAsked old new = new ≡ record old { session = new.session; lines = new.lines; asking = new.asking; pings = new.pings }
 
+-- so many requests were made, and nothing else of the session has changed
+abbrev pub Asks : ℕ → Execution → Execution → Type 0
+Asks n old new = new.session ≡ record old.session { made = old.session.made + n }
+
+-- at most one request was made, under the same key
+pub record AsksOnce (old new : Execution) : Type 0 where
+  pub key : new.session.key ≡ old.session.key
+  pub made : new.session.made ≤ old.session.made + 1
+
+-- how many requests an act makes: that of a cell, and that to interrupt it
+abbrev pub requests_of : Act → ℕ
+requests_of (Send cell) = 1
+requests_of Interrupt = 1
+requests_of _ = 0
+
 -- what may be done stays so
 abbrev pub KeepsToDo : Execution → Execution → Type 0
 KeepsToDo old new = (act : Act) → IsToDo old act → IsToDo new act
@@ -55,3 +71,4 @@ pub record IsFirst (x : Execution) : Type 0 where
   pub settled : settled_of x.book ≡ 0
   pub next : next_of x.core ≡ 0
   pub awaits : awaits_saved_of x.core ≡ true
+  pub counted : IsCounted x Nothing 0

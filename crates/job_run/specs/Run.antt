@@ -1,5 +1,5 @@
 -- What a job makes of the world while it runs.
-use Rattle.std.specs.Prelude.{◌≡◌, ◌⊎◌, ℕ, List, Bool, true, false, Option, Some, None, Result, Ok, Err}
+use Rattle.std.specs.Prelude.{◌≡◌, ◌⊎◌, ℕ, List, Bool, true, false, Option, Some, None, IfSome, Result, Ok, Err}
 use Rattle.std.specs.Str.{bytes_eq}
 use Rattle.world.specs.declared.entry.Entry.{Entry}
 use Rattle.world.specs.Counts.{Counts, CountsGrow, Rose}
@@ -11,7 +11,13 @@ use Rattle.job_end.specs.declared.answer.Answer.{Answer}
 use Rattle.job_end.specs.declared.end.End.{End}
 use Rattle.job_end.specs.declared.end.End.TheVariants as end
 use Rattle.job_saves.specs.Course.{Origin, Stands, Ends, HasCalled, HasPart, keeps_open}
-use Rattle.job_saves.specs.Calls.{Cast, IsKernelOf}
+use Rattle.job_saves.specs.Calls.{Cast, IsReady}
+use Rattle.job_saves.specs.Children.{HasEnd, AsksNone, ports_of}
+use Rattle.job_saves.specs.Reads.{IsKernelOf}
+use Rattle.save_disk.specs.Places.{acknowledged}
+use Rattle.cell_core.specs.Task.{Task}
+use Rattle.job_run.specs.Counted.{IsCountedIn, IsCausedAfter, StartsAfter}
+use Rattle.job_run.specs.declared.execution.Execution.{Execution}
 use Rattle.job_run.specs.declared.job.Job.{Job}
 use Rattle.job_run.specs.declared.paths.Paths.{Paths}
 
@@ -33,6 +39,21 @@ abbrev pub HasFailed : Option Answer → Type 0
 HasFailed None = ⊥
 HasFailed (Some answer) = IsFileStatus answer.status
 
+-- the job has ended by the network
+abbrev pub IsLost : Option Answer → Type 0
+IsLost None = ⊥
+IsLost (Some answer) = answer.status ≡ 14
+
+-- the job has ended by the budget of turns
+abbrev pub IsSpent : Option Answer → Type 0
+IsSpent None = ⊥
+IsSpent (Some answer) = answer.status ≡ 16
+
+-- a call ends the job neither by the network nor by the budget of turns
+pub record EndsNot (was now : Job) : Type 0 where
+  pub lost : IsLost now.outcome → IsLost was.outcome
+  pub spent : IsSpent now.outcome → IsSpent was.outcome
+
 -- the number of a job
 abbrev pub number_of : Job → ℕ
 number_of j = j.number
@@ -41,6 +62,23 @@ number_of j = j.number
 abbrev pub outcome_of : Job → Option Answer
 outcome_of j = j.outcome
 
+-- its journal is told, and no save of its output was acknowledged before its begin
+pub record IsNew (o : Origin) : Type 0 where
+  pub watched : o.is_watched ≡ true
+  pub none : acknowledged o.output o.before ≡ 0
+
+-- a job that hasn't saved yet: none was acknowledged since either
+abbrev pub BeginsNew : Origin → Option (List Entry) → Type 0
+BeginsNew o journal = IsNew o → IfSome journal (λ past. acknowledged o.output past ≡ 0)
+
+-- a start that ended so: of the events that brought the end as many are saves as were acknowledged
+abbrev pub StartsCounted : Origin → Task → Option (List Entry) → End → Type 0
+StartsCounted o task journal e = IsNew o → IfSome journal (λ past. StartsAfter (acknowledged o.output past) task e)
+
+-- of the events that a job was told, or that brought its end, as many are saves as were acknowledged
+abbrev pub CountsAll : Origin → Option Answer → Execution → Option (List Entry) → Type 0
+CountsAll o outcome x journal = IsNew o → IfSome journal (λ past. IsCountedIn outcome x (acknowledged o.output past))
+
 -- a job that began so stands on its course; where a save has failed it has ended, and by that status only there
 pub record Runs (o : Origin) (j : Job) (journal : Option (List Entry)) (counts : Counts) : Type 0 where
   pub is_open : Bool
@@ -48,6 +86,7 @@ pub record Runs (o : Origin) (j : Job) (journal : Option (List Entry)) (counts :
   pub apart : bytes_eq j.paths.connection o.output ≡ false
   pub shut : is_open ≡ false → HasEnded j.outcome
   pub fails : HasFailed j.outcome → is_open ≡ false
+  pub counted : CountsAll o j.outcome j.run journal
 
 -- calls go on with the course of the job, whatever it began with
 abbrev pub RunsOn : {W : Type 0} → (W → Option (List Entry)) → (W → Counts) → W → W → Job → Job → Type 0
@@ -57,12 +96,14 @@ RunsOn journal counts old new was now = (o : Origin) → Runs o was (journal old
 abbrev pub KeepsRun : Job → Job → Type 0
 KeepsRun was now = (o : Origin) (journal : Option (List Entry)) (counts : Counts) → Runs o was journal counts → Runs o now journal counts
 
--- the job has ended with this answer; where that says that the disk failed, its count has risen
-pub record EndsWith (o : Origin) (answer : Answer) (journal : Option (List Entry)) (counts : Counts) : Type 0 where
+-- The job has ended with this answer; where that says that the disk failed, its count has risen. Where its run of this task
+-- has ended, of the events that brought it as many are saves as were acknowledged.
+pub record EndsWith (o : Origin) (task : Option Task) (answer : Answer) (journal : Option (List Entry)) (counts : Counts) : Type 0 where
   pub is_open : Bool
   pub ends : Ends o is_open journal counts
   pub shut : is_open ≡ false → IsUnsaved answer.status
   pub fails : IsFileStatus answer.status → Rose o.counts.disk counts.disk
+  pub counted : (t : Task) → task ≡ Some t → IsNew o → IfSome journal (λ past. IsCausedAfter (acknowledged o.output past) t answer.status)
 
 -- a job of this number and these paths is one of a cast
 pub record IsRole (c : Cast) (number : ℕ) (paths : Paths) : Type 0 where
@@ -92,21 +133,60 @@ pub record IsCastAs (c : Cast) (number : ℕ) (a : Ask) (here : List ℕ) : Type
   pub folder : c.here ≡ here
   pub starts : c.starts ≡ true
 
--- and this is its kernel
-pub record MayStart (c : Cast) (number : ℕ) (kernel : Kernel) (here : List ℕ) : Type 0 where
+-- where the jobs began clean, the job of this number has no child
+abbrev pub HasNoChild : Cast → ℕ → Option (List Entry) → Type 0
+HasNoChild c number journal = c.clean ≡ true → HasEnd number journal
+
+-- where the jobs began clean, the job of this number has asked for no ports
+abbrev pub HasNoPorts : Cast → ℕ → Option (List Entry) → Type 0
+HasNoPorts c number journal = c.clean ≡ true → AsksNone number journal
+
+-- and this is its kernel, by what it has read
+pub record MayStart (c : Cast) (number : ℕ) (kernel : Kernel) (here : List ℕ) (journal : Option (List Entry)) : Type 0 where
   pub ask : Ask
   pub cast : IsCastAs c number ask here
-  pub kernel_is : IsKernelOf ask kernel
+  pub kernel_is : IfSome journal (λ past. IsKernelOf ask past kernel)
+  pub childless : HasNoChild c number journal
 
--- calls of the job, which may make its connection file
+-- these are the ports that were last given for the job of this number
+abbrev pub HasPorts : ℕ → List ℕ → Option (List Entry) → Type 0
+HasPorts number ports journal = IfSome journal (λ past. ports_of number past ≡ Some ports)
+
+-- calls leave the ports that were last given as they are
+abbrev pub KeepsPorts : {W : Type 0} → (W → Option (List Entry)) → W → W → Type 0
+KeepsPorts journal old new = (number : ℕ) (ports : List ℕ) → HasPorts number ports (journal old) → HasPorts number ports (journal new)
+
+-- its connection file is written too, so that it may be started now
+pub record MayRun (c : Cast) (number : ℕ) (kernel : Kernel) (here : List ℕ) (journal : Option (List Entry)) : Type 0 where
+  pub ask : Ask
+  pub cast : IsCastAs c number ask here
+  pub ready : IfSome journal (λ past. IsReady number ask past kernel)
+  pub childless : HasNoChild c number journal
+
+-- calls of the job, which may make its connection file while it has no child
 abbrev pub WritesInRole : {W : Type 0} → (W → Option (List Entry)) → (W → Counts) → W → W → Job → Type 0
-WritesInRole journal counts old new j = (c : Cast) (since : List Entry) (from : Counts) → c.starts ≡ true → HasRole c since from j (journal old) (counts old)
-    → HasRole c since from j (journal new) (counts new)
+WritesInRole journal counts old new j = (c : Cast) (since : List Entry) (from : Counts) → c.starts ≡ true → HasNoChild c j.number (journal old)
+    → HasRole c since from j (journal old) (counts old) → HasRole c since from j (journal new) (counts new)
 
--- calls of the job, which may start this kernel
+-- the connection file has the ports of the job: where these were given last, the kernel of a job at that file may be started
+abbrev pub ReadiesIn : {W : Type 0} → (W → Option (List Entry)) → W → W → Job → Type 0
+ReadiesIn journal old new j = (a : Ask) (kernel : Kernel) → j.paths.connection ≡ connection_of a.output → IfSome (journal old) (λ past. IsKernelOf a past kernel)
+    → HasPorts j.number j.ports (journal old) → IfSome (journal new) (λ past. IsReady j.number a past kernel)
+
+-- calls of the job, which may ask for its ports and start this kernel
 abbrev pub LaunchesInRole : {W : Type 0} → (W → Option (List Entry)) → (W → Counts) → W → W → Kernel → List ℕ → Job → Job → Type 0
-LaunchesInRole journal counts old new kernel here was now = (c : Cast) (since : List Entry) (from : Counts) → MayStart c was.number kernel here
-    → HasRole c since from was (journal old) (counts old) → HasRole c since from now (journal new) (counts new)
+LaunchesInRole journal counts old new kernel here was now = (c : Cast) (since : List Entry) (from : Counts) → MayStart c was.number kernel here (journal old)
+    → HasNoPorts c was.number (journal old) → HasRole c since from was (journal old) (counts old) → HasRole c since from now (journal new) (counts new)
+
+-- the same, where its ports were given
+abbrev pub LaunchesOnPorts : {W : Type 0} → (W → Option (List Entry)) → (W → Counts) → W → W → Kernel → List ℕ → Job → Type 0
+LaunchesOnPorts journal counts old new kernel here j = (c : Cast) (since : List Entry) (from : Counts) → MayStart c j.number kernel here (journal old)
+    → HasPorts j.number j.ports (journal old) → HasRole c since from j (journal old) (counts old) → HasRole c since from j (journal new) (counts new)
+
+-- the same, where its connection file is written
+abbrev pub RunsInRole : {W : Type 0} → (W → Option (List Entry)) → (W → Counts) → W → W → Kernel → List ℕ → Job → Type 0
+RunsInRole journal counts old new kernel here j = (c : Cast) (since : List Entry) (from : Counts) → MayRun c j.number kernel here (journal old)
+    → HasRole c since from j (journal old) (counts old) → HasRole c since from j (journal new) (counts new)
 
 -- a path that a job on this output doesn't touch
 pub record IsOther (output path : List ℕ) : Type 0 where
@@ -124,17 +204,19 @@ abbrev pub StartsInRole : {E : Type 0} → Cast → List Entry → Counts → Re
 StartsInRole c since from (Ok j) journal counts = HasRole c since from j journal counts
 StartsInRole c since from (Err e) journal counts = HasCalled c since from journal counts
 
--- the begin of a job: it runs, or it has ended
-abbrev pub BeginsAs : Origin → Result Job Answer → Option (List Entry) → Counts → Type 0
-BeginsAs o (Ok j) journal counts = Runs o j journal counts
-BeginsAs o (Err a) journal counts = EndsWith o a journal counts
+-- the begin of a job: it runs, or it has ended; the task is given where it is executed
+abbrev pub BeginsAs : Origin → Option Task → Result Job Answer → Option (List Entry) → Counts → Type 0
+BeginsAs o task (Ok j) journal counts = Runs o j journal counts
+BeginsAs o task (Err a) journal counts = EndsWith o task a journal counts
 
--- An end that a failed call brings before the kernel runs comes only where the count of such calls rose; what an end of a save
--- tells stands by its course.
+-- An end that a failed call brings before the kernel runs comes only where the count of such calls rose, and no budget of turns
+-- ends a start; what an end of a save tells stands by its course.
 abbrev pub EndCause : Counts → Counts → End → Type 0
 EndCause old new (end.NotRead path) = Rose old.disk new.disk
 EndCause old new end.NotStarted = (Rose old.rand new.rand) ⊎ (Rose old.child new.child)
 EndCause old new end.NoConnectionFile = Rose old.disk new.disk
+EndCause old new end.NetFault = Rose old.net new.net
+EndCause old new end.Spent = ⊥
 EndCause old new _ = Unit {0}
 
 -- what stands of a job by the counts alone, since they were so, whatever its world tells

@@ -16,6 +16,10 @@ task_of_job j = task_of j.run.core
 abbrev pub output_of_job : Job → List ℕ
 output_of_job j = j.paths.output
 
+-- the ports of its kernel, for shell, iopub, stdin, control and heartbeat
+abbrev pub ports_of_job : Job → List ℕ
+ports_of_job j = j.ports
+
 -- the times that were asked for
 abbrev pub times_of : Ask → Times
 times_of a = record { start_ms = a.start_ms; limit_ms = a.limit_ms; interrupt = a.interrupt }

@@ -44,31 +44,54 @@ pub record Stopping (task : Task) (cause : Why) : Type 0 where
 abbrev pub StopsFor : Task → Why → Type 0
 StopsFor task cause = ∥ Stopping task cause ∥₁
 
--- a run ends so: by a cause for which events stop its core, by a save that failed, by the network, by its turns, or for want of memory
-abbrev pub EndsBy : Task → End → Type 0
-EndsBy task end.Done = StopsFor task why.Done
-EndsBy task (end.CellError cell name) = StopsFor task why.CellError
-EndsBy task end.NotReady = StopsFor task why.NotReady
-EndsBy task end.KernelLost = StopsFor task why.KernelLost
-EndsBy task (end.TimedOut cell) = StopsFor task why.TimedOut
-EndsBy task (end.NoIdle cell) = StopsFor task why.NoIdle
-EndsBy task (end.BadPeer chan f) = StopsFor task why.BadPeer
-EndsBy task (end.NotSaved f) = Unit {0}
-EndsBy task end.NoMemory = Unit {0}
-EndsBy task end.NetFault = Unit {0}
-EndsBy task end.Spent = Unit {0}
-EndsBy task _ = ⊥
+-- an end of a run, by what stands of the cause that stopped its core; a save that failed and want of memory need none
+abbrev pub EndsFor : (Why → Type 0) → End → Type 0
+EndsFor stops end.Done = stops why.Done
+EndsFor stops (end.CellError cell name) = stops why.CellError
+EndsFor stops end.NotReady = stops why.NotReady
+EndsFor stops end.KernelLost = stops why.KernelLost
+EndsFor stops (end.TimedOut cell) = stops why.TimedOut
+EndsFor stops (end.NoIdle cell) = stops why.NoIdle
+EndsFor stops (end.BadPeer chan f) = stops why.BadPeer
+EndsFor stops (end.NotSaved f) = Unit {0}
+EndsFor stops end.NoMemory = Unit {0}
+EndsFor stops _ = ⊥
 
--- a start ends a job so: by its kernel or its connection file, or as a run does
+-- a run ends so by itself: by a cause for which events stop its core, by a save that failed, or for want of memory
+abbrev pub EndsBy : Task → End → Type 0
+EndsBy task e = EndsFor (StopsFor task) e
+
+-- an end from outside: by the network or by the budget of turns
+abbrev pub IsOutside : End → Type 0
+IsOutside end.NetFault = Unit {0}
+IsOutside end.Spent = Unit {0}
+IsOutside _ = ⊥
+
+-- a job that runs ends so: by its run, or from outside, by the network or by the budget of turns
+abbrev pub EndsJob : Task → End → Type 0
+EndsJob task end.NetFault = Unit {0}
+EndsJob task end.Spent = Unit {0}
+EndsJob task e = EndsBy task e
+
+-- the start of a kernel ends so: by its ports, by itself, by its connection file, or for want of memory
+abbrev pub IsEndOfLaunch : End → Type 0
+IsEndOfLaunch end.NotStarted = Unit {0}
+IsEndOfLaunch end.NoConnectionFile = Unit {0}
+IsEndOfLaunch end.NetFault = Unit {0}
+IsEndOfLaunch end.NoMemory = Unit {0}
+IsEndOfLaunch _ = ⊥
+
+-- a start ends a job so: by its ports, its kernel or its connection file, or as a run does
 abbrev pub StartsBy : Task → End → Type 0
 StartsBy task end.NotStarted = Unit {0}
 StartsBy task end.NoConnectionFile = Unit {0}
+StartsBy task end.NetFault = Unit {0}
 StartsBy task e = EndsBy task e
 
--- a job on this output ended so: its answer is that of an end of its run
+-- a job on this output ended so: its answer is that of an end of its run, or of one from outside
 pub record Ending (output : List ℕ) (task : Task) (a : Answer) : Type 0 where
   pub end : End
-  pub by : EndsBy task end
+  pub by : EndsJob task end
   pub answers : Answers output end a
 
 -- its answer is that of some such end

@@ -13,9 +13,10 @@ use zmtp_wire::{Parts, WireFault};
 impl Execution {
     ghost use Rattle.std.specs.Prelude.{◌≡◌, ◌<◌, true, is_some, IfOk, IfErr, IfSome, OnOk};
     ghost use Rattle.job_notebook.specs.State.{begun_of};
-    ghost use Rattle.job_run.specs.Heard.{IsContent};
-    ghost use Rattle.job_run.specs.Held.{Holds, IsCalm, KeepsToDo};
+    ghost use Rattle.job_run.specs.Heard.{IsContent, IsFrom};
+    ghost use Rattle.job_run.specs.Held.{Holds, IsCalm, KeepsToDo, AsksOnce};
     ghost use Rattle.job_run.specs.Told.{EndsBy};
+    ghost use Rattle.job_run.specs.Counted.{KeepsCounting, KeepsTold};
     ghost use Rattle.jcontent.specs.IsRead.{IsRead};
     ghost use Rattle.cell_core.specs.StandsFor.{task_of};
     ghost use Rattle.job_saves.specs.Course.{GoesOn, CallsOwn, StaysOn, KeepsPart, stays_open};
@@ -36,6 +37,7 @@ impl Execution {
         ensures calls { CallsOwn W.journal W.counts w.old w.new self.old.book self.new.book }
         ensures task { task_of self.new.core ≡ task_of self.old.core }
         ensures own { IfErr result (EndsBy (task_of self.new.core)) }
+        ensures counts { KeepsCounting W.journal w.old w.new self.old self.new result }
     {
         let (messages, fault) = self.lines.feed(chan, piece)?;
         // What came with the end of a request is no part of the one that follows.
@@ -63,6 +65,7 @@ impl Execution {
         ensures calls { CallsOwn W.journal W.counts w.old w.new self.old.book self.new.book }
         ensures task { task_of self.new.core ≡ task_of self.old.core }
         ensures own { IfErr result (EndsBy (task_of self.new.core)) }
+        ensures counts { KeepsCounting W.journal w.old w.new self.old self.new result }
     {
         for message in messages.into_vec() {
             self.on_message(w, chan, &message, standing)?;
@@ -85,6 +88,7 @@ impl Execution {
         ensures calls { CallsOwn W.journal W.counts w.old w.new self.old.book self.new.book }
         ensures task { task_of self.new.core ≡ task_of self.old.core }
         ensures own { IfErr result (EndsBy (task_of self.new.core)) }
+        ensures counts { KeepsCounting W.journal w.old w.new self.old self.new result }
     {
         self.note_broken(chan, fault);
         self.step(w, Event::Broken)
@@ -96,6 +100,7 @@ impl Execution {
         ensures holds { Holds self.new }
         ensures named { is_some self.new.broken ≡ true }
         ensures core { self.new.core ≡ self.old.core }
+        ensures clock { self.new.clock ≡ self.old.clock }
         ensures book { self.new.book ≡ self.old.book }
     {
         self.broken = Some((chan, fault));
@@ -117,6 +122,7 @@ impl Execution {
         ensures calls { CallsOwn W.journal W.counts w.old w.new self.old.book self.new.book }
         ensures task { task_of self.new.core ≡ task_of self.old.core }
         ensures own { IfErr result (EndsBy (task_of self.new.core)) }
+        ensures counts { KeepsCounting W.journal w.old w.new self.old self.new result }
     {
         if chan == Chan::Heart {
             self.pings.on_echo();
@@ -137,7 +143,7 @@ impl Execution {
     ) -> Result<(), End>
         requires holds { Holds self.old }
         requires calm { IsCalm self.old }
-        requires content { IsContent message.now.content }
+        requires signed { IsFrom self.old.session.key message.now }
         ensures holds { Holds self.new }
         ensures calm { OnOk result (IsCalm self.new) }
         ensures course { GoesOn W.journal W.counts w.old w.new self.old.book self.new.book
@@ -145,6 +151,7 @@ impl Execution {
         ensures calls { CallsOwn W.journal W.counts w.old w.new self.old.book self.new.book }
         ensures task { task_of self.new.core ≡ task_of self.old.core }
         ensures own { IfErr result (EndsBy (task_of self.new.core)) }
+        ensures counts { KeepsCounting W.journal w.old w.new self.old self.new result }
     {
         match chan {
             Chan::Iopub => self.on_iopub(w, message, standing),
@@ -162,7 +169,8 @@ impl Execution {
         ensures calm { IsCalm self.new }
         ensures book { self.new.book ≡ self.old.book }
         ensures core { self.new.core ≡ self.old.core }
-        ensures content { IfOk result (λ heard. IfSome heard (λ m. IsContent m.content)) }
+        ensures told { KeepsTold self.old self.new }
+        ensures signed { IfOk result (λ heard. IfSome heard (IsFrom self.new.session.key)) }
     {
         let Some(message) = self.signed_message(parts)? else {
             return Ok(None);
@@ -178,7 +186,7 @@ impl Execution {
     }
 
     fn signed_message(&self, parts: &Parts) -> Result<Option<Message>, NoMemory>
-        ensures { IfOk result (λ heard. IfSome heard (λ m. IsContent m.content)) }
+        ensures { IfOk result (λ heard. IfSome heard (IsFrom self.now.session.key)) }
     {
         match decode_under(self.alloc, self.session.signer(), parts)? {
             Decoded::Good(message) => Ok(Some(message)),
@@ -194,7 +202,7 @@ impl Execution {
     ) -> Result<(), End>
         requires holds { Holds self.old }
         requires calm { IsCalm self.old }
-        requires content { IsContent message.now.content }
+        requires signed { IsFrom self.old.session.key message.now }
         ensures holds { Holds self.new }
         ensures calm { OnOk result (IsCalm self.new) }
         ensures course { GoesOn W.journal W.counts w.old w.new self.old.book self.new.book
@@ -202,6 +210,7 @@ impl Execution {
         ensures calls { CallsOwn W.journal W.counts w.old w.new self.old.book self.new.book }
         ensures task { task_of self.new.core ≡ task_of self.old.core }
         ensures own { IfErr result (EndsBy (task_of self.new.core)) }
+        ensures counts { KeepsCounting W.journal w.old w.new self.old self.new result }
     {
         self.asking.on_iopub();
         match self.note_ready(w) {
@@ -219,7 +228,7 @@ impl Execution {
     ) -> Result<(), End>
         requires holds { Holds self.old }
         requires calm { IsCalm self.old }
-        requires content { IsContent message.now.content }
+        requires signed { IsFrom self.old.session.key message.now }
         ensures holds { Holds self.new }
         ensures calm { OnOk result (IsCalm self.new) }
         ensures course { GoesOn W.journal W.counts w.old w.new self.old.book self.new.book
@@ -227,6 +236,7 @@ impl Execution {
         ensures calls { CallsOwn W.journal W.counts w.old w.new self.old.book self.new.book }
         ensures task { task_of self.new.core ≡ task_of self.old.core }
         ensures own { IfErr result (EndsBy (task_of self.new.core)) }
+        ensures counts { KeepsCounting W.journal w.old w.new self.old self.new result }
     {
         if !self.is_of_request(message, standing) {
             return Ok(());
@@ -255,6 +265,7 @@ impl Execution {
         ensures calls { CallsOwn W.journal W.counts w.old w.new self.old.book self.new.book }
         ensures task { task_of self.new.core ≡ task_of self.old.core }
         ensures own { IfErr result (EndsBy (task_of self.new.core)) }
+        ensures counts { KeepsCounting W.journal w.old w.new self.old self.new result }
     {
         let step = self.tell(Event::Io(brief_of(content)));
         match self.take(step.takes, content, date) {
@@ -280,6 +291,7 @@ impl Execution {
         ensures holds { Holds self.new }
         ensures todo { KeepsToDo self.old self.new }
         ensures core { self.new.core ≡ self.old.core }
+        ensures told { KeepsTold self.old self.new }
         ensures course { StaysOn self.old.book self.new.book }
         ensures calls { KeepsPart self.old.book self.new.book }
     {
@@ -298,6 +310,7 @@ impl Execution {
     ) -> Result<(), End>
         requires holds { Holds self.old }
         requires calm { IsCalm self.old }
+        requires signed { IsFrom self.old.session.key message.now }
         ensures holds { Holds self.new }
         ensures calm { OnOk result (IsCalm self.new) }
         ensures course { GoesOn W.journal W.counts w.old w.new self.old.book self.new.book
@@ -305,6 +318,7 @@ impl Execution {
         ensures calls { CallsOwn W.journal W.counts w.old w.new self.old.book self.new.book }
         ensures task { task_of self.new.core ≡ task_of self.old.core }
         ensures own { IfErr result (EndsBy (task_of self.new.core)) }
+        ensures counts { KeepsCounting W.journal w.old w.new self.old self.new result }
     {
         match read(self.alloc, &message.header.msg_type, &message.content)? {
             Content::InfoReply => {
@@ -330,6 +344,7 @@ impl Execution {
         ensures calm { IsCalm self.new }
         ensures book { self.new.book ≡ self.old.book }
         ensures core { self.new.core ≡ self.old.core }
+        ensures told { KeepsTold self.old self.new }
     {
         if let Some(parent) = &message.parent_id {
             self.asking.on_reply(parent);
@@ -352,6 +367,7 @@ impl Execution {
         ensures calls { CallsOwn W.journal W.counts w.old w.new self.old.book self.new.book }
         ensures task { task_of self.new.core ≡ task_of self.old.core }
         ensures own { IfErr result (EndsBy (task_of self.new.core)) }
+        ensures counts { KeepsCounting W.journal w.old w.new self.old self.new result }
     {
         let fatal = !allowed(
             &reply,
@@ -379,6 +395,7 @@ impl Execution {
         ensures holds { Holds self.new }
         ensures todo { KeepsToDo self.old self.new }
         ensures core { self.new.core ≡ self.old.core }
+        ensures told { KeepsTold self.old self.new }
         ensures course { StaysOn self.old.book self.new.book }
         ensures calls { KeepsPart self.old.book self.new.book }
     {
@@ -405,6 +422,7 @@ impl Execution {
         ensures holds { Holds self.new }
         ensures todo { KeepsToDo self.old self.new }
         ensures core { self.new.core ≡ self.old.core }
+        ensures told { KeepsTold self.old self.new }
         ensures book { self.new.book ≡ self.old.book }
     {
         if let Some(request) = &mut self.request {
@@ -438,6 +456,8 @@ impl Execution {
         ensures calls { CallsOwn W.journal W.counts w.old w.new self.old.book self.new.book }
         ensures task { task_of self.new.core ≡ task_of self.old.core }
         ensures own { IfErr result (EndsBy (task_of self.new.core)) }
+        ensures counts { KeepsCounting W.journal w.old w.new self.old self.new result }
+        ensures asks { OnOk result (AsksOnce self.old self.new) }
     {
         if self.is_ready || !self.asking.is_ready() {
             return Ok(());

@@ -1,11 +1,14 @@
 //! How a job has ended.
-ghost use Rattle.std.specs.Prelude.{◌≡◌, ℕ, List, false, is_some, IfErr, IfSome, OnOk};
+ghost use Rattle.std.specs.Prelude.{◌≡◌, ℕ, List, false, is_some, Err, IfErr, IfSome, OnOk};
 ghost use Rattle.cell_core.specs.StandsFor.{task_of};
 ghost use Rattle.cell_core.specs.Task.{Task};
 ghost use Rattle.job_saves.specs.Course.{StaysOn, KeepsPart, stays_open, keeps_open};
-ghost use Rattle.job_run.specs.Held.{Holds, IsCalm};
-ghost use Rattle.job_run.specs.Run.{HasEnded, HasFailed, IsUnsaved, IsFileStatus};
-ghost use Rattle.job_run.specs.Told.{EndsBy, IsEnding};
+ghost use Rattle.job_run.specs.Held.{Holds, IsCalm, AsksOnce};
+ghost use Rattle.job_end.specs.declared.end.End.TheVariants as ending;
+ghost use Rattle.job_run.specs.Run.{HasEnded, HasFailed, IsUnsaved, IsFileStatus, IsLost, IsSpent};
+ghost use Rattle.job_run.specs.Told.{EndsJob, IsEnding};
+ghost use Rattle.job_run.specs.Counted.{IsCausedAfter, EndsJobAfter, IsCountedBy, IsCountedIn};
+ghost use Rattle.job_notebook.specs.State.{output_of};
 
 use crate::execution::Execution;
 use job_end::{Answer, End};
@@ -21,15 +24,20 @@ pub(crate) fn outcome_of(
     done: Result<(), End>,
 ) -> Option<Answer>
     requires holds { Holds run.old }
-    requires own { IfErr done (EndsBy (task_of run.old.core)) }
+    requires own { IfErr done (EndsJob (task_of run.old.core)) }
     ensures holds { Holds run.new }
     ensures calm { is_some result ≡ false → OnOk done (IsCalm run.old) → IsCalm run.new }
     ensures course { StaysOn run.old.book run.new.book }
     ensures calls { KeepsPart run.old.book run.new.book }
     ensures shut { stays_open done ≡ false → HasEnded result }
     ensures fails { HasFailed result → stays_open done ≡ false }
+    ensures lost { IsLost result → done ≡ Err ending.NetFault }
+    ensures spent { IsSpent result → done ≡ Err ending.Spent }
     ensures task { task_of run.new.core ≡ task_of run.old.core }
     ensures end { IfSome result (IsEnding output.now (task_of run.new.core)) }
+    ensures once { AsksOnce run.old run.new }
+    ensures counts { (n : ℕ) → IsCountedBy run.old done n → IsCountedIn result run.new n }
+    ensures saves { output_of run.new.book ≡ output_of run.old.book }
 {
     match done {
         Ok(()) => None,
@@ -40,14 +48,20 @@ pub(crate) fn outcome_of(
 /// How a job has ended that ends so: its kernel is asked to shut down where that can be said.
 fn farewell(alloc: Global, output: &Text, run: &mut Execution, end: &End) -> Answer
     requires holds { Holds run.old }
-    requires own { EndsBy (task_of run.old.core) end.now }
+    requires own { EndsJob (task_of run.old.core) end.now }
     ensures holds { Holds run.new }
     ensures course { StaysOn run.old.book run.new.book }
     ensures calls { KeepsPart run.old.book run.new.book }
     ensures shut { keeps_open end.now ≡ false → IsUnsaved result.status }
     ensures fails { IsFileStatus result.status → keeps_open end.now ≡ false }
+    ensures lost { result.status ≡ 14 → end.now ≡ ending.NetFault }
+    ensures spent { result.status ≡ 16 → end.now ≡ ending.Spent }
     ensures task { task_of run.new.core ≡ task_of run.old.core }
     ensures end { IsEnding output.now (task_of run.new.core) result }
+    ensures once { AsksOnce run.old run.new }
+    ensures counts { (n : ℕ) → EndsJobAfter n (task_of run.old.core) end.now →
+        IsCausedAfter n (task_of run.old.core) result.status }
+    ensures saves { output_of run.new.book ≡ output_of run.old.book }
 {
     let answer = answer_for(alloc, output, end);
     if answer.status != 12 && run.shut_down().is_err() {
@@ -59,6 +73,9 @@ fn farewell(alloc: Global, output: &Text, run: &mut Execution, end: &End) -> Ans
 fn starved(alloc: Global) -> Answer
     ensures shut { IsUnsaved result.status }
     ensures fails { IsFileStatus result.status → ⊥ }
+    ensures lost { result.status ≡ 14 → ⊥ }
+    ensures spent { result.status ≡ 16 → ⊥ }
+    ensures counts { (n : ℕ) (task : Task) → IsCausedAfter n task result.status }
     ensures end { (output : List ℕ) (task : Task) → IsEnding output task result }
 {
     Answer::starved(alloc)
@@ -66,9 +83,13 @@ fn starved(alloc: Global) -> Answer
 
 fn answer_for(alloc: Global, output: &Text, end: &End) -> Answer
     ensures shut { keeps_open end.now ≡ false → IsUnsaved result.status }
-    ensures fails { (task : Task) → EndsBy task end.now → IsFileStatus result.status →
+    ensures fails { (task : Task) → EndsJob task end.now → IsFileStatus result.status →
         keeps_open end.now ≡ false }
-    ensures end { (task : Task) → EndsBy task end.now → IsEnding output.now task result }
+    ensures lost { result.status ≡ 14 → end.now ≡ ending.NetFault }
+    ensures spent { result.status ≡ 16 → end.now ≡ ending.Spent }
+    ensures counts { (n : ℕ) (task : Task) → EndsJobAfter n task end.now →
+        IsCausedAfter n task result.status }
+    ensures end { (task : Task) → EndsJob task end.now → IsEnding output.now task result }
 {
     end.answer(alloc, output)
 }

@@ -13,12 +13,13 @@ ghost use Rattle.job_saves.specs.Calls.{Cast};
 ghost use Rattle.job_saves.specs.Children.{HasEnd, KeepsEnd};
 ghost use Rattle.job_saves.specs.Course.{Origin, Stands, HasPart, CountsWork, stays_open};
 ghost use Rattle.cell_core.specs.StandsFor.{task_of};
-ghost use Rattle.cell_core.specs.Task.{Task};
-ghost use Rattle.job_run.specs.Told.{StartsBy};
+ghost use Rattle.job_run.specs.Told.{StartsBy, IsEndOfLaunch};
 ghost use Rattle.job_run.specs.Held.{Holds, IsCalm, IsFirst};
-ghost use Rattle.job_run.specs.Task.{task_of_job, output_of_job, task_for, task_in, times_of};
+ghost use Rattle.job_run.specs.Task.{task_of_job, output_of_job, ports_of_job};
+ghost use Rattle.job_run.specs.Task.{task_for, task_in, times_of};
 ghost use Rattle.job_run.specs.Run.{Runs, IsRole, HasRole, MayStart, StartsAs, StartsInRole};
-ghost use Rattle.job_run.specs.Run.{EndCause, number_of, outcome_of};
+ghost use Rattle.job_run.specs.Run.{BeginsNew, StartsCounted, HasPorts, HasNoPorts, EndCause};
+ghost use Rattle.job_run.specs.Run.{number_of, outcome_of};
 
 use crate::execution::Execution;
 use crate::look::Look;
@@ -42,17 +43,20 @@ use words::Ask;
 use world::World;
 
 impl Job {
-    ghost use Rattle.std.specs.Prelude.{◌≡◌, ◌<◌, ℕ, List, true, IfOk, IfErr};
+    ghost use Rattle.std.specs.Prelude.{◌≡◌, ◌<◌, ℕ, List, true, None, IfOk, IfErr, IfSome};
     ghost use Rattle.world.specs.declared.entry.Entry.{Entry};
     ghost use Rattle.world.specs.Counts.{Counts, CountsGrow};
     ghost use Rattle.job_saves.specs.Course.{Origin, IsFor, HasCalled, Begins, stays_open};
-    ghost use Rattle.job_saves.specs.Calls.{Cast, IsKernelOf};
+    ghost use Rattle.job_saves.specs.Calls.{Cast};
+    ghost use Rattle.job_saves.specs.Reads.{IsKernelOf};
     ghost use Rattle.job_saves.specs.Children.{KeepsEnd};
-    ghost use Rattle.job_run.specs.Run.{IsCastAs, StartsAs, StartsInRole, RunsOn};
-    ghost use Rattle.job_run.specs.Run.{LaunchesInRole, WritesInRole, EndCause, number_of, outcome_of};
-    ghost use Rattle.job_run.specs.Task.{task_of_job, output_of_job, task_for};
-    ghost use Rattle.cell_core.specs.Task.{Task};
-    ghost use Rattle.job_run.specs.Told.{StartsBy};
+    ghost use Rattle.job_run.specs.Run.{IsCastAs, BeginsNew, StartsAs, StartsCounted, StartsInRole};
+    ghost use Rattle.job_run.specs.Run.{RunsOn};
+    ghost use Rattle.job_run.specs.Run.{LaunchesInRole, LaunchesOnPorts, RunsInRole, WritesInRole};
+    ghost use Rattle.job_run.specs.Run.{ReadiesIn, HasNoChild, HasNoPorts, EndCause, number_of};
+    ghost use Rattle.job_run.specs.Run.{HasPorts, KeepsPorts, outcome_of};
+    ghost use Rattle.job_run.specs.Task.{task_of_job, output_of_job, ports_of_job, task_for};
+    ghost use Rattle.job_run.specs.Told.{StartsBy, IsEndOfLaunch};
 
     /// Saves the notebook with no cell settled and starts the kernel that was found for it. Where
     /// the start fails nothing is left of the kernel. `here` is the working folder.
@@ -70,22 +74,32 @@ impl Job {
 
         // Its first save begins the course of its saves.
         ensures course { (o : Origin) → IsFor ask.output ask.merge agenda.notebook o →
-            Begins o (W.journal w.old) (W.counts w.old) →
+            Begins o (W.journal w.old) (W.counts w.old) → BeginsNew o (W.journal w.old) →
             StartsAs o result (W.journal w.new) (W.counts w.new) }
-        // Its calls are those of the job that was asked for, and no other job's.
+        // Its calls are those of the job that was asked for, and no other job's, where this is the
+        // kernel that it has read of and no child of its number is there.
         ensures calls { (c : Cast) (since : List Entry) (from : Counts) →
-            IsCastAs c number ask here.now → IsKernelOf ask kernel.now →
+            IsCastAs c number ask here.now →
+            IfSome (W.journal w.old) (λ past. IsKernelOf ask past kernel.now) →
+            HasNoChild c number (W.journal w.old) → HasNoPorts c number (W.journal w.old) →
             HasCalled c since from (W.journal w.old) (W.counts w.old) →
             StartsInRole c since from result (W.journal w.new) (W.counts w.new) }
         // Where it ends a child that was started has its end.
         ensures left { IfErr result (λ _. KeepsEnd number (W.journal w.old) (W.journal w.new)) }
-        // It ends by its kernel or its connection file only where a count of failed calls rose.
+        // It ends by its ports, its kernel or its connection file only where a count of failed
+        // calls rose, and never by a budget of turns.
         ensures cause { IfErr result (EndCause (W.counts w.old) (W.counts w.new)) }
         // It ends by that start or as a run does; where it runs its core is to execute the cells of
         // the agenda in the times that were asked for, and its last line names its output.
         ensures own { IfErr result (StartsBy (task_for ask agenda.notebook)) }
         ensures task { IfOk result (λ j. task_of_job j ≡ task_for ask agenda.notebook) }
         ensures output { IfOk result (λ j. output_of_job j ≡ ask.output) }
+        ensures fresh { IfOk result (λ j. outcome_of j ≡ None) }
+        ensures ports { IfOk result (λ j. HasPorts number (ports_of_job j) (W.journal w.new)) }
+        // Where events brought its end, as many of them are saves as were acknowledged.
+        ensures counted { (o : Origin) → IsFor ask.output ask.merge agenda.notebook o →
+            Begins o (W.journal w.old) (W.counts w.old) → BeginsNew o (W.journal w.old) →
+            IfErr result (StartsCounted o (task_for ask agenda.notebook) (W.journal w.new)) }
     {
         match drawn(w) {
             Ok(pairs) => Job::start_session(alloc, w, number, ask, agenda, pairs, kernel, here),
@@ -107,17 +121,24 @@ impl Job {
         requires number { number < 16 }
         requires ask { IsRunnable ask }
         ensures course { (o : Origin) → IsFor ask.output ask.merge agenda.notebook o →
-            Begins o (W.journal w.old) (W.counts w.old) →
+            Begins o (W.journal w.old) (W.counts w.old) → BeginsNew o (W.journal w.old) →
             StartsAs o result (W.journal w.new) (W.counts w.new) }
         ensures calls { (c : Cast) (since : List Entry) (from : Counts) →
-            IsCastAs c number ask here.now → IsKernelOf ask kernel.now →
+            IsCastAs c number ask here.now →
+            IfSome (W.journal w.old) (λ past. IsKernelOf ask past kernel.now) →
+            HasNoChild c number (W.journal w.old) → HasNoPorts c number (W.journal w.old) →
             HasCalled c since from (W.journal w.old) (W.counts w.old) →
             StartsInRole c since from result (W.journal w.new) (W.counts w.new) }
         ensures left { IfErr result (λ _. KeepsEnd number (W.journal w.old) (W.journal w.new)) }
         ensures cause { IfErr result (EndCause (W.counts w.old) (W.counts w.new)) }
         ensures own { IfErr result (StartsBy (task_for ask agenda.notebook)) }
+        ensures counted { (o : Origin) → IsFor ask.output ask.merge agenda.notebook o →
+            Begins o (W.journal w.old) (W.counts w.old) → BeginsNew o (W.journal w.old) →
+            IfErr result (StartsCounted o (task_for ask agenda.notebook) (W.journal w.new)) }
         ensures task { IfOk result (λ j. task_of_job j ≡ task_for ask agenda.notebook) }
         ensures output { IfOk result (λ j. output_of_job j ≡ ask.output) }
+        ensures fresh { IfOk result (λ j. outcome_of j ≡ None) }
+        ensures ports { IfOk result (λ j. HasPorts number (ports_of_job j) (W.journal w.new)) }
     {
         match parts_of(alloc, ask, agenda, pairs) {
             Ok((paths, run)) => started(alloc, w, number, paths, run, kernel, here),
@@ -134,10 +155,12 @@ impl Job {
         ensures outcome { outcome_of self.new ≡ outcome_of self.old }
         ensures task { task_of_job self.new ≡ task_of_job self.old }
         ensures output { output_of_job self.new ≡ output_of_job self.old }
+        ensures ports { IfOk result (λ _.
+            HasPorts (number_of self.new) (ports_of_job self.new) (W.journal w.new)) }
         ensures saved { stays_open result ≡ true }
         ensures grow { CountsGrow (W.counts w.old) (W.counts w.new) }
         ensures cause { IfErr result (EndCause (W.counts w.old) (W.counts w.new)) }
-        ensures own { (task : Task) → IfErr result (StartsBy task) }
+        ensures own { IfErr result IsEndOfLaunch }
     {
         match w.free_ports(self.number) {
             Some(ports) => {
@@ -151,12 +174,13 @@ impl Job {
     // Writes the connection file and starts the child.
     fn start_on_ports<W: World>(&self, w: &mut W, kernel: &Kernel, here: &Text) -> Result<(), End>
         ensures course { RunsOn W.journal W.counts w.old w.new self.now self.now }
-        ensures calls { LaunchesInRole W.journal W.counts w.old w.new kernel.now here.now
-            self.now self.now }
+        ensures calls { LaunchesOnPorts W.journal W.counts w.old w.new kernel.now here.now
+            self.now }
+        ensures given { KeepsPorts W.journal w.old w.new }
         ensures saved { stays_open result ≡ true }
         ensures grow { CountsGrow (W.counts w.old) (W.counts w.new) }
         ensures cause { IfErr result (EndCause (W.counts w.old) (W.counts w.new)) }
-        ensures own { (task : Task) → IfErr result (StartsBy task) }
+        ensures own { IfErr result IsEndOfLaunch }
     {
         match self.write_file(w) {
             Ok(()) => self.start_child(w, kernel, here),
@@ -167,10 +191,13 @@ impl Job {
     fn write_file<W: World>(&self, w: &mut W) -> Result<(), End>
         ensures course { RunsOn W.journal W.counts w.old w.new self.now self.now }
         ensures calls { WritesInRole W.journal W.counts w.old w.new self.now }
+        ensures ready { IfOk result (λ _. ReadiesIn W.journal w.old w.new self.now) }
+        ensures left { KeepsEnd (number_of self.now) (W.journal w.old) (W.journal w.new) }
+        ensures given { KeepsPorts W.journal w.old w.new }
         ensures saved { stays_open result ≡ true }
         ensures grow { CountsGrow (W.counts w.old) (W.counts w.new) }
         ensures cause { IfErr result (EndCause (W.counts w.old) (W.counts w.new)) }
-        ensures own { (task : Task) → IfErr result (StartsBy task) }
+        ensures own { IfErr result IsEndOfLaunch }
     {
         let key = self.run.session.key();
         match write_connection(self.alloc, w, &self.paths.connection, self.ports, key) {
@@ -182,12 +209,12 @@ impl Job {
 
     fn start_child<W: World>(&self, w: &mut W, kernel: &Kernel, here: &Text) -> Result<(), End>
         ensures course { RunsOn W.journal W.counts w.old w.new self.now self.now }
-        ensures calls { LaunchesInRole W.journal W.counts w.old w.new kernel.now here.now
-            self.now self.now }
+        ensures calls { RunsInRole W.journal W.counts w.old w.new kernel.now here.now self.now }
+        ensures given { KeepsPorts W.journal w.old w.new }
         ensures saved { stays_open result ≡ true }
         ensures grow { CountsGrow (W.counts w.old) (W.counts w.new) }
         ensures cause { IfErr result (EndCause (W.counts w.old) (W.counts w.new)) }
-        ensures own { (task : Task) → IfErr result (StartsBy task) }
+        ensures own { IfErr result IsEndOfLaunch }
     {
         let path = &self.paths.connection;
         match kernel.start(self.alloc, w, self.number, here, path, &self.paths.cwd) {
@@ -204,6 +231,7 @@ impl Execution {
     ghost use Rattle.job_saves.specs.Course.{GoesOn, CallsOwn, stays_open};
     ghost use Rattle.job_run.specs.Held.{Holds, IsCalm, IsFirst};
     ghost use Rattle.job_run.specs.Told.{EndsBy};
+    ghost use Rattle.job_run.specs.Counted.{KeepsCounting};
 
     /// Saves the notebook with no cell settled, and reads the clock once.
     fn save_first<W: World>(&mut self, w: &mut W) -> Result<(), End>
@@ -215,6 +243,7 @@ impl Execution {
         ensures calls { CallsOwn W.journal W.counts w.old w.new self.old.book self.new.book }
         ensures task { task_of self.new.core ≡ task_of self.old.core }
         ensures own { IfErr result (EndsBy (task_of self.new.core)) }
+        ensures counts { KeepsCounting W.journal w.old w.new self.old self.new result }
     {
         self.act(w, Act::Save(0))?;
         self.read_clock(w)
@@ -230,6 +259,7 @@ impl Execution {
         ensures calls { CallsOwn W.journal W.counts w.old w.new self.old.book self.new.book }
         ensures task { task_of self.new.core ≡ task_of self.old.core }
         ensures own { IfErr result (EndsBy (task_of self.new.core)) }
+        ensures counts { KeepsCounting W.journal w.old w.new self.old self.new result }
     {
         laws::other_calls_pass();
         let ms = w.now();
@@ -251,17 +281,23 @@ fn started<W: World>(
     requires number { number < 16 }
     requires first { IsFirst run }
     ensures course { (o : Origin) → Stands o run.book true (W.journal w.old) (W.counts w.old) →
-        bytes_eq paths.connection o.output ≡ false →
+        bytes_eq paths.connection o.output ≡ false → BeginsNew o (W.journal w.old) →
         StartsAs o result (W.journal w.new) (W.counts w.new) }
     ensures calls { (c : Cast) (since : List Entry) (from : Counts) →
-        MayStart c number kernel.now here.now → IsRole c number paths →
+        MayStart c number kernel.now here.now (W.journal w.old) →
+        HasNoPorts c number (W.journal w.old) → IsRole c number paths →
         HasPart c since from run.book (W.journal w.old) (W.counts w.old) →
         StartsInRole c since from result (W.journal w.new) (W.counts w.new) }
     ensures left { IfErr result (λ _. KeepsEnd number (W.journal w.old) (W.journal w.new)) }
     ensures cause { IfErr result (EndCause (W.counts w.old) (W.counts w.new)) }
     ensures own { IfErr result (StartsBy (task_of run.core)) }
+    ensures counted { (o : Origin) → Stands o run.book true (W.journal w.old) (W.counts w.old) →
+        BeginsNew o (W.journal w.old) →
+        IfErr result (StartsCounted o (task_of run.core) (W.journal w.new)) }
     ensures task { IfOk result (λ j. task_of_job j ≡ task_of run.core) }
     ensures output { IfOk result (λ j. output_of_job j ≡ paths.output) }
+    ensures fresh { IfOk result (λ j. outcome_of j ≡ None) }
+    ensures ports { IfOk result (λ j. HasPorts number (ports_of_job j) (W.journal w.new)) }
 {
     laws::jobs_begin_and_end();
     let mut run = run;
@@ -298,14 +334,18 @@ fn with_kernel<W: World>(job: Job, w: &mut W, kernel: &Kernel, here: &Text) -> R
     ensures course { (o : Origin) → Runs o job (W.journal w.old) (W.counts w.old) →
         StartsAs o result (W.journal w.new) (W.counts w.new) }
     ensures calls { (c : Cast) (since : List Entry) (from : Counts) →
-        MayStart c (number_of job) kernel.now here.now →
+        MayStart c (number_of job) kernel.now here.now (W.journal w.old) →
+        HasNoPorts c (number_of job) (W.journal w.old) →
         HasRole c since from job (W.journal w.old) (W.counts w.old) →
         StartsInRole c since from result (W.journal w.new) (W.counts w.new) }
     ensures left { IfErr result (λ _. HasEnd (number_of job) (W.journal w.new)) }
     ensures cause { IfErr result (EndCause (W.counts w.old) (W.counts w.new)) }
-    ensures own { (task : Task) → IfErr result (StartsBy task) }
+    ensures own { IfErr result IsEndOfLaunch }
     ensures task { IfOk result (λ j. task_of_job j ≡ task_of_job job) }
     ensures output { IfOk result (λ j. output_of_job j ≡ output_of_job job) }
+    ensures fresh { IfOk result (λ j. outcome_of j ≡ None) }
+    ensures ports { IfOk result (λ j.
+        HasPorts (number_of job) (ports_of_job j) (W.journal w.new)) }
 {
     laws::jobs_begin_and_end();
     let mut job = job;
@@ -325,7 +365,7 @@ fn drawn<W: World>(w: &mut W) -> Result<RandomPairs, End>
     ensures work { CountsWork (W.counts w.old) (W.counts w.new) }
     ensures saved { stays_open result ≡ true }
     ensures cause { IfErr result (EndCause (W.counts w.old) (W.counts w.new)) }
-    ensures own { (task : Task) → IfErr result (StartsBy task) }
+    ensures own { IfErr result IsEndOfLaunch }
 {
     match random_pairs(w) {
         Some(pairs) => Ok(pairs),

@@ -14,16 +14,24 @@ use world::{Chan, Disk, Say};
 const RAISES: &str = "raises-exception";
 
 impl Execution {
-    ghost use Rattle.std.specs.Prelude.{◌≡◌, ◌<◌, ◌≤◌, ◌^◌, ◌+◌, true, false, is_some, IfOk, IfErr, OnOk};
+    ghost use Rattle.std.specs.Prelude.{◌≡◌, ℕ, ◌<◌, ◌≤◌, ◌^◌, ◌+◌, true, false, is_some};
+    ghost use Rattle.std.specs.Prelude.{IfOk, IfErr, OnOk};
     ghost use Rattle.cell_core.specs.Events.{is_saved};
     ghost use Rattle.cell_core.specs.Holds.{IsSmall, is_save};
     ghost use Rattle.cell_core.specs.Sending.{next_of, saves_ahead};
     ghost use Rattle.cell_core.specs.StandsFor.{task_of};
     ghost use Rattle.cell_core.specs.declared.why.Why.TheVariants as cause;
-    ghost use Rattle.job_notebook.specs.State.{settled_of, begun_of};
+    ghost use Rattle.world.specs.Moments.{Told};
+    ghost use Rattle.save_disk.specs.Places.{acknowledged};
+    ghost use Rattle.job_notebook.specs.State.{settled_of, begun_of, output_of};
     ghost use Rattle.job_run.specs.Held.{Holds, IsToDo, IsCalm, IsSaid};
+    ghost use Rattle.job_run.specs.Held.{Asks, AsksOnce, requests_of};
     ghost use Rattle.job_run.specs.Told.{MayCome, StopsFor, EndsBy};
-    ghost use Rattle.job_saves.specs.Course.{GoesOn, CallsOwn, StaysOn, KeepsPart, stays_open, keeps_open};
+    ghost use Rattle.job_run.specs.Counted.{IsCounted, IsCountedOn, IsCountedAt, CountsOn};
+    ghost use Rattle.job_run.specs.Counted.{CountsFor, KeepsCounting, KeepsTold};
+    ghost use Rattle.job_run.specs.Counted.{StopsAfter, EndsAfter};
+    ghost use Rattle.job_saves.specs.Course.{GoesOn, CallsOwn, StaysOn, KeepsPart, IsEndOfSave};
+    ghost use Rattle.job_saves.specs.Course.{stays_open, keeps_open};
 
     /// Tells the core of one event, and does what it answers. `Err` where the job ends so.
     pub(crate) fn step<W: Disk + Say>(&mut self, w: &mut W, e: Event) -> Result<(), End>
@@ -39,6 +47,8 @@ impl Execution {
         ensures calls { CallsOwn W.journal W.counts w.old w.new self.old.book self.new.book }
         ensures task { task_of self.new.core ≡ task_of self.old.core }
         ensures own { IfErr result (EndsBy (task_of self.new.core)) }
+        ensures counts { KeepsCounting W.journal w.old w.new self.old self.new result }
+        ensures asks { OnOk result (AsksOnce self.old self.new) }
     {
         let step = self.tell(e);
         self.act(w, step.act)
@@ -55,7 +65,10 @@ impl Execution {
         ensures todo { IsToDo self.new result.act }
         ensures request { self.new.request ≡ self.old.request }
         ensures book { self.new.book ≡ self.old.book }
+        ensures session { self.new.session ≡ self.old.session }
         ensures task { task_of self.new.core ≡ task_of self.old.core }
+        ensures counts { (n : ℕ) → IsCounted self.old Act.Nothing n →
+            IsCounted self.new result.act n }
     {
         self.core.step(e)
     }
@@ -71,6 +84,9 @@ impl Execution {
         ensures calls { CallsOwn W.journal W.counts w.old w.new self.old.book self.new.book }
         ensures task { task_of self.new.core ≡ task_of self.old.core }
         ensures own { IfErr result (EndsBy (task_of self.new.core)) }
+        ensures counts { IsCountedAt self.old act (W.journal w.old) →
+            CountsOn self.new result (W.journal w.new) }
+        ensures asks { OnOk result (AsksOnce self.old self.new) }
     {
         let mut act = act;
         while let Act::Save(settled) = act {
@@ -92,6 +108,9 @@ impl Execution {
         ensures calls { CallsOwn W.journal W.counts w.old w.new self.old.book self.new.book }
         ensures task { task_of self.new.core ≡ task_of self.old.core }
         ensures own { IfErr result (EndsBy (task_of self.new.core)) }
+        ensures counts { IsCountedAt self.old Act.Nothing (W.journal w.old) →
+            CountsFor self.new result (W.journal w.new) }
+        ensures asks { self.new.session ≡ self.old.session }
     {
         self.save(w, settled)?;
         Ok(self.core.step(Event::Saved).act)
@@ -109,6 +128,8 @@ impl Execution {
         ensures saved { stays_open result ≡ true }
         ensures task { task_of self.new.core ≡ task_of self.old.core }
         ensures own { IfErr result (EndsBy (task_of self.new.core)) }
+        ensures counts { (n : ℕ) → IsCounted self.old act n → IsCountedOn self.new result n }
+        ensures asks { OnOk result (Asks (requests_of act) self.old self.new) }
     {
         match act {
             Act::Send(cell) => self.send(cell),
@@ -136,6 +157,13 @@ impl Execution {
         ensures calls { CallsOwn W.journal W.counts w.old w.new self.old.book self.new.book }
         ensures task { task_of self.new.core ≡ task_of self.old.core }
         ensures own { IfErr result (EndsBy (task_of self.new.core)) }
+        ensures told { KeepsTold self.old self.new }
+        ensures kind { IfErr result IsEndOfSave }
+        ensures output { output_of self.new.book ≡ output_of self.old.book }
+        ensures acked { OnOk result (Told (W.journal w.old) (W.journal w.new) (λ before after.
+            acknowledged (output_of self.old.book) after ≡
+            acknowledged (output_of self.old.book) before + 1)) }
+        ensures asks { self.new.session ≡ self.old.session }
     {
         let stop = self.core.failing();
         save_next(w, &mut self.book, settled, stop)
@@ -154,6 +182,9 @@ impl Execution {
         ensures saved { stays_open result ≡ true }
         ensures task { task_of self.new.core ≡ task_of self.old.core }
         ensures own { IfErr result (EndsBy (task_of self.new.core)) }
+        ensures counts { (n : ℕ) → IsCounted self.old Act.Nothing n →
+            IsCountedOn self.new result n }
+        ensures asks { OnOk result (Asks 1 self.old self.new) }
     {
         laws::messages_stay_on_course();
         let request = self.request_of(cell)?;
@@ -169,6 +200,8 @@ impl Execution {
         ensures holds { Holds self.new }
         ensures core { self.new.core ≡ self.old.core }
         ensures book { self.new.book ≡ self.old.book }
+        ensures told { KeepsTold self.old self.new }
+        ensures asks { OnOk result (Asks 1 self.old self.new) }
     {
         let source = &self.book.notebook().cells.as_slice()[cell as usize];
         let text = code(self.alloc, source)?;
@@ -188,7 +221,9 @@ impl Execution {
     // Queues a request of this kind on the channel.
     pub(crate) fn say(&mut self, chan: Chan, kind: &str, content: Json) -> Result<(), NoMemory>
         requires { self.old.clock < 2 ^ 47 }
-        ensures { IsSaid self.old self.new }
+        ensures said { IsSaid self.old self.new }
+        ensures asks { OnOk result (Asks 1 self.old self.new) }
+        ensures once { AsksOnce self.old self.new }
     {
         let parts = self.session.request(self.clock, kind, content)?;
         self.lines.send(chan, &parts)
@@ -196,7 +231,8 @@ impl Execution {
 
     fn interrupt(&mut self) -> Result<(), NoMemory>
         requires { self.old.clock < 2 ^ 47 }
-        ensures { IsSaid self.old self.new }
+        ensures said { IsSaid self.old self.new }
+        ensures asks { OnOk result (Asks 1 self.old self.new) }
     {
         let content = empty_content(self.alloc);
         self.say(Chan::Control, "interrupt_request", content)
@@ -205,7 +241,8 @@ impl Execution {
     /// Asks the kernel to shut down, where that can be said.
     pub(crate) fn shut_down(&mut self) -> Result<(), NoMemory>
         requires { self.old.clock < 2 ^ 47 }
-        ensures { IsSaid self.old self.new }
+        ensures said { IsSaid self.old self.new }
+        ensures once { AsksOnce self.old self.new }
     {
         if !self.lines.of(Chan::Control).is_shaken() {
             return Ok(());
@@ -220,6 +257,8 @@ impl Execution {
         requires named { why ≡ cause.BadPeer → is_some self.now.broken ≡ true }
         ensures saved { IfOk result (λ e. keeps_open e ≡ true) }
         ensures own { IfOk result (EndsBy (task_of self.now.core)) }
+        ensures counts { (n : ℕ) → StopsAfter n (task_of self.now.core) why →
+            IfOk result (EndsAfter n (task_of self.now.core)) }
     {
         match why {
             Why::Done => Ok(End::Done),
@@ -244,6 +283,8 @@ impl Execution {
         requires { StopsFor (task_of self.now.core) cause.CellError }
         ensures saved { IfOk result (λ e. keeps_open e ≡ true) }
         ensures own { IfOk result (EndsBy (task_of self.now.core)) }
+        ensures counts { (n : ℕ) → StopsAfter n (task_of self.now.core) cause.CellError →
+            IfOk result (EndsAfter n (task_of self.now.core)) }
     {
         let name = self.error_name()?;
         Ok(End::CellError {
@@ -257,6 +298,8 @@ impl Execution {
         requires named { is_some self.now.broken ≡ true }
         ensures saved { keeps_open result ≡ true }
         ensures own { EndsBy (task_of self.now.core) result }
+        ensures counts { (n : ℕ) → StopsAfter n (task_of self.now.core) cause.BadPeer →
+            EndsAfter n (task_of self.now.core) result }
     {
         let (chan, fault) = self.broken.unwrap();
         End::BadPeer { chan, fault }

@@ -9,15 +9,16 @@ use jtext::{Bytes, NoMemory};
 use world::{Chan, Disk, Kids, Say};
 
 impl Job {
-    ghost use Rattle.std.specs.Prelude.{◌≡◌, ◌<◌, ◌^◌, List, true, false, is_some};
+    ghost use Rattle.std.specs.Prelude.{◌≡◌, ◌<◌, ◌^◌, List, true, false, Some, is_some};
     ghost use Rattle.world.specs.declared.entry.Entry.{Entry};
     ghost use Rattle.world.specs.Counts.{Counts, CountsGrow};
     ghost use Rattle.job_saves.specs.Calls.{Cast};
     ghost use Rattle.job_saves.specs.Children.{HasEnd};
     ghost use Rattle.job_saves.specs.Course.{Origin, HasCalled, keeps_open};
-    ghost use Rattle.job_run.specs.Task.{task_of_job, output_of_job};
-    ghost use Rattle.job_run.specs.Told.{EndsBy, IsEnding};
-    ghost use Rattle.job_run.specs.Run.{Runs, RunsOn, KeepsRun, EndsWith};
+    ghost use Rattle.job_run.specs.Task.{task_of_job, output_of_job, ports_of_job};
+    ghost use Rattle.job_end.specs.declared.end.End.TheVariants as ending;
+    ghost use Rattle.job_run.specs.Told.{IsOutside, IsEnding};
+    ghost use Rattle.job_run.specs.Run.{Runs, RunsOn, KeepsRun, EndsWith, EndsNot, IsLost, IsSpent};
     ghost use Rattle.job_run.specs.Run.{HasRole, CallsInRole, KeepsRole};
     ghost use Rattle.job_run.specs.Run.{number_of, outcome_of as outcome};
 
@@ -27,7 +28,9 @@ impl Job {
     }
 
     /// The ports of its kernel: for shell, iopub, stdin, control and heartbeat.
-    pub fn ports(&self) -> [u16; 5] {
+    pub fn ports(&self) -> [u16; 5]
+        ensures { result ≡ ports_of_job self.now }
+    {
         self.ports
     }
 
@@ -55,6 +58,7 @@ impl Job {
         ensures calls { KeepsRole self.old self.new }
         ensures task { task_of_job self.new ≡ task_of_job self.old }
         ensures output { output_of_job self.new ≡ output_of_job self.old }
+        ensures still { EndsNot self.old self.new }
     {
         self.run.lines.take(chan)
     }
@@ -65,6 +69,7 @@ impl Job {
         ensures calls { KeepsRole self.old self.new }
         ensures task { task_of_job self.new ≡ task_of_job self.old }
         ensures output { output_of_job self.new ≡ output_of_job self.old }
+        ensures still { EndsNot self.old self.new }
     {
         self.run.lines.on_taken(chan, taken);
     }
@@ -93,6 +98,7 @@ impl Job {
         ensures calls { CallsInRole W.journal W.counts w.old w.new self.old self.new }
         ensures task { task_of_job self.new ≡ task_of_job self.old }
         ensures output { output_of_job self.new ≡ output_of_job self.old }
+        ensures still { EndsNot self.old self.new }
     {
         if self.is_over() {
             return Ok(());
@@ -108,6 +114,7 @@ impl Job {
         ensures calls { KeepsRole self.old self.new }
         ensures task { task_of_job self.new ≡ task_of_job self.old }
         ensures output { output_of_job self.new ≡ output_of_job self.old }
+        ensures still { EndsNot self.old self.new }
     {
         if self.is_over() {
             return;
@@ -125,6 +132,7 @@ impl Job {
         ensures calls { CallsInRole W.journal W.counts w.old w.new self.old self.new }
         ensures task { task_of_job self.new ≡ task_of_job self.old }
         ensures output { output_of_job self.new ≡ output_of_job self.old }
+        ensures still { EndsNot self.old self.new }
     {
         if self.is_over() {
             return Ok(());
@@ -142,6 +150,7 @@ impl Job {
         ensures calls { KeepsRole self.old self.new }
         ensures task { task_of_job self.new ≡ task_of_job self.old }
         ensures output { output_of_job self.new ≡ output_of_job self.old }
+        ensures still { EndsNot self.old self.new }
     {
         self.look = Look::Waited { late: false };
     }
@@ -152,6 +161,7 @@ impl Job {
         ensures calls { CallsInRole W.journal W.counts w.old w.new self.old self.new }
         ensures task { task_of_job self.new ≡ task_of_job self.old }
         ensures output { output_of_job self.new ≡ output_of_job self.old }
+        ensures still { EndsNot self.old self.new }
     {
         let late = self.is_late();
         self.look = Look::Still;
@@ -177,6 +187,7 @@ impl Job {
         ensures calls { KeepsRole self.old self.new }
         ensures task { task_of_job self.new ≡ task_of_job self.old }
         ensures output { output_of_job self.new ≡ output_of_job self.old }
+        ensures still { IsSpent (outcome self.new) → IsSpent (outcome self.old) }
     {
         if self.is_over() {
             return Ok(());
@@ -190,6 +201,7 @@ impl Job {
         ensures calls { KeepsRole self.old self.new }
         ensures task { task_of_job self.new ≡ task_of_job self.old }
         ensures output { output_of_job self.new ≡ output_of_job self.old }
+        ensures still { IsLost (outcome self.new) → IsLost (outcome self.old) }
     {
         if self.is_over() {
             return Ok(());
@@ -212,14 +224,18 @@ impl Job {
     /// Ends the child, removes the connection file, and gives how the job ended.
     pub fn finish<W: Disk + Kids>(self, w: &mut W) -> Answer
         ensures course { (o : Origin) → Runs o self (W.journal w.old) (W.counts w.old) →
-            EndsWith o result (W.journal w.new) (W.counts w.new) }
+            EndsWith o (Some (task_of_job self)) result (W.journal w.new) (W.counts w.new) }
         ensures calls { (c : Cast) (since : List Entry) (from : Counts) →
             HasRole c since from self (W.journal w.old) (W.counts w.old) →
             HasCalled c since from (W.journal w.new) (W.counts w.new) }
         // Its child has its end.
         ensures left { HasEnd (number_of self) (W.journal w.new) }
-        // It is the answer of an end of its run, by a cause for which such a core may stop.
+        // It is the answer of an end of its run, by a cause for which such a core may stop, or of
+        // one from outside.
         ensures end { IsEnding (output_of_job self) (task_of_job self) result }
+        // It is that of the network or of the budget of turns only where that has ended the job.
+        ensures lost { result.status ≡ 14 → IsLost (outcome self) }
+        ensures spent { result.status ≡ 16 → IsSpent (outcome self) }
     {
         laws::jobs_begin_and_end();
         self.end_child(w);
@@ -233,12 +249,14 @@ impl Job {
     // The job ends so.
     fn end(&mut self, end: End) -> Result<(), NoMemory>
         requires running { is_some (outcome self.old) ≡ false }
-        requires own { EndsBy (task_of_job self.old) end }
+        requires outside { IsOutside end }
         requires saved { keeps_open end ≡ true }
         ensures course { KeepsRun self.old self.new }
         ensures calls { KeepsRole self.old self.new }
         ensures task { task_of_job self.new ≡ task_of_job self.old }
         ensures output { output_of_job self.new ≡ output_of_job self.old }
+        ensures lost { IsLost (outcome self.new) → end ≡ ending.NetFault }
+        ensures spent { IsSpent (outcome self.new) → end ≡ ending.Spent }
     {
         self.outcome = outcome_of(self.alloc, &self.paths.output, &mut self.run, Err(end));
         self.unless_starved()

@@ -12,10 +12,12 @@ use world::{Chan, Disk, Say};
 use zmtp_wire::Parts;
 
 impl Execution {
-    ghost use Rattle.std.specs.Prelude.{◌≡◌, true, IfErr, OnOk};
+    ghost use Rattle.std.specs.Prelude.{◌≡◌, ℕ, ◌≤◌, true, IfErr, OnOk};
     ghost use Rattle.cell_core.specs.StandsFor.{task_of};
     ghost use Rattle.job_run.specs.Held.{Holds, IsCalm, IsAsked};
     ghost use Rattle.job_run.specs.Told.{EndsBy};
+    ghost use Rattle.job_run.specs.Counted.{IsCounted, IsCountedOn, KeepsCounting};
+    ghost use Rattle.cell_core.specs.declared.act.Act.TheVariants.{Nothing};
     ghost use Rattle.job_saves.specs.Course.{GoesOn, CallsOwn, stays_open};
 
     /// The clock was read in a turn, and the child was found ended or not.
@@ -35,6 +37,7 @@ impl Execution {
         ensures calls { CallsOwn W.journal W.counts w.old w.new self.old.book self.new.book }
         ensures task { task_of self.new.core ≡ task_of self.old.core }
         ensures own { IfErr result (EndsBy (task_of self.new.core)) }
+        ensures counts { KeepsCounting W.journal w.old w.new self.old self.new result }
     {
         self.turn_clock(ms);
         match self.hear_clock(w) {
@@ -54,6 +57,7 @@ impl Execution {
         ensures calls { CallsOwn W.journal W.counts w.old w.new self.old.book self.new.book }
         ensures task { task_of self.new.core ≡ task_of self.old.core }
         ensures own { IfErr result (EndsBy (task_of self.new.core)) }
+        ensures counts { KeepsCounting W.journal w.old w.new self.old self.new result }
     {
         let is_lost = self.is_lost(ms, has_ended);
         match self.lose(w, is_lost) {
@@ -72,6 +76,8 @@ impl Execution {
         ensures asked { IsAsked self.old self.new }
         ensures saved { stays_open result ≡ true }
         ensures own { IfErr result (EndsBy (task_of self.new.core)) }
+        ensures counts { (n : ℕ) → IsCounted self.old Nothing n →
+            IsCountedOn self.new result n }
     {
         match self.ask_and_ping() {
             Ok(()) => Ok(()),
@@ -85,6 +91,8 @@ impl Execution {
         requires holds { Holds self.old }
         ensures holds { Holds self.new }
         ensures core { self.new.core ≡ self.old.core }
+        ensures later { self.old.clock ≤ self.new.clock }
+        ensures broken { self.new.broken ≡ self.old.broken }
         ensures book { self.new.book ≡ self.old.book }
     {
         if ms <= self.clock {
@@ -104,6 +112,7 @@ impl Execution {
         ensures calls { CallsOwn W.journal W.counts w.old w.new self.old.book self.new.book }
         ensures task { task_of self.new.core ≡ task_of self.old.core }
         ensures own { IfErr result (EndsBy (task_of self.new.core)) }
+        ensures counts { KeepsCounting W.journal w.old w.new self.old self.new result }
     {
         if self.core.wants_look() {
             return Ok(());
@@ -119,6 +128,7 @@ impl Execution {
         ensures calm { IsCalm self.new }
         ensures book { self.new.book ≡ self.old.book }
         ensures task { task_of self.new.core ≡ task_of self.old.core }
+        ensures counts { (n : ℕ) → IsCounted self.old Nothing n → IsCounted self.new Nothing n }
     {
         self.core.step(Event::Lost);
     }
@@ -134,6 +144,7 @@ impl Execution {
         ensures calls { CallsOwn W.journal W.counts w.old w.new self.old.book self.new.book }
         ensures task { task_of self.new.core ≡ task_of self.old.core }
         ensures own { IfErr result (EndsBy (task_of self.new.core)) }
+        ensures counts { KeepsCounting W.journal w.old w.new self.old self.new result }
     {
         if is_lost {
             self.step(w, Event::Lost)
@@ -194,6 +205,7 @@ impl Execution {
         ensures calls { CallsOwn W.journal W.counts w.old w.new self.old.book self.new.book }
         ensures task { task_of self.new.core ≡ task_of self.old.core }
         ensures own { IfErr result (EndsBy (task_of self.new.core)) }
+        ensures counts { KeepsCounting W.journal w.old w.new self.old self.new result }
     {
         self.step(w, Event::Looked)?;
         self.lose(w, late)

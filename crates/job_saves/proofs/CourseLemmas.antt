@@ -1,5 +1,5 @@
 -- Saves and other calls go on with a job's course.
-use Rattle.std.proofs.Common.{◌≡◌, ℕ, ◌≤◌, Bool, true, false, List, Option, Some, None, Result, Ok, Err, length, refl, sym, ap, subst, ◌∙◌, arith}
+use Rattle.std.proofs.Common.{◌≡◌, ℕ, ◌+◌, ◌<◌, ◌≤◌, Bool, true, false, List, Option, Some, None, Result, Ok, Err, length, refl, sym, ap, subst, ◌∙◌, arith}
 use Rattle.std.specs.Prelude.{IfSome, OnOk}
 use Rattle.nb_model.specs.declared.notebook.Notebook.{Notebook}
 use Rattle.out_fold.specs.declared.used.Used.{Used}
@@ -7,9 +7,12 @@ use Rattle.world.specs.declared.entry.Entry.{Entry}
 use Rattle.world.specs.Counts.{Counts, CountsGrow, Rose}
 use Rattle.world.specs.Moments.{Since, Told}
 use Rattle.world.specs.Disk.{place}
+use Rattle.words.specs.declared.ask.Ask.{Ask}
+use Rattle.said_lines.specs.Lines.{saved_line}
+use Rattle.said_lines.specs.Speech.{Says, heard}
 use Rattle.world.specs.Touched.{Spares}
 use Rattle.world.proofs.MomentsLemmas.{told_as as moments_as}
-use Rattle.save_disk.specs.Places.{durable_place}
+use Rattle.save_disk.specs.Places.{durable_place, acknowledged}
 use Rattle.job_end.specs.declared.end.End.{End}
 use Rattle.job_end.specs.declared.end.End.TheVariants as end
 use Rattle.world.proofs.CountsLemmas.{grow_start, grow_then}
@@ -17,7 +20,7 @@ use Rattle.world.proofs.MomentsLemmas.{since_then}
 use Rattle.progress_save.specs.declared.progress_fault.ProgressFault.{ProgressFault}
 use Rattle.progress_save.specs.declared.progress_fault.ProgressFault.TheVariants as fault
 use Rattle.progress_save.specs.Prefix.{prefix}
-use Rattle.progress_save.specs.Saved.{text_of, line_of, SavesAs, EndsAs, OnRefusal, SaveCause, IsSaveFault}
+use Rattle.progress_save.specs.Saved.{text_of, line_of, SavesAs, SavesSilently, EndsAs, OnRefusal, SaveCause, IsSaveFault}
 use Rattle.save_course.specs.Course.{PrefixSave, prefix_text}
 use Rattle.save_course.proofs.CourseLemmas.{saved_goes_on}
 use Rattle.save_course.proofs.RestLemmas.{spared_go_on, spared_rest, saved_rests}
@@ -25,7 +28,9 @@ use Rattle.job_notebook.specs.declared.notebook.JobNotebook.{JobNotebook}
 use Rattle.job_notebook.specs.State.{notebook_of, settled_of, merge_of, output_of, is_closed, Keeps, KeepsParts, KeepsRead, OnCall, closed_after}
 use Rattle.job_saves.specs.Course.{Origin, IsFor, IsSaved, IsOnCourse, HasSaved, Begins, Stands, Ends, CountsWork, HasCalled, HasPart, stays_open, answer_of}
 use Rattle.job_saves.specs.Calls.{Cast, IsCall}
-use Rattle.job_saves.proofs.CallLemmas.{saves_called}
+use Rattle.job_saves.specs.Speaking.{ends_line, IsWhole, SpeaksWhole, IsLine}
+use Rattle.job_saves.proofs.CallLemmas.{saves_called, line_called, says_whole, saves_whole}
+use Rattle.job_saves.proofs.SpeakingLemmas.{line_ends}
 
 -- ---- what is told and what was held
 
@@ -174,32 +179,68 @@ work_then a b c first then = record { grow = grow_then first.grow then.grow; wai
 pub save_works : (old new : Counts) (failed : Type 0) → SaveCause old new failed → CountsWork old new
 save_works old new failed c = record { grow = save_grows old new failed c; waits = ap (λ (n : Counts). n.waits) c.others }
 
-pub calls_on : (cast : Cast) (since : List Entry) (from c d : Counts) (j k : Option (List Entry)) → Told j k (Since (IsCall cast)) → CountsWork c d
-    → HasCalled cast since from j c → HasCalled cast since from k d
-calls_on cast since from c d j k told work s = record {
+pub calls_with : (cast : Cast) (since : List Entry) (from c d : Counts) (j k : Option (List Entry)) → Told j k (Since (IsCall cast)) → CountsWork c d
+    → (cast.clean ≡ true → SpeaksWhole j c → SpeaksWhole k d) → HasCalled cast since from j c → HasCalled cast since from k d
+calls_with cast since from c d j k told work speaks s = record {
   told = told_on j k (Since (IsCall cast)) (Since (IsCall cast) since) (Since (IsCall cast) since) told s.told (λ x y held more. since_then held more);
   counts_work = work_then from c d s.counts_work work;
+  spoken = λ e. speaks e (s.spoken e);
 }
+
+-- no say has failed where none has later
+none_before : (c d : Counts) → CountsGrow c d → ((0 < d.say) → ⊥) → (0 < c.say) → ⊥
+none_before c d grow none failed = none (omega (arith, failed, grow.say))
+
+-- calls that say nothing
+pub quiet_speaks : (j k : Option (List Entry)) (c d : Counts) → Told j k (λ before after. heard after ≡ heard before) → CountsGrow c d → SpeaksWhole j c → SpeaksWhole k d
+quiet_speaks j k c d quiet grow speaks =
+    λ none. told_on j k (λ before after. heard after ≡ heard before) IsWhole IsWhole quiet (speaks (none_before c d grow none))
+    (λ x y whole same. subst (λ xs. ends_line xs ≡ true) (sym same) whole)
+
+-- a line that was said
+pub line_speaks : (a : Ask) (line : List ℕ) → ((begin : List Entry) → IsLine a begin line) → (j k : Option (List Entry)) (c d : Counts) → Told j k (Says line (0 < d.say))
+    → CountsGrow c d → SpeaksWhole j c → SpeaksWhole k d
+line_speaks a line is j k c d told grow speaks =
+    λ none. told_on j k (Says line (0 < d.say)) IsWhole IsWhole told (speaks (none_before c d grow none))
+    (λ x y whole said. says_whole (line_ends a x line (is x)) none said whole)
+
+saves_speak : (a : Ask) (text : List ℕ) (settled cells : ℕ) (result : Result (Unit {0}) ProgressFault) (j k : Option (List Entry)) (c d : Counts)
+    → Told j k (SavesAs a.output text (saved_line a.output settled cells) (0 < d.say) result) → CountsGrow c d → SpeaksWhole j c → SpeaksWhole k d
+saves_speak a text settled cells result j k c d told grow speaks =
+    λ none. told_on j k (SavesAs a.output text (saved_line a.output settled cells) (0 < d.say) result) IsWhole IsWhole told (speaks (none_before c d grow none))
+    (λ x y whole did. saves_whole a text settled cells (0 < d.say) result x y none did whole)
+
+pub calls_on : (cast : Cast) (since : List Entry) (from c d : Counts) (j k : Option (List Entry)) → Told j k (Since (IsCall cast))
+    → Told j k (λ before after. heard after ≡ heard before) → CountsWork c d → HasCalled cast since from j c → HasCalled cast since from k d
+calls_on cast since from c d j k told quiet work s = calls_with cast since from c d j k told work (λ e. quiet_speaks j k c d quiet work.grow) s
+
+-- a line that a job of the cast says by itself
+pub line_on : (cast : Cast) (number : ℕ) (a : Ask) → cast.job number ≡ Some a → (line : List ℕ) → ((begin : List Entry) → IsLine a begin line) → (since : List Entry)
+    → (from c d : Counts) (j k : Option (List Entry)) → Told j k (Says line (0 < d.say)) → (0 < c.say → k ≡ j) → CountsWork c d → HasCalled cast since from j c
+    → HasCalled cast since from k d
+line_on cast number a has line is since from c d j k told silent work s =
+    calls_with cast since from c d j k (line_called cast number a has line is j k c d s.spoken told silent) work (λ e. line_speaks a line is j k c d told work.grow) s
+
+part_with : (cast : Cast) (since : List Entry) (from c d : Counts) (was now : JobNotebook) (j k : Option (List Entry)) → output_of now ≡ output_of was
+    → (HasCalled cast since from j c → HasCalled cast since from k d) → HasPart cast since from was j c → HasPart cast since from now k d
+part_with cast since from c d was now j k output calls s = record { number = s.number; ask = s.ask; has = s.has; output = output ∙ s.output; so = calls s.so }
 
 pub calls_part : (cast : Cast) (since : List Entry) (from c d : Counts) (was now : JobNotebook) (j k : Option (List Entry)) → output_of now ≡ output_of was
-    → Told j k (Since (IsCall cast)) → CountsWork c d → HasPart cast since from was j c → HasPart cast since from now k d
-calls_part cast since from c d was now j k output told work s = record {
-  number = s.number;
-  ask = s.ask;
-  has = s.has;
-  output = output ∙ s.output;
-  so = calls_on cast since from c d j k told work s.so;
-}
+    → Told j k (Since (IsCall cast)) → Told j k (λ before after. heard after ≡ heard before) → CountsWork c d → HasPart cast since from was j c
+    → HasPart cast since from now k d
+calls_part cast since from c d was now j k output told quiet work s = part_with cast since from c d was now j k output (calls_on cast since from c d j k told quiet work) s
 
-pub save_called : (cast : Cast) (since : List Entry) (from : Counts) (was now : JobNotebook) (p : ℕ) (n : Notebook) (text : List ℕ) (failed : Type 0)
+pub save_called : (cast : Cast) (since : List Entry) (from : Counts) (was now : JobNotebook) (p : ℕ) (n : Notebook) (text : List ℕ)
     (result : Result (Unit {0}) ProgressFault) (j k : Option (List Entry)) (c d : Counts) → output_of now ≡ output_of was
-    → Told j k (SavesAs (output_of was) text (line_of (output_of was) p n) failed result) → SaveCause c d (IsSaveFault result)
-    → HasPart cast since from was j c → HasPart cast since from now k d
-save_called cast since from was now p n text failed result j k c d output did cause s =
-    calls_part cast since from c d was now j k output
-    (moments_as did (λ x y saved. saves_called cast s.number s.ask s.has text p (length n.cells) failed result x y
-    (subst (λ q. SavesAs q text (line_of q p n) failed result x y) s.output saved)))
-    (save_works c d (IsSaveFault result) cause) s
+    → Told j k (SavesAs (output_of was) text (line_of (output_of was) p n) (0 < d.say) result) → (0 < c.say → Told j k (SavesSilently (output_of was) text result))
+    → SaveCause c d (IsSaveFault result) → HasPart cast since from was j c → HasPart cast since from now k d
+save_called cast since from was now p n text result j k c d output did silent cause s =
+    let told = subst (λ q. Told j k (SavesAs q text (line_of q p n) (0 < d.say) result)) s.output did in
+    let unsaid : 0 < c.say → Told j k (SavesSilently (Ask.output s.ask) text result) = λ f. subst (λ q. Told j k (SavesSilently q text result)) s.output (silent f) in
+    let work = save_works c d (IsSaveFault result) cause in
+    part_with cast since from c d was now j k output
+    (calls_with cast since from c d j k (saves_called cast s.number s.ask s.has text p (length n.cells) result j k c d s.so.spoken told unsaid) work
+    (λ e. saves_speak s.ask text p (length n.cells) result j k c d told work.grow)) s
 
 -- ---- what is used changes nothing of the course
 
@@ -307,6 +348,19 @@ on_answer r q A is h = subst (λ s. OnOk s A) (sym is) (on_saved r A h)
 pub durable_answer : (r : Result (Unit {0}) ProgressFault) (q : Result (Unit {0}) End) (output text : List ℕ) (j k : Option (List Entry)) → q ≡ answer_of r
     → Told j k (EndsAs output text r) → OnOk q (Told j k (λ before after. place after output ≡ durable_place text))
 durable_answer r q output text j k is told = subst (λ s. OnOk s (Told j k (λ before after. place after output ≡ durable_place text))) (sym is) (made_durable r output text j k told)
+
+-- and one save more is acknowledged
+made_acknowledged : (r : Result (Unit {0}) ProgressFault) (output text : List ℕ) (j k : Option (List Entry)) → Told j k (EndsAs output text r)
+    → OnOk (answer_of r) (Told j k (λ before after. acknowledged output after ≡ acknowledged output before + 1))
+made_acknowledged (Ok u) output text j k told = moments_as told (λ x y e. e.count_is)
+made_acknowledged (Err (fault.Save f)) output text j k told = tt
+made_acknowledged (Err fault.Closed) output text j k told = tt
+made_acknowledged (Err fault.NoMemory) output text j k told = tt
+
+pub acknowledged_answer : (r : Result (Unit {0}) ProgressFault) (q : Result (Unit {0}) End) (output text : List ℕ) (j k : Option (List Entry)) → q ≡ answer_of r
+    → Told j k (EndsAs output text r) → OnOk q (Told j k (λ before after. acknowledged output after ≡ acknowledged output before + 1))
+acknowledged_answer r q output text j k is told =
+    subst (λ s. OnOk s (Told j k (λ before after. acknowledged output after ≡ acknowledged output before + 1))) (sym is) (made_acknowledged r output text j k told)
 
 pub left_alone : (r : Result (Unit {0}) ProgressFault) (A : Type 0) → OnRefusal r A → answer_of r ≡ Err end.NoMemory → A
 left_alone (Ok u) A h e = absurd (cc)

@@ -14,6 +14,7 @@ use Rattle.words.specs.declared.ask.Ask.{Ask}
 use Rattle.job_end.specs.declared.end.End.{End}
 use Rattle.job_end.specs.declared.end.End.TheVariants as end
 use Rattle.job_saves.specs.Calls.{Cast, IsCall}
+use Rattle.job_saves.specs.Speaking.{SpeaksWhole}
 
 -- what the saves of a job begin with: its output, whether neighbouring streams of one name are joined, the notebook as it is
 -- before its cells are executed, and the journal and the counts of failures before its first entry; what is said of one that
@@ -60,10 +61,12 @@ pub record CountsWork (old new : Counts) : Type 0 where
   pub grow : CountsGrow old new
   pub waits : new.waits ≡ old.waits
 
--- since that moment all calls were of these jobs
+-- since that moment all calls were of these jobs; where they began clean, what was heard ends with a whole line as long as no
+-- say has failed
 pub record HasCalled (c : Cast) (since : List Entry) (from : Counts) (journal : Option (List Entry)) (counts : Counts) : Type 0 where
   pub told : IfSome journal (Since (IsCall c) since)
   pub counts_work : CountsWork from counts
+  pub spoken : c.clean ≡ true → SpeaksWhole journal counts
 
 -- and this is the notebook of one of them
 pub record HasPart (c : Cast) (since : List Entry) (from : Counts) (b : JobNotebook) (journal : Option (List Entry)) (counts : Counts) : Type 0 where

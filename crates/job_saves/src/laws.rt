@@ -6,6 +6,7 @@ ghost use Rattle.world.specs.Counts.{Counts, CountsGrow};
 ghost use Rattle.world.specs.Disk.{place, untouched_place};
 ghost use Rattle.world.specs.Moments.{Told, Since};
 ghost use Rattle.world.specs.Touched.{Spares};
+ghost use Rattle.said_lines.specs.Speech.{heard};
 ghost use Rattle.save_disk.specs.Places.{acknowledged};
 ghost use Rattle.save_course.specs.Course.{IsSavedSo};
 ghost use Rattle.job_notebook.specs.declared.notebook.JobNotebook.{JobNotebook};
@@ -33,16 +34,18 @@ pub fn jobs_begin_and_end()
 {}
 
 /// Calls that don't touch a job's output leave it on its course, whichever folders they sync; and
-/// calls of the jobs of a cast are such since an earlier moment too.
+/// calls of the jobs of a cast that say nothing are such since an earlier moment too.
 pub fn other_calls_pass()
     ensures course { (o : Origin) (b : JobNotebook) (is_open : Bool) (j k : Option (List Entry))
         (c d : Counts) → Told j k (Since (Spares o.output)) → CountsGrow c d →
         Stands o b is_open j c → Stands o b is_open k d }
     ensures called { (cast : Cast) (since : List Entry) (from c d : Counts)
-        (j k : Option (List Entry)) → Told j k (Since (IsCall cast)) → CountsWork c d →
+        (j k : Option (List Entry)) → Told j k (Since (IsCall cast)) →
+        Told j k (λ before after. heard after ≡ heard before) → CountsWork c d →
         HasCalled cast since from j c → HasCalled cast since from k d }
     ensures calls { (b : JobNotebook) (cast : Cast) (since : List Entry) (from c d : Counts)
-        (j k : Option (List Entry)) → Told j k (Since (IsCall cast)) → CountsWork c d →
+        (j k : Option (List Entry)) → Told j k (Since (IsCall cast)) →
+        Told j k (λ before after. heard after ≡ heard before) → CountsWork c d →
         HasPart cast since from b j c → HasPart cast since from b k d }
     ensures begins { (o : Origin) (j k : Option (List Entry)) (c d : Counts) →
         Told j k (Since (Spares o.output)) → CountsGrow c d → Begins o j c → Begins o k d }

@@ -1,10 +1,10 @@
 //! `save_next`, the next save of a job.
-ghost use Rattle.std.specs.Prelude.{◌≡◌, ◌≤◌, List, length, Err, IfErr, OnOk};
+ghost use Rattle.std.specs.Prelude.{◌≡◌, ◌≤◌, ◌+◌, List, length, Err, IfErr, OnOk};
 ghost use Rattle.nb_model.specs.declared.notebook.Notebook as whole;
 ghost use Rattle.out_fold.specs.declared.used.Used.{Used};
 ghost use Rattle.world.specs.Disk.{place};
 ghost use Rattle.world.specs.Moments.{Told};
-ghost use Rattle.save_disk.specs.Places.{durable_place};
+ghost use Rattle.save_disk.specs.Places.{acknowledged, durable_place};
 ghost use Rattle.progress_save.specs.Prefix.{prefix};
 ghost use Rattle.progress_save.specs.Saved.{text_of};
 ghost use Rattle.job_end.specs.declared.end.End.TheVariants as ending;
@@ -33,13 +33,16 @@ pub fn save_next<W: Disk + Say>(
     ensures course { GoesOn W.journal W.counts w.old w.new book.old book.new (stays_open result) }
     ensures calls { CallsOwn W.journal W.counts w.old w.new book.old book.new }
 
-    // After Ok the notebook is that prefix of the first one, for the messages that were used, and a
-    // crash leaves its text at the output.
+    // After Ok the notebook is that prefix of the first one, for the messages that were used, a
+    // crash leaves its text at the output, and one save more is acknowledged.
     ensures prefix { OnOk result ((first : whole.Notebook) (us : List Used) →
         Keeps book.old first us →
         notebook_of book.new ≡ prefix (merge_of book.old) us settled stop first) }
     ensures durable { OnOk result (Told (W.journal w.old) (W.journal w.new) (λ _ after.
         place after (output_of book.old) ≡ durable_place (text_of (notebook_of book.new)))) }
+    ensures acked { OnOk result (Told (W.journal w.old) (W.journal w.new) (λ before after.
+        acknowledged (output_of book.old) after ≡
+        acknowledged (output_of book.old) before + 1)) }
     // Where memory is refused nothing is asked of the world.
     ensures idle { result ≡ Err ending.NoMemory →
         (W.journal w.new ≡ W.journal w.old) × (W.counts w.new ≡ W.counts w.old) }

@@ -10,7 +10,7 @@ ghost use Rattle.nbrun_top.specs.Crash.{IsSafe};
 ghost use Rattle.nbrun_top.specs.Ended.{Ended, IsHeard, acks_of};
 ghost use Rattle.nbrun_top.specs.Exercised.{Exercised};
 ghost use Rattle.nbrun_top.specs.Executed.{Executed, IsSavedOnly, DoesNotWrite, StartRose};
-ghost use Rattle.nbrun_top.specs.Executed.{WaitsAtMost};
+ghost use Rattle.nbrun_top.specs.Executed.{NetRose, WaitsAll, WaitsAtMost};
 ghost use Rattle.nbrun_top.specs.Ran.{IsDelivered, IsOther, IsUntouched};
 ghost use Rattle.said_lines.specs.Speech.{heard};
 ghost use Rattle.save_disk.specs.Places.{acknowledged};
@@ -149,6 +149,10 @@ pub fn run_words<W: World>(alloc: Global, words: &[String], here: Text, w: &mut 
         DiskRose W.counts w.old w.new }
     ensures say_fault { IsNoExercise (texts words.now) → result ≡ 11 →
         SayRose W.counts w.old w.new }
+    ensures net_fault { IsNoExercise (texts words.now) → result ≡ 14 →
+        NetRose W.counts w.old w.new }
+    ensures spent { IsRun (texts words.now) → IsNoExercise (texts words.now) → result ≡ 16 →
+        WaitsAll W.counts w.old w.new (2 ^ 40) }
     // It is waited at most 2^40 times.
     ensures waits { IsRun (texts words.now) → WaitsAtMost W.counts w.old w.new (2 ^ 40) }
     ensures heard { IsRun (texts words.now) → result ≡ 0 → SayRose W.counts w.old w.new → ⊥ }

@@ -13,6 +13,7 @@ use Rattle.job_end.specs.declared.answer.Answer.{Answer}
 use Rattle.nb_model.specs.declared.notebook.Notebook.{Notebook}
 use Rattle.job_begin.specs.Begun.{first_of, IsCausedIn, IsUnread, HasKernel}
 use Rattle.job_begin.proofs.EndLemmas.{uncaused_in, unread_pass, unread_twelve, unread_not_zero, other_kernel}
+use Rattle.batch_run.specs.Batch.{IsClean}
 use Rattle.said_lines.specs.Speech.{Says}
 use Rattle.nbrun_top.specs.declared.end.End.{End}
 use Rattle.nbrun_top.specs.declared.end.End.TheVariants as end
@@ -20,7 +21,7 @@ use Rattle.nbrun_top.specs.declared.answer.Answer.{Answer as Last}
 use Rattle.nbrun_top.specs.Asked.{IsExecuting, IsExecuted, IsBatch}
 use Rattle.nbrun_top.specs.Codes.{code_of}
 use Rattle.nbrun_top.specs.Ended.{Answers, plain, not_said, Ended}
-use Rattle.nbrun_top.specs.Executed.{Executed, Runs, HaveRun, AreJobs, of_words, of_file, IsFileOf, GivesAsks, GivesNone, IsQuiet, IsAlone, AreApart, IsSavedOnly, untouched, saved, IsUnsaved, DoesNotWrite, NoneWrites, first_fault, file_read}
+use Rattle.nbrun_top.specs.Executed.{Executed, Runs, HaveRun, AreJobs, of_words, of_file, IsFileOf, GivesAsks, GivesNone, IsQuiet, IsAlone, AreApart, IsCountedIn, IsSavedOnly, untouched, saved, IsUnsaved, DoesNotWrite, NoneWrites, first_fault, file_read}
 use Rattle.nbrun_top.specs.Executed as executed
 use Rattle.nbrun_top.specs.Lines.{said}
 use Rattle.nbrun_top.specs.Ran.{Ran, IsUntouched}
@@ -28,7 +29,7 @@ use Rattle.nbrun_top.specs.Ran as ran
 use Rattle.nbrun_top.specs.Said.{said_of}
 use Rattle.nbrun_top.proofs.Asked.{no_job_executes, no_batch_of_one}
 use Rattle.nbrun_top.proofs.JobsApart.{file_apart}
-use Rattle.nbrun_top.proofs.Executions.{untouched_path}
+use Rattle.nbrun_top.proofs.Executions.{untouched_path, uncounted}
 use Rattle.nbrun_top.proofs.Statuses.{one_fault}
 use Rattle.nbrun_top.proofs.Spared.{one_ask, says_spare, apart_paths, apart_from_temporary, apart_from_connection}
 
@@ -69,14 +70,22 @@ input_in_one a apart (suc i) b at = cc
 one_apart : (words : List (List ℕ)) (a : Ask) → IsExecuted words a → AreApart (a ∷ [])
 one_apart words a is = record { outputs = alone_in_one a; inputs = input_in_one a (input_apart a (job_apart words a is.taken is.asks)) }
 
+-- ---- a run begins clean
+
+clean_start : IsClean []
+clean_start = record { whole = refl; childless = λ n. refl; portless = λ n. refl }
+
+clean_read : (file bytes : List ℕ) → IsClean (file_read file (found.Whole bytes) [])
+clean_read file bytes = record { whole = refl; childless = λ n. refl; portless = λ n. refl }
+
 -- ---- the parts
 
 pub of_one : {here : List ℕ} (words : List (List ℕ)) (a : Ask) (asks : List Ask) (rose cut : Type 0) (code : ℕ) (before after : List Entry) → asks ≡ a ∷ [] → IsExecuted words a
-    → (IsQuiet before → AreApart asks → Runs asks here rose cut code before after) → before ≡ [] → Executed words here rose cut code after
+    → (IsQuiet before → IsClean before → AreApart asks → Runs asks here rose cut code before after) → before ≡ [] → Executed words here rose cut code after
 of_one {here} words a asks rose cut code before after same is runs new =
     executed.ran (a ∷ []) [] after code (of_words a is)
     (subst (λ b. Runs (a ∷ []) here rose cut code b after) new (subst (λ xs. Runs xs here rose cut code before after) same
-    (runs (λ path. subst (Since (Spares path) []) (sym new) start) (subst AreApart (sym same) (one_apart words a is)))))
+    (runs (λ path. subst (Since (Spares path) []) (sym new) start) (subst IsClean (sym new) clean_start) (subst AreApart (sym same) (one_apart words a is)))))
 
 pub of_starved : {here : List ℕ} (words : List (List ℕ)) (rose cut : Type 0) (code : ℕ) (before after : List Entry) → code ≡ 12 → Says (said [] [] end.NoMemory) cut before after → before ≡ []
     → Executed words here rose cut code after
@@ -84,12 +93,12 @@ of_starved {here} words rose cut code before after is says new =
     subst (λ n. Executed words here rose cut n after) (sym is) (executed.starved after (subst (λ b. Says (said [] [] end.NoMemory) cut b after) new says))
 
 pub of_batch : {here : List ℕ} (words : List (List ℕ)) (file : List ℕ) (common : Ask) (asks : List Ask) (rose cut : Type 0) (code : ℕ) (before read after : List Entry) → IsBatch words file common
-    → GivesAsks file common before (Ok asks) read → (IsQuiet read → AreApart asks → Runs asks here rose cut code read after) → before ≡ [] → Executed words here rose cut code after
+    → GivesAsks file common before (Ok asks) read → (IsQuiet read → IsClean read → AreApart asks → Runs asks here rose cut code read after) → before ≡ [] → Executed words here rose cut code after
 of_batch {here} words file common asks rose cut code before read after is (bytes, gives, entry) runs new =
     let begun : read ≡ file_read file (found.Whole bytes) [] = entry ∙ ap (λ b. file_read file (found.Whole bytes) b) new in
     executed.ran asks (file_read file (found.Whole bytes) []) after code (of_file file common bytes asks is gives)
     (subst (λ b. Runs asks here rose cut code b after) begun
-    (runs (λ path. subst (Since (Spares path) []) (sym begun) (later start refl)) (file_apart file common bytes asks gives)))
+    (runs (λ path. subst (Since (Spares path) []) (sym begun) (later start refl)) (subst IsClean (sym begun) (clean_read file bytes)) (file_apart file common bytes asks gives)))
 
 pub of_none : {here : List ℕ} (words : List (List ℕ)) (file : List ℕ) (common : Ask) (answer : Last) (line : List ℕ) (rose cut : Type 0) (code : ℕ) (before read after : List Entry)
     → IsBatch words file common → code ≡ code_of answer.end → line ≡ said file (codes "nbrun") answer.end → GivesNone file before answer.end read → Says line cut read after
@@ -130,10 +139,15 @@ caused_code : (a : Ask) (first : Notebook) (rose : Type 0) (status code : ℕ) �
 caused_code a first rose status code (plain heard) is = is
 caused_code a first rose status code (not_said f) is = uncaused_in a first 11 refl
 
+counted_code : (a : Ask) (first : Notebook) (rose : Type 0) (status code : ℕ) (journal : List Entry) → Answers rose status code → IsCountedIn a first status journal → IsCountedIn a first code journal
+counted_code a first rose status code journal (plain heard) is = is
+counted_code a first rose status code journal (not_said f) is = uncounted a first 11 journal refl
+
 as_code : (a : Ask) (rose : Type 0) (status code : ℕ) (journal : List Entry) → Answers rose status code → IsSavedOnly a status journal → IsSavedOnly a code journal
 as_code a rose status code journal answers (untouched before is unread) = untouched before is (unread_code a rose status code before journal answers unread)
-as_code a rose status code journal answers (saved bytes n is_open before newer accepted split first so shut caused kernel) =
+as_code a rose status code journal answers (saved bytes n is_open before newer accepted split first so shut caused counted kernel) =
     saved bytes n is_open before newer accepted split first so (λ e. unsaved_code rose status code answers (shut e)) (caused_code a (first_of a n) rose status code answers caused)
+    (counted_code a (first_of a n) rose status code journal answers counted)
     (kernel_code a (first_of a n) rose status code (Read a.input 33554432 (found.Whole bytes) ∷ before) journal answers kernel)
 
 one_saved : (a : Ask) (answers : List Answer) (rose : Type 0) (code : ℕ) (journal : List Entry) → HaveRun (a ∷ []) answers journal → Answers rose (first_fault answers) code

@@ -1,5 +1,5 @@
 -- What runs that execute notebooks make of the world.
-use Rattle.std.proofs.Common.{◌≡◌, ◌≢◌, inr, ℕ, zero, suc, ◌+◌, ◌<◌, ◌≤◌, ◌&&◌, Bool, true, false, List, [], ◌∷◌, ◌++◌, length, length-append, append_assoc, Option, Some, None, refl, sym, ◌∙◌, ap, subst, arith, if◌then◌else◌}
+use Rattle.std.proofs.Common.{◌≡◌, inr, ℕ, zero, suc, ◌+◌, ◌<◌, ◌≤◌, ◌&&◌, Bool, true, false, List, [], ◌∷◌, ◌++◌, length, length-append, append_assoc, Option, Some, None, refl, sym, ◌∙◌, ap, subst, arith, if◌then◌else◌}
 use Rattle.std.specs.Prelude.{slice_get}
 use Rattle.std.specs.Str.{bytes_eq}
 use Rattle.nb_model.specs.declared.notebook.Notebook.{Notebook}
@@ -23,7 +23,7 @@ use Rattle.save_course.proofs.RestLemmas.{spared_rest}
 use Rattle.job_end.specs.declared.answer.Answer.{Answer}
 use Rattle.job_saves.specs.Course.{HasSaved, Ends}
 use Rattle.job_saves.proofs.CourseLemmas.{ends_pass}
-use Rattle.job_run.specs.Run.{IsOther}
+use Rattle.job_run.specs.Run.{IsOther, IsNew}
 use Rattle.job_run.specs.Told.{cause_of}
 use Rattle.job_begin.specs.Begun.{first_of, origin_of, IsCausedIn}
 use Rattle.job_begin.proofs.EndLemmas.{uncaused_in, unread_pass, unread_twelve, other_kernel, twelve_other}
@@ -32,10 +32,10 @@ use Rattle.batch_run.specs.Batch.{Makes, nothing, saves, IsNoPath, IsApart, Leav
 use Rattle.said_lines.specs.Speech.{Says}
 use Rattle.nbrun_top.specs.declared.end.End.TheVariants as end
 use Rattle.nbrun_top.specs.Ended.{Answers, plain}
-use Rattle.nbrun_top.specs.Executed.{DoesNotWrite, IsAlone, AreApart, IsSavedOnly, untouched, saved, IsQuiet, IsUnsaved, NoneWrites, EndsSpeech, silence, last_line, Runs, first_fault}
+use Rattle.nbrun_top.specs.Executed.{DoesNotWrite, IsAlone, AreApart, IsCountedIn, IsSavedOnly, untouched, saved, IsQuiet, IsUnsaved, NoneWrites, EndsSpeech, silence, last_line, Runs, first_fault}
 use Rattle.nbrun_top.specs.Lines.{said}
 use Rattle.nbrun_top.specs.Ran.{IsUntouched}
-use Rattle.nbrun_top.proofs.Spared.{apart_from, says_spare, spared_moments, at_moment}
+use Rattle.nbrun_top.proofs.Spared.{apart_from, says_spare, said_childless, spared_moments, at_moment}
 use Rattle.nbrun_top.proofs.Statuses.{all_starved, starved_count, starved_fault, starved_at}
 
 -- ---- what no entry touches
@@ -60,27 +60,31 @@ none_acked output (later {past} {entry} since spared) =
 
 -- ---- one job
 
+-- a status that names no cause
+pub uncounted : (a : Ask) (first : Notebook) (status : ℕ) (journal : List Entry) → cause_of status ≡ None → IsCountedIn a first status journal
+uncounted a first status journal none task same cause is = let wrong : None ≡ Some cause = sym none ∙ is in absurd (cc)
+
 module _ (a : Ask) (old new : Counts) (before after : List Entry) (quiet : IsQuiet before) where
   saved_by : (status : ℕ) (bytes : List ℕ) (n : Notebook) (begin : List Entry) (counts : Counts) (newer : List Entry) (is_open : Bool) → Accepts a bytes n
       → Since (Spares a.output) before begin → after ≡ newer ++ Read a.input 33554432 (found.Whole bytes) ∷ begin
-      → Ends (origin_of a n begin counts) is_open (Some after) new → (is_open ≡ false → IsUnsaved status) → IsCausedIn a (first_of a n) status
+      → Ends (origin_of a n begin counts) is_open (Some after) new → (is_open ≡ false → IsUnsaved status) → IsCausedIn a (first_of a n) status → (IsNew (origin_of a n begin counts) → IsCountedIn a (first_of a n) status after)
       → HasKernel a (first_of a n) status (Read a.input 33554432 (found.Whole bytes) ∷ begin) after → IsSavedOnly a status after
-  saved_by status bytes n begin counts newer is_open accepted since split ends shut caused kernel =
+  saved_by status bytes n begin counts newer is_open accepted since split ends shut caused counted kernel =
       let first = since_then (quiet a.output) since in
       let course : HasSaved (origin_of a n begin counts) is_open after = ends.told refl in
       saved bytes n is_open begin newer accepted split (untouched_path a.output first)
-      (course_safe a.output a.merge (first_of a n) 0 begin (untouched_since first refl) (none_acked a.output first) is_open course.settled after course.is.course) shut caused kernel
+      (course_safe a.output a.merge (first_of a n) 0 begin (untouched_since first refl) (none_acked a.output first) is_open course.settled after course.is.course) shut caused (counted (record { watched = refl; none = none_acked a.output first })) kernel
 
   pub saved_only : (answer : Answer) → Makes a (Some answer) old new before after → IsSavedOnly a answer.status after
   saved_only answer (nothing unread since) = untouched before (untouched_path a.output (since_then (quiet a.output) since)) unread
   saved_only answer (saves bytes n begin then_ newer accepted caused since grow split ends) =
-      saved_by answer.status bytes n begin then_ newer ends.is_open accepted since split ends.ends ends.shut caused.0 caused.1
+      saved_by answer.status bytes n begin then_ newer ends.is_open accepted since split ends.ends ends.shut caused.0 (λ fresh task same. ends.counted task same fresh) caused.1
 
   pub stopped_only : (status : ℕ) → status ≡ 12 → Makes a None old new before after → IsSavedOnly a status after
   stopped_only status is (nothing unread since) = untouched before (untouched_path a.output (since_then (quiet a.output) since))
       (unread_pass a status before after after after since start (unread_twelve a status after is))
   stopped_only status is (saves bytes n begin then_ newer accepted caused since grow split ends) =
-      saved_by status bytes n begin then_ newer ends.is_open accepted since split ends.ends (λ e. inr is) (uncaused_in a (first_of a n) status (ap cause_of is))
+      saved_by status bytes n begin then_ newer ends.is_open accepted since split ends.ends (λ e. inr is) (uncaused_in a (first_of a n) status (ap cause_of is)) (λ fresh. uncounted a (first_of a n) status after (ap cause_of is))
       (other_kernel a (first_of a n) status (Read a.input 33554432 (found.Whole bytes) ∷ begin) after (twelve_other status is))
 
 -- ---- what is said behind the jobs
@@ -163,10 +167,10 @@ far_others (a ∷ rest) path long (suc k) b is =
     far_others rest path (omega (arith, long, whole, next, last)) k b is
 
 module _ (asks : List Ask) (here : List ℕ) (rose cut : Type 0) (code : ℕ) (before done after : List Entry) (others : LeavesOthers asks before after) (quiet : IsQuiet before)
-    (alone : AreApart asks) (calls : CallsOfJobs asks here before done) (speech : EndsSpeech cut code done after) where
+    (alone : AreApart asks) (calls : CallsOfJobs asks here true before done) (speech : EndsSpeech cut code done after) where
   runs_with : (answers : List Answer) → length answers ≡ length asks
       → ((i : ℕ) (a : Ask) (answer : Answer) → slice_get asks i ≡ Some a → IsApart asks i a → slice_get answers i ≡ Some answer → IsSavedOnly a answer.status after)
-      → Answers rose (first_fault answers) code → (code ≢ 12 → EndsChildren asks before after) → Runs asks here rose cut code before after
+      → Answers rose (first_fault answers) code → EndsChildren asks before after → Runs asks here rose cut code before after
   runs_with answers count jobs status children =
       let f = front (others (far asks) (far_others asks (far asks) (omega arith))) in
       record {
@@ -191,21 +195,21 @@ rested : (output : List ℕ) {before : List Entry} → IsQuiet before → IsRest
 rested output quiet = spared_rest output refl (quiet output)
 
 pub runs_done : {here : List ℕ} (asks : List Ask) (answers : List Answer) (old new : Counts) (rose cut : Type 0) (code : ℕ) (before after : List Entry)
-    → LeavesOthers asks before after → CallsOfJobs asks here before after → EndsChildren asks before after
+    → LeavesOthers asks before after → CallsOfJobs asks here true before after → EndsChildren asks before after
     → ((i : ℕ) (a : Ask) → slice_get asks i ≡ Some a → IsApart asks i a → IsRested a.output before → Makes a (slice_get answers i) old new before after)
     → length answers ≡ length asks → Answers rose (first_fault answers) code → IsQuiet before → AreApart asks → Runs asks here rose cut code before after
 runs_done {here} asks answers old new rose cut code before after others calls children jobs count status quiet alone =
     runs_with asks here rose cut code before after after others quiet alone calls silence answers count
-    (λ i a answer at apart is. saved_only a old new before after quiet answer (subst (λ o. Makes a o old new before after) is (jobs i a at apart (rested a.output quiet)))) status (λ other. children)
+    (λ i a answer at apart is. saved_only a old new before after quiet answer (subst (λ o. Makes a o old new before after) is (jobs i a at apart (rested a.output quiet)))) status children
 
 pub runs_starved : {here : List ℕ} (asks : List Ask) (old mid new : Counts) (rose cut : Type 0) (line : List ℕ) (code : ℕ) (before past after : List Entry)
-    → LeavesOthers asks before past → CallsOfJobs asks here before past
+    → LeavesOthers asks before past → CallsOfJobs asks here true before past → EndsChildren asks before past
     → ((i : ℕ) (a : Ask) → slice_get asks i ≡ Some a → IsApart asks i a → IsRested a.output before → Makes a None old mid before past)
     → CountsGrow mid new → line ≡ said [] [] end.NoMemory → Says line cut past after → 1 ≤ length asks → code ≡ 12 → IsQuiet before → AreApart asks → Runs asks here rose cut code before after
-runs_starved {here} asks old mid new rose cut line code before past after others calls jobs grow text says some is quiet alone =
+runs_starved {here} asks old mid new rose cut line code before past after others calls children jobs grow text says some is quiet alone =
     runs_with asks here rose cut code before past after (λ path apart. says_spare path (others path apart) says) quiet alone calls
     (last_line is (subst (λ t. Says t cut past after) text says)) (all_starved asks) (starved_count asks)
     (λ i a answer at apart got. stopped_only a old new before after quiet answer.status (starved_at asks i answer got)
     (said_after a old mid new before past after (says_spare a.output start says) grow (jobs i a at apart (rested a.output quiet))))
     (subst (λ n. Answers rose n code) (sym (starved_fault asks some)) (subst (λ n. Answers rose 12 n) (sym is) (plain (λ zero_ failed. cc))))
-    (λ other. absurd (other is))
+    (λ i a at none. said_childless i says (children i a at none))

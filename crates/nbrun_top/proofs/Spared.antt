@@ -25,6 +25,7 @@ use Rattle.nbrun_top.specs.Asked.{IsJob}
 use Rattle.nbrun_top.specs.Ran.{SavesAs, Prepares, Ran, IsOther, IsUntouched, text_of}
 use Rattle.nbrun_top.specs.Ran as ran
 use Rattle.said_lines.specs.Speech.{Speech, Says}
+use Rattle.job_saves.specs.Children.{has_child}
 use Rattle.said_lines.specs.Speech as said
 use Rattle.nbrun_top.specs.Ended.{Ended}
 
@@ -62,6 +63,19 @@ pub says_spare : (path : List ℕ) {text : List ℕ} {failed : Type 0} {x before
 says_spare path s (said.whole speech) = speech_spares path s speech
 says_spare path s (said.cut f speech) = speech_spares path s speech
 says_spare path s (said.refused f speech) = later (speech_spares path s speech) refl
+
+-- ---- what is said starts no child
+
+speech_childless : (number : ℕ) {text : List ℕ} {before : List Entry} {rest : List ℕ} {after : List Entry} → Speech text before rest after
+    → has_child number before ≡ false → has_child number after ≡ false
+speech_childless number said.none none = none
+speech_childless number (said.more n before) none = speech_childless number before none
+
+pub said_childless : (number : ℕ) {text : List ℕ} {failed : Type 0} {before after : List Entry} → Says text failed before after
+    → has_child number before ≡ false → has_child number after ≡ false
+said_childless number (said.whole speech) none = speech_childless number speech none
+said_childless number (said.cut f speech) none = speech_childless number speech none
+said_childless number (said.refused f speech) none = speech_childless number speech none
 
 -- ---- at every moment
 

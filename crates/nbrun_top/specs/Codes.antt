@@ -1,5 +1,5 @@
 -- The exit statuses as numbers.
-use Rattle.std.specs.Prelude.{ℕ}
+use Rattle.std.specs.Prelude.{ℕ, Bool, ◌==◌, ◌||◌}
 use Rattle.nb_load.specs.declared.load_fault.LoadFault.{LoadFault}
 use Rattle.nb_load.specs.declared.load_fault.LoadFault.TheVariants as fault
 use Rattle.nbrun_top.specs.declared.end.End.{End}
@@ -22,3 +22,7 @@ code_of end.NoMemory = 12
 abbrev pub end_of : LoadFault → End
 end_of fault.NoMemory = end.NoMemory
 end_of f = end.NotLoaded f
+
+-- whether words that execute nothing may end with it
+abbrev pub is_plain : ℕ → Bool
+is_plain n = n == 0 || n == 2 || n == 3 || n == 4 || n == 5 || n == 10 || n == 11 || n == 12

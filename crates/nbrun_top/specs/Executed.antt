@@ -1,5 +1,5 @@
 -- What a run makes of the world that executes notebooks, over a journal that was empty at its start, its newest entry first.
-use Rattle.std.specs.Prelude.{◌≡◌, ◌≢◌, ◌⊎◌, ◌==◌, ◌+◌, ◌≤◌, ℕ, List, [], ◌∷◌, ◌++◌, Bool, false, not, length, slice_get, Some, Result, Ok, Err, find, option_map, unwrap_or, codes}
+use Rattle.std.specs.Prelude.{◌≡◌, ◌≢◌, ◌⊎◌, ◌==◌, ◌+◌, ◌≤◌, ℕ, List, [], ◌∷◌, ◌++◌, Bool, true, false, not, length, slice_get, Some, Result, Ok, Err, find, option_map, unwrap_or, codes}
 use Rattle.jtext.specs.declared.json.Json.{Json}
 use Rattle.nb_model.specs.declared.notebook.Notebook.{Notebook}
 use Rattle.nb_load.specs.Loaded.{Accepts}
@@ -14,16 +14,19 @@ use Rattle.world.specs.declared.entry.Entry.{Entry}
 use Rattle.world.specs.declared.entry.Entry.TheVariants.{Read}
 use Rattle.world.specs.declared.read_file.ReadFile.{ReadFile}
 use Rattle.world.specs.declared.read_file.ReadFile.TheVariants as found
+use Rattle.save_disk.specs.Places.{acknowledged}
 use Rattle.save_disk.specs.Temporary.{temporary_of}
+use Rattle.cell_core.specs.Task.{Task}
+use Rattle.job_run.specs.Counted.{IsCausedAfter}
 use Rattle.save_course.specs.Course.{IsSavedSo}
 use Rattle.said_lines.specs.Speech.{Says}
 use Rattle.world.specs.Counts.{Counts, Rose}
 use Rattle.world.specs.Moments.{Since}
 use Rattle.world.specs.Touched.{Spares}
 use Rattle.job_end.specs.declared.answer.Answer.{Answer}
-use Rattle.job_begin.specs.Begun.{first_of, IsCausedIn, IsUnread, HasKernel}
+use Rattle.job_begin.specs.Begun.{first_of, counted_task, IsCausedIn, IsUnread, HasKernel}
 use Rattle.job_begin.specs.Causes.{HasCause}
-use Rattle.batch_run.specs.Batch.{CallsOfJobs, EndsChildren}
+use Rattle.batch_run.specs.Batch.{CallsOfJobs, EndsChildren, HasWaited}
 use Rattle.nbrun_top.specs.declared.answer.Answer.{Answer as Last}
 use Rattle.nbrun_top.specs.declared.end.End.{End}
 use Rattle.nbrun_top.specs.declared.end.End.TheVariants as end
@@ -97,16 +100,21 @@ pub record AreApart (asks : List Ask) : Type 0 where
 abbrev pub IsUnsaved : ℕ → Type 0
 IsUnsaved status = (status ≡ 10) ⊎ (status ≡ 12)
 
+-- a status that names a cause comes only where there are events that stop the job for it, of which as many are saves as were
+-- acknowledged at its output
+abbrev pub IsCountedIn : Ask → Notebook → ℕ → List Entry → Type 0
+IsCountedIn a first status journal = (task : Task) → counted_task a first ≡ Some task → IsCausedAfter (acknowledged a.output journal) task status
+
 -- The output of a job that ended with this status wasn't touched; or the bytes of its input give a notebook with the
 -- parameters, nothing had touched the output before they were read, and then it was saved by prefixes of that notebook,
 -- without a failed save unless the status says so. A status that names a cause comes only where there are events that stop the job for
--- it, and 4 and 5 only where the input gave no notebook, or 5 where no kernel was found for it.
+-- it, with as many saves as were acknowledged, and 4 and 5 only where the input gave no notebook, or 5 where no kernel was found for it.
 pub data IsSavedOnly (a : Ask) (status : ℕ) (journal : List Entry) : Type 0 where
   untouched : (before : List Entry) → IsUntouched a.output journal → IsUnread a status before journal → IsSavedOnly a status journal
   saved : (bytes : List ℕ) (n : Notebook) (is_open : Bool) (before later : List Entry) → Accepts a bytes n
       → journal ≡ later ++ Read a.input 33554432 (found.Whole bytes) ∷ before → IsUntouched a.output before
       → IsSavedSo a.output a.merge (first_of a n) 0 is_open before journal → (is_open ≡ false → IsUnsaved status)
-      → IsCausedIn a (first_of a n) status → HasKernel a (first_of a n) status (Read a.input 33554432 (found.Whole bytes) ∷ before) journal → IsSavedOnly a status journal
+      → IsCausedIn a (first_of a n) status → IsCountedIn a (first_of a n) status journal → HasKernel a (first_of a n) status (Read a.input 33554432 (found.Whole bytes) ∷ before) journal → IsSavedOnly a status journal
 
 -- jobs have ended with these answers, one each, and no other path was written to, each input among them
 pub record HaveRun (asks : List Ask) (answers : List Answer) (journal : List Entry) : Type 0 where
@@ -137,19 +145,28 @@ pub record Runs (asks : List Ask) (here : List ℕ) (rose cut : Type 0) (code : 
   pub run : HaveRun asks answers after
   pub status : Answers rose (first_fault answers) code
   pub done : List Entry
-  pub calls : CallsOfJobs asks here before done
+  pub calls : CallsOfJobs asks here true before done
   pub speech : EndsSpeech cut code done after
-  pub children : code ≢ 12 → EndsChildren asks before after
+  pub children : EndsChildren asks before after
 
 -- a status of a run that executes comes only where the count of the calls that it tells of rose: 3 and 10 of the disk, 6 of the
--- random words or of the children, 11 of the says
-pub record IsCounted (old new : Counts) (code : ℕ) : Type 0 where
+-- random words or of the children, 11 of the says, 14 of the network; 16 only where all of so many waits were made
+pub record IsCounted (turns : ℕ) (old new : Counts) (code : ℕ) : Type 0 where
   pub cause : HasCause old new code
   pub say : code ≡ 11 → Rose old.say new.say
+  pub spent : code ≡ 16 → HasWaited (old.waits + turns) new
 
 -- it was waited at most so often
 abbrev pub WaitsAtMost : {W : Type 0} → (W → Counts) → W → W → ℕ → Type 0
 WaitsAtMost counts old new most = (counts new).waits ≤ (counts old).waits + most
+
+-- it was waited so often, or the count of waits stands at the last value of a `u64`
+abbrev pub WaitsAll : {W : Type 0} → (W → Counts) → W → W → ℕ → Type 0
+WaitsAll counts old new turns = HasWaited ((counts old).waits + turns) (counts new)
+
+-- the count of failed calls of the network rose
+abbrev pub NetRose : {W : Type 0} → (W → Counts) → W → W → Type 0
+NetRose counts old new = Rose (counts old).net (counts new).net
 
 -- the count of random words or that of children rose
 abbrev pub StartRose : {W : Type 0} → (W → Counts) → W → W → Type 0

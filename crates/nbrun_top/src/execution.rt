@@ -3,6 +3,7 @@ ghost use Rattle.std.specs.Prelude.{◌≡◌, ◌⊎◌, ◌≤◌, length, Lis
 ghost use Rattle.std.specs.List.{AllByRecursion};
 ghost use Rattle.words.specs.Runnable.{IsRunnable};
 ghost use Rattle.said_lines.specs.Between.{Between, FromStart, SayRose, SayFailed};
+ghost use Rattle.batch_run.specs.Batch.{IsClean};
 ghost use Rattle.nbrun_top.specs.Asked.{IsExecuted, IsBatch};
 ghost use Rattle.nbrun_top.specs.Executed.{Executed, Runs, IsCounted, IsQuiet, AreApart};
 ghost use Rattle.nbrun_top.specs.Executed.{WaitsAtMost};
@@ -29,7 +30,7 @@ pub(crate) fn run_one<W: World>(alloc: Global, ask: Ask, limits: &Limits, w: &mu
     ensures executed { (words : Seq (Seq ℕ)) → IsExecuted words ask →
         FromStart W.journal w.old w.new (Executed words limits.now.here
         (SayRose W.counts w.old w.new) (SayFailed W.counts w.new) result) }
-    ensures counted { IsCounted (W.counts w.old) (W.counts w.new) result }
+    ensures counted { IsCounted limits.now.turns (W.counts w.old) (W.counts w.new) result }
     ensures waits { WaitsAtMost W.counts w.old w.new limits.now.turns }
     ensures heard { result ≡ 0 → SayRose W.counts w.old w.new → ⊥ }
 {
@@ -52,7 +53,7 @@ pub(crate) fn run_file<W: World>(
     ensures executed { (words : Seq (Seq ℕ)) → IsBatch words file.now common.now →
         FromStart W.journal w.old w.new (Executed words limits.now.here
         (SayRose W.counts w.old w.new) (SayFailed W.counts w.new) result) }
-    ensures counted { IsCounted (W.counts w.old) (W.counts w.new) result }
+    ensures counted { IsCounted limits.now.turns (W.counts w.old) (W.counts w.new) result }
     ensures waits { WaitsAtMost W.counts w.old w.new limits.now.turns }
     ensures heard { result ≡ 0 → SayRose W.counts w.old w.new → ⊥ }
 {
@@ -70,10 +71,10 @@ fn run_all<W: World>(alloc: Global, asks: Asks, limits: &Limits, w: &mut W) -> u
     requires some { 1 ≤ length asks }
     requires few { length asks ≤ 16 }
     requires runnable { AllByRecursion IsRunnable asks }
-    ensures runs { Between W.journal w.old w.new (λ before after. IsQuiet before → AreApart asks →
-        Runs asks limits.now.here (SayRose W.counts w.old w.new) (SayFailed W.counts w.new)
-        result before after) }
-    ensures counted { IsCounted (W.counts w.old) (W.counts w.new) result }
+    ensures runs { Between W.journal w.old w.new (λ before after. IsQuiet before → IsClean before →
+        AreApart asks → Runs asks limits.now.here (SayRose W.counts w.old w.new)
+        (SayFailed W.counts w.new) result before after) }
+    ensures counted { IsCounted limits.now.turns (W.counts w.old) (W.counts w.new) result }
     ensures waits { WaitsAtMost W.counts w.old w.new limits.now.turns }
     ensures heard { result ≡ 0 → SayRose W.counts w.old w.new → ⊥ }
 {

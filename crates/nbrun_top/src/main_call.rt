@@ -10,7 +10,7 @@ ghost use Rattle.nbrun_top.specs.Crash.{IsSafe};
 ghost use Rattle.nbrun_top.specs.Ended.{Ended, IsHeard, acks_of};
 ghost use Rattle.nbrun_top.specs.Exercised.{Exercised};
 ghost use Rattle.nbrun_top.specs.Executed.{Executed, IsSavedOnly, DoesNotWrite, StartRose};
-ghost use Rattle.nbrun_top.specs.Executed.{WaitsAtMost};
+ghost use Rattle.nbrun_top.specs.Executed.{NetRose, WaitsAll, WaitsAtMost};
 ghost use Rattle.nbrun_top.specs.Ran.{IsDelivered, IsOther, IsUntouched};
 ghost use Rattle.save_disk.specs.Places.{acknowledged};
 ghost use Rattle.said_lines.specs.Speech.{heard};
@@ -98,6 +98,10 @@ pub fn run<W: World, X: Exercise>(
         DiskRose W.counts w.old w.new }
     ensures say_fault { IsNoExercise (texts words.now) → result ≡ 11 →
         SayRose W.counts w.old w.new }
+    ensures net_fault { IsNoExercise (texts words.now) → result ≡ 14 →
+        NetRose W.counts w.old w.new }
+    ensures spent { IsNoExercise (texts words.now) → result ≡ 16 →
+        WaitsAll W.counts w.old w.new limits.now.turns }
     // It is waited at most so often as the limits have it.
     ensures waits { WaitsAtMost W.counts w.old w.new limits.now.turns }
     ensures heard { result ≡ 0 → SayRose W.counts w.old w.new → ⊥ }
@@ -136,6 +140,10 @@ fn status<W: World, X: Exercise>(
         DiskRose W.counts w.old w.new }
     ensures say_fault { IsNoExercise (texts words.now) → result ≡ 11 →
         SayRose W.counts w.old w.new }
+    ensures net_fault { IsNoExercise (texts words.now) → result ≡ 14 →
+        NetRose W.counts w.old w.new }
+    ensures spent { IsNoExercise (texts words.now) → result ≡ 16 →
+        WaitsAll W.counts w.old w.new limits.now.turns }
     ensures waits { WaitsAtMost W.counts w.old w.new limits.now.turns }
     ensures heard { result ≡ 0 → SayRose W.counts w.old w.new → ⊥ }
 {

@@ -1,5 +1,5 @@
 //! Runs that execute no notebook.
-ghost use Rattle.std.specs.Prelude.{◌≡◌, ◌⊎◌, ◌<◌, ◌≤◌, None, Some, List as Seq, ℕ};
+ghost use Rattle.std.specs.Prelude.{◌≡◌, ◌⊎◌, ◌<◌, ◌≤◌, true, None, Some, List as Seq, ℕ};
 ghost use Rattle.words.specs.declared.usage.Usage as usages;
 ghost use Rattle.words.specs.declared.usage.Usage.TheVariants as usage_fault;
 ghost use Rattle.words.specs.Refusals.{refusal};
@@ -8,6 +8,7 @@ ghost use Rattle.nbrun_top.specs.declared.end.End.TheVariants as ending;
 ghost use Rattle.nbrun_top.specs.declared.plain.Plain.TheVariants as plains;
 ghost use Rattle.save_disk.specs.declared.save_fault.SaveFault as fault;
 ghost use Rattle.nbrun_top.specs.Asked.{IsPlainOf};
+ghost use Rattle.nbrun_top.specs.Codes.{is_plain};
 ghost use Rattle.said_lines.specs.Between.{Between, DiskRose, SayRose, SayFailed};
 ghost use Rattle.nbrun_top.specs.Ended.{Ended};
 ghost use Rattle.nbrun_top.specs.Executed.{WaitsAtMost};
@@ -38,7 +39,7 @@ pub(crate) fn run_plain<W: Disk + Say>(alloc: Global, plain: Plain, w: &mut W) -
     ensures read_fault { result ≡ 3 → DiskRose W.counts w.old w.new }
     ensures save_fault { result ≡ 10 → DiskRose W.counts w.old w.new }
     ensures say_fault { result ≡ 11 → SayRose W.counts w.old w.new }
-    ensures starts_none { result ≡ 6 → ⊥ }
+    ensures kind { is_plain result ≡ true }
     ensures waits { WaitsAtMost W.counts w.old w.new 0 }
     ensures heard { result ≡ 0 → SayRose W.counts w.old w.new → ⊥ }
 {

@@ -17,9 +17,10 @@ use Rattle.ready_loop.specs.declared.end.End.TheVariants.{No, Found, Named}
 use Rattle.ready_loop.specs.declared.link.Link.{Link}
 use Rattle.ready_loop.specs.declared.stage.Stage.{Stage}
 use Rattle.ready_loop.specs.declared.stage.Stage.TheVariants.{Fresh, Begun, Closed}
-use Rattle.ready_loop.specs.Link.{read_link, write_link, connect_link, begun_link, closed_link, wait_link, found_end, named_end, named_link, is_found, is_named, is_known, is_begun, closed_stage}
+use Rattle.ready_loop.specs.Link.{refused_clock, read_link, write_link, connect_link, begun_link, closed_link, wait_link, found_end, named_end, named_link, is_found, is_named, is_known, is_begun, closed_stage}
 use Rattle.ready_loop.specs.Queues.{Held, put_count}
 use Rattle.ready_loop.specs.Standing.{StandsAt, Sends, EndIs, put_by}
+use Rattle.ready_loop.proofs.BegunLemmas.{clock_begun}
 use Rattle.ready_loop.proofs.TableLemmas.{not_some}
 
 -- ---- small facts
@@ -101,13 +102,13 @@ stands_ended end up sends ends m =
 -- it was turned away
 stands_refused : {link : Link} {held then : Held} {b : Bool} {q : List ℕ} {n : Bool} {s : Status} {e : Bool} (last clock : ℕ)
     → last ≡ clock → s.up ≡ true → s.put ≡ [] → Sends then q (put_by b s.put) → StandsAt link held b q n s e
-    → StandsAt (record link { awake = false; writable = false; refused = Some last }) then b q n (refused_after clock s) e
-stands_refused last clock t up unused sends m =
+    → StandsAt (record link { awake = false; writable = false; refused = refused_clock link.stage last }) then b q n (refused_after clock s) e
+stands_refused {link} last clock t up unused sends m =
     record {
       awake = refl;
       writable = refl;
       failed = m.failed;
-      refused = ap Some t;
+      refused = clock_begun link.stage last (m.stage ∙ m.up_begun up) ∙ ap Some t;
       reads = λ a. absurd (false≢true a);
       known = m.known;
       stage = m.stage;

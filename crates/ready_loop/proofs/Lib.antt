@@ -1,4 +1,5 @@
 pub mod BeginLemmas
+pub mod BegunLemmas
 pub mod CallLemmas
 pub mod KeyLemmas
 pub mod LookLemmas
@@ -14,3 +15,4 @@ pub mod StandLemmas
 pub mod StateLemmas
 pub mod TableLemmas
 pub mod WaitLemmas
+pub mod WireLemmas

@@ -1,12 +1,14 @@
 -- Calls of connections, waits and looks at the clock.
-use Rattle.std.proofs.Common.{inl, refl, ℕ, List, Option}
+use Rattle.std.proofs.Common.{◌≡◌, ◌⊎◌, inl, refl, ℕ, List, Option}
 use Rattle.world.specs.declared.conn.Conn.{Conn}
 use Rattle.world.specs.declared.entry.Entry.{Entry}
 use Rattle.world.specs.declared.got.Got.{Got}
 use Rattle.world.specs.declared.got.Got.TheVariants as got
 use Rattle.world.specs.declared.put.Put.{Put}
 use Rattle.world.specs.declared.put.Put.TheVariants as put
+use Rattle.world.specs.declared.entry.Entry.TheVariants as made
 use Rattle.world.specs.Moments.{Since, start, more, Told, Tells}
+use Rattle.world.specs.Parts.{OnWire, OnClock, part_of}
 use Rattle.ready_loop.specs.Standing.{IsLoopEntry, IsOfLoop}
 use Rattle.world.specs.Told.{read_entry, write_entry}
 use Rattle.world.proofs.MomentsLemmas.{told_start, told_then, tells_as, since_then}
@@ -42,3 +44,8 @@ write_of_loop conn put.Stuck piece = inl refl
 write_of_loop conn put.Ended piece = inl refl
 write_of_loop conn put.Refused piece = inl refl
 write_of_loop conn put.Failed piece = inl refl
+
+-- its part of the world
+pub loop_part : (entry : Entry) → IsLoopEntry entry → (part_of entry ≡ OnWire) ⊎ (part_of entry ≡ OnClock)
+loop_part (made.Ports job ports) is = absurd is
+loop_part _ is = is

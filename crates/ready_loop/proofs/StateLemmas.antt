@@ -1,5 +1,7 @@
 -- What one call does to what is to be done before the next wait.
-use Rattle.std.proofs.Common.{◌≡◌, ◌≢◌, inl, inr, ◌+◌, ◌<◌, ◌||◌, ◌∷◌, drop, length-drop, ℕ, Bool, true, false, List, [], length, set, Option, Some, None, IsSomeAnd, Result, Ok, Err, OnOk, slice_get, arith, refl, sym, ◌∙◌, ap, subst}
+use Rattle.std.proofs.Common.{◌≡◌, ◌≢◌, inl, inr, ◌+◌, ◌-◌, ◌<◌, ◌||◌, ◌∷◌, drop, length-drop, sum_by, get_or, ℕ, Bool, true, false, List, [], length, set, Option, Some, None, IsSomeAnd, Result, Ok, Err, OnOk, slice_get, arith, refl, sym, ◌∙◌, ap, subst}
+use Rattle.std.proofs.lemmas.List.Sums.{sum_by-set}
+use Rattle.std.proofs.lemmas.Option.{get_or_from_slice_get}
 use Rattle.std.proofs.lemmas.Bool.{cases_eq, cases_lt, eq-eqb, ne_eqb, false≢true}
 use Rattle.world.specs.declared.conn.Conn.{Conn}
 use Rattle.world.specs.declared.got.Got.{Got}
@@ -15,8 +17,9 @@ use Rattle.ready_loop.specs.declared.readiness.Loop.{Loop}
 use Rattle.ready_loop.specs.Link.{MayRead, MayWrite, IsToBegin, read_link, connect_link, write_link, is_known}
 use Rattle.ready_loop.specs.Queues.{Held, held_in, rest_at, put_count}
 use Rattle.ready_loop.specs.Reads.{failed_got}
-use Rattle.ready_loop.specs.States.{EachBelow, Each, IsDrained, IsOffered, IsSound, NotRead, failed_in, failed_at, failed_connect, failed_put, IsCalmAt, IsOfferedAt, AllOfferedBelow, OnlyAt, FailsOnly, SameKnown, known_in, known_at, flag, writable_in, load, IsCalm}
+use Rattle.ready_loop.specs.States.{EachBelow, Each, IsDrained, IsOffered, IsSound, NotRead, failed_in, failed_at, failed_connect, failed_put, IsCalmAt, IsOfferedAt, AllOfferedBelow, OnlyAt, FailsOnly, SameKnown, known_in, known_at, flag, writable_in, load, IsCalm, reads_where, link_reads}
 use Rattle.ready_loop.specs.declared.fault.LoopFault.{LoopFault}
+use Rattle.ready_loop.proofs.BegunLemmas.{clock_last}
 use Rattle.ready_loop.proofs.CallLemmas.{held_write}
 use Rattle.ready_loop.proofs.OfferLemmas.{held_set}
 use Rattle.ready_loop.proofs.TableLemmas.{slice_get-set_same, slice_get-set_other, some_is, within}
@@ -175,6 +178,32 @@ read_below answer last q links now link found is dry all =
     (each_more {P = NotRead} q links (read_link answer last link) (within links q found)
     (subst (λ a. MayRead (read_link a last link) → ⊥) (sym dry) (dry_reads last link)) all)
 
+link_read_as : (answer : Got) (last : ℕ) (link : Link) → MayRead link → link_reads (read_link answer last link) < 64 - link.reads
+link_read_as (got.Piece n) last link may =
+    let now : link_reads (read_link (got.Piece n) last link) ≡ 64 - (link.reads + 1) = ap (λ b. reads_where b link.failed (link.reads + 1)) may.awake ∙ ap (λ b. reads_where true b (link.reads + 1)) may.sound in
+    omega (arith, now, may.reads)
+link_read_as got.Dry last link may = let few = may.reads in omega (arith, few)
+link_read_as got.Ended last link may = let few = may.reads in omega (arith, few)
+link_read_as got.Refused last link may = let few = may.reads in omega (arith, few)
+link_read_as got.Failed last link may = let few = may.reads in omega (arith, few)
+
+-- a read lowers what may still be read of its connection
+pub link_read : (answer : Got) (last : ℕ) (link : Link) → MayRead link → link_reads (read_link answer last link) < link_reads link
+link_read answer last link may =
+    let was : link_reads link ≡ 64 - link.reads = ap (λ b. reads_where b link.failed link.reads) may.awake ∙ ap (λ b. reads_where true b link.reads) may.sound in
+    let now = link_read_as answer last link may in
+    omega (arith, was, now, may.reads)
+
+-- and of all
+pub read_lowers : (answer : Got) (last q : ℕ) (links now : List Link) (link : Link) → slice_get links q ≡ Some link
+    → now ≡ set links q (read_link answer last link) → MayRead link → sum_by link_reads now < sum_by link_reads links
+read_lowers answer last q links now link found is may =
+    let sums = sum_by-set link_reads links q (read_link answer last link) link (within links q found) in
+    let here : link_reads (get_or links q link) ≡ link_reads link = ap link_reads (get_or_from_slice_get links q link link found) in
+    let same : sum_by link_reads now ≡ sum_by link_reads (set links q (read_link answer last link)) = ap (sum_by link_reads) is in
+    let falls = link_read answer last link may in
+    omega (arith, sums, here, same, falls)
+
 -- what is known of the connection at a place, and back
 pub may_here : (P : Link → Type 0) (links : List Link) (q : ℕ) (link : Link) → slice_get links q ≡ Some link
     → IsSomeAnd (slice_get links q) P → P link
@@ -282,7 +311,7 @@ write_calm : (answer : Put) (last was : ℕ) (link : Link) → ((at : ℕ) → l
 write_calm (put.Took n) last was link calm clock at e = let k = calm at e in omega arith
 write_calm put.Stuck last was link calm clock at e = let k = calm at e in omega arith
 write_calm put.Ended last was link calm clock at e = let k = calm at e in omega arith
-write_calm put.Refused last was link calm clock at e = let k = some_at e in omega arith
+write_calm put.Refused last was link calm clock at e = let k = clock_last link.stage last at e in omega arith
 write_calm put.Failed last was link calm clock at e = let k = calm at e in omega arith
 
 pub calm_written : (answer : Put) (last was later q : ℕ) (l new : Loop) (link : Link) → slice_get l.links q ≡ Some link

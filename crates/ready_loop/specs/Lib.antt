@@ -10,3 +10,4 @@ pub mod Standing
 pub mod States
 pub mod Table
 pub mod Waits
+pub mod Wires

@@ -1,5 +1,5 @@
 -- What a call of the world makes of what the loop keeps of its connection.
-use Rattle.std.specs.Prelude.{◌≡◌, ◌⊎◌, ◌<◌, ◌≤◌, ◌+◌, ◌||◌, ℕ, Bool, true, false, Some, None}
+use Rattle.std.specs.Prelude.{◌≡◌, ◌⊎◌, ◌<◌, ◌≤◌, ◌+◌, ◌||◌, ℕ, Bool, true, false, Option, Some, None}
 use Rattle.world.specs.declared.got.Got.{Got}
 use Rattle.world.specs.declared.got.Got.TheVariants as got
 use Rattle.world.specs.declared.put.Put.{Put}
@@ -66,12 +66,22 @@ connect_link connected.Begun last link = record link { writable = true; refused 
 connect_link connected.Refused last link = record link { refused = Some last }
 connect_link connected.Failed last link = record link { failed = true; refused = None }
 
+-- the clock before a refusal, where another connect is to follow: the connection was begun, and not closed since
+abbrev pub refused_clock : Stage → ℕ → Option ℕ
+refused_clock Fresh last = None
+refused_clock Begun last = Some last
+refused_clock Closed last = None
+
+-- one that is to be begun again was begun, and not closed since
+pub record IsBegunWhereRefused (link : Link) : Type 0 where
+  pub begun : (at : ℕ) → link.refused ≡ Some at → is_begun link.stage ≡ true
+
 -- after a read, by the last moment
 abbrev pub read_link : Got → ℕ → Link → Link
 read_link (got.Piece n) last link = record link { reads = link.reads + 1 }
 read_link got.Dry last link = record link { awake = false }
 read_link got.Ended last link = record link { awake = false; writable = false; end = Named }
-read_link got.Refused last link = record link { awake = false; writable = false; refused = Some last }
+read_link got.Refused last link = record link { awake = false; writable = false; refused = refused_clock link.stage last }
 read_link got.Failed last link = record link { awake = false; failed = true }
 
 -- a write found it ended, and no answer has named it
@@ -97,7 +107,7 @@ abbrev pub write_link : Put → ℕ → Link → Link
 write_link (put.Took n) last link = link
 write_link put.Stuck last link = record link { writable = false }
 write_link put.Ended last link = record link { awake = false; writable = false; end = found_end link.end }
-write_link put.Refused last link = record link { awake = false; writable = false; refused = Some last }
+write_link put.Refused last link = record link { awake = false; writable = false; refused = refused_clock link.stage last }
 write_link put.Failed last link = record link { writable = false; failed = true }
 
 -- after a wait, which reported it or did not

@@ -130,6 +130,8 @@ Follows journal old new R = Told (journal old) (journal new) R
 
 -- a call of a connection, a wait or a look at the clock
 abbrev pub IsLoopEntry : Entry → Type 0
+-- asking for a job's ports is no call of a connection
+IsLoopEntry (made.Ports job ports) = ⊥
 IsLoopEntry entry = (part_of entry ≡ OnWire) ⊎ (part_of entry ≡ OnClock)
 
 -- the newest entry is one

@@ -4,6 +4,7 @@ use Rattle.std.specs.Prelude.{
   ◌<◌,
   ◌≤◌,
   ◌+◌,
+  ◌-◌,
   ◌||◌,
   ℕ,
   List,
@@ -18,6 +19,7 @@ use Rattle.std.specs.Prelude.{
   Ok,
   Err,
   slice_get,
+  sum_by,
 }
 use Rattle.std.proofs.Common.{◌≢◌, length, IsSomeAnd}
 use Rattle.world.specs.declared.conn.Conn.{Conn}
@@ -48,6 +50,20 @@ NotRead p link = MayRead link → ⊥
 -- how many waits a loop may still make
 abbrev pub waits_left : Loop → ℕ
 waits_left l = l.left
+
+-- how often a connection that is awake, and of which no call failed, may give bytes before the next wait
+abbrev pub reads_where : Bool → Bool → ℕ → ℕ
+reads_where true false reads = 64 - reads
+reads_where true true reads = 0
+reads_where false failed reads = 0
+
+-- so it is of a connection by what is kept of it
+abbrev pub link_reads : Link → ℕ
+link_reads link = reads_where link.awake link.failed link.reads
+
+-- how many reads may come before the next wait, at most
+abbrev pub reads_left : Loop → ℕ
+reads_left l = sum_by link_reads l.links
 
 -- no connection is to be read any more
 pub record IsDrained (l : Loop) : Type 0 where

@@ -1,5 +1,5 @@
 //! Beginning and closing the connections of a job.
-ghost use Rattle.std.specs.Prelude.{◌≡◌, ◌<◌, ◌||◌, ℕ, IsErr, IfErr, OnOk, Some, false};
+ghost use Rattle.std.specs.Prelude.{◌≡◌, ◌<◌, ◌||◌, ℕ, IsErr, IfErr, OnOk, Some, false, slice_get};
 ghost use Rattle.world.specs.Counts.{CountsBy, NetCause};
 ghost use Rattle.world.specs.Places.{place_of, is_at};
 ghost use Rattle.world.specs.Told.{Adds};
@@ -12,6 +12,7 @@ ghost use Rattle.ready_loop.specs.Offers.{IsOfConn};
 ghost use Rattle.ready_loop.specs.Standing.{Goes, Follows, CallsOfLoop};
 ghost use Rattle.ready_loop.specs.States.{IsDrained, IsOffered, IsSound, FailsOnly, OnlyAt};
 ghost use Rattle.ready_loop.specs.States.{HoldsForKnown, SameKnown, failed_at, failed_connect, known_at, waits_left};
+ghost use Rattle.ready_loop.specs.Wires.{AddsPort, ConnectsOn, HasPorts, ports_in};
 
 use crate::conn_place::place_at;
 use crate::{Loop, LoopFault};
@@ -45,6 +46,11 @@ impl Loop {
         ensures failed { FailsOnly result self.old self.new }
         ensures sound { OnOk result (IsSound self.old → IsSound self.new) }
         ensures left { waits_left self.new ≡ waits_left self.old }
+        // For each connection that it began, failed ones too, the port of its channel is kept.
+        ensures wires { ConnectsOn W.journal w.old w.new (ports_in self.new) }
+        ensures ports { HasPorts job ports self.new }
+        ensures kept { (p : ℕ) → is_of_job job p ≡ false →
+            slice_get (ports_in self.new) p ≡ slice_get (ports_in self.old) p }
         ensures calls { CallsOfLoop W.journal w.old w.new }
         ensures cause { CountsBy NetCause W.counts w.old w.new (IsErr result) }
     {
@@ -94,6 +100,9 @@ impl Loop {
         ensures failed { FailsOnly result self.old self.new }
         ensures known { (p : ℕ) → known_at self.new p ≡ is_at p conn || known_at self.old p }
         ensures same { self.new ≡ record self.old { links = self.new.links } }
+        ensures wires { ConnectsOn W.journal w.old w.new (ports_in self.new) }
+        ensures ports { AddsPort (place_of conn) port
+            (ports_in self.old) (ports_in self.new) }
         ensures calls { CallsOfLoop W.journal w.old w.new }
         ensures cause { CountsBy NetCause W.counts w.old w.new (IsErr result) }
     {
@@ -119,6 +128,9 @@ impl Loop {
             ≡ failed_connect result conn p (failed_at self.old p) }
         ensures known { (p : ℕ) → known_at self.new p ≡ is_at p conn || known_at self.old p }
         ensures same { self.new ≡ record self.old { links = self.new.links } }
+        ensures wires { ConnectsOn W.journal w.old w.new (ports_in self.new) }
+        ensures ports { AddsPort (place_of conn) port
+            (ports_in self.old) (ports_in self.new) }
         ensures calls { CallsOfLoop W.journal w.old w.new }
         ensures cause { CountsBy NetCause W.counts w.old w.new (result ≡ Connected.Failed) }
     {
@@ -144,6 +156,8 @@ impl Loop {
         ensures sound { IsSound self.old → IsSound self.new }
         ensures known { SameKnown self.old self.new }
         ensures left { waits_left self.new ≡ waits_left self.old }
+        ensures wires { ConnectsOn W.journal w.old w.new (ports_in self.new) }
+        ensures ports { ports_in self.new ≡ ports_in self.old }
         ensures calls { CallsOfLoop W.journal w.old w.new }
         ensures counts { W.counts w.new ≡ W.counts w.old }
     {
@@ -169,6 +183,8 @@ impl Loop {
             ≡ failed_closed (is_at p conn) (failed_at self.old p) }
         ensures known { SameKnown self.old self.new }
         ensures same { self.new ≡ record self.old { links = self.new.links } }
+        ensures wires { ConnectsOn W.journal w.old w.new (ports_in self.new) }
+        ensures ports { ports_in self.new ≡ ports_in self.old }
         ensures calls { CallsOfLoop W.journal w.old w.new }
         ensures counts { W.counts w.new ≡ W.counts w.old }
     {

@@ -27,7 +27,7 @@ pub struct Link {
     pub writable: bool,
     /// A call of it has failed, and it was not closed since.
     pub failed: bool,
-    /// The clock before it was refused, while it is.
+    /// The clock before it was refused, while it is to be begun again.
     pub refused: Option<u64>,
     /// How often it gave bytes since the last wait, where it is awake.
     pub reads: u8,
@@ -146,7 +146,7 @@ impl Link {
             Got::Refused => Link {
                 awake: false,
                 writable: false,
-                refused: Some(last),
+                refused: self.stage.refused_at(last),
                 ..self
             },
             Got::Failed => Link {
@@ -176,7 +176,7 @@ impl Link {
             Put::Refused => Link {
                 awake: false,
                 writable: false,
-                refused: Some(last),
+                refused: self.stage.refused_at(last),
                 ..self
             },
             Put::Failed => Link {

@@ -7,6 +7,7 @@ ghost use Rattle.ready_loop.specs.Offers.{LookMoment, FaultCame, BeginsBelow, Is
 ghost use Rattle.ready_loop.specs.Standing.{Goes, Follows, CallsOfLoop};
 ghost use Rattle.ready_loop.specs.States.{IsDrained, IsOffered, IsSound, MayWait, FailsOnly, SameKnown, IsCalm, waits_left};
 ghost use Rattle.ready_loop.specs.Waits.{Looked, LookCounts, left_after};
+ghost use Rattle.ready_loop.specs.Wires.{ConnectsOn, ports_in};
 
 use crate::{Loop, LoopFault};
 use world::{Did, World};
@@ -33,6 +34,8 @@ impl Loop {
         ensures failed { FailsOnly result self.old self.new }
         ensures sound { OnOk result (IsSound self.new) }
         ensures known { SameKnown self.old self.new }
+        ensures wires { ConnectsOn W.journal w.old w.new (ports_in self.new) }
+        ensures ports { ports_in self.new ≡ ports_in self.old }
         ensures calls { CallsOfLoop W.journal w.old w.new }
         ensures cause { LookCounts result (W.counts w.old) (W.counts w.new) }
     {
@@ -65,6 +68,8 @@ impl Loop {
         ensures known { SameKnown self.old self.new }
         ensures fault { IfErr result IsOfConn }
         ensures left { self.new.left ≡ self.old.left }
+        ensures wires { ConnectsOn W.journal w.old w.new (ports_in self.new) }
+        ensures ports { ports_in self.new ≡ ports_in self.old }
         ensures calls { CallsOfLoop W.journal w.old w.new }
         ensures cause { CountsBy NetCause W.counts w.old w.new (IsErr result) }
     {

@@ -13,6 +13,7 @@ ghost use Rattle.ready_loop.specs.Standing.{Goes, Follows, CallsOfLoop};
 ghost use Rattle.ready_loop.specs.States.{IsDrained, IsOffered, IsCalm, IsCalmAt, FailsOnly};
 ghost use Rattle.ready_loop.specs.States.{IsOfferedAt, AllOfferedBelow, OnlyAt, load, failed_at};
 ghost use Rattle.ready_loop.specs.States.{failed_connect, failed_put, found_at, NamesAll, IsSound, SameKnown, waits_left};
+ghost use Rattle.ready_loop.specs.Wires.{ConnectsOn, ports_in};
 
 use crate::conn_place::conn_at;
 use crate::{Loop, LoopFault};
@@ -39,6 +40,8 @@ impl Loop {
         ensures sound { OnOk result (IsSound self.old → IsSound self.new) }
         ensures known { SameKnown self.old self.new }
         ensures left { waits_left self.new ≡ waits_left self.old }
+        ensures wires { ConnectsOn W.journal w.old w.new (ports_in self.new) }
+        ensures ports { ports_in self.new ≡ ports_in self.old }
         ensures calls { CallsOfLoop W.journal w.old w.new }
         ensures cause { CountsBy NetCause W.counts w.old w.new (IsErr result) }
     {
@@ -59,6 +62,8 @@ impl Loop {
         ensures failed { FailsOnly result self.old self.new }
         ensures known { SameKnown self.old self.new }
         ensures left { self.new.left ≡ self.old.left }
+        ensures wires { ConnectsOn W.journal w.old w.new (ports_in self.new) }
+        ensures ports { ports_in self.new ≡ ports_in self.old }
         ensures calls { CallsOfLoop W.journal w.old w.new }
         ensures cause { CountsBy NetCause W.counts w.old w.new (IsErr result) }
     {
@@ -86,6 +91,8 @@ impl Loop {
         ensures drained { IsDrained self.old → IsDrained self.new }
         ensures failed { FailsOnly result self.old self.new }
         ensures known { SameKnown self.old self.new }
+        ensures wires { ConnectsOn W.journal w.old w.new (ports_in self.new) }
+        ensures ports { ports_in self.new ≡ ports_in self.old }
         ensures calls { CallsOfLoop W.journal w.old w.new }
         ensures cause { CountsBy NetCause W.counts w.old w.new (IsErr result) }
     {
@@ -115,6 +122,8 @@ impl Loop {
         ensures drained { IsDrained self.old → IsDrained self.new }
         ensures failed { FailsOnly result self.old self.new }
         ensures known { SameKnown self.old self.new }
+        ensures wires { ConnectsOn W.journal w.old w.new (ports_in self.new) }
+        ensures ports { ports_in self.new ≡ ports_in self.old }
         ensures calls { CallsOfLoop W.journal w.old w.new }
         ensures cause { CountsBy NetCause W.counts w.old w.new (IsErr result) }
     {
@@ -151,6 +160,8 @@ impl Loop {
         ensures failed { (p : ℕ) → failed_at self.new p
             ≡ failed_connect result conn p (failed_at self.old p) }
         ensures known { SameKnown self.old self.new }
+        ensures wires { ConnectsOn W.journal w.old w.new (ports_in self.new) }
+        ensures ports { ports_in self.new ≡ ports_in self.old }
         ensures calls { CallsOfLoop W.journal w.old w.new }
         ensures cause { CountsBy NetCause W.counts w.old w.new (result ≡ Connected.Failed) }
     {
@@ -176,6 +187,8 @@ impl Loop {
         ensures drained { IsDrained self.old → IsDrained self.new }
         ensures failed { FailsOnly result self.old self.new }
         ensures known { SameKnown self.old self.new }
+        ensures wires { ConnectsOn W.journal w.old w.new (ports_in self.new) }
+        ensures ports { ports_in self.new ≡ ports_in self.old }
         ensures calls { CallsOfLoop W.journal w.old w.new }
         ensures cause { CountsBy NetCause W.counts w.old w.new (IsErr result) }
     {
@@ -215,6 +228,8 @@ impl Loop {
         ensures failed { (p : ℕ) → failed_at self.new p
             ≡ failed_put result conn p (failed_at self.old p) }
         ensures known { SameKnown self.old self.new }
+        ensures wires { ConnectsOn W.journal w.old w.new (ports_in self.new) }
+        ensures ports { ports_in self.new ≡ ports_in self.old }
         ensures calls { CallsOfLoop W.journal w.old w.new }
         ensures cause { CountsBy NetCause W.counts w.old w.new (result ≡ Put.Failed) }
     {
@@ -230,6 +245,7 @@ impl Loop {
     pub(crate) fn name_ends(&mut self) -> [bool; 64]
         ensures named { (p : ℕ) → p < 64 → slice_get result p ≡ Some (found_at self.old p) }
         ensures all { NamesAll self.old.links self.new.links }
+        ensures ports { ports_in self.new ≡ ports_in self.old }
         ensures same { self.new ≡ record self.old { links = self.new.links } }
     {
         let mut names = [false; 64];

@@ -1,5 +1,5 @@
 //! `Loop`: what it keeps, and the calls that reach no world.
-ghost use Rattle.std.specs.Prelude.{◌≡◌, ◌+◌, ◌<◌, ℕ, List, false, true, IfOk, OnErr, length};
+ghost use Rattle.std.specs.Prelude.{◌≡◌, ◌+◌, ◌<◌, ℕ, List, false, true, IfOk, OnErr, None, length, replicate};
 ghost use Rattle.world.specs.declared.entry.Entry.{Entry};
 ghost use Rattle.world.specs.Places.{place_of};
 ghost use Rattle.world.specs.Waits.{wait_count};
@@ -7,6 +7,7 @@ ghost use Rattle.ready_loop.specs.History.{History, no_history, after_queue};
 ghost use Rattle.ready_loop.specs.Standing.{StandsFor, AllShut, put_at};
 ghost use Rattle.ready_loop.specs.States.{HoldsForKnown, IsDrained, IsSound, MayWait, SameKnown};
 ghost use Rattle.ready_loop.specs.States.{failed_at, known_at, waits_left};
+ghost use Rattle.ready_loop.specs.Wires.{ports_in};
 
 use crate::conn_place::place_at;
 use crate::links::Links;
@@ -34,6 +35,7 @@ impl Loop {
         ensures ready { IfOk result MayWait }
         ensures left { IfOk result (λ l. waits_left l ≡ turns) }
         ensures fresh { IfOk result (λ l. (p : ℕ) → known_at l p ≡ false) }
+        ensures ports { IfOk result (λ l. ports_in l ≡ replicate 64 None) }
         ensures holds { IfOk result HoldsForKnown }
     {
         Ok(Loop {
@@ -57,6 +59,7 @@ impl Loop {
         ensures sound { IsSound self.old → IsSound self.new }
         ensures known { SameKnown self.old self.new }
         ensures left { waits_left self.new ≡ waits_left self.old }
+        ensures ports { ports_in self.new ≡ ports_in self.old }
     {
         self.queues.push(place_at(conn), bytes)
     }

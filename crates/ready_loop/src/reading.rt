@@ -1,5 +1,5 @@
 //! Reading what a wait reported.
-ghost use Rattle.std.specs.Prelude.{◌≡◌, ◌<◌, ◌+◌, ℕ, length, slice_get, IfErr, IsErr, IsSomeAnd, OnOk, Ok};
+ghost use Rattle.std.specs.Prelude.{◌≡◌, ◌<◌, ◌≤◌, ◌+◌, ℕ, length, slice_get, IfErr, IsErr, IsSomeAnd, OnOk, Ok};
 ghost use Rattle.world.specs.Counts.{CountsBy, NetCause};
 ghost use Rattle.world.specs.Places.{place_of};
 ghost use Rattle.world.specs.Told.{Adds, GotSome, read_entry};
@@ -9,7 +9,8 @@ ghost use Rattle.ready_loop.specs.Reads.{ReadMoment, NextCame, after_got, failed
 ghost use Rattle.ready_loop.specs.Offers.{IsOfConn};
 ghost use Rattle.ready_loop.specs.Standing.{Goes, Follows, CallsOfLoop};
 ghost use Rattle.ready_loop.specs.States.{IsDrained, IsOffered, FailsOnly, EachBelow};
-ghost use Rattle.ready_loop.specs.States.{NotRead, IsSound, SameKnown, failed_at, waits_left};
+ghost use Rattle.ready_loop.specs.States.{NotRead, IsSound, SameKnown, failed_at, reads_left, waits_left};
+ghost use Rattle.ready_loop.specs.Wires.{ConnectsOn, ports_in};
 
 use crate::conn_place::conn_at;
 use crate::{Loop, LoopFault, Next};
@@ -30,11 +31,17 @@ impl Loop {
         ensures quiet { result ≡ Ok Next.Quiet → IsDrained self.new }
         ensures none { IsDrained self.old → result ≡ Ok Next.Quiet }
 
+        // No more reads are left than before, and fewer where it answers anything else.
+        ensures most { reads_left self.new ≤ reads_left self.old }
+        ensures reads { (result ≡ Ok Next.Quiet → ⊥) → reads_left self.new < reads_left self.old }
+
         ensures offered { IsOffered self.old → IsOffered self.new }
         ensures failed { FailsOnly result self.old self.new }
         ensures sound { OnOk result (IsSound self.old → IsSound self.new) }
         ensures known { SameKnown self.old self.new }
         ensures left { waits_left self.new ≡ waits_left self.old }
+        ensures wires { ConnectsOn W.journal w.old w.new (ports_in self.new) }
+        ensures ports { ports_in self.new ≡ ports_in self.old }
         ensures calls { CallsOfLoop W.journal w.old w.new }
         ensures cause { CountsBy NetCause W.counts w.old w.new (IsErr result) }
     {
@@ -68,11 +75,14 @@ impl Loop {
             (Goes ReadMoment (after_got result conn) self.old self.new) }
         ensures below { result ≡ Got.Dry → EachBelow place self.old.links NotRead
             → EachBelow (place + 1) self.new.links NotRead }
+        ensures reads { reads_left self.new < reads_left self.old }
         ensures offered { IsOffered self.old → IsOffered self.new }
         ensures failed { (p : ℕ) → failed_at self.new p
             ≡ failed_got result conn p (failed_at self.old p) }
         ensures known { SameKnown self.old self.new }
         ensures same { self.new ≡ record self.old { links = self.new.links } }
+        ensures wires { ConnectsOn W.journal w.old w.new (ports_in self.new) }
+        ensures ports { ports_in self.new ≡ ports_in self.old }
         ensures calls { CallsOfLoop W.journal w.old w.new }
         ensures cause { CountsBy NetCause W.counts w.old w.new (result ≡ Got.Failed) }
     {

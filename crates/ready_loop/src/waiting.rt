@@ -6,6 +6,7 @@ ghost use Rattle.ready_loop.specs.Link.{wait_link};
 ghost use Rattle.ready_loop.specs.Standing.{Follows, CallsOfLoop};
 ghost use Rattle.ready_loop.specs.States.{MayWait, FailsOnly, IsSound, MapsBelow, SameKnown, failed_at, waits_left};
 ghost use Rattle.ready_loop.specs.Waits.{WaitCame, Turned, TurnCounts};
+ghost use Rattle.ready_loop.specs.Wires.{ConnectsOn, ports_in};
 
 use crate::timer::limit;
 use crate::{Loop, LoopFault};
@@ -27,6 +28,8 @@ impl Loop {
         ensures sound { IsSound self.new }
         ensures known { SameKnown self.old self.new }
         ensures left { waits_left self.new ≡ waits_left self.old - 1 }
+        ensures wires { ConnectsOn W.journal w.old w.new (ports_in self.new) }
+        ensures ports { ports_in self.new ≡ ports_in self.old }
         ensures calls { CallsOfLoop W.journal w.old w.new }
         ensures cause { TurnCounts result (W.counts w.old) (W.counts w.new) }
         ensures later { (W.counts w.old).last ≤ (W.counts w.new).last }
@@ -50,6 +53,8 @@ impl Loop {
         ensures known { SameKnown self.old self.new }
         ensures same { self.new
             ≡ record self.old { links = self.new.links; left = self.old.left - 1 } }
+        ensures wires { ConnectsOn W.journal w.old w.new (ports_in self.new) }
+        ensures ports { ports_in self.new ≡ ports_in self.old }
         ensures calls { CallsOfLoop W.journal w.old w.new }
         ensures cause { CountsBy WaitCause W.counts w.old w.new (result ≡ Did.Failed) }
     {
@@ -62,6 +67,7 @@ impl Loop {
 
     /// Takes over what a wait reported.
     fn report(&mut self, reports: &Reports, did: Did)
+        ensures ports { ports_in self.new ≡ ports_in self.old }
         ensures reported { MapsBelow 64 (λ p. wait_link did (is_reported p reports.now.ready))
             self.old.links self.new.links }
         ensures same { self.new ≡ record self.old { links = self.new.links } }

@@ -1,47 +1,53 @@
-use Rattle.std.proofs.Common.{refl, arith}
+use Rattle.std.proofs.Common.{◌+◌, ◌-◌, false, refl, arith}
 use Rattle.batch_run.specs.Stands.{AllStand, Outset, more_waits}
 use Rattle.batch_run.specs.Lines.{waits_of}
-use Rattle.batch_run.proofs.EndLemmas.{all_start, made_by, made_without, others_left, children_end, count_by, ends_by_answers}
+use Rattle.batch_run.proofs.EndLemmas.{all_start, run_calls, made_by, made_without, others_left, children_end, count_by, ends_by_answers, spent_by}
 use Rattle.batch_run.proofs.batch.answers_of.Goals as goal
 
 pub returns-in-Ok : goal.returns-in-Ok
 returns-in-Ok g c =
     let p = g.W.Journal.journal c.args.w.now in
-    let n : Outset = record { here = c.args.limits.now.here; counts = g.W.Journal.counts c.args.w.now; waits = (g.W.Journal.counts c.args.w.now).waits } in
+    let n : Outset = record { here = c.args.limits.now.here; counts = g.W.Journal.counts c.args.w.now; waits = (g.W.Journal.counts c.args.w.now).waits; most = (g.W.Journal.counts c.args.w.now).waits + c.args.limits.now.turns; clean = false } in
     let q = g.W.Journal.journal c.carried_out.new.w in
     let d = g.W.Journal.counts c.carried_out.new.w in
     let then_ = c.carried_out.new.running in
-    let m : Outset = more_waits (waits_of c.args.running.lines) n in
-    let first = all_start c.args.asks c.args.running.jobs.slots.items p n.counts n.here c.requires.size (λ i slot got. c.requires.waiting.each i slot (omega arith) got) in
-    let s : AllStand c.args.asks p m then_.jobs.slots.items q d = c.carried_out.ensures.stands p n refl first in
+    let m : Outset = more_waits (waits_of c.args.running.lines - waits_of c.carried_out.new.running.lines) n in
+    let first = all_start c.args.asks c.args.running.jobs.slots.items p n.counts n.here n.most false c.requires.size (λ i slot got. c.requires.waiting.each i slot (omega arith) got) (λ e. absurd (cc)) (λ e. absurd (cc)) in
+    let s : AllStand c.args.asks p m then_.jobs.slots.items q d = c.carried_out.ensures.stands p n refl (omega (arith, c.requires.left)) first in
     record {
       jobs = made_by c.args.asks p m then_.jobs.slots.items q d s c.in-Ok.ensures.ended c.into_answers.result c.into_answers.ensures;
-      calls = s.calls;
-      children = λ ok. children_end c.args.asks p m then_.jobs.slots.items q d s c.in-Ok.ensures.ended;
+      calls = run_calls c.args.asks n.here p q n.counts s.told (λ clean spoken idle.
+          (c.carried_out.ensures.stands p (record n { clean = clean }) refl (omega (arith, c.requires.left))
+          (all_start c.args.asks c.args.running.jobs.slots.items p n.counts n.here n.most clean c.requires.size (λ i slot got. c.requires.waiting.each i slot (omega arith) got) spoken idle)).calls);
+      children = children_end c.args.asks p m then_.jobs.slots.items q d s c.in-Ok.ensures.ended;
       others = others_left c.args.asks p m then_.jobs.slots.items q d s;
       counts = s.grow;
       waits = omega (arith, s.waits, c.requires.left);
       one_each = count_by c.args.asks p m then_.jobs.slots.items q d s c.in-Ok.ensures.ended c.into_answers.result c.into_answers.ensures;
       ends = ends_by_answers c.args.asks p m then_.jobs.slots.items q d s c.in-Ok.ensures.ended c.into_answers.result c.into_answers.ensures;
+      spent = spent_by c.args.asks p m then_.jobs.slots.items q d s c.in-Ok.ensures.ended c.into_answers.result c.into_answers.ensures;
     }
 
 pub returns-in-Err : goal.returns-in-Err
 returns-in-Err g c =
     let p = g.W.Journal.journal c.args.w.now in
-    let n : Outset = record { here = c.args.limits.now.here; counts = g.W.Journal.counts c.args.w.now; waits = (g.W.Journal.counts c.args.w.now).waits } in
+    let n : Outset = record { here = c.args.limits.now.here; counts = g.W.Journal.counts c.args.w.now; waits = (g.W.Journal.counts c.args.w.now).waits; most = (g.W.Journal.counts c.args.w.now).waits + c.args.limits.now.turns; clean = false } in
     let q = g.W.Journal.journal c.abandon.new.w in
     let d = g.W.Journal.counts c.abandon.new.w in
     let then_ = c.abandon.new.self in
-    let m : Outset = more_waits (waits_of c.args.running.lines) n in
-    let first = all_start c.args.asks c.args.running.jobs.slots.items p n.counts n.here c.requires.size (λ i slot got. c.requires.waiting.each i slot (omega arith) got) in
-    let s : AllStand c.args.asks p m then_.jobs.slots.items q d = c.abandon.ensures.stands c.args.asks p m (c.carried_out.ensures.stands p n refl first) in
+    let m : Outset = more_waits (waits_of c.args.running.lines - waits_of c.carried_out.new.running.lines) n in
+    let first = all_start c.args.asks c.args.running.jobs.slots.items p n.counts n.here n.most false c.requires.size (λ i slot got. c.requires.waiting.each i slot (omega arith) got) (λ e. absurd (cc)) (λ e. absurd (cc)) in
+    let s : AllStand c.args.asks p m then_.jobs.slots.items q d = c.abandon.ensures.stands c.args.asks p m (c.carried_out.ensures.stands p n refl (omega (arith, c.requires.left)) first) in
     record {
       jobs = made_without c.args.asks p m then_.jobs.slots.items q d s c.in-Err.refused;
-      calls = s.calls;
-      children = λ ok. absurd (cc);
+      calls = run_calls c.args.asks n.here p q n.counts s.told (λ clean spoken idle.
+          (c.abandon.ensures.stands c.args.asks p (record m { clean = clean }) (c.carried_out.ensures.stands p (record n { clean = clean }) refl (omega (arith, c.requires.left))
+          (all_start c.args.asks c.args.running.jobs.slots.items p n.counts n.here n.most clean c.requires.size (λ i slot got. c.requires.waiting.each i slot (omega arith) got) spoken idle))).calls);
+      children = children_end c.args.asks p m then_.jobs.slots.items q d s c.abandon.ensures.ended;
       others = others_left c.args.asks p m then_.jobs.slots.items q d s;
       counts = s.grow;
       waits = omega (arith, s.waits, c.requires.left);
       one_each = tt;
       ends = tt;
+      spent = tt;
     }

@@ -15,10 +15,10 @@ pub returns-in-Err-clause-counts : goal.returns-in-Err-clause-counts
 returns-in-Err-clause-counts g c = grow_start _
 
 pub returns-in-Err-clause-calls : goal.returns-in-Err-clause-calls
-returns-in-Err-clause-calls g c = told_start (λ x. start)
+returns-in-Err-clause-calls g c = told_start (λ x clean begins. start)
 
 pub returns-in-Err-clause-children : goal.returns-in-Err-clause-children
-returns-in-Err-clause-children g c = λ ok. absurd (cc)
+returns-in-Err-clause-children g c = told_start (λ x i a at none. none)
 
 pub returns-in-Err-clause-waits : goal.returns-in-Err-clause-waits
 returns-in-Err-clause-waits g c = omega arith

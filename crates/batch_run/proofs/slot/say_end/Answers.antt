@@ -5,4 +5,4 @@ use Rattle.batch_run.proofs.StandLemmas.{saying_keeps}
 use Rattle.batch_run.proofs.slot.say_end.Goals as goal
 
 pub returns : goal.returns
-returns g c = saying_keeps c.args.answer.now c.bytes.ensures c.say.ensures.tells (say_grows c.say.ensures.counts) (ap (λ (n : Counts). n.waits) c.say.ensures.counts.others)
+returns g c = saying_keeps c.args.answer.now c.bytes.ensures c.say.ensures.tells c.say.ensures.silent (record { grow = say_grows c.say.ensures.counts; waits = ap (λ (n : Counts). n.waits) c.say.ensures.counts.others })

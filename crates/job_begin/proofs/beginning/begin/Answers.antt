@@ -1,14 +1,13 @@
 use Rattle.std.proofs.Common.{refl, subst}
 use Rattle.world.specs.Moments.{start}
 use Rattle.world.proofs.MomentsLemmas.{told_start, told_as, told_both}
-use Rattle.job_saves.proofs.CourseLemmas.{calls_on}
 use Rattle.job_begin.specs.Begun.{AnswersAs, without, first_of}
-use Rattle.job_begin.proofs.BeginLemmas.{told_appends, save_rose, begun_so, none_started, answered_role, answered_left}
+use Rattle.job_begin.proofs.BeginLemmas.{told_appends, save_rose, begun_so, disk_calls, disk_keeps_end, disk_asks_none, input_read, answered_role, answered_left}
 use Rattle.job_run.proofs.LaunchLemmas.{ends_then}
-use Rattle.job_begin.proofs.CauseLemmas.{unsaved_caused, all_caused}
-use Rattle.job_begin.proofs.EndLemmas.{unread_starved, unread_answer, answered_kernel, at_moments, answered_with, answered_end, starved_end, answered_output, counted}
+use Rattle.job_begin.proofs.CauseLemmas.{unsaved_caused, all_caused, answer_unspent, starved_unspent, all_unspent}
+use Rattle.job_begin.proofs.EndLemmas.{unread_starved, unread_answer, answered_kernel, at_moments, answered_with, answered_end, starved_end, answered_output, answered_fresh, answered_ports, counted}
 use Rattle.std.specs.Prelude.{IfErr}
-use Rattle.job_saves.specs.Calls.{IsAnswer}
+use Rattle.job_saves.specs.Speaking.{IsAnswer}
 use Rattle.job_begin.proofs.beginning.begin.Goals as goal
 
 pub returns-in_default-clause-begun : goal.returns-in_default-clause-begun
@@ -20,10 +19,10 @@ pub returns-in-Err-clause-begun : goal.returns-in-Err-clause-begun
 returns-in-Err-clause-begun g c = told_as (told_both (c.in-Err.ensures.others c.args.ask.output) c.in-Err.ensures.none) (λ x y s rested. without refl (unread_answer c.args.ask c.in-Ok.output c.in-Err.end c.answer.result x y c.answer.ensures s.1) s.0)
 
 pub returns-in-Err-clause-calls : goal.returns-in-Err-clause-calls
-returns-in-Err-clause-calls g c cast since from who so = calls_on cast since from _ _ _ _ (c.in-Err.ensures.calls cast c.args.number who.has) c.in-Err.ensures.work so
+returns-in-Err-clause-calls g c cast since from who childless portless so = disk_calls cast since from _ _ _ _ (c.in-Err.ensures.calls cast c.args.number who.has) c.in-Err.ensures.part c.in-Err.ensures.work so
 
 pub returns-in-Err-clause-left : goal.returns-in-Err-clause-left
-returns-in-Err-clause-left g c = none_started c.args.ask c.args.number _ _ c.in-Err.ensures.calls
+returns-in-Err-clause-left g c = disk_keeps_end c.args.number _ _ c.in-Err.ensures.part
 
 pub returns-in-Err-clause-cause : goal.returns-in-Err-clause-cause
 returns-in-Err-clause-cause g c = unsaved_caused _ _ c.in-Ok.output c.in-Err.end c.answer.result c.answer.ensures c.in-Err.ensures.cause c.in-Err.ensures.unsaved
@@ -39,19 +38,22 @@ returns-in-Ok-input_of-clause-begun g c =
     let answers : AnswersAs a.output begun c.answer_of.result = subst (λ q. AnswersAs q begun c.answer_of.result) c.in-Ok.ensures c.answer_of.ensures in
     let caused = all_caused _ _ a.output _ begun c.answer_of.result answers e.work.grow c.begin_with-begun.ensures.cause (save_rose a n begun _ _ _ _ _ e.read c.begin_with-begun.ensures.course) in
     let task = answered_with a.output a (first_of a n) begun c.answer_of.result answers c.begin_with-begun.ensures.task in
-    begun_so a n begun _ _ c.answer_of.result _ _ _ _ answers caused task (λ x y f g_. answered_kernel a (first_of a n) a.output begun c.answer_of.result x y answers (at_moments a (first_of a n) begun _ _ x y f g_ c.begin_with-begun.ensures.kernel)) e.read (e.others a.output) e.work.grow c.begin_with-begun.ensures.course (told_appends a c.args.number c.args.here.now begun _ _ _ _ c.begin_with-begun.ensures.calls)
+    begun_so a n begun _ _ c.answer_of.result _ _ _ _ answers caused task (λ x y f g_. answered_kernel a (first_of a n) a.output begun c.answer_of.result x y answers (at_moments a (first_of a n) begun _ _ x y f g_ c.begin_with-begun.ensures.kernel)) e.read (e.others a.output) e.work.grow c.begin_with-begun.ensures.course c.begin_with-begun.ensures.counted (told_appends a c.args.number c.args.here.now begun _ _ _ _ (c.begin_with-begun.ensures.calls (input_read a n _ _ e.read)))
 
 pub returns-in-Ok-input_of-clause-calls : goal.returns-in-Ok-input_of-clause-calls
-returns-in-Ok-input_of-clause-calls g c cast since from who so =
+returns-in-Ok-input_of-clause-calls g c cast since from who childless portless so =
     let e = c.in-Ok-input_of.ensures in
+    let read = input_read c.args.ask c.in-Ok-input_of.notebook _ _ e.read in
     answered_role c.in-Ok.output c.begin_with-begun.result c.answer_of.result c.answer_of.ensures cast since from _ _
-    (c.begin_with-begun.ensures.calls cast since from who (calls_on cast since from _ _ _ _ (e.calls cast c.args.number who.has) e.work so))
+    (c.begin_with-begun.ensures.calls read cast since from who (λ clean. disk_keeps_end c.args.number _ _ e.part (childless clean))
+    (λ clean. disk_asks_none c.args.number _ _ e.part (portless clean))
+    (disk_calls cast since from _ _ _ _ (e.calls cast c.args.number who.has) e.part e.work so))
 
 pub returns-in-Ok-input_of-clause-left : goal.returns-in-Ok-input_of-clause-left
 returns-in-Ok-input_of-clause-left g c =
     let e = c.in-Ok-input_of.ensures in
     answered_left c.in-Ok.output _ c.begin_with-begun.result c.answer_of.result c.answer_of.ensures
-    (ends_then (λ x keeps h. keeps (none_started c.args.ask c.args.number _ _ e.calls h)) c.begin_with-begun.result c.begin_with-begun.ensures.left)
+    (ends_then (λ x keeps h. keeps (disk_keeps_end c.args.number _ _ e.part h)) c.begin_with-begun.result c.begin_with-begun.ensures.left)
 
 pub returns-in-Ok-input_of-clause-cause : goal.returns-in-Ok-input_of-clause-cause
 returns-in-Ok-input_of-clause-cause g c =
@@ -79,3 +81,21 @@ pub returns-in-Ok-input_of-clause-runs : goal.returns-in-Ok-input_of-clause-runs
 returns-in-Ok-input_of-clause-runs g c =
     let e = c.in-Ok-input_of.ensures in
     counted c.in-Ok.output c.args.ask c.in-Ok-input_of.notebook c.begin_with-begun.result c.answer_of.result _ _ _ _ _ c.answer_of.ensures e.work.grow c.begin_with-begun.ensures.course
+
+pub returns-in-Ok-input_of-clause-fresh : goal.returns-in-Ok-input_of-clause-fresh
+returns-in-Ok-input_of-clause-fresh g c = answered_fresh c.in-Ok.output c.begin_with-begun.result c.answer_of.result c.answer_of.ensures c.begin_with-begun.ensures.fresh
+
+-- ---- it is not out of waits
+
+pub returns-in_default-clause-spent : goal.returns-in_default-clause-spent
+returns-in_default-clause-spent g c = starved_unspent (g.W.Journal.counts c.args.w.now) (g.W.Journal.counts c.args.w.now) c.starved.result c.starved.ensures
+
+pub returns-in-Err-clause-spent : goal.returns-in-Err-clause-spent
+returns-in-Err-clause-spent g c = answer_unspent (g.W.Journal.counts c.args.w.now) (g.W.Journal.counts c.input_of.new.w) c.in-Ok.output c.in-Err.end c.answer.result c.answer.ensures c.in-Err.ensures.cause
+
+pub returns-in-Ok-input_of-clause-spent : goal.returns-in-Ok-input_of-clause-spent
+returns-in-Ok-input_of-clause-spent g c = all_unspent (g.W.Journal.counts c.input_of.new.w) (g.W.Journal.counts c.begin_with-begun.new.w) c.in-Ok.output c.begin_with-begun.result c.answer_of.result c.answer_of.ensures c.begin_with-begun.ensures.cause
+
+pub returns-in-Ok-input_of-clause-ports : goal.returns-in-Ok-input_of-clause-ports
+returns-in-Ok-input_of-clause-ports g c =
+    answered_ports c.in-Ok.output c.args.number (g.W.Journal.journal c.begin_with-begun.new.w) c.begin_with-begun.result c.answer_of.result c.answer_of.ensures c.begin_with-begun.ensures.ports

@@ -1,14 +1,34 @@
-use Rattle.job_run.proofs.CauseLemmas.{own_caused}
+use Rattle.job_begin.proofs.CauseLemmas.{saving_caused}
 use Rattle.std.proofs.Common.{◌≡◌, true, false, if◌then◌else◌, refl, sym, ◌∙◌, ap, subst}
 use Rattle.nb_model.specs.Prepared.{prepared_notebook}
-use Rattle.job_begin.specs.Begun.{StartsWith, KernelEnds, first_of}
+use Rattle.job_begin.proofs.CountLemmas.{prepared_counts, uncaused_counts}
+use Rattle.job_begin.specs.Steps.{EndsCounted}
+use Rattle.job_begin.specs.Begun.{counted_task, StartsWith, KernelEnds, first_of}
 use Rattle.std.specs.Prelude.{IfErr}
-use Rattle.job_begin.proofs.BeginLemmas.{none_started_in}
+use Rattle.job_begin.proofs.BeginLemmas.{none_started_in, input_prepared, end_unsaved}
+use Rattle.job_saves.specs.Course.{Ends}
+use Rattle.job_end.specs.declared.end.End.TheVariants as end
 use Rattle.job_begin.proofs.EndLemmas.{saving_in, uncaused_in, saving_ends}
 use Rattle.job_begin.proofs.beginning.begin_with.Goals as goal
 
+pub returns-then-ask-clause-course : goal.returns-then-ask-clause-course
+returns-then-ask-clause-course g c o for s fresh =
+    let n = c.args.notebook in
+    let first : o.first ≡ n = for.first_is ∙ ap (λ b. if b then n else prepared_notebook n) c.if-ask.true in
+    subst (λ b. Ends o b (g.W.Journal.journal c.save_alone-saved.new.w) (g.W.Journal.counts c.save_alone-saved.new.w)) (sym c.end_of.ensures.open)
+    (c.save_alone-saved.ensures.course o (record { output_is = for.output_is; merge_is = for.merge_is; first_is = first }) s)
+
+pub returns-in_default-clause-course : goal.returns-in_default-clause-course
+returns-in_default-clause-course g c o for s fresh = end_unsaved o end.NoMemory _ _ refl s
+
+pub returns-clause-course : goal.returns-clause-course
+returns-clause-course g c o for s fresh =
+    let n = c.args.notebook in
+    let same : c.in-Ok.notebook ≡ first_of c.args.ask n = c.in-Ok.ensures ∙ sym (ap (λ b. if b then n else prepared_notebook n) c.if-ask.false) in
+    c.execute.ensures.course o (record { output_is = for.output_is; merge_is = for.merge_is; first_is = for.first_is ∙ sym same }) s fresh
+
 pub returns-then-ask-clause-cause : goal.returns-then-ask-clause-cause
-returns-then-ask-clause-cause g c = own_caused (g.W.Journal.counts c.args.w.now) (g.W.Journal.counts c.save_alone-saved.new.w) c.end_of.result (c.end_of.ensures.own c.save_alone-saved.ensures.own)
+returns-then-ask-clause-cause g c = saving_caused (g.W.Journal.counts c.args.w.now) (g.W.Journal.counts c.save_alone-saved.new.w) c.end_of.result (c.end_of.ensures.kind c.save_alone-saved.ensures.kind)
 
 pub returns-then-ask-clause-task : goal.returns-then-ask-clause-task
 returns-then-ask-clause-task g c = saving_in c.args.ask (first_of c.args.ask c.args.notebook) c.end_of.result (λ p some. let no : true ≡ false = sym c.if-ask.true ∙ p in absurd (cc)) (c.end_of.ensures.kind c.save_alone-saved.ensures.kind)
@@ -24,19 +44,20 @@ returns-clause-task g c =
     subst (λ first. StartsWith a first c.execute.result) same (c.execute.ensures.task c.if-ask.false)
 
 pub returns-then-ask-clause-calls : goal.returns-then-ask-clause-calls
-returns-then-ask-clause-calls g c cast since from who so = c.save_alone-saved.ensures.calls cast c.args.number since from who.has so
+returns-then-ask-clause-calls g c read cast since from who childless portless so = c.save_alone-saved.ensures.calls cast c.args.number since from who.has so
 
 pub returns-then-ask-clause-left : goal.returns-then-ask-clause-left
 returns-then-ask-clause-left g c = none_started_in c.args.ask c.args.number _ _ _ _ c.save_alone-saved.ensures.calls
 
 pub returns-in_default-clause-calls : goal.returns-in_default-clause-calls
-returns-in_default-clause-calls g c cast since from who so = so
+returns-in_default-clause-calls g c read cast since from who childless portless so = so
 
 pub returns-in_default-clause-left : goal.returns-in_default-clause-left
 returns-in_default-clause-left g c = λ h. h
 
 pub returns-clause-calls : goal.returns-clause-calls
-returns-clause-calls g c cast since from who so = c.execute.ensures.calls cast since from who so
+returns-clause-calls g c read cast since from who childless portless so =
+    c.execute.ensures.calls (input_prepared c.args.ask c.args.notebook c.in-Ok.notebook _ c.in-Ok.ensures read) cast since from who childless portless so
 
 pub returns-clause-left : goal.returns-clause-left
 returns-clause-left g c = c.execute.ensures.left
@@ -53,3 +74,22 @@ returns-clause-kernel g c =
     let n = c.args.notebook in
     let same : c.in-Ok.notebook ≡ first_of a n = c.in-Ok.ensures ∙ sym (ap (λ b. if b then n else prepared_notebook n) c.if-ask.false) in
     subst (λ first. IfErr c.execute.result (KernelEnds a first (g.W.Journal.journal c.args.w.now) (g.W.Journal.journal c.execute.new.w))) same c.execute.ensures.kernel
+
+pub returns-clause-ports : goal.returns-clause-ports
+returns-clause-ports g c = c.execute.ensures.ports
+
+pub returns-then-ask-clause-counted : goal.returns-then-ask-clause-counted
+returns-then-ask-clause-counted g c o for s fresh =
+    prepared_counts c.args.ask (first_of c.args.ask c.args.notebook) o (g.W.Journal.journal c.save_alone-saved.new.w) c.end_of.result c.if-ask.true
+
+pub returns-in_default-clause-counted : goal.returns-in_default-clause-counted
+returns-in_default-clause-counted g c o for s fresh =
+    uncaused_counts o (counted_task c.args.ask (first_of c.args.ask c.args.notebook)) (g.W.Journal.journal c.args.w.now) end.NoMemory refl
+
+pub returns-clause-counted : goal.returns-clause-counted
+returns-clause-counted g c o for s fresh =
+    let a = c.args.ask in
+    let n = c.args.notebook in
+    let same : c.in-Ok.notebook ≡ first_of a n = c.in-Ok.ensures ∙ sym (ap (λ b. if b then n else prepared_notebook n) c.if-ask.false) in
+    subst (λ first. IfErr c.execute.result (EndsCounted o (counted_task a first) (g.W.Journal.journal c.execute.new.w))) same
+    (c.execute.ensures.counted o (record { output_is = for.output_is; merge_is = for.merge_is; first_is = for.first_is ∙ sym same }) s fresh)

@@ -31,31 +31,31 @@ pub returns-in-Err-clause-uncaused : goal.returns-in-Err-clause-uncaused
 returns-in-Err-clause-uncaused g c = load_uncaused c.in-Err.fault
 
 pub returns-in-Ok-clause-calls : goal.returns-in-Ok-clause-calls
-returns-in-Ok-clause-calls g c cast number has = tells_as c.read_file.ensures.tells (λ past. more start (reads_input c.args.ask.now cast number has c.read_file.result))
+returns-in-Ok-clause-calls g c cast number has = tells_as c.read_file.ensures.tells (λ past. more start (reads_input c.args.ask.now cast number has c.read_file.result past))
 
 pub returns-in-Ok-clause-work : goal.returns-in-Ok-clause-work
 returns-in-Ok-clause-work g c = disk_works c.read_file.ensures.cause
 
 pub returns-in-Err-clause-calls : goal.returns-in-Err-clause-calls
-returns-in-Err-clause-calls g c cast number has = tells_as c.read_file.ensures.tells (λ past. more start (reads_input c.args.ask.now cast number has c.read_file.result))
+returns-in-Err-clause-calls g c cast number has = tells_as c.read_file.ensures.tells (λ past. more start (reads_input c.args.ask.now cast number has c.read_file.result past))
 
 pub returns-in-Err-clause-work : goal.returns-in-Err-clause-work
 returns-in-Err-clause-work g c = disk_works c.read_file.ensures.cause
 
 pub returns-in-Big-clause-calls : goal.returns-in-Big-clause-calls
-returns-in-Big-clause-calls g c cast number has = tells_as c.read_file.ensures.tells (λ past. more start (reads_input c.args.ask.now cast number has c.read_file.result))
+returns-in-Big-clause-calls g c cast number has = tells_as c.read_file.ensures.tells (λ past. more start (reads_input c.args.ask.now cast number has c.read_file.result past))
 
 pub returns-in-Big-clause-work : goal.returns-in-Big-clause-work
 returns-in-Big-clause-work g c = disk_works c.read_file.ensures.cause
 
 pub returns-in-Failed-clause-calls : goal.returns-in-Failed-clause-calls
-returns-in-Failed-clause-calls g c cast number has = tells_as c.read_file.ensures.tells (λ past. more start (reads_input c.args.ask.now cast number has c.read_file.result))
+returns-in-Failed-clause-calls g c cast number has = tells_as c.read_file.ensures.tells (λ past. more start (reads_input c.args.ask.now cast number has c.read_file.result past))
 
 pub returns-in-Failed-clause-work : goal.returns-in-Failed-clause-work
 returns-in-Failed-clause-work g c = disk_works c.read_file.ensures.cause
 
 pub returns-in-NoMemory-clause-calls : goal.returns-in-NoMemory-clause-calls
-returns-in-NoMemory-clause-calls g c cast number has = tells_as c.read_file.ensures.tells (λ past. more start (reads_input c.args.ask.now cast number has c.read_file.result))
+returns-in-NoMemory-clause-calls g c cast number has = tells_as c.read_file.ensures.tells (λ past. more start (reads_input c.args.ask.now cast number has c.read_file.result past))
 
 pub returns-in-NoMemory-clause-work : goal.returns-in-NoMemory-clause-work
 returns-in-NoMemory-clause-work g c = disk_works c.read_file.ensures.cause
@@ -71,3 +71,18 @@ returns-in-Failed-clause-none g c = tells_as c.read_file.ensures.tells (λ past.
 
 pub returns-in-NoMemory-clause-none : goal.returns-in-NoMemory-clause-none
 returns-in-NoMemory-clause-none g c = tells_as c.read_file.ensures.tells (λ past. no_memory c.read_file.result)
+
+pub returns-in-Ok-clause-part : goal.returns-in-Ok-clause-part
+returns-in-Ok-clause-part g c = tells_as c.read_file.ensures.tells (λ past. more start refl)
+
+pub returns-in-Err-clause-part : goal.returns-in-Err-clause-part
+returns-in-Err-clause-part g c = tells_as c.read_file.ensures.tells (λ past. more start refl)
+
+pub returns-in-Big-clause-part : goal.returns-in-Big-clause-part
+returns-in-Big-clause-part g c = tells_as c.read_file.ensures.tells (λ past. more start refl)
+
+pub returns-in-Failed-clause-part : goal.returns-in-Failed-clause-part
+returns-in-Failed-clause-part g c = tells_as c.read_file.ensures.tells (λ past. more start refl)
+
+pub returns-in-NoMemory-clause-part : goal.returns-in-NoMemory-clause-part
+returns-in-NoMemory-clause-part g c = tells_as c.read_file.ensures.tells (λ past. more start refl)

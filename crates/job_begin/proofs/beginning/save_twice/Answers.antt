@@ -1,5 +1,8 @@
 use Rattle.job_saves.proofs.CourseLemmas.{job_begins, job_ends}
 use Rattle.job_begin.proofs.BeginLemmas.{for_book, part_by}
+use Rattle.job_begin.proofs.CountLemmas.{both_acked}
+use Rattle.std.proofs.Common.{length, ◌∙◌}
+use Rattle.job_notebook.specs.State.{notebook_of}
 use Rattle.job_begin.proofs.beginning.save_twice.Goals as goal
 
 pub returns-in-Ok-clause-course : goal.returns-in-Ok-clause-course
@@ -25,3 +28,10 @@ pub returns-clause-calls : goal.returns-clause-calls
 returns-clause-calls g c cast number since from has so =
     let part = part_by c.args.ask.now c.in_ok-book.book cast number since from _ _ c.in_ok-book.ensures.output has so in
     (c.save_next.ensures.calls cast since from part).so
+
+pub returns-in-Ok-clause-acked : goal.returns-in-Ok-clause-acked
+returns-in-Ok-clause-acked g c =
+    let b = c.in_ok-book.book in
+    let m = c.save_next.new.book in
+    both_acked c.args.ask.now.output b m _ (g.W.Journal.journal c.args.w.now) (g.W.Journal.journal c.save_next.new.w) (g.W.Journal.journal c.save_done.new.w) _ _ (length c.args.notebook.cells)
+    (length (notebook_of m).cells) c.save_done.result c.in_ok-book.ensures.output (c.save_next.ensures.cells ∙ c.in_ok-book.ensures.cells) c.in-Ok.ensures.course c.in-Ok.ensures.acked c.save_done.ensures.acked

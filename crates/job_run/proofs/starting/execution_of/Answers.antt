@@ -1,7 +1,8 @@
-use Rattle.std.proofs.Common.{[], ◌≡◌, ◌<◌, ◌≤◌, ◌^◌, length, AllPairs, arith, sym, ap, ◌∙◌, subst}
+use Rattle.std.proofs.Common.{[], false, refl, ◌≡◌, ◌<◌, ◌≤◌, ◌^◌, length, AllPairs, arith, sym, ap, ◌∙◌, subst}
 use Rattle.cell_core.specs.Sending.{IsInOrder, next_of}
 use Rattle.cell_core.specs.StandsFor.{task_of}
 use Rattle.job_notebook.specs.State.{begun_of, settled_of}
+use Rattle.job_run.specs.Told.{Tells}
 use Rattle.job_run.proofs.starting.execution_of.Goals as goal
 
 pub returns-clause-first : goal.returns-clause-first
@@ -13,6 +14,7 @@ returns-clause-first c =
     let settled : settled_of book ≤ next_of core = omega (arith, c.in_ok-book.ensures.settled, c.new-core.ensures.first) in
     let early : 0 < 2 ^ 47 = omega arith in
     let timed : 0 ≤ 0 = omega arith in
+    let told : Tells core 0 false = record { events = []; stands = c.new-core.ensures.stands; meets = tt; timed = timed; named = λ e. absurd (cc) } in
     record {
       holds = record {
         ordered = subst IsInOrder (sym c.new-core.ensures.of) rises;
@@ -21,12 +23,13 @@ returns-clause-first c =
         settled = settled;
         asked = λ e. absurd (cc);
         early = early;
-        heard = ∣ record { events = []; stands = c.new-core.ensures.stands; meets = tt; timed = timed; named = λ e. absurd (cc) } ∣₁;
+        heard = ∣ told ∣₁;
       };
       begun = c.in_ok-book.ensures.begun;
       settled = c.in_ok-book.ensures.settled;
       next = c.new-core.ensures.first;
       awaits = c.new-core.ensures.next;
+      counted = record { heard = ∣ record { tells = told; count = refl } ∣₁; stops = λ cause is. absurd (cc) };
     }
 
 pub returns-clause-output : goal.returns-clause-output

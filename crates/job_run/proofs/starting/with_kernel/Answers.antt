@@ -1,6 +1,8 @@
 use Rattle.std.proofs.Common.{true, ◌≡◌, sym, subst, ◌∙◌}
 use Rattle.job_saves.specs.Course.{Ends, keeps_open, stays_open}
 use Rattle.job_saves.specs.Children.{HasEnd}
+use Rattle.job_run.specs.Run.{HasPorts}
+use Rattle.job_run.specs.Task.{ports_of_job}
 use Rattle.job_run.proofs.RunLemmas.{unstarted}
 use Rattle.world.proofs.CountsLemmas.{grow_start}
 use Rattle.job_run.proofs.CauseLemmas.{cause_within}
@@ -10,7 +12,7 @@ pub returns-in-Ok-clause-course : goal.returns-in-Ok-clause-course
 returns-in-Ok-clause-course g c o r = c.launch.ensures.course o r
 
 pub returns-in-Ok-clause-calls : goal.returns-in-Ok-clause-calls
-returns-in-Ok-clause-calls g c cast since from may r = c.launch.ensures.calls cast since from may r
+returns-in-Ok-clause-calls g c cast since from may portless r = c.launch.ensures.calls cast since from may portless r
 
 pub returns-in-Err-clause-course : goal.returns-in-Err-clause-course
 returns-in-Err-clause-course g c o r =
@@ -19,7 +21,7 @@ returns-in-Err-clause-course g c o r =
     (unstarted o c.launch.new.self _ _ (c.launch.ensures.outcome ∙ c.requires) (c.end_child.ensures.course o (c.launch.ensures.course o r)))
 
 pub returns-in-Err-clause-calls : goal.returns-in-Err-clause-calls
-returns-in-Err-clause-calls g c cast since from may r = (c.end_child.ensures.calls cast since from (c.launch.ensures.calls cast since from may r)).part.so
+returns-in-Err-clause-calls g c cast since from may portless r = (c.end_child.ensures.calls cast since from (c.launch.ensures.calls cast since from may portless r)).part.so
 
 pub returns-in-Err-clause-left : goal.returns-in-Err-clause-left
 returns-in-Err-clause-left g c = subst (λ n. HasEnd n (g.W.Journal.journal c.end_child.new.w)) c.launch.ensures.number c.end_child.ensures.left
@@ -27,3 +29,10 @@ returns-in-Err-clause-left g c = subst (λ n. HasEnd n (g.W.Journal.journal c.en
 pub returns-in-Err-clause-cause : goal.returns-in-Err-clause-cause
 returns-in-Err-clause-cause g c =
     cause_within (g.W.Journal.counts c.args.w.now) (g.W.Journal.counts c.args.w.now) (g.W.Journal.counts c.launch.new.w) (g.W.Journal.counts c.end_child.new.w) c.in-Err.end (grow_start (g.W.Journal.counts c.args.w.now)) c.end_child.ensures.grow c.in-Err.ensures.cause
+
+pub returns-in-Ok-clause-fresh : goal.returns-in-Ok-clause-fresh
+returns-in-Ok-clause-fresh g c = c.launch.ensures.outcome ∙ c.requires
+
+pub returns-in-Ok-clause-ports : goal.returns-in-Ok-clause-ports
+returns-in-Ok-clause-ports g c =
+    subst (λ n. HasPorts n (ports_of_job c.launch.new.self) (g.W.Journal.journal c.launch.new.w)) c.launch.ensures.number c.in-Ok.ensures.ports

@@ -6,10 +6,10 @@ pub returns-clause-course : goal.returns-clause-course
 returns-clause-course c o b is_open j k before after told grow s = others_pass o b is_open j k before after told grow s
 
 pub returns-clause-called : goal.returns-clause-called
-returns-clause-called c cast since from before after j k told work s = calls_on cast since from before after j k told work s
+returns-clause-called c cast since from before after j k told quiet work s = calls_on cast since from before after j k told quiet work s
 
 pub returns-clause-calls : goal.returns-clause-calls
-returns-clause-calls c b cast since from before after j k told work s = calls_part cast since from before after b b j k refl told work s
+returns-clause-calls c b cast since from before after j k told quiet work s = calls_part cast since from before after b b j k refl told quiet work s
 
 pub returns-clause-begins : goal.returns-clause-begins
 returns-clause-begins c o j k before after told grow s = begins_pass o j k before after told grow s

@@ -1,7 +1,7 @@
 use Rattle.std.proofs.Common.{sym, subst, ◌∙◌}
 use Rattle.job_notebook.specs.State.{notebook_of}
 use Rattle.job_saves.specs.Course.{Stands, stays_open}
-use Rattle.job_saves.proofs.CourseLemmas.{save_stands, save_called, on_answer, durable_answer, left_alone}
+use Rattle.job_saves.proofs.CourseLemmas.{save_stands, save_called, on_answer, durable_answer, acknowledged_answer, left_alone}
 use Rattle.job_saves.proofs.saving.save_next.Goals as goal
 
 pub returns-clause-course : goal.returns-clause-course
@@ -14,13 +14,16 @@ returns-clause-course g c o s =
 pub returns-clause-calls : goal.returns-clause-calls
 returns-clause-calls g c cast since from s =
     let e = c.save.ensures in
-    save_called cast since from c.args.book.now c.save.new.self c.args.settled (notebook_of c.save.new.self) _ _ c.save.result _ _ _ _ e.output e.entries e.cause s
+    save_called cast since from c.args.book.now c.save.new.self c.args.settled (notebook_of c.save.new.self) _ c.save.result _ _ _ _ e.output e.entries e.silent e.cause s
 
 pub returns-clause-prefix : goal.returns-clause-prefix
 returns-clause-prefix g c = on_answer c.save.result c.end_of.result _ c.end_of.ensures.answer c.save.ensures.prefix
 
 pub returns-clause-durable : goal.returns-clause-durable
 returns-clause-durable g c = durable_answer c.save.result c.end_of.result _ _ _ _ c.end_of.ensures.answer c.save.ensures.end
+
+pub returns-clause-acked : goal.returns-clause-acked
+returns-clause-acked g c = acknowledged_answer c.save.result c.end_of.result _ _ _ _ c.end_of.ensures.answer c.save.ensures.end
 
 pub returns-clause-idle : goal.returns-clause-idle
 returns-clause-idle g c e = left_alone c.save.result _ c.save.ensures.idle (sym c.end_of.ensures.answer ∙ e)

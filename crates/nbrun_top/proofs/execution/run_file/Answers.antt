@@ -14,7 +14,7 @@ returns-in-Ok-clause-executed g c words is =
     let same = ap (λ k. Counts.say k) c.asks_in.ensures.counts.others in
     told_then c.in-Ok.ensures.entries c.run_all.ensures.runs (λ x y z gives runs empty.
     of_batch words c.args.file.now c.args.common.now c.in-Ok.asks (Rose (g.W.Journal.counts c.args.w.now).say new) (0 < new) c.run_all.result x y z is gives
-    (λ quiet alone. subst (λ k. Runs c.in-Ok.asks c.args.limits.now.here (Rose k new) (0 < new) c.run_all.result y z) same (runs quiet alone)) empty)
+    (λ quiet clean alone. subst (λ k. Runs c.in-Ok.asks c.args.limits.now.here (Rose k new) (0 < new) c.run_all.result y z) same (runs quiet clean alone)) empty)
 
 pub returns-in-Err-clause-executed : goal.returns-in-Err-clause-executed
 returns-in-Err-clause-executed g c words is =
@@ -26,12 +26,12 @@ returns-in-Err-clause-executed g c words is =
 
 pub returns-in-Ok-clause-counted : goal.returns-in-Ok-clause-counted
 returns-in-Ok-clause-counted g c =
-    counted_since (g.W.Journal.counts c.args.w.now) (g.W.Journal.counts c.asks_in.new.w) (g.W.Journal.counts c.run_all.new.w) c.run_all.result (disk_grows c.asks_in.ensures.counts)
+    counted_since c.args.limits.now.turns (g.W.Journal.counts c.args.w.now) (g.W.Journal.counts c.asks_in.new.w) (g.W.Journal.counts c.run_all.new.w) c.run_all.result (disk_grows c.asks_in.ensures.counts)
     c.run_all.ensures.counted
 
 pub returns-in-Err-clause-counted : goal.returns-in-Err-clause-counted
 returns-in-Err-clause-counted g c =
-    unread_counted (g.W.Journal.counts c.args.w.now) (g.W.Journal.counts c.asks_in.new.w) (g.W.Journal.counts c.say.new.w) c.in-Err.answer.end c.code.result c.code.ensures
+    unread_counted c.args.limits.now.turns (g.W.Journal.counts c.args.w.now) (g.W.Journal.counts c.asks_in.new.w) (g.W.Journal.counts c.say.new.w) c.in-Err.answer.end c.code.result c.code.ensures
     c.in-Err.ensures.end c.in-Err.ensures.read_fault (say_grows c.say.ensures.counts)
 
 pub returns-in-Ok-clause-waits : goal.returns-in-Ok-clause-waits

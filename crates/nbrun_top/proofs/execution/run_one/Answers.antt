@@ -18,7 +18,7 @@ returns-in-Err-clause-executed g c words is =
     c.starved.result x y c.starved.ensures.status says new)
 
 pub returns-in-Err-clause-counted : goal.returns-in-Err-clause-counted
-returns-in-Err-clause-counted g c = starved_counted (g.W.Journal.counts c.args.w.now) (g.W.Journal.counts c.starved.new.w) c.starved.result c.starved.ensures.status
+returns-in-Err-clause-counted g c = starved_counted c.args.limits.now.turns (g.W.Journal.counts c.args.w.now) (g.W.Journal.counts c.starved.new.w) c.starved.result c.starved.ensures.status
 
 pub returns-in-Err-clause-waits : goal.returns-in-Err-clause-waits
 returns-in-Err-clause-waits g c = omega (arith, ap (λ k. Counts.waits k) c.starved.ensures.counts.others)

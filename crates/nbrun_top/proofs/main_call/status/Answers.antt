@@ -1,10 +1,11 @@
-use Rattle.std.proofs.Common.{◌<◌, map, string_bytes, subst, arith}
+use Rattle.std.proofs.Common.{◌<◌, refl, map, string_bytes, subst, arith}
 use Rattle.world.specs.Counts.{Rose}
 use Rattle.world.specs.Moments.{Told}
 use Rattle.world.proofs.MomentsLemmas.{told_as}
 use Rattle.nbrun_top.specs.Asked.{IsPlainOf, IsTaskOf, IsExecuted, IsBatch, IsExercise}
 use Rattle.nbrun_top.proofs.Asked.{no_exercise_executes, one_is_no_exercise, batch_is_no_exercise, one_executes, batch_executes, no_refusal}
 use Rattle.nbrun_top.proofs.Batches.{of_ended}
+use Rattle.nbrun_top.proofs.CodeLemmas.{never_plain}
 use Rattle.nbrun_top.specs.Exercised.{Exercised}
 use Rattle.nbrun_top.proofs.Exercises.{of_no_memory, same_cells}
 use Rattle.nbrun_top.proofs.main_call.status.Goals as goal
@@ -180,10 +181,40 @@ returns-in-Exercise-clause-start_fault g c real six =
     absurd (real c.in-Exercise.cells is)
 
 pub returns-in-Plain-clause-start_fault : goal.returns-in-Plain-clause-start_fault
-returns-in-Plain-clause-start_fault g c real six = absurd (c.run_plain.ensures.starts_none six)
+returns-in-Plain-clause-start_fault g c real six = absurd (never_plain 6 c.run_plain.result refl c.run_plain.ensures.kind six)
 
 pub returns-in-Plain-clause-waits : goal.returns-in-Plain-clause-waits
 returns-in-Plain-clause-waits g c = omega (arith, c.run_plain.ensures.waits)
 
 pub returns-in-Exercise-clause-waits : goal.returns-in-Exercise-clause-waits
 returns-in-Exercise-clause-waits g c = omega (arith, c.run_exercise.ensures.waits)
+
+pub returns-in-Plain-clause-net_fault : goal.returns-in-Plain-clause-net_fault
+returns-in-Plain-clause-net_fault g c real fourteen = absurd (never_plain 14 c.run_plain.result refl c.run_plain.ensures.kind fourteen)
+
+pub returns-in-One-clause-net_fault : goal.returns-in-One-clause-net_fault
+returns-in-One-clause-net_fault g c real fourteen = c.run_one.ensures.counted.cause.net fourteen
+
+pub returns-in-Many-clause-net_fault : goal.returns-in-Many-clause-net_fault
+returns-in-Many-clause-net_fault g c real fourteen = c.run_file.ensures.counted.cause.net fourteen
+
+pub returns-in-Exercise-clause-net_fault : goal.returns-in-Exercise-clause-net_fault
+returns-in-Exercise-clause-net_fault g c real fourteen =
+    let words = map string_bytes c.args.words.now in
+    let is : IsExercise words c.in-Exercise.cells = subst (λ t. IsTaskOf words t) c.in-Exercise.is c.of.ensures.asked in
+    absurd (real c.in-Exercise.cells is)
+
+pub returns-in-Plain-clause-spent : goal.returns-in-Plain-clause-spent
+returns-in-Plain-clause-spent g c real sixteen = absurd (never_plain 16 c.run_plain.result refl c.run_plain.ensures.kind sixteen)
+
+pub returns-in-One-clause-spent : goal.returns-in-One-clause-spent
+returns-in-One-clause-spent g c real sixteen = c.run_one.ensures.counted.spent sixteen
+
+pub returns-in-Many-clause-spent : goal.returns-in-Many-clause-spent
+returns-in-Many-clause-spent g c real sixteen = c.run_file.ensures.counted.spent sixteen
+
+pub returns-in-Exercise-clause-spent : goal.returns-in-Exercise-clause-spent
+returns-in-Exercise-clause-spent g c real sixteen =
+    let words = map string_bytes c.args.words.now in
+    let is : IsExercise words c.in-Exercise.cells = subst (λ t. IsTaskOf words t) c.in-Exercise.is c.of.ensures.asked in
+    absurd (real c.in-Exercise.cells is)

@@ -7,7 +7,7 @@ use Rattle.said_lines.specs.Speech.{heard}
 use Rattle.nbrun_top.specs.Said.{input_of, output_of}
 use Rattle.nbrun_top.proofs.Heard.{ran_silent}
 use Rattle.nbrun_top.proofs.Runs.{said_text, ended_at}
-use Rattle.nbrun_top.proofs.CodeLemmas.{plain_starts}
+use Rattle.nbrun_top.proofs.CodeLemmas.{plain_status}
 use Rattle.nbrun_top.proofs.plain_run.run_plain.Goals as goal
 
 pub returns-clause-causes : goal.returns-clause-causes
@@ -25,8 +25,8 @@ returns-clause-silent g c words is some =
     subst (λ j. Told (g.W.Journal.journal c.args.w.now) j (λ before after. heard after ≡ heard before)) (sym same)
     (told_as (a.ensures.ran words is) (λ x y ran. ran_silent words a.result.end x y ran))
 
-pub returns-clause-starts_none : goal.returns-clause-starts_none
-returns-clause-starts_none g c six = plain_starts c.answered-answer.result.end _ c.code-code.result c.unless_not_said.result c.code-code.ensures c.unless_not_said.ensures.answers six
+pub returns-clause-kind : goal.returns-clause-kind
+returns-clause-kind g c = plain_status c.answered-answer.result.end _ c.code-code.result c.unless_not_said.result c.code-code.ensures c.unless_not_said.ensures.answers
 
 pub returns-clause-waits : goal.returns-clause-waits
 returns-clause-waits g c = omega (arith, ap (λ k. Counts.waits k) c.answered-answer.ensures.counts.others, ap (λ k. Counts.waits k) c.say.ensures.counts.others)

@@ -17,11 +17,11 @@ loop-place-preserved c =
     let n = c.loop-place.place in
     let refused : ℕ → Option ℕ = λ p. refused_in (slice_get c.args.links.now p) in
     let ms : c.min-least.result ≡ min (connect_wait (refused n) c.args.last) c.loop-place.least
-    = c.min-least.ensures ∙ ap (λ (m : ℕ). min m c.loop-place.least) (c.ms_to_connect.ensures ∙ ap (λ (o : Option ℕ). connect_wait o c.args.last) (sym (ap refused_in c.at-link.ensures))) in
+    = c.min-least.ensures ∙ ap (λ (m : ℕ). min m c.loop-place.least) (c.ms_to_connect.ensures ∙ ap (λ (o : Option ℕ). connect_wait o c.args.last) (sym (ap refused_in c.at-link.ensures.found))) in
     record {
       bound = omega (arith, inv.bound, c.min-least.ensures);
       least = subst (λ (m : ℕ). IsLeast (n + 1) c.args.due c.args.last refused m) (sym ms) (least_more n c.args.due c.args.last c.loop-place.least refused inv.bound inv.least);
-      asleep = asleep_more n (λ p. awake_in (slice_get c.args.links.now p)) (ap awake_in c.at-link.ensures ∙ c.if-link.false) inv.asleep;
+      asleep = asleep_more n (λ p. awake_in (slice_get c.args.links.now p)) (ap awake_in c.at-link.ensures.found ∙ c.if-link.false) inv.asleep;
     }
 
 pub overflow_cast-result : goal.overflow_cast-result

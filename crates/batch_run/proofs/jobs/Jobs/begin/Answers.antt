@@ -13,7 +13,7 @@ pub returns-in-Ok-clause-stands : goal.returns-in-Ok-clause-stands
 returns-in-Ok-clause-stands g c = λ asks start from own here s.
     let items = c.args.self.now.slots.items in
     job_begins asks start from items (g.W.Journal.journal c.args.w.now) (g.W.Journal.journal c.begin.new.w) (g.W.Journal.counts c.args.w.now) (g.W.Journal.counts c.begin.new.w)
-    c.args.number c.args.ask (Ok c.in-Ok.job) here c.in-Ok.ensures.begun c.in-Ok.ensures.calls c.in-Ok.ensures.left tt tt c.in-Ok.ensures.output c.in-Ok.ensures.runs own (waiting_at c.requires.waiting c.requires.within) s
+    c.args.number c.args.ask (Ok c.in-Ok.job) here c.in-Ok.ensures.begun c.in-Ok.ensures.calls c.in-Ok.ensures.left tt tt tt c.in-Ok.ensures.output c.in-Ok.ensures.runs c.in-Ok.ensures.fresh own (waiting_at c.requires.waiting c.requires.within) s
 
 pub returns-in-Err-clause-size : goal.returns-in-Err-clause-size
 returns-in-Err-clause-size g c = ap length c.end.ensures.slots ∙ length-set c.args.self.now.slots.items c.args.number (Ended c.in-Err.answer)
@@ -27,5 +27,5 @@ returns-in-Err-clause-stands g c = λ asks start from own here s.
     let mid = set items c.args.number (Ended c.in-Err.answer) in
     let b : AllStand asks start from mid (g.W.Journal.journal c.begin.new.w) (g.W.Journal.counts c.begin.new.w) =
     job_begins asks start from items (g.W.Journal.journal c.args.w.now) (g.W.Journal.journal c.begin.new.w) (g.W.Journal.counts c.args.w.now) (g.W.Journal.counts c.begin.new.w)
-    c.args.number c.args.ask (Err c.in-Err.answer) here c.in-Err.ensures.begun c.in-Err.ensures.calls c.in-Err.ensures.left c.in-Err.ensures.cause c.in-Err.ensures.answer tt tt own (waiting_at c.requires.waiting c.requires.within) s in
+    c.args.number c.args.ask (Err c.in-Err.answer) here c.in-Err.ensures.begun c.in-Err.ensures.calls c.in-Err.ensures.left c.in-Err.ensures.cause c.in-Err.ensures.answer c.in-Err.ensures.spent tt tt tt own (waiting_at c.requires.waiting c.requires.within) s in
     subst (λ xs. AllStand asks start from xs (g.W.Journal.journal c.end.new.w) (g.W.Journal.counts c.end.new.w)) (sym c.end.ensures.slots) (c.end.ensures.stands asks start from mid c.args.number c.args.ask own c.in-Err.ensures.answer b)

@@ -1,7 +1,7 @@
 use Rattle.batch_run.proofs.jobs.Jobs.spend_all.Goals as goal
 
 pub loop-number-preserved : goal.loop-number-preserved
-loop-number-preserved c = λ asks start from journal counts s. c.spend.ensures.stands asks start from journal counts (c.loop-number.invariant asks start from journal counts s)
+loop-number-preserved c = λ asks start from journal counts why s. c.spend.ensures.stands asks start from journal counts why (c.loop-number.invariant asks start from journal counts why s)
 
 pub returns-in_err-spend : goal.returns-in_err-spend
-returns-in_err-spend c = record { stands = λ asks start from journal counts s. c.spend.ensures.stands asks start from journal counts (c.loop-number.invariant asks start from journal counts s) }
+returns-in_err-spend c = record { stands = λ asks start from journal counts why s. c.spend.ensures.stands asks start from journal counts why (c.loop-number.invariant asks start from journal counts why s) }

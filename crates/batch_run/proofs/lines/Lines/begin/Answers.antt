@@ -1,5 +1,5 @@
 use Rattle.world.specs.Counts.{Counts}
-use Rattle.std.proofs.Common.{◌+◌, ◌*◌, ◌<◌, arith, length, sym, subst, ap}
+use Rattle.std.proofs.Common.{◌+◌, ◌*◌, ◌<◌, arith, length, sym, subst, ap, refl}
 use Rattle.batch_run.specs.Kept.{AreBegun}
 use Rattle.batch_run.proofs.LineLemmas.{begun_begun, begun_failed, fresh_job, fresh_next, lost_ok, lost_fault}
 use Rattle.world.proofs.CountsLemmas.{net_grows}
@@ -38,3 +38,6 @@ returns-in-Ok-clause-stands g c = loop_keeps c.begin.ensures.calls (net_grows c.
 
 pub returns-in-Err-clause-stands : goal.returns-in-Err-clause-stands
 returns-in-Err-clause-stands g c = loop_keeps c.begin.ensures.calls (net_grows c.begin.ensures.cause) (ap (λ (n : Counts). n.waits) c.begin.ensures.cause.others)
+
+pub returns-in-Err-clause-cause : goal.returns-in-Err-clause-cause
+returns-in-Err-clause-cause g c = c.in-Err.ensures.cause.net.cause refl

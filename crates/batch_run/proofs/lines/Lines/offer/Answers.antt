@@ -1,7 +1,8 @@
-use Rattle.std.proofs.Common.{ap}
+use Rattle.std.proofs.Common.{ap, refl}
 use Rattle.world.specs.Counts.{Counts}
 use Rattle.batch_run.proofs.LineLemmas.{begun_same, lost_fault}
 use Rattle.world.proofs.CountsLemmas.{net_grows}
+use Rattle.batch_run.proofs.CauseLemmas.{net_caused}
 use Rattle.batch_run.proofs.StandLemmas.{loop_keeps}
 use Rattle.batch_run.proofs.lines.Lines.offer.Goals as goal
 
@@ -18,3 +19,6 @@ returns-in-Ok-clause-stands g c = loop_keeps c.offer.ensures.calls (net_grows c.
 
 pub returns-in-Err-clause-stands : goal.returns-in-Err-clause-stands
 returns-in-Err-clause-stands g c = loop_keeps c.offer.ensures.calls (net_grows c.offer.ensures.cause) (ap (λ (n : Counts). n.waits) c.offer.ensures.cause.others)
+
+pub returns-in-Err-clause-cause : goal.returns-in-Err-clause-cause
+returns-in-Err-clause-cause g c = net_caused c.note.result (g.W.Journal.counts c.args.w.now) (g.W.Journal.counts c.offer.new.w) ⊥ (c.note.ensures.net c.in-Err.ensures.fault) (c.in-Err.ensures.cause.net.cause refl)

@@ -1,5 +1,15 @@
+use Rattle.std.proofs.Common.{◌∙◌, arith}
+use Rattle.batch_run.proofs.SlotLemmas.{ended_all}
 use Rattle.batch_run.proofs.running.Running.abandon.Goals as goal
 
 pub loop-number-preserved : goal.loop-number-preserved
-loop-number-preserved g c = λ asks start from s.
-    c.end_child.ensures.stands asks start from (c.close.ensures.stands asks start from c.loop-number.self.jobs.slots.items (c.loop-number.invariant asks start from s))
+loop-number-preserved g c = record {
+  left = c.close.ensures.left ∙ c.loop-number.invariant.left;
+  stands = λ asks start from s.
+      c.stop.ensures.stands asks start from (c.close.ensures.stands asks start from c.loop-number.self.jobs.slots.items (c.loop-number.invariant.stands asks start from s));
+  ended = c.stop.ensures.ended c.loop-number.invariant.ended;
+  size = c.stop.ensures.size ∙ c.loop-number.invariant.size;
+}
+
+pub returns-clause-ended : goal.returns-clause-ended
+returns-clause-ended g c = ended_all (omega (arith, c.loop-number.invariant.size, c.len-number-end.ensures.is)) c.loop-number.invariant.ended

@@ -1,3 +1,4 @@
+use Rattle.batch_run.proofs.CauseLemmas.{rose_since}
 use Rattle.batch_run.proofs.running.Running.join.Goals as goal
 
 pub returns-in-Ok-clause-stands : goal.returns-in-Ok-clause-stands
@@ -6,4 +7,5 @@ returns-in-Ok-clause-stands g c = λ asks start from s. c.begin.ensures.stands a
 pub returns-in-Err-clause-stands : goal.returns-in-Err-clause-stands
 returns-in-Err-clause-stands g c = λ asks start from s.
     c.lose.ensures.stands asks start from (g.W.Journal.journal c.begin.new.w) (g.W.Journal.counts c.begin.new.w)
+    (rose_since from.counts.net (g.W.Journal.counts c.args.w.now).net (g.W.Journal.counts c.begin.new.w).net s.grow.net c.in-Err.ensures.cause)
     (c.begin.ensures.stands asks start from c.args.self.now.jobs.slots.items s)

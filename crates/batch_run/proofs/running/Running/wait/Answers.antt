@@ -1,11 +1,11 @@
 use Rattle.std.proofs.Common.{◌-◌, ap, arith}
 use Rattle.batch_run.specs.Lines.{waits_of}
-use Rattle.batch_run.specs.Stands.{more_waits}
-use Rattle.batch_run.proofs.StandLemmas.{fits}
+use Rattle.batch_run.specs.Stands.{AllStand, Outset, more_waits}
+use Rattle.batch_run.proofs.CauseLemmas.{fits, wait_fault}
 use Rattle.batch_run.proofs.running.Running.wait.Goals as goal
 
 pub returns-in_err-tell_moments-in-Ok-clause-stands : goal.returns-in_err-tell_moments-in-Ok-clause-stands
-returns-in_err-tell_moments-in-Ok-clause-stands g c = λ asks start from s.
+returns-in_err-tell_moments-in-Ok-clause-stands g c = λ asks start from all s.
     fits asks start from (waits_of c.args.self.now.lines - waits_of c.turn.new.self) (waits_of c.args.self.now.lines - waits_of c.tell_moments.new.self.lines) (omega (arith, ap waits_of c.tell_moments.ensures.lines))
     (c.tell_moments.ensures.stands asks start (more_waits (waits_of c.args.self.now.lines - waits_of c.turn.new.self) from) (c.turn.ensures.stands asks start from c.args.self.now.jobs.slots.items s))
 
@@ -13,7 +13,7 @@ pub returns-in_err-tell_moments-in-Ok-clause-left : goal.returns-in_err-tell_mom
 returns-in_err-tell_moments-in-Ok-clause-left g c = omega (arith, c.turn.ensures.left, ap waits_of c.tell_moments.ensures.lines)
 
 pub returns-in_ok-tell_moments-in-Ok-clause-stands : goal.returns-in_ok-tell_moments-in-Ok-clause-stands
-returns-in_ok-tell_moments-in-Ok-clause-stands g c = λ asks start from s.
+returns-in_ok-tell_moments-in-Ok-clause-stands g c = λ asks start from all s.
     fits asks start from (waits_of c.args.self.now.lines - waits_of c.turn.new.self) (waits_of c.args.self.now.lines - waits_of c.read_all.new.self.lines) (omega (arith, ap waits_of c.tell_moments.ensures.lines, c.read_all.ensures.left))
     (c.read_all.ensures.stands asks start (more_waits (waits_of c.args.self.now.lines - waits_of c.turn.new.self) from) (c.tell_moments.ensures.stands asks start (more_waits (waits_of c.args.self.now.lines - waits_of c.turn.new.self) from) (c.turn.ensures.stands asks start from c.args.self.now.jobs.slots.items s)))
 
@@ -21,9 +21,15 @@ pub returns-in_ok-tell_moments-in-Ok-clause-left : goal.returns-in_ok-tell_momen
 returns-in_ok-tell_moments-in-Ok-clause-left g c = omega (arith, c.turn.ensures.left, ap waits_of c.tell_moments.ensures.lines, c.read_all.ensures.left)
 
 pub returns-in-Err-clause-stands : goal.returns-in-Err-clause-stands
-returns-in-Err-clause-stands g c = λ asks start from s.
-    fits asks start from (waits_of c.args.self.now.lines - waits_of c.turn.new.self) (waits_of c.args.self.now.lines - waits_of c.on_fault.new.self.lines) (omega (arith, ap waits_of c.on_fault.ensures.lines))
-    (c.on_fault.ensures.stands asks start (more_waits (waits_of c.args.self.now.lines - waits_of c.turn.new.self) from) (g.W.Journal.journal c.turn.new.w) (g.W.Journal.counts c.turn.new.w) (c.turn.ensures.stands asks start from c.args.self.now.jobs.slots.items s))
+returns-in-Err-clause-stands g c = λ asks start from all s.
+    let c_ = g.W.Journal.counts c.args.w.now in
+    let d = g.W.Journal.counts c.turn.new.w in
+    let left = waits_of c.args.self.now.lines in
+    let rest = waits_of c.turn.new.self in
+    let mid : Outset = more_waits (left - rest) from in
+    let after : AllStand asks start mid c.args.self.now.jobs.slots.items (g.W.Journal.journal c.turn.new.w) d = c.turn.ensures.stands asks start from c.args.self.now.jobs.slots.items s in
+    fits asks start from (left - rest) (left - waits_of c.on_fault.new.self.lines) (omega (arith, ap waits_of c.on_fault.ensures.lines))
+    (c.on_fault.ensures.stands asks start mid (g.W.Journal.journal c.turn.new.w) d (wait_fault c.in-Err.fault from c_ d left rest s.grow all after.waited c.in-Err.ensures.cause) after)
 
 pub returns-in-Err-clause-left : goal.returns-in-Err-clause-left
 returns-in-Err-clause-left g c = omega (arith, c.turn.ensures.left, ap waits_of c.on_fault.ensures.lines)

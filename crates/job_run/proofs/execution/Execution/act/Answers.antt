@@ -1,5 +1,8 @@
 use Rattle.std.proofs.Common.{sym, subst, ◌∙◌}
 use Rattle.job_saves.specs.Course.{Stands}
+use Rattle.job_run.proofs.AskLemmas.{acts_once}
+use Rattle.job_run.proofs.CountLemmas.{counts_on, quiet_at, residual_on}
+use Rattle.job_run.proofs.CauseLemmas.{part_output}
 use Rattle.job_run.proofs.execution.Execution.act.Goals as goal
 
 pub loop-act-preserved : goal.loop-act-preserved
@@ -12,6 +15,8 @@ loop-act-preserved g c =
       course = λ o s. e.course o (i.course o s);
       calls = λ cast since from s. e.calls cast since from (i.calls cast since from s);
       task = e.task ∙ i.task;
+      session = e.asks ∙ i.session;
+      counts = λ h. e.counts (quiet_at c.loop-act.self c.loop-act.act (g.W.Journal.journal c.loop-act.w) (i.counts h));
     }
 
 pub returns : goal.returns
@@ -26,7 +31,15 @@ returns g c =
       calls = λ cast since from s. p.calls cast since from _ _ (i.calls cast since from s);
       task = p.task ∙ i.task;
       own = p.own;
+      counts = λ h. counts_on c.loop-act.self c.perform.new.self c.loop-act.act c.perform.result (g.W.Journal.journal c.loop-act.w)
+          (part_output c.loop-act.self.book c.perform.new.self.book p.calls) p.counts (i.counts h);
+      asks = acts_once c.perform.result c.loop-act.act c.args.self.now c.loop-act.self c.perform.new.self i.session p.asks;
     }
 
 pub returns-in_err-act-clause-calls : goal.returns-in_err-act-clause-calls
 returns-in_err-act-clause-calls g c cast since from s = c.save_on.ensures.calls cast since from (c.loop-act.invariant.calls cast since from s)
+
+pub returns-in_err-act-clause-counts : goal.returns-in_err-act-clause-counts
+returns-in_err-act-clause-counts g c h =
+    residual_on c.save_on.new.self c.from_residual.result c.in_err-act.field-0.0 (g.W.Journal.journal c.save_on.new.w) c.from_residual.ensures.1
+    (c.in_err-act.ensures.counts (quiet_at c.loop-act.self c.loop-act.act (g.W.Journal.journal c.loop-act.w) (c.loop-act.invariant.counts h)))

@@ -3,6 +3,7 @@ use Rattle.cell_core.specs.StandsFor.{task_of}
 use Rattle.cell_core.specs.Sending.{saves_ahead}
 use Rattle.job_saves.specs.Course.{GoesOn, CallsOwn}
 use Rattle.job_run.specs.Held.{Holds, IsToDo}
+use Rattle.job_run.specs.Counted.{IsCountedAt}
 use Rattle.job_run.proofs.execution.Execution.act.Given as goal
 
 abbrev pub invariant-loop-act : goal.invariant-loop-act
@@ -13,6 +14,8 @@ invariant-loop-act g l =
       course : GoesOn g.W.Journal.journal g.W.Journal.counts l.fn.w l.w l.fn.self.book l.self.book true;
       calls : CallsOwn g.W.Journal.journal g.W.Journal.counts l.fn.w l.w l.fn.self.book l.self.book;
       task : task_of l.self.core ≡ task_of l.fn.self.core;
+      session : l.self.session ≡ l.fn.self.session;
+      counts : IsCountedAt l.fn.self l.fn.act (g.W.Journal.journal l.fn.w) → IsCountedAt l.self l.act (g.W.Journal.journal l.w);
     }
 
 abbrev pub decreases-loop-act : goal.decreases-loop-act

@@ -8,3 +8,6 @@ returns-clause-calls g c cast since from s = c.step.ensures.calls cast since fro
 
 pub step-requires-clause-may : goal.step-requires-clause-may
 step-requires-clause-may g c = moment_may c.args.self.now.core c.args.self.now.clock (is_some c.args.self.now.broken) c.requires.calm (λ events stands. sym c.if-wants_look.false ∙ c.wants_look.ensures events stands)
+
+pub returns-clause-counts : goal.returns-clause-counts
+returns-clause-counts g c h = c.step.ensures.counts h

@@ -1,6 +1,9 @@
 use Rattle.std.proofs.Common.{ap, sym, subst}
 use Rattle.job_saves.specs.Course.{Stands, HasPart, stays_open}
 use Rattle.job_run.specs.declared.execution.Execution.{Execution}
+use Rattle.cell_core.specs.declared.act.Act.TheVariants.{Nothing}
+use Rattle.job_notebook.specs.State.{output_of}
+use Rattle.job_run.proofs.CountLemmas.{counts_on}
 use Rattle.job_run.proofs.execution.Execution.lose_or_ask.Goals as goal
 
 pub returns-in-Ok-clause-course : goal.returns-in-Ok-clause-course
@@ -17,3 +20,11 @@ returns-in-Ok-clause-calls g c cast since from s =
 
 pub returns-in-Err-clause-calls : goal.returns-in-Err-clause-calls
 returns-in-Err-clause-calls g c cast since from s = c.lose.ensures.calls cast since from s
+
+pub returns-in-Ok-clause-counts : goal.returns-in-Ok-clause-counts
+returns-in-Ok-clause-counts g c h =
+    let e = c.ask_or_end.ensures in
+    counts_on c.lose.new.self c.ask_or_end.new.self Nothing c.ask_or_end.result (g.W.Journal.journal c.lose.new.w) (ap (λ (x : Execution). output_of x.book) e.asked) e.counts (c.in-Ok.ensures.counts h)
+
+pub returns-in-Err-clause-counts : goal.returns-in-Err-clause-counts
+returns-in-Err-clause-counts g c h = c.in-Err.ensures.counts h

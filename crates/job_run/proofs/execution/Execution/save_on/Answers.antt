@@ -1,10 +1,12 @@
-use Rattle.std.proofs.Common.{sym, ap, subst, ◌∙◌}
+use Rattle.std.proofs.Common.{◌+◌, sym, ap, subst, ◌∙◌}
+use Rattle.cell_core.specs.declared.act.Act.TheVariants.{Nothing}
 use Rattle.std.specs.Prelude.{is_some}
 use Rattle.cell_core.specs.declared.event.Event.TheVariants.{Saved}
 use Rattle.cell_core.specs.Sending.{SendsOn, next_of}
 use Rattle.cell_core.specs.StandsFor.{awaits_saved_of}
 use Rattle.job_run.proofs.HoldLemmas.{holds_told}
 use Rattle.job_run.proofs.ToldLemmas.{Steps, hears_more, stops_more, names_more}
+use Rattle.job_run.proofs.CountLemmas.{counts_saved, residual_for, unsaved_for, event_counts, told_counted}
 use Rattle.job_run.proofs.execution.Execution.save_on.Goals as goal
 
 pub returns-clause-holds : goal.returns-clause-holds
@@ -41,3 +43,23 @@ returns-clause-todo g c =
       stops = stops_more x.core s.new.self x.clock (is_some x.broken) Saved s.result.act steps tt h.heard;
       named = names_more x.core s.new.self x.clock (is_some x.broken) Saved s.result.act steps tt h.heard;
     }
+
+pub returns-clause-counts : goal.returns-clause-counts
+returns-clause-counts g c h =
+    let x = c.args.self.now in
+    let y = c.save.new.self in
+    let s = c.step in
+    let steps : Steps y.core s.new.self Saved s.result.act = record {
+      order = sym (ap awaits_saved_of c.save.ensures.core ∙ c.requires.todo.awaits);
+      stands = s.ensures.stands;
+      act_is = s.ensures.act;
+      same = s.ensures.same;
+    } in
+    counts_saved x (record y { core = s.new.self }) s.result.act (g.W.Journal.journal c.args.w.now) (g.W.Journal.journal c.save.new.w) c.in_ok-save.ensures.acked c.save.ensures.output
+    (λ n i. event_counts y s.new.self Saved s.result.act n (n + 1) steps tt (λ past is. ap (λ m. m + 1) is) (told_counted x y Nothing n c.save.ensures.told i)) h
+
+pub returns-in_err-save-clause-counts : goal.returns-in_err-save-clause-counts
+returns-in_err-save-clause-counts g c h =
+    let e = c.in_err-save.field-0.0 in
+    let k = g.W.Journal.journal c.save.new.w in
+    residual_for c.save.new.self c.from_residual.result e k c.from_residual.ensures.1 (unsaved_for c.save.new.self e k c.in_err-save.ensures.kind)

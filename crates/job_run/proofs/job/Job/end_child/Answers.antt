@@ -1,22 +1,23 @@
 use Rattle.std.proofs.Common.{refl}
 use Rattle.world.proofs.CountsLemmas.{grow_same, disk_grows, grow_then}
-use Rattle.job_run.proofs.RunLemmas.{passes, entry_passes, entry_called}
+use Rattle.job_run.proofs.RunLemmas.{passes_one, entry_called}
 use Rattle.job_run.proofs.WorkLemmas.{same_works, disk_works}
 use Rattle.job_saves.proofs.ChildLemmas.{removed_after}
+use Rattle.job_run.proofs.PartLemmas.{disk_quiet, kids_quiet}
 use Rattle.job_run.proofs.job.Job.end_child.Goals as goal
 
 pub returns-clause-course : goal.returns-clause-course
 returns-clause-course g c o r =
-    passes o c.args.self.now _ _ _ _ _ refl refl refl
-    (λ b s. entry_passes o _ b _ _ _ _ _ r.apart c.remove.ensures.tells (disk_grows c.remove.ensures.cause)
-    (entry_passes o _ b _ _ _ _ _ refl c.end.ensures.tells (grow_same c.end.ensures.same) s)) r
+    let self = c.args.self.now in
+    passes_one o self self _ _ _ _ _ refl refl refl r.apart c.remove.ensures.tells (disk_grows c.remove.ensures.cause)
+    (passes_one o self self _ _ _ _ _ refl refl refl refl c.end.ensures.tells (grow_same c.end.ensures.same) r)
 
 pub returns-clause-calls : goal.returns-clause-calls
 returns-clause-calls g c cast since from r =
     let number = c.args.self.now.number in
-    let ended = entry_called cast since from _ _ _ _ _ _ (record { number = number; ask = r.role.ask; has = r.role.has; is = refl }) c.end.ensures.tells (same_works c.end.ensures.same) r.part in
+    let ended = entry_called cast since from _ _ _ _ _ _ (λ past. record { number = number; ask = r.role.ask; has = r.role.has; is = refl }) kids_quiet c.end.ensures.tells (same_works c.end.ensures.same) r.part in
     record {
-      part = entry_called cast since from _ _ _ _ _ _ (record { number = number; ask = r.role.ask; has = r.role.has; is = r.role.connection }) c.remove.ensures.tells (disk_works c.remove.ensures.cause) ended;
+      part = entry_called cast since from _ _ _ _ _ _ (λ past. record { number = number; ask = r.role.ask; has = r.role.has; is = r.role.connection }) disk_quiet c.remove.ensures.tells (disk_works c.remove.ensures.cause) ended;
       role = r.role;
     }
 

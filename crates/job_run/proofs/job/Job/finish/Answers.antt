@@ -1,3 +1,6 @@
+use Rattle.std.proofs.Common.{sym, subst, ap}
+use Rattle.job_run.proofs.OutcomeLemmas.{starved_lost, starved_spent}
+use Rattle.job_run.specs.Run.{IsLost, IsSpent}
 use Rattle.job_run.proofs.RunLemmas.{ends_with, ends_starved}
 use Rattle.job_run.specs.Task.{task_of_job, output_of_job}
 use Rattle.job_run.proofs.StopLemmas.{starved_ends}
@@ -20,3 +23,15 @@ returns-in-Some-clause-end g c = c.args.self.end c.in-Some.answer c.in-Some.is
 
 pub returns-clause-end : goal.returns-clause-end
 returns-clause-end g c = starved_ends (output_of_job c.args.self) (task_of_job c.args.self) c.starved.result c.starved.ensures
+
+pub returns-in-Some-clause-lost : goal.returns-in-Some-clause-lost
+returns-in-Some-clause-lost g c h = subst IsLost (sym c.in-Some.is) h
+
+pub returns-clause-lost : goal.returns-clause-lost
+returns-clause-lost g c h = absurd (starved_lost c.starved.result (ap (λ a. a.status) c.starved.ensures) h)
+
+pub returns-in-Some-clause-spent : goal.returns-in-Some-clause-spent
+returns-in-Some-clause-spent g c h = subst IsSpent (sym c.in-Some.is) h
+
+pub returns-clause-spent : goal.returns-clause-spent
+returns-clause-spent g c h = absurd (starved_spent c.starved.result (ap (λ a. a.status) c.starved.ensures) h)

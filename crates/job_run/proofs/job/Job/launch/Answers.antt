@@ -1,29 +1,37 @@
-use Rattle.std.proofs.Common.{refl}
+use Rattle.std.proofs.Common.{refl, subst}
+use Rattle.world.specs.declared.entry.Entry.TheVariants as made
+use Rattle.world.specs.Moments.{Tells}
+use Rattle.job_saves.proofs.LaunchLemmas.{ports_given}
+use Rattle.job_run.proofs.LaunchLemmas.{either_way, may_passed, ports_asked}
 use Rattle.world.proofs.CountsLemmas.{net_grows, grow_then}
-use Rattle.job_run.proofs.RunLemmas.{passes, passes_role, entry_passes, entry_called}
+use Rattle.job_run.proofs.RunLemmas.{passes_one, passes_role, asked_called}
 use Rattle.job_run.proofs.WorkLemmas.{net_works}
 use Rattle.job_run.proofs.CauseLemmas.{causes_stay}
+use Rattle.job_run.proofs.PartLemmas.{wire_quiet, wire_childless}
 use Rattle.job_run.proofs.job.Job.launch.Goals as goal
 
 pub returns-in-Some-clause-course : goal.returns-in-Some-clause-course
 returns-in-Some-clause-course g c o r =
-    c.start_on_ports.ensures.course o (passes o c.args.self.now _ _ _ _ _ refl refl refl
-    (λ b s. entry_passes o _ b _ _ _ _ _ refl c.free_ports.ensures.tells (net_grows c.free_ports.ensures.cause) s) r)
+    c.start_on_ports.ensures.course o (passes_one o c.args.self.now _ _ _ _ _ _ refl refl refl refl c.free_ports.ensures.tells (net_grows c.free_ports.ensures.cause) r)
 
 pub returns-in-Some-clause-calls : goal.returns-in-Some-clause-calls
-returns-in-Some-clause-calls g c cast since from may r =
-    c.start_on_ports.ensures.calls cast since from may (passes_role cast since from c.args.self.now _ _ _ _ _ refl refl refl
-    (λ s. entry_called cast since from _ _ _ _ _ _ (record { number = c.args.self.now.number; ask = r.role.ask; has = r.role.has; is = refl }) c.free_ports.ensures.tells (net_works c.free_ports.ensures.cause) s) r)
+returns-in-Some-clause-calls g c cast since from may portless r =
+    let number = c.args.self.now.number in
+    let j = g.W.Journal.journal c.args.w.now in
+    let k = g.W.Journal.journal c.free_ports.new.self in
+    let tells = subst (λ (q : _). Tells j k (made.Ports number q)) c.in-Some.is c.free_ports.ensures.tells in
+    c.start_on_ports.ensures.calls cast since from (may_passed cast number c.args.kernel.now c.args.here.now j k _ wire_childless c.free_ports.ensures.tells may)
+    (ports_given number c.in-Some.ports j k tells) (passes_role cast since from c.args.self.now _ _ _ _ _ refl refl refl
+    (λ s. asked_called cast since from _ _ _ _ _ _ (ports_asked cast c.args.self.now.number r.role.ask r.role.has may.cast.starts _ _ portless) wire_quiet c.free_ports.ensures.tells (net_works c.free_ports.ensures.cause) s) r)
 
 pub returns-in-None-clause-course : goal.returns-in-None-clause-course
 returns-in-None-clause-course g c o r =
-    passes o c.args.self.now _ _ _ _ _ refl refl refl
-    (λ b s. entry_passes o _ b _ _ _ _ _ refl c.free_ports.ensures.tells (net_grows c.free_ports.ensures.cause) s) r
+    passes_one o c.args.self.now _ _ _ _ _ _ refl refl refl refl c.free_ports.ensures.tells (net_grows c.free_ports.ensures.cause) r
 
 pub returns-in-None-clause-calls : goal.returns-in-None-clause-calls
-returns-in-None-clause-calls g c cast since from may r =
+returns-in-None-clause-calls g c cast since from may portless r =
     passes_role cast since from c.args.self.now _ _ _ _ _ refl refl refl
-    (λ s. entry_called cast since from _ _ _ _ _ _ (record { number = c.args.self.now.number; ask = r.role.ask; has = r.role.has; is = refl }) c.free_ports.ensures.tells (net_works c.free_ports.ensures.cause) s) r
+    (λ s. asked_called cast since from _ _ _ _ _ _ (ports_asked cast c.args.self.now.number r.role.ask r.role.has may.cast.starts _ _ portless) wire_quiet c.free_ports.ensures.tells (net_works c.free_ports.ensures.cause) s) r
 
 pub returns-in-Some-clause-saved : goal.returns-in-Some-clause-saved
 returns-in-Some-clause-saved g c = c.start_on_ports.ensures.saved
@@ -45,3 +53,14 @@ returns-in-None-clause-grow g c = net_grows c.free_ports.ensures.cause
 
 pub returns-in-Some-clause-cause : goal.returns-in-Some-clause-cause
 returns-in-Some-clause-cause g c = causes_stay (g.W.Journal.counts c.args.w.now) (g.W.Journal.counts c.free_ports.new.self) (g.W.Journal.counts c.start_on_ports.new.w) c.start_on_ports.result (net_grows c.free_ports.ensures.cause) c.start_on_ports.ensures.cause
+
+pub returns-in-None-clause-cause : goal.returns-in-None-clause-cause
+returns-in-None-clause-cause g c = c.free_ports.ensures.cause.net.cause c.in-None.is
+
+pub returns-in-Some-clause-ports : goal.returns-in-Some-clause-ports
+returns-in-Some-clause-ports g c =
+    let number = c.args.self.now.number in
+    let j = g.W.Journal.journal c.args.w.now in
+    let k = g.W.Journal.journal c.free_ports.new.self in
+    let tells = subst (λ (q : _). Tells j k (made.Ports number q)) c.in-Some.is c.free_ports.ensures.tells in
+    either_way c.start_on_ports.result (c.start_on_ports.ensures.given number c.in-Some.ports (ports_given number c.in-Some.ports j k tells))

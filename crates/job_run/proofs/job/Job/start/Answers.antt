@@ -1,34 +1,47 @@
 use Rattle.std.proofs.Common.{true, ◌≡◌, sym, subst}
 use Rattle.job_saves.specs.Course.{Ends, keeps_open, stays_open}
 use Rattle.job_saves.proofs.CourseLemmas.{begins_pass, calls_on}
+use Rattle.job_run.proofs.TurnLemmas.{new_passes, begins_rested, launch_counted}
+use Rattle.job_run.proofs.StopLemmas.{launch_starts}
 use Rattle.job_run.proofs.BeginLemmas.{ends_unsaved}
-use Rattle.job_run.proofs.LaunchLemmas.{words_called, words_keep_end, ends_then}
+use Rattle.job_saves.proofs.KeptLemmas.{part_quiet, part_keeps_end, part_asks_none}
+use Rattle.job_saves.proofs.LaunchLemmas.{words_called}
+use Rattle.job_saves.proofs.ReadLemmas.{told_kernel}
+use Rattle.job_run.proofs.LaunchLemmas.{ends_then}
 use Rattle.job_run.proofs.CauseLemmas.{causes_stay}
 use Rattle.job_run.specs.Task.{task_for}
+use Rattle.job_run.proofs.PartLemmas.{rand_quiet, rand_childless, rand_portless}
 use Rattle.job_run.proofs.job.Job.start.Goals as goal
 
 pub returns-in-Ok-clause-course : goal.returns-in-Ok-clause-course
-returns-in-Ok-clause-course g c o for b = c.start_session.ensures.course o for (begins_pass o _ _ _ _ (c.drawn.ensures.others o.output) c.drawn.ensures.work.grow b)
+returns-in-Ok-clause-course g c o for b fresh =
+    let j = g.W.Journal.journal c.args.w.now in
+    c.start_session.ensures.course o for (begins_pass o _ _ _ _ (c.drawn.ensures.others o.output) c.drawn.ensures.work.grow b)
+    (new_passes o j (g.W.Journal.journal c.drawn.new.w) (begins_rested o j (g.W.Journal.counts c.args.w.now) b) (c.drawn.ensures.others o.output) fresh)
 
 pub returns-in-Ok-clause-calls : goal.returns-in-Ok-clause-calls
-returns-in-Ok-clause-calls g c cast since from who kernel u =
-    c.start_session.ensures.calls cast since from who kernel (calls_on cast since from _ _ _ _ (words_called cast c.args.number c.args.ask who.has c.drawn.ensures.part) c.drawn.ensures.work u)
+returns-in-Ok-clause-calls g c cast since from who kernel childless portless u =
+    let j = g.W.Journal.journal c.args.w.now in
+    let k = g.W.Journal.journal c.drawn.new.w in
+    c.start_session.ensures.calls cast since from who (told_kernel c.args.ask c.args.kernel.now j k c.drawn.ensures.part kernel)
+    (λ e. part_keeps_end c.args.number j k rand_childless c.drawn.ensures.part (childless e)) (λ e. part_asks_none c.args.number j k rand_portless c.drawn.ensures.part (portless e))
+    (calls_on cast since from _ _ _ _ (words_called cast c.args.number c.args.ask who.has c.drawn.ensures.part) (part_quiet rand_quiet c.drawn.ensures.part) c.drawn.ensures.work u)
 
 pub returns-in-Ok-clause-left : goal.returns-in-Ok-clause-left
-returns-in-Ok-clause-left g c = ends_then (λ e keeps before. keeps (words_keep_end c.args.number c.drawn.ensures.part before)) c.start_session.result c.start_session.ensures.left
+returns-in-Ok-clause-left g c = ends_then (λ e keeps before. keeps (part_keeps_end c.args.number (g.W.Journal.journal c.args.w.now) (g.W.Journal.journal c.drawn.new.w) rand_childless c.drawn.ensures.part before)) c.start_session.result c.start_session.ensures.left
 
 pub returns-in-Err-clause-left : goal.returns-in-Err-clause-left
-returns-in-Err-clause-left g c = words_keep_end c.args.number c.drawn.ensures.part
+returns-in-Err-clause-left g c = part_keeps_end c.args.number (g.W.Journal.journal c.args.w.now) (g.W.Journal.journal c.drawn.new.w) rand_childless c.drawn.ensures.part
 
 pub returns-in-Err-clause-course : goal.returns-in-Err-clause-course
-returns-in-Err-clause-course g c o for b =
+returns-in-Err-clause-course g c o for b fresh =
     let kept : keeps_open c.in-Err.end ≡ true = subst (λ q. stays_open q ≡ true) c.in-Err.is c.drawn.ensures.saved in
     subst (λ q. Ends o q (g.W.Journal.journal c.drawn.new.w) (g.W.Journal.counts c.drawn.new.w)) (sym kept)
     (ends_unsaved o _ _ (begins_pass o _ _ _ _ (c.drawn.ensures.others o.output) c.drawn.ensures.work.grow b))
 
 pub returns-in-Err-clause-calls : goal.returns-in-Err-clause-calls
-returns-in-Err-clause-calls g c cast since from who kernel u =
-    calls_on cast since from _ _ _ _ (words_called cast c.args.number c.args.ask who.has c.drawn.ensures.part) c.drawn.ensures.work u
+returns-in-Err-clause-calls g c cast since from who kernel childless portless u =
+    calls_on cast since from _ _ _ _ (words_called cast c.args.number c.args.ask who.has c.drawn.ensures.part) (part_quiet rand_quiet c.drawn.ensures.part) c.drawn.ensures.work u
 
 pub returns-in-Ok-clause-cause : goal.returns-in-Ok-clause-cause
 returns-in-Ok-clause-cause g c = causes_stay (g.W.Journal.counts c.args.w.now) (g.W.Journal.counts c.drawn.new.w) (g.W.Journal.counts c.start_session.new.w) c.start_session.result c.drawn.ensures.work.grow c.start_session.ensures.cause
@@ -37,4 +50,17 @@ pub returns-in-Err-clause-cause : goal.returns-in-Err-clause-cause
 returns-in-Err-clause-cause g c = c.in-Err.ensures.cause
 
 pub returns-in-Err-clause-own : goal.returns-in-Err-clause-own
-returns-in-Err-clause-own g c = c.in-Err.ensures.own (task_for c.args.ask c.args.agenda.notebook)
+returns-in-Err-clause-own g c = launch_starts (task_for c.args.ask c.args.agenda.notebook) c.in-Err.end c.in-Err.ensures.own
+
+pub returns-in-Ok-clause-counted : goal.returns-in-Ok-clause-counted
+returns-in-Ok-clause-counted g c o for b fresh =
+    let j = g.W.Journal.journal c.args.w.now in
+    c.start_session.ensures.counted o for (begins_pass o _ _ _ _ (c.drawn.ensures.others o.output) c.drawn.ensures.work.grow b)
+    (new_passes o j (g.W.Journal.journal c.drawn.new.w) (begins_rested o j (g.W.Journal.counts c.args.w.now) b) (c.drawn.ensures.others o.output) fresh)
+
+pub returns-in-Err-clause-counted : goal.returns-in-Err-clause-counted
+returns-in-Err-clause-counted g c o for b fresh =
+    launch_counted o (task_for c.args.ask c.args.agenda.notebook) (g.W.Journal.journal c.drawn.new.w) c.in-Err.end c.in-Err.ensures.own
+
+pub returns-in-Ok-clause-ports : goal.returns-in-Ok-clause-ports
+returns-in-Ok-clause-ports g c = c.start_session.ensures.ports

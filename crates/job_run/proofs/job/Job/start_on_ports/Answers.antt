@@ -2,19 +2,28 @@ use Rattle.std.proofs.Common.{true, ◌≡◌, subst}
 use Rattle.job_saves.specs.Course.{stays_open}
 use Rattle.world.proofs.CountsLemmas.{grow_then}
 use Rattle.job_run.proofs.CauseLemmas.{causes_stay}
+use Rattle.job_run.proofs.LaunchLemmas.{role_of}
 use Rattle.job_run.proofs.job.Job.start_on_ports.Goals as goal
 
 pub returns-in-Ok-clause-course : goal.returns-in-Ok-clause-course
 returns-in-Ok-clause-course g c o r = c.start_child.ensures.course o (c.write_file.ensures.course o r)
 
 pub returns-in-Ok-clause-calls : goal.returns-in-Ok-clause-calls
-returns-in-Ok-clause-calls g c cast since from may r = c.start_child.ensures.calls cast since from may (c.write_file.ensures.calls cast since from may.cast.starts r)
+returns-in-Ok-clause-calls g c cast since from may given r =
+    let self = c.args.self.now in
+    let file = (role_of cast self.number self.paths may.ask may.cast.has r.role).file in
+    c.start_child.ensures.calls cast since from (record {
+      ask = may.ask;
+      cast = may.cast;
+      ready = c.in-Ok.ensures.ready may.ask c.args.kernel.now file may.kernel_is given;
+      childless = λ e. c.write_file.ensures.left (may.childless e);
+    }) (c.write_file.ensures.calls cast since from may.cast.starts may.childless r)
 
 pub returns-in-Err-clause-course : goal.returns-in-Err-clause-course
 returns-in-Err-clause-course g c o r = c.write_file.ensures.course o r
 
 pub returns-in-Err-clause-calls : goal.returns-in-Err-clause-calls
-returns-in-Err-clause-calls g c cast since from may r = c.write_file.ensures.calls cast since from may.cast.starts r
+returns-in-Err-clause-calls g c cast since from may given r = c.write_file.ensures.calls cast since from may.cast.starts may.childless r
 
 pub returns-in-Ok-clause-saved : goal.returns-in-Ok-clause-saved
 returns-in-Ok-clause-saved g c = c.start_child.ensures.saved
@@ -33,3 +42,9 @@ returns-in-Ok-clause-cause g c = causes_stay (g.W.Journal.counts c.args.w.now) (
 
 pub returns-in-Err-clause-cause : goal.returns-in-Err-clause-cause
 returns-in-Err-clause-cause g c = c.in-Err.ensures.cause
+
+pub returns-in-Ok-clause-given : goal.returns-in-Ok-clause-given
+returns-in-Ok-clause-given g c number ports h = c.start_child.ensures.given number ports (c.write_file.ensures.given number ports h)
+
+pub returns-in-Err-clause-given : goal.returns-in-Err-clause-given
+returns-in-Err-clause-given g c number ports h = c.write_file.ensures.given number ports h

@@ -1,24 +1,27 @@
 use Rattle.std.proofs.Common.{◌≡◌, subst}
 use Rattle.job_run.proofs.BeginLemmas.{on_ok, stands_first, part_first, apart_first, ends_unsaved}
 use Rattle.std.specs.Prelude.{IfOk, IfErr}
-use Rattle.job_run.specs.Task.{task_of_job, output_of_job}
+use Rattle.job_run.specs.Task.{task_of_job, output_of_job, task_for}
+use Rattle.job_end.specs.declared.end.End.TheVariants as end
+use Rattle.job_run.specs.Run.{StartsCounted}
 use Rattle.job_run.specs.Told.{StartsBy}
+use Rattle.job_run.proofs.TurnLemmas.{launch_counted}
 use Rattle.job_run.proofs.job.Job.start_session.Goals as goal
 
 pub returns-in-Ok-clause-course : goal.returns-in-Ok-clause-course
-returns-in-Ok-clause-course g c o for b =
+returns-in-Ok-clause-course g c o for b fresh =
     let e = c.parts_of.ensures in
     let is = c.in-Ok.is in
     c.started.ensures.course o
     (stands_first c.in-Ok.run'.book c.args.ask.output c.args.ask.merge c.args.agenda.notebook o _ _
     (on_ok _ _ _ is e.output) (on_ok _ _ _ is e.merge) (on_ok _ _ _ is e.keeps) for b)
-    (apart_first c.in-Ok.paths.connection c.args.ask.output o.output (on_ok _ _ _ is e.connection) for.output_is)
+    (apart_first c.in-Ok.paths.connection c.args.ask.output o.output (on_ok _ _ _ is e.connection) for.output_is) fresh
 
 pub returns-in-Ok-clause-calls : goal.returns-in-Ok-clause-calls
-returns-in-Ok-clause-calls g c cast since from who kernel u =
+returns-in-Ok-clause-calls g c cast since from who kernel childless portless u =
     let e = c.parts_of.ensures in
     let is = c.in-Ok.is in
-    c.started.ensures.calls cast since from (record { ask = c.args.ask; cast = who; kernel_is = kernel })
+    c.started.ensures.calls cast since from (record { ask = c.args.ask; cast = who; kernel_is = kernel; childless = childless }) portless
     (record { ask = c.args.ask; has = who.has; connection = on_ok _ _ _ is e.connection; folder = on_ok _ _ _ is e.folder })
     (part_first c.in-Ok.run'.book c.args.ask cast c.args.number since from _ _ (on_ok _ _ _ is e.output) who.has u)
 
@@ -29,10 +32,10 @@ pub returns-in-Err-clause-left : goal.returns-in-Err-clause-left
 returns-in-Err-clause-left g c = λ h. h
 
 pub returns-in-Err-clause-course : goal.returns-in-Err-clause-course
-returns-in-Err-clause-course g c o for b = ends_unsaved o _ _ b
+returns-in-Err-clause-course g c o for b fresh = ends_unsaved o _ _ b
 
 pub returns-in-Err-clause-calls : goal.returns-in-Err-clause-calls
-returns-in-Err-clause-calls g c cast since from who kernel u = u
+returns-in-Err-clause-calls g c cast since from who kernel childless portless u = u
 
 pub returns-in-Ok-clause-cause : goal.returns-in-Ok-clause-cause
 returns-in-Ok-clause-cause g c = c.started.ensures.cause
@@ -45,3 +48,21 @@ returns-in-Ok-clause-task g c = subst (λ t. IfOk c.started.result (λ j. task_o
 
 pub returns-in-Ok-clause-output : goal.returns-in-Ok-clause-output
 returns-in-Ok-clause-output g c = subst (λ t. IfOk c.started.result (λ j. output_of_job j ≡ t)) (on_ok _ _ _ c.in-Ok.is c.parts_of.ensures.paths) c.started.ensures.output
+
+pub returns-in-Ok-clause-fresh : goal.returns-in-Ok-clause-fresh
+returns-in-Ok-clause-fresh g c = c.started.ensures.fresh
+
+pub returns-in-Ok-clause-ports : goal.returns-in-Ok-clause-ports
+returns-in-Ok-clause-ports g c = c.started.ensures.ports
+
+pub returns-in-Ok-clause-counted : goal.returns-in-Ok-clause-counted
+returns-in-Ok-clause-counted g c o for b fresh =
+    let e = c.parts_of.ensures in
+    let is = c.in-Ok.is in
+    subst (λ t. IfErr c.started.result (StartsCounted o t (g.W.Journal.journal c.started.new.w))) (on_ok _ _ _ is e.task)
+    (c.started.ensures.counted o
+    (stands_first c.in-Ok.run'.book c.args.ask.output c.args.ask.merge c.args.agenda.notebook o _ _
+    (on_ok _ _ _ is e.output) (on_ok _ _ _ is e.merge) (on_ok _ _ _ is e.keeps) for b) fresh)
+
+pub returns-in-Err-clause-counted : goal.returns-in-Err-clause-counted
+returns-in-Err-clause-counted g c o for b fresh = launch_counted o (task_for c.args.ask c.args.agenda.notebook) (g.W.Journal.journal c.args.w.now) end.NoMemory tt

@@ -10,6 +10,7 @@ use Rattle.ready_loop.proofs.StateLemmas.{sound_ok}
 use Rattle.ready_loop.proofs.StandLemmas.{goes_then, goes_step}
 use Rattle.ready_loop.proofs.BeginLemmas.{fresh_other, begins_then, begins_failed, begins_last, after_last}
 use Rattle.ready_loop.proofs.PartLemmas.{calls_then}
+use Rattle.ready_loop.proofs.WireLemmas.{grows_more, wired_then, has_none, has_more, others_kept}
 use Rattle.ready_loop.proofs.readiness.Loop.begin.Goals as goal
 
 pub begin_on-requires-clause-fresh : goal.begin_on-requires-clause-fresh
@@ -117,3 +118,75 @@ returns-then-not-heart-clause-calls g c = calls_then (calls_then c.in-Ok.ensures
 
 pub returns-clause-calls : goal.returns-clause-calls
 returns-clause-calls g c = calls_then (calls_then (calls_then c.in-Ok.ensures.calls c.in-Ok-begin_on.ensures.calls) c.in-Ok-begin_on-2.ensures.calls) c.begin_on-4.ensures.calls
+
+-- ---- the ports
+
+pub returns-in-Err-clause-wires : goal.returns-in-Err-clause-wires
+returns-in-Err-clause-wires g c = c.in-Err.ensures.wires
+
+pub returns-in-Err-begin_on-clause-wires : goal.returns-in-Err-begin_on-clause-wires
+returns-in-Err-begin_on-clause-wires g c = wired_then (grows_more c.in-Err-begin_on.ensures.ports) c.in-Ok.ensures.wires c.in-Err-begin_on.ensures.wires
+
+pub returns-in-Err-begin_on-2-clause-wires : goal.returns-in-Err-begin_on-2-clause-wires
+returns-in-Err-begin_on-2-clause-wires g c = wired_then (grows_more c.in-Err-begin_on-2.ensures.ports)
+    (wired_then (grows_more c.in-Ok-begin_on.ensures.ports) c.in-Ok.ensures.wires c.in-Ok-begin_on.ensures.wires) c.in-Err-begin_on-2.ensures.wires
+
+pub returns-then-not-heart-clause-wires : goal.returns-then-not-heart-clause-wires
+returns-then-not-heart-clause-wires g c = wired_then (grows_more c.in-Ok-begin_on-2.ensures.ports)
+    (wired_then (grows_more c.in-Ok-begin_on.ensures.ports) c.in-Ok.ensures.wires c.in-Ok-begin_on.ensures.wires) c.in-Ok-begin_on-2.ensures.wires
+
+pub returns-clause-wires : goal.returns-clause-wires
+returns-clause-wires g c = wired_then (grows_more c.begin_on-4.ensures.ports) (wired_then (grows_more c.in-Ok-begin_on-2.ensures.ports)
+    (wired_then (grows_more c.in-Ok-begin_on.ensures.ports) c.in-Ok.ensures.wires c.in-Ok-begin_on.ensures.wires) c.in-Ok-begin_on-2.ensures.wires) c.begin_on-4.ensures.wires
+
+pub returns-in-Err-clause-ports : goal.returns-in-Err-clause-ports
+returns-in-Err-clause-ports g c =
+    let none = has_none c.args.job c.args.ports c.args.self.now c.requires.fresh in
+    has_more c.args.job c.args.ports Shell c.args.self.now c.begin_on.new.self none c.in-Err.ensures.ports c.in-Err.ensures.known
+
+pub returns-in-Err-begin_on-clause-ports : goal.returns-in-Err-begin_on-clause-ports
+returns-in-Err-begin_on-clause-ports g c =
+    let none = has_none c.args.job c.args.ports c.args.self.now c.requires.fresh in
+    let one = has_more c.args.job c.args.ports Shell c.args.self.now c.begin_on.new.self none c.in-Ok.ensures.ports c.in-Ok.ensures.known in
+    has_more c.args.job c.args.ports Control c.begin_on.new.self c.begin_on-2.new.self one c.in-Err-begin_on.ensures.ports c.in-Err-begin_on.ensures.known
+
+pub returns-in-Err-begin_on-2-clause-ports : goal.returns-in-Err-begin_on-2-clause-ports
+returns-in-Err-begin_on-2-clause-ports g c =
+    let none = has_none c.args.job c.args.ports c.args.self.now c.requires.fresh in
+    let one = has_more c.args.job c.args.ports Shell c.args.self.now c.begin_on.new.self none c.in-Ok.ensures.ports c.in-Ok.ensures.known in
+    let two = has_more c.args.job c.args.ports Control c.begin_on.new.self c.begin_on-2.new.self one c.in-Ok-begin_on.ensures.ports c.in-Ok-begin_on.ensures.known in
+    has_more c.args.job c.args.ports Iopub c.begin_on-2.new.self c.begin_on-3.new.self two c.in-Err-begin_on-2.ensures.ports c.in-Err-begin_on-2.ensures.known
+
+pub returns-then-not-heart-clause-ports : goal.returns-then-not-heart-clause-ports
+returns-then-not-heart-clause-ports g c =
+    let none = has_none c.args.job c.args.ports c.args.self.now c.requires.fresh in
+    let one = has_more c.args.job c.args.ports Shell c.args.self.now c.begin_on.new.self none c.in-Ok.ensures.ports c.in-Ok.ensures.known in
+    let two = has_more c.args.job c.args.ports Control c.begin_on.new.self c.begin_on-2.new.self one c.in-Ok-begin_on.ensures.ports c.in-Ok-begin_on.ensures.known in
+    has_more c.args.job c.args.ports Iopub c.begin_on-2.new.self c.begin_on-3.new.self two c.in-Ok-begin_on-2.ensures.ports c.in-Ok-begin_on-2.ensures.known
+
+pub returns-clause-ports : goal.returns-clause-ports
+returns-clause-ports g c =
+    let none = has_none c.args.job c.args.ports c.args.self.now c.requires.fresh in
+    let one = has_more c.args.job c.args.ports Shell c.args.self.now c.begin_on.new.self none c.in-Ok.ensures.ports c.in-Ok.ensures.known in
+    let two = has_more c.args.job c.args.ports Control c.begin_on.new.self c.begin_on-2.new.self one c.in-Ok-begin_on.ensures.ports c.in-Ok-begin_on.ensures.known in
+    let three = has_more c.args.job c.args.ports Iopub c.begin_on-2.new.self c.begin_on-3.new.self two c.in-Ok-begin_on-2.ensures.ports c.in-Ok-begin_on-2.ensures.known in
+    has_more c.args.job c.args.ports Heart c.begin_on-3.new.self c.begin_on-4.new.self three c.begin_on-4.ensures.ports c.begin_on-4.ensures.known
+
+pub returns-in-Err-clause-kept : goal.returns-in-Err-clause-kept
+returns-in-Err-clause-kept g c = λ p other. others_kept c.args.job _ p Shell _ _ c.in-Err.ensures.ports other
+
+pub returns-in-Err-begin_on-clause-kept : goal.returns-in-Err-begin_on-clause-kept
+returns-in-Err-begin_on-clause-kept g c = λ p other. others_kept c.args.job _ p Control _ _ c.in-Err-begin_on.ensures.ports other
+    ∙ others_kept c.args.job _ p Shell _ _ c.in-Ok.ensures.ports other
+
+pub returns-in-Err-begin_on-2-clause-kept : goal.returns-in-Err-begin_on-2-clause-kept
+returns-in-Err-begin_on-2-clause-kept g c = λ p other. others_kept c.args.job _ p Iopub _ _ c.in-Err-begin_on-2.ensures.ports other
+    ∙ others_kept c.args.job _ p Control _ _ c.in-Ok-begin_on.ensures.ports other ∙ others_kept c.args.job _ p Shell _ _ c.in-Ok.ensures.ports other
+
+pub returns-then-not-heart-clause-kept : goal.returns-then-not-heart-clause-kept
+returns-then-not-heart-clause-kept g c = λ p other. others_kept c.args.job _ p Iopub _ _ c.in-Ok-begin_on-2.ensures.ports other
+    ∙ others_kept c.args.job _ p Control _ _ c.in-Ok-begin_on.ensures.ports other ∙ others_kept c.args.job _ p Shell _ _ c.in-Ok.ensures.ports other
+
+pub returns-clause-kept : goal.returns-clause-kept
+returns-clause-kept g c = λ p other. others_kept c.args.job _ p Heart _ _ c.begin_on-4.ensures.ports other ∙ others_kept c.args.job _ p Iopub _ _ c.in-Ok-begin_on-2.ensures.ports other
+    ∙ others_kept c.args.job _ p Control _ _ c.in-Ok-begin_on.ensures.ports other ∙ others_kept c.args.job _ p Shell _ _ c.in-Ok.ensures.ports other

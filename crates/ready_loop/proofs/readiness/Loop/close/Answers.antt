@@ -9,6 +9,7 @@ use Rattle.ready_loop.proofs.StandLemmas.{goes_then}
 use Rattle.ready_loop.proofs.BeginLemmas.{close_came, closed_four, closed_sound, Both, both}
 use Rattle.ready_loop.proofs.StateLemmas.{sound_by, known_then}
 use Rattle.ready_loop.proofs.PartLemmas.{calls_then}
+use Rattle.ready_loop.proofs.WireLemmas.{grows_same, wired_then}
 use Rattle.ready_loop.proofs.readiness.Loop.close.Goals as goal
 
 pub returns-clause-came : goal.returns-clause-came
@@ -49,3 +50,10 @@ returns-clause-sound g c = λ s. sound_by c.args.self.now c.close_one-4.new.self
 
 pub returns-clause-calls : goal.returns-clause-calls
 returns-clause-calls g c = calls_then (calls_then (calls_then c.close_one.ensures.calls c.close_one-2.ensures.calls) c.close_one-3.ensures.calls) c.close_one-4.ensures.calls
+
+pub returns-clause-ports : goal.returns-clause-ports
+returns-clause-ports g c = c.close_one-4.ensures.ports ∙ c.close_one-3.ensures.ports ∙ c.close_one-2.ensures.ports ∙ c.close_one.ensures.ports
+
+pub returns-clause-wires : goal.returns-clause-wires
+returns-clause-wires g c = wired_then (grows_same c.close_one-4.ensures.ports) (wired_then (grows_same c.close_one-3.ensures.ports)
+    (wired_then (grows_same c.close_one-2.ensures.ports) c.close_one.ensures.wires c.close_one-2.ensures.wires) c.close_one-3.ensures.wires) c.close_one-4.ensures.wires

@@ -8,6 +8,7 @@ use Rattle.ready_loop.proofs.NameLemmas.{named_failed, named_known}
 use Rattle.ready_loop.proofs.StateLemmas.{sound_as, known_then}
 use Rattle.ready_loop.proofs.LookLemmas.{looked_until, looked_failed, looked_done, looked_names, may_then, left_of, counts_of}
 use Rattle.ready_loop.proofs.PartLemmas.{calls_start, calls_then}
+use Rattle.ready_loop.proofs.WireLemmas.{grows_same, wired_start, wired_then, wired_on}
 use Rattle.ready_loop.proofs.readiness.Loop.look.Goals as goal
 
 pub returns-in-Err-clause-looked : goal.returns-in-Err-clause-looked
@@ -68,3 +69,21 @@ returns-in-Failed-clause-calls g c = calls_then c.in-Ok.ensures.calls c.in-Faile
 
 pub returns-in-Done-clause-calls : goal.returns-in-Done-clause-calls
 returns-in-Done-clause-calls g c = calls_then c.in-Ok.ensures.calls c.in-Done.ensures.calls
+
+pub returns-then-self-eq0-clause-wires : goal.returns-then-self-eq0-clause-wires
+returns-then-self-eq0-clause-wires g c = wired_start
+
+pub returns-in-Err-clause-wires : goal.returns-in-Err-clause-wires
+returns-in-Err-clause-wires g c = c.in-Err.ensures.wires
+
+pub returns-in-Failed-clause-ports : goal.returns-in-Failed-clause-ports
+returns-in-Failed-clause-ports g c = c.in-Failed.ensures.ports ∙ c.in-Ok.ensures.ports
+
+pub returns-in-Failed-clause-wires : goal.returns-in-Failed-clause-wires
+returns-in-Failed-clause-wires g c = wired_then (grows_same c.in-Failed.ensures.ports) c.in-Ok.ensures.wires c.in-Failed.ensures.wires
+
+pub returns-in-Done-clause-ports : goal.returns-in-Done-clause-ports
+returns-in-Done-clause-ports g c = c.name_ends.ensures.ports ∙ c.in-Done.ensures.ports ∙ c.in-Ok.ensures.ports
+
+pub returns-in-Done-clause-wires : goal.returns-in-Done-clause-wires
+returns-in-Done-clause-wires g c = wired_on c.name_ends.ensures.ports (wired_then (grows_same c.in-Done.ensures.ports) c.in-Ok.ensures.wires c.in-Done.ensures.wires)

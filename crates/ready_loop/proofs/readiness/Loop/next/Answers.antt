@@ -6,16 +6,20 @@ use Rattle.ready_loop.specs.declared.readiness.Loop.{Loop}
 use Rattle.ready_loop.proofs.StandLemmas.{goes_start, goes_then}
 use Rattle.ready_loop.proofs.StateLemmas.{sound_as, known_start, known_then}
 use Rattle.ready_loop.proofs.PartLemmas.{calls_start, calls_then}
+use Rattle.ready_loop.proofs.WireLemmas.{grows_same, wired_start, wired_then}
 use Rattle.ready_loop.proofs.readiness.Loop.next.Goals as goal
 
 pub loop-place-init : goal.loop-place-init
 loop-place-init g c = record {
+  wires = wired_start;
+  ports = refl;
   calls = calls_start;
   room = search rules;
   some = search rules;
   goes = told_start (λ x. goes_start x);
   dry = told_start (λ x. start);
   below = λ p link low. absurd (omega arith);
+  reads = search rules;
   none = search rules;
   offered = λ o. o;
   known = known_start c.args.self.now;
@@ -59,11 +63,14 @@ loop-place-preserved g c =
     record {
       room = omega arith;
       some = omega arith;
+      wires = wired_then (grows_same read.ports) inv.wires read.wires;
+      ports = read.ports ∙ inv.ports;
       calls = calls_then inv.calls read.calls;
       goes = told_then inv.goes read.goes (λ x y z a b. goes_then (λ h now r. r) (λ h now r. r) a b);
       dry = told_one inv.dry read.tells (λ x y s. more s tt);
       below = read.below refl inv.below;
-      none = λ d. let e = inv.none d in absurd (d.each c.loop-place.place c.at.result c.loop-place-test.true (subst (λ (l : Loop). slice_get l.links c.loop-place.place ≡ Some c.at.result) e c.at.ensures) (c.if-not-may_read.ensures.0 (search rules)));
+      reads = omega (arith, inv.reads, read.reads);
+      none = λ d. let e = inv.none d in absurd (d.each c.loop-place.place c.at.result c.loop-place-test.true (subst (λ (l : Loop). slice_get l.links c.loop-place.place ≡ Some c.at.result) e c.at.ensures.found) (c.if-not-may_read.ensures.0 (search rules)));
       offered = λ o. read.offered (inv.offered o);
       known = known_then inv.known read.known;
       failed = λ p. read.failed p ∙ inv.failed p;
@@ -94,3 +101,63 @@ returns-in-Refused-clause-calls g c = calls_then c.loop-place.invariant.calls c.
 
 pub returns-in-Failed-clause-calls : goal.returns-in-Failed-clause-calls
 returns-in-Failed-clause-calls g c = calls_then c.loop-place.invariant.calls c.in-Failed.ensures.calls
+
+pub returns-in-Piece-clause-most : goal.returns-in-Piece-clause-most
+returns-in-Piece-clause-most g c = omega (arith, c.loop-place.invariant.reads, c.in-Piece.ensures.reads)
+
+pub returns-in-Piece-clause-reads : goal.returns-in-Piece-clause-reads
+returns-in-Piece-clause-reads g c = λ other. omega (arith, c.loop-place.invariant.reads, c.in-Piece.ensures.reads)
+
+pub returns-in-Ended-clause-most : goal.returns-in-Ended-clause-most
+returns-in-Ended-clause-most g c = omega (arith, c.loop-place.invariant.reads, c.in-Ended.ensures.reads)
+
+pub returns-in-Ended-clause-reads : goal.returns-in-Ended-clause-reads
+returns-in-Ended-clause-reads g c = λ other. omega (arith, c.loop-place.invariant.reads, c.in-Ended.ensures.reads)
+
+pub returns-in-Refused-clause-most : goal.returns-in-Refused-clause-most
+returns-in-Refused-clause-most g c = omega (arith, c.loop-place.invariant.reads, c.in-Refused.ensures.reads)
+
+pub returns-in-Refused-clause-reads : goal.returns-in-Refused-clause-reads
+returns-in-Refused-clause-reads g c = λ other. omega (arith, c.loop-place.invariant.reads, c.in-Refused.ensures.reads)
+
+pub returns-in-Failed-clause-most : goal.returns-in-Failed-clause-most
+returns-in-Failed-clause-most g c = omega (arith, c.loop-place.invariant.reads, c.in-Failed.ensures.reads)
+
+pub returns-in-Failed-clause-reads : goal.returns-in-Failed-clause-reads
+returns-in-Failed-clause-reads g c = λ other. omega (arith, c.loop-place.invariant.reads, c.in-Failed.ensures.reads)
+
+pub returns-clause-most : goal.returns-clause-most
+returns-clause-most g c = c.loop-place.invariant.reads
+
+pub returns-clause-reads : goal.returns-clause-reads
+returns-clause-reads g c = λ other. absurd (other refl)
+
+pub returns-in-Piece-clause-wires : goal.returns-in-Piece-clause-wires
+returns-in-Piece-clause-wires g c = wired_then (grows_same c.in-Piece.ensures.ports) c.loop-place.invariant.wires c.in-Piece.ensures.wires
+
+pub returns-in-Piece-clause-ports : goal.returns-in-Piece-clause-ports
+returns-in-Piece-clause-ports g c = c.in-Piece.ensures.ports ∙ c.loop-place.invariant.ports
+
+pub returns-in-Ended-clause-wires : goal.returns-in-Ended-clause-wires
+returns-in-Ended-clause-wires g c = wired_then (grows_same c.in-Ended.ensures.ports) c.loop-place.invariant.wires c.in-Ended.ensures.wires
+
+pub returns-in-Ended-clause-ports : goal.returns-in-Ended-clause-ports
+returns-in-Ended-clause-ports g c = c.in-Ended.ensures.ports ∙ c.loop-place.invariant.ports
+
+pub returns-in-Refused-clause-wires : goal.returns-in-Refused-clause-wires
+returns-in-Refused-clause-wires g c = wired_then (grows_same c.in-Refused.ensures.ports) c.loop-place.invariant.wires c.in-Refused.ensures.wires
+
+pub returns-in-Refused-clause-ports : goal.returns-in-Refused-clause-ports
+returns-in-Refused-clause-ports g c = c.in-Refused.ensures.ports ∙ c.loop-place.invariant.ports
+
+pub returns-in-Failed-clause-wires : goal.returns-in-Failed-clause-wires
+returns-in-Failed-clause-wires g c = wired_then (grows_same c.in-Failed.ensures.ports) c.loop-place.invariant.wires c.in-Failed.ensures.wires
+
+pub returns-in-Failed-clause-ports : goal.returns-in-Failed-clause-ports
+returns-in-Failed-clause-ports g c = c.in-Failed.ensures.ports ∙ c.loop-place.invariant.ports
+
+pub returns-clause-wires : goal.returns-clause-wires
+returns-clause-wires g c = c.loop-place.invariant.wires
+
+pub returns-clause-ports : goal.returns-clause-ports
+returns-clause-ports g c = c.loop-place.invariant.ports

@@ -2,6 +2,7 @@ use Rattle.std.proofs.Common.{ap, ◌∙◌}
 use Rattle.world.proofs.MomentsLemmas.{told_as}
 use Rattle.ready_loop.proofs.NameLemmas.{named_goes, named_names, named_drained, named_offered, named_calm, named_failed, named_known}
 use Rattle.ready_loop.proofs.StateLemmas.{sound_as, known_then}
+use Rattle.ready_loop.proofs.WireLemmas.{wired_on}
 use Rattle.ready_loop.proofs.readiness.Loop.offer.Goals as goal
 
 pub returns-in-Err-clause-goes : goal.returns-in-Err-clause-goes
@@ -35,3 +36,12 @@ returns-in-Ok-clause-sound g c = λ s. sound_as c.args.self.now c.name_ends.new.
 
 pub returns-in-Ok-clause-known : goal.returns-in-Ok-clause-known
 returns-in-Ok-clause-known g c = known_then c.in-Ok.ensures.known (named_known c.offer_all.new.self c.name_ends.new.self c.name_ends.ensures.all (ap (λ l. l.queues) c.name_ends.ensures.same))
+
+pub returns-in-Err-clause-wires : goal.returns-in-Err-clause-wires
+returns-in-Err-clause-wires g c = c.in-Err.ensures.wires
+
+pub returns-in-Ok-clause-ports : goal.returns-in-Ok-clause-ports
+returns-in-Ok-clause-ports g c = c.name_ends.ensures.ports ∙ c.in-Ok.ensures.ports
+
+pub returns-in-Ok-clause-wires : goal.returns-in-Ok-clause-wires
+returns-in-Ok-clause-wires g c = wired_on c.name_ends.ensures.ports c.in-Ok.ensures.wires

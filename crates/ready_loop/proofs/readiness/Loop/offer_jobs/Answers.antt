@@ -6,10 +6,13 @@ use Rattle.ready_loop.proofs.StandLemmas.{goes_start, goes_then, cause_then}
 use Rattle.ready_loop.proofs.StateLemmas.{known_start, known_then, calm_joins}
 use Rattle.ready_loop.proofs.LookLemmas.{below_none, below_skip, below_more, look_moment, offered_at}
 use Rattle.ready_loop.proofs.PartLemmas.{calls_start, calls_then}
+use Rattle.ready_loop.proofs.WireLemmas.{grows_same, wired_start, wired_then}
 use Rattle.ready_loop.proofs.readiness.Loop.offer_jobs.Goals as goal
 
 pub loop-place-init : goal.loop-place-init
 loop-place-init g c = record {
+  wires = wired_start;
+  ports = refl;
   calls = calls_start;
   goes = told_start (λ x. goes_start x);
   begins = told_start (λ x. below_none c.args.jobs.now c.args.self.now x);
@@ -28,6 +31,8 @@ loop-place-preserved-then-not-jobs-place g c =
     let inv = c.loop-place.invariant in
     let skip : is_looked c.args.jobs.now (c.loop-place.place / 4) ≡ false = unwrap_or-slice_get c.args.jobs.now (c.loop-place.place / 4) false ∙ c.if-not-jobs-place.true in
     record {
+      wires = inv.wires;
+      ports = inv.ports;
       calls = inv.calls;
       goes = inv.goes;
       begins = told_as inv.begins (λ x y b. below_skip skip b);
@@ -54,6 +59,8 @@ loop-place-preserved g c =
     let n = c.loop-place.place in
     let looked : is_looked c.args.jobs.now (c.loop-place.place / 4) ≡ true = unwrap_or-slice_get c.args.jobs.now (c.loop-place.place / 4) false ∙ c.if-not-jobs-place.false in
     record {
+      wires = wired_then (grows_same at.ports) inv.wires at.wires;
+      ports = at.ports ∙ inv.ports;
       calls = calls_then inv.calls at.calls;
       goes = told_then inv.goes at.goes (λ x y z a b. goes_then (λ h now r. r) (λ h now r. look_moment n c.args.jobs.now looked h now r) a b);
       begins = told_then (told_both inv.begins inv.goes) (told_both at.begins at.goes) (λ x y z a b. below_more (inv.untouched n (omega arith)) a.0 a.1 b.0 b.1);
@@ -70,3 +77,15 @@ loop-place-preserved g c =
 
 pub returns-in-Err-clause-calls : goal.returns-in-Err-clause-calls
 returns-in-Err-clause-calls g c = calls_then c.loop-place.invariant.calls c.in-Err.ensures.calls
+
+pub returns-in-Err-clause-wires : goal.returns-in-Err-clause-wires
+returns-in-Err-clause-wires g c = wired_then (grows_same c.in-Err.ensures.ports) c.loop-place.invariant.wires c.in-Err.ensures.wires
+
+pub returns-in-Err-clause-ports : goal.returns-in-Err-clause-ports
+returns-in-Err-clause-ports g c = c.in-Err.ensures.ports ∙ c.loop-place.invariant.ports
+
+pub returns-clause-wires : goal.returns-clause-wires
+returns-clause-wires g c = c.loop-place.invariant.wires
+
+pub returns-clause-ports : goal.returns-clause-ports
+returns-clause-ports g c = c.loop-place.invariant.ports

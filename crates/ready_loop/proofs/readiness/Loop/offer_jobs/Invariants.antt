@@ -4,10 +4,13 @@ use Rattle.ready_loop.specs.History.{same}
 use Rattle.ready_loop.specs.Offers.{LookMoment, BeginsBelow}
 use Rattle.ready_loop.specs.Standing.{Goes, Follows, CallsOfLoop}
 use Rattle.ready_loop.specs.States.{IsCalm, IsDrained, IsOffered, SameKnown, failed_at}
+use Rattle.ready_loop.specs.Wires.{ConnectsOn, ports_in}
 use Rattle.ready_loop.proofs.readiness.Loop.offer_jobs.Given as goal
 
 abbrev pub invariant-loop-place : goal.invariant-loop-place
 invariant-loop-place g l = record {
+  wires : ConnectsOn g.W.Journal.journal l.fn.w l.w (ports_in l.self);
+  ports : ports_in l.self ≡ ports_in l.fn.self;
   calls : CallsOfLoop g.W.Journal.journal l.fn.w l.w;
   goes : Follows g.W.Journal.journal l.fn.w l.w (Goes (LookMoment l.jobs) same l.fn.self l.self);
   begins : Follows g.W.Journal.journal l.fn.w l.w (BeginsBelow l.place l.jobs l.fn.self);

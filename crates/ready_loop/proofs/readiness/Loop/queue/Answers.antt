@@ -18,3 +18,6 @@ returns-clause-known c = queue_known c.push.result (place_of c.args.conn) c.args
 
 pub returns-clause-failed : goal.returns-clause-failed
 returns-clause-failed c = λ p. refl
+
+pub returns-clause-ports : goal.returns-clause-ports
+returns-clause-ports c = refl

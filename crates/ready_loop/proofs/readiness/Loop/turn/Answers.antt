@@ -6,6 +6,7 @@ use Rattle.ready_loop.proofs.StateLemmas.{sound_as}
 use Rattle.ready_loop.proofs.TableLemmas.{told_from}
 use Rattle.ready_loop.proofs.WaitLemmas.{turned_failed, turned_done, turned_spent}
 use Rattle.ready_loop.proofs.PartLemmas.{calls_start, calls_one, calls_then}
+use Rattle.ready_loop.proofs.WireLemmas.{grows_same, wired_start, wired_one, wired_then}
 use Rattle.ready_loop.proofs.readiness.Loop.turn.Goals as goal
 
 pub returns-in-Failed-clause-turned : goal.returns-in-Failed-clause-turned
@@ -36,3 +37,12 @@ returns-in-Done-clause-calls g c = calls_then c.in-Done.ensures.calls (calls_one
 
 pub returns-then-self-eq0-clause-calls : goal.returns-then-self-eq0-clause-calls
 returns-then-self-eq0-clause-calls g c = calls_start
+
+pub returns-then-self-eq0-clause-wires : goal.returns-then-self-eq0-clause-wires
+returns-then-self-eq0-clause-wires g c = wired_start
+
+pub returns-in-Failed-clause-wires : goal.returns-in-Failed-clause-wires
+returns-in-Failed-clause-wires g c = c.in-Failed.ensures.wires
+
+pub returns-in-Done-clause-wires : goal.returns-in-Done-clause-wires
+returns-in-Done-clause-wires g c = wired_then (grows_same refl) c.in-Done.ensures.wires (wired_one c.now.ensures.tells (λ past. tt))

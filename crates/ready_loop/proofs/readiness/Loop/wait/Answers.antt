@@ -8,6 +8,7 @@ use Rattle.ready_loop.proofs.TableLemmas.{tells_both}
 use Rattle.ready_loop.proofs.MapLemmas.{maps_failed, maps_known}
 use Rattle.ready_loop.proofs.WaitLemmas.{wait_stands, wait_failed, wait_stage}
 use Rattle.ready_loop.proofs.PartLemmas.{calls_one}
+use Rattle.ready_loop.proofs.WireLemmas.{wired_one}
 use Rattle.ready_loop.proofs.readiness.Loop.wait.Goals as goal
 
 pub returns-clause-came : goal.returns-clause-came
@@ -32,3 +33,9 @@ returns-clause-known g c = known_by c.args.self.now (record c.report.new.self { 
 
 pub returns-clause-calls : goal.returns-clause-calls
 returns-clause-calls g c = calls_one c.wait-did.ensures.tells (inl refl)
+
+pub returns-clause-ports : goal.returns-clause-ports
+returns-clause-ports g c = c.report.ensures.ports
+
+pub returns-clause-wires : goal.returns-clause-wires
+returns-clause-wires g c = wired_one c.wait-did.ensures.tells (λ past. tt)

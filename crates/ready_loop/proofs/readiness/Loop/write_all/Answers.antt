@@ -4,10 +4,13 @@ use Rattle.ready_loop.proofs.StandLemmas.{goes_start, goes_then, cause_then}
 use Rattle.ready_loop.proofs.StateLemmas.{only_start, only_then, not_failed, known_start, known_then}
 use Rattle.ready_loop.specs.States.{failed_at}
 use Rattle.ready_loop.proofs.PartLemmas.{calls_start, calls_then}
+use Rattle.ready_loop.proofs.WireLemmas.{grows_same, wired_start, wired_then}
 use Rattle.ready_loop.proofs.readiness.Loop.write_all.Goals as goal
 
 pub loop-conn-init : goal.loop-conn-init
 loop-conn-init g c = record {
+  wires = wired_start;
+  ports = refl;
   calls = calls_start;
   goes = told_start (λ x. goes_start x);
   only = only_start c.args.place c.args.self.now;
@@ -25,6 +28,8 @@ pub loop-conn-preserved : goal.loop-conn-preserved
 loop-conn-preserved g c =
     let inv = c.loop-conn.invariant in
     record {
+      wires = wired_then (grows_same c.write_at.ensures.ports) inv.wires c.write_at.ensures.wires;
+      ports = c.write_at.ensures.ports ∙ inv.ports;
       calls = calls_then inv.calls c.write_at.ensures.calls;
       goes = told_then inv.goes c.write_at.ensures.goes (λ x y z a b. goes_then (λ h now r. r) (λ h now r. r) a b);
       only = only_then inv.only c.write_at.ensures.only;
@@ -37,3 +42,15 @@ loop-conn-preserved g c =
 
 pub returns-in-Failed-clause-calls : goal.returns-in-Failed-clause-calls
 returns-in-Failed-clause-calls g c = calls_then c.loop-conn.invariant.calls c.in-Failed.ensures.calls
+
+pub returns-in-Failed-clause-wires : goal.returns-in-Failed-clause-wires
+returns-in-Failed-clause-wires g c = wired_then (grows_same c.in-Failed.ensures.ports) c.loop-conn.invariant.wires c.in-Failed.ensures.wires
+
+pub returns-in-Failed-clause-ports : goal.returns-in-Failed-clause-ports
+returns-in-Failed-clause-ports g c = c.in-Failed.ensures.ports ∙ c.loop-conn.invariant.ports
+
+pub returns-clause-wires : goal.returns-clause-wires
+returns-clause-wires g c = c.loop-conn.invariant.wires
+
+pub returns-clause-ports : goal.returns-clause-ports
+returns-clause-ports g c = c.loop-conn.invariant.ports

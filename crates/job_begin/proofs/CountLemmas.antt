@@ -1,0 +1,220 @@
+-- How many saves are among the events that bring the end of a job's begin.
+use Rattle.std.proofs.Common.{◌≡◌, ℕ, zero, suc, ◌+◌, ◌<◌, Bool, true, false, List, [], ◌∷◌, length, Option, Some, None, Result, Ok, Err, if◌then◌else◌, refl, sym, ap, subst, ◌∙◌, arith}
+use Rattle.std.specs.Prelude.{◌==◌, ◌&&◌, not, nat_lt, drop, is_some, IfSome, IfErr, OnOk}
+use Rattle.std.proofs.lemmas.Bool.{lt-ltb}
+use Rattle.nb_model.specs.declared.notebook.Notebook.{Notebook}
+use Rattle.nb_model.specs.Planned.{plan}
+use Rattle.words.specs.declared.ask.Ask.{Ask}
+use Rattle.world.specs.declared.entry.Entry.{Entry}
+use Rattle.world.specs.Counts.{Counts}
+use Rattle.world.specs.Moments.{Told}
+use Rattle.world.proofs.MomentsLemmas.{told_start, told_then}
+use Rattle.world.proofs.CountsLemmas.{grow_start}
+use Rattle.save_disk.specs.Places.{acknowledged}
+use Rattle.cell_core.specs.declared.event.Event.TheVariants.{Saved}
+use Rattle.cell_core.specs.declared.act.Act.TheVariants.{Nothing, Stop}
+use Rattle.cell_core.specs.Acts.{act_of, act_at, act_by, awaits_saved, has_stopped, heard, is_empty}
+use Rattle.cell_core.specs.Saves.{Prefix, prepared, unacked}
+use Rattle.cell_core.specs.declared.times.Times.{Times}
+use Rattle.cell_core.specs.declared.why.Why.{Why}
+use Rattle.cell_core.specs.declared.why.Why.TheVariants as why
+use Rattle.cell_core.specs.Task.{Task}
+use Rattle.job_end.specs.declared.answer.Answer.{Answer}
+use Rattle.job_end.specs.declared.end.End.{End}
+use Rattle.job_end.specs.declared.end.End.TheVariants as end
+use Rattle.job_end.specs.Answers.{Answers, said, starved, starved_answer}
+use Rattle.job_end.specs.Statuses.{status_of}
+use Rattle.job_notebook.specs.declared.notebook.JobNotebook.{JobNotebook}
+use Rattle.job_notebook.specs.State.{notebook_of, merge_of, output_of}
+use Rattle.job_saves.specs.Course.{Origin, Stands, IsEndOfSave}
+use Rattle.job_saves.proofs.CourseLemmas.{told_on}
+use Rattle.job_run.specs.declared.job.Job.{Job}
+use Rattle.job_run.specs.Counted.{IsCausedAfter, StopsAfter}
+use Rattle.job_run.specs.Run.{IsNew, BeginsNew, StartsCounted}
+use Rattle.job_run.specs.Task.{task_for, times_of}
+use Rattle.job_run.proofs.CountLemmas.{end_caused}
+use Rattle.job_run.proofs.TurnLemmas.{start_after, starved_count}
+use Rattle.job_begin.specs.Begun.{IsUncaused, counted_task}
+use Rattle.job_begin.specs.Steps.{EndsCounted, closing_saves, end_by}
+
+-- ---- the task
+
+abbrev task_in : Task → Option Task → Task
+task_in other None = other
+task_in other (Some t) = t
+
+-- where cells are executed it is that of the notebook
+only_task : (a : Ask) (first : Notebook) (t : Task) → counted_task a first ≡ Some t → task_for a first ≡ t
+only_task a first t is = by_mode a.prepare (task_for a first) t is
+  where
+    by_mode : (prepares : Bool) (own t : Task) → (if prepares then None else Some own) ≡ Some t → own ≡ t
+    by_mode true own t is = absurd (cc)
+    by_mode false own t is = ap (task_in own) is
+
+-- ---- ends that no event brings
+
+pub prepared_counts : (a : Ask) (first : Notebook) (o : Origin) (k : Option (List Entry)) (e : End) → a.prepare ≡ true → EndsCounted o (counted_task a first) k e
+prepared_counts a first o k e on t is = none_told (IsNew o → IfSome k (λ past. IsCausedAfter (acknowledged o.output past) t (status_of e))) (sym (ap (λ b. if b then None else Some (task_for a first)) on) ∙ is)
+  where
+    none_told : (P : Type 0) {t : Task} → None ≡ Some t → P
+    none_told P is = absurd (cc)
+
+no_cause : (n : ℕ) (t : Task) (status : ℕ) → IsUncaused status → IsCausedAfter n t status
+no_cause n t status none cause is = let no : Some cause ≡ None = sym is ∙ none in absurd (cc)
+
+pub uncaused_counts : (o : Origin) (task : Option Task) (k : Option (List Entry)) (e : End) → IsUncaused (status_of e) → EndsCounted o task k e
+uncaused_counts o task None e none t is fresh = tt
+uncaused_counts o task (Some past) e none t is fresh = no_cause (acknowledged o.output past) t (status_of e) none
+
+-- ---- the end of a start
+
+started_counts : (a : Ask) (first : Notebook) (o : Origin) (k : Option (List Entry)) (e : End) → StartsCounted o (task_for a first) k e → EndsCounted o (counted_task a first) k e
+started_counts a first o None e h t is fresh = tt
+started_counts a first o (Some past) e h t is fresh =
+    subst (λ q. IsCausedAfter (acknowledged o.output past) q (status_of e)) (only_task a first t is) (start_after (acknowledged o.output past) (task_for a first) [] e _ said (h fresh))
+
+pub start_counts : (a : Ask) (first : Notebook) (o : Origin) (k : Option (List Entry)) (r : Result Job End) → IfErr r (StartsCounted o (task_for a first) k)
+    → IfErr r (EndsCounted o (counted_task a first) k)
+start_counts a first o k (Ok j) h = tt
+start_counts a first o k (Err e) h = started_counts a first o k e h
+
+-- ---- a notebook of which no cell is executed
+
+module _ (n : ℕ) (times : Times) where
+  -- nothing of so many cells is executed
+  abbrev idle : Task
+  idle = record { plan = []; cells = suc n; times = times }
+
+  -- its save as it is done
+  abbrev whole : List Prefix
+  whole = record { settled = suc n; stopping_cell = None } ∷ []
+
+  is_closing : (if nat_lt 0 (suc n) then whole else []) ≡ whole
+  is_closing = ap (λ b. if b then whole else []) (lt-ltb 0 (suc n) (omega arith))
+
+  -- the cause after k saves, where this save closes it, whether it has stopped, and the saves that are due
+  abbrev due : List Prefix → ℕ → List Prefix
+  due closing k = drop k (prepared ∷ closing)
+
+  abbrev cause : List Prefix → ℕ → Option Why
+  cause closing k = if length (prepared ∷ closing) == k then Some why.Done else None
+
+  abbrev ends : List Prefix → ℕ → Bool
+  ends closing k = is_some (cause closing k) && is_empty (due closing k)
+
+  heard_first : heard idle (Saved ∷ []) ≡ Saved ∷ []
+  heard_first = let none : has_stopped idle [] ≡ false = ap (λ xs. ends xs 0) is_closing in ap (λ b. if b then [] else Saved ∷ []) none
+
+  awaits_second : true ≡ awaits_saved idle (Saved ∷ [])
+  awaits_second =
+      let due_at : awaits_saved idle (Saved ∷ []) ≡ not (is_empty (unacked idle (Saved ∷ []))) = ap (λ events. not (is_empty (unacked idle events))) heard_first in
+      let one : not (is_empty (unacked idle (Saved ∷ []))) ≡ true = ap (λ xs. not (is_empty (due xs 1))) is_closing in
+      sym (due_at ∙ one)
+
+  stops_second : act_of idle Saved (Saved ∷ []) ≡ Stop why.Done
+  stops_second =
+      let at : act_of idle Saved (Saved ∷ []) ≡ (if has_stopped idle (Saved ∷ []) then Nothing else act_at idle (Saved ∷ Saved ∷ [])) =
+      ap (λ events. if has_stopped idle events then Nothing else act_at idle (Saved ∷ events)) heard_first in
+      let on : has_stopped idle (Saved ∷ []) ≡ false = ap (λ xs. ends xs 1) is_closing in
+      let by : act_at idle (Saved ∷ Saved ∷ []) ≡ Stop why.Done = ap (λ xs. act_by idle (Saved ∷ Saved ∷ []) (due xs 2) (cause xs 2)) is_closing in
+      at ∙ ap (λ b. if b then Nothing else act_at idle (Saved ∷ Saved ∷ [])) on ∙ by
+
+-- the events of its saves stop its core, for it has nothing to execute
+none_stops : (cells : ℕ) (times : Times) → StopsAfter (1 + closing_saves cells) (record { plan = []; cells = cells; times = times }) why.Done
+none_stops zero times = ∣ record { stopping = record { event = Saved; past = []; meets = (refl, tt, tt); stops = refl }; count = refl } ∣₁
+none_stops (suc n) times = ∣ record {
+  stopping = record { event = Saved; past = Saved ∷ []; meets = (awaits_second n times, tt, (refl, tt, tt)); stops = stops_second n times };
+  count = refl;
+} ∣₁
+
+no_cells : (xs : List ℕ) → length xs ≡ 0 → xs ≡ []
+no_cells [] e = refl
+no_cells (x ∷ xs) e = absurd (omega (arith, e))
+
+plan_stops : (a : Ask) (first : Notebook) → length (plan first) ≡ 0 → StopsAfter (1 + closing_saves (length first.cells)) (task_for a first) why.Done
+plan_stops a first none =
+    let m = length first.cells in
+    subst (λ xs. StopsAfter (1 + closing_saves m) (record { plan = xs; cells = m; times = times_of a }) why.Done) (sym (no_cells (plan first) none)) (none_stops m (times_of a))
+
+save_uncaused : (e : End) → IsEndOfSave e → IsUncaused (status_of e)
+save_uncaused (end.NotSaved f) own = refl
+save_uncaused end.NoMemory own = refl
+save_uncaused end.Done own = absurd own
+save_uncaused (end.CellError cell name) own = absurd own
+save_uncaused (end.NotRead path) own = absurd own
+save_uncaused end.TooLarge own = absurd own
+save_uncaused (end.NotLoaded f) own = absurd own
+save_uncaused end.NoKernelName own = absurd own
+save_uncaused end.BadKernelName own = absurd own
+save_uncaused (end.BadSpec f) own = absurd own
+save_uncaused end.NotStarted own = absurd own
+save_uncaused end.NotReady own = absurd own
+save_uncaused end.KernelLost own = absurd own
+save_uncaused (end.TimedOut cell) own = absurd own
+save_uncaused end.NoConnectionFile own = absurd own
+save_uncaused (end.NoIdle cell) own = absurd own
+save_uncaused end.NetFault own = absurd own
+save_uncaused (end.BadPeer chan f) own = absurd own
+save_uncaused end.Spent own = absurd own
+
+module _ (a : Ask) (first : Notebook) (o : Origin) (none : length (plan first) ≡ 0) (to : o.output ≡ a.output) where
+  abbrev Saves : Option (List Entry) → Option (List Entry) → Type 0
+  Saves j k = Told j k (λ before after. acknowledged a.output after ≡ acknowledged a.output before + (1 + closing_saves (length first.cells)))
+
+  done_at : (before after : List Entry) (t : Task) → task_for a first ≡ t → acknowledged o.output before ≡ 0
+      → acknowledged a.output after ≡ acknowledged a.output before + (1 + closing_saves (length first.cells)) → IsCausedAfter (acknowledged o.output after) t 0
+  done_at before after t at zero_saves more =
+      let from : acknowledged a.output before ≡ 0 = subst (λ out. acknowledged out before ≡ 0) to zero_saves in
+      let count : 1 + closing_saves (length first.cells) ≡ acknowledged o.output after = omega (arith, ap (λ out. acknowledged out after) to, more, from) in
+      subst (λ q. IsCausedAfter (acknowledged o.output after) q 0) at
+      (subst (λ n. IsCausedAfter n (task_for a first) 0) count (end_caused (1 + closing_saves (length first.cells)) (task_for a first) end.Done (plan_stops a first none)))
+
+  pub saves_count : (j k : Option (List Entry)) (saved : Result (Unit {0}) End) → BeginsNew o j → OnOk saved (Saves j k) → IfErr saved IsEndOfSave
+      → EndsCounted o (counted_task a first) k (end_by saved)
+  saves_count j k (Ok u) begins told kind t is fresh =
+      told_on j k (λ before after. acknowledged a.output after ≡ acknowledged a.output before + (1 + closing_saves (length first.cells))) (λ past. acknowledged o.output past ≡ 0)
+      (λ past. IsCausedAfter (acknowledged o.output past) t 0) told (begins fresh) (λ x y none more. done_at x y t (only_task a first t is) none more)
+  saves_count j k (Err e) begins told kind t is fresh = uncaused_counts o (counted_task a first) k e (save_uncaused e kind) t is fresh
+
+-- ---- its saves
+
+-- calls that go on with every course save to one output
+saved_output : (was now : JobNotebook) (is_open : Bool) (i j : Option (List Entry)) (c d : Counts) → ((o : Origin) → Stands o was true i c → Stands o now is_open j d)
+    → output_of now ≡ output_of was
+saved_output was now is_open i j c d goes =
+    let o : Origin = record { is_watched = false; output = output_of was; merge = merge_of was; first = notebook_of was; before = []; counts = c } in
+    let stands : Stands o was true i c = record { output = refl; merge = refl; told = λ on. absurd (cc); grow = grow_start c; cause = λ shut. absurd (cc) } in
+    (goes o stands).output
+
+some_closing : (n : ℕ) → 0 < n → closing_saves n ≡ 1
+some_closing zero some = absurd (omega (arith, some))
+some_closing (suc n) some = refl
+
+-- no cell waits: nothing more is saved
+pub none_closing : (output : List ℕ) (j : Option (List Entry)) (n : ℕ) → n ≡ 0 → Told j j (λ before after. acknowledged output after ≡ acknowledged output before + closing_saves n)
+none_closing output j n none = told_start (λ x. subst (λ m. acknowledged output x ≡ acknowledged output x + closing_saves m) (sym none) (omega arith))
+
+pub closing_acked : (output : List ℕ) (j k : Option (List Entry)) (n : ℕ) (saved : Result (Unit {0}) End) → 0 < n
+    → OnOk saved (Told j k (λ before after. acknowledged output after ≡ acknowledged output before + 1))
+    → OnOk saved (Told j k (λ before after. acknowledged output after ≡ acknowledged output before + closing_saves n))
+closing_acked output j k n saved some h =
+    subst (λ m. OnOk saved (Told j k (λ before after. acknowledged output after ≡ acknowledged output before + m))) (sym (some_closing n some)) h
+
+-- the save of the notebook as it waits, and what follows
+pub both_acked : (output : List ℕ) (was mid : JobNotebook) (is_open : Bool) (h i j : Option (List Entry)) (c d : Counts) (m n : ℕ) (saved : Result (Unit {0}) End) → output_of was ≡ output → n ≡ m
+    → ((o : Origin) → Stands o was true h c → Stands o mid is_open i d) → Told h i (λ before after. acknowledged (output_of was) after ≡ acknowledged (output_of was) before + 1)
+    → OnOk saved (Told i j (λ before after. acknowledged (output_of mid) after ≡ acknowledged (output_of mid) before + closing_saves n))
+    → OnOk saved (Told h j (λ before after. acknowledged output after ≡ acknowledged output before + (1 + closing_saves m)))
+both_acked output was mid is_open h i j c d m n (Err e) at same goes first more = tt
+both_acked output was mid is_open h i j c d m n (Ok u) at same goes first more =
+    let to : output_of mid ≡ output = saved_output was mid is_open h i c d goes ∙ at in
+    told_then (subst (λ out. Told h i (λ before after. acknowledged out after ≡ acknowledged out before + 1)) at first)
+    (subst (λ out. Told i j (λ before after. acknowledged out after ≡ acknowledged out before + closing_saves n)) to more)
+    (λ x y z p q. let r : closing_saves n ≡ closing_saves m = ap closing_saves same in omega (arith, p, q, r))
+
+-- ---- the answer
+
+pub answer_counts : (output : List ℕ) (e : End) (answer : Answer) (o : Origin) (task : Option Task) (k : Option (List Entry)) → Answers output e answer → EndsCounted o task k e
+    → (t : Task) → task ≡ Some t → IsNew o → IfSome k (λ past. IsCausedAfter (acknowledged o.output past) t answer.status)
+answer_counts output e _ o task k said h t is fresh = h t is fresh
+answer_counts output e _ o task k starved h t is fresh = starved_count o.output starved_answer t k refl
