@@ -55,7 +55,8 @@ set_pair-at key v ps i e =
 
 -- ---- the key is absent
 
-not_first : {A : Type 0} (b : Bool) (i : A) (r : Option A) → cond b (Some i) r ≡ None
+-- it isn't the first
+pub not_first : {A : Type 0} (b : Bool) (i : A) (r : Option A) → cond b (Some i) r ≡ None
     → (b ≡ false) × (r ≡ None)
 not_first true i r e = cc
 not_first false i r e = (refl, e)
@@ -84,13 +85,13 @@ set_pair-none key v ps e = (absent_from key v ps 0 (sym (position_from-zero (λ 
 -- ---- set twice
 
 -- the key equals itself
-equal : (key : List ℕ) → bytes_eq key key ≡ true
-equal key = (bytes_eq-Decides key key).1 refl
+pub same_key : (key : List ℕ) → bytes_eq key key ≡ true
+same_key key = (bytes_eq-Decides key key).1 refl
 
 -- of two values set under one key the last one stands
 pub set_pair-twice : (key : List ℕ) (v w : Json) (ps : List (List ℕ × Json))
     → set_pair key v (set_pair key w ps) ≡ set_pair key v ps
-set_pair-twice key v w [] = cond-true (bytes_eq key key) ((key, v) ∷ []) ((key, w) ∷ set_pair key v []) (equal key)
+set_pair-twice key v w [] = cond-true (bytes_eq key key) ((key, v) ∷ []) ((key, w) ∷ set_pair key v []) (same_key key)
 set_pair-twice key v w (p ∷ ps) =
     elim (cases_Bool (bytes_eq p.0 key)) [
       | inl t ↦ ap (set_pair key v) (cond-true (bytes_eq p.0 key) ((p.0, w) ∷ ps) (p ∷ set_pair key w ps) t)

@@ -104,16 +104,16 @@ mutual
 
 -- ---- UTF-8
 
-further_ascii : (m : List ℕ) → Ascii m → Ascii (further m)
+pub further_ascii : (m : List ℕ) → Ascii m → Ascii (further m)
 further_ascii m a = ascii-append m (32 ∷ []) a (omega arith, tt)
 
-line_utf8 : (m b : List ℕ) → Ascii m → IsUtf8 b → IsUtf8 (on_line m b)
+pub line_utf8 : (m b : List ℕ) → Ascii m → IsUtf8 b → IsUtf8 (on_line m b)
 line_utf8 m b a u = IsUtf8-append (10 ∷ m) b (utf8_ascii (10 ∷ m) (omega arith, a)) u
 
 abbrev Named : List ℕ → List ℕ × Json → Type 0
 Named m p = IsUtf8 (on_line m (named (p.0, indented p.1 m)))
 
-lines_utf8 : {A : Type 0} (f : A → List ℕ) (xs : List A) → AllByRecursion (λ x. IsUtf8 (f x)) xs → AllByRecursion IsUtf8 (map f xs)
+pub lines_utf8 : {A : Type 0} (f : A → List ℕ) (xs : List A) → AllByRecursion (λ x. IsUtf8 (f x)) xs → AllByRecursion IsUtf8 (map f xs)
 lines_utf8 f [] all = tt
 lines_utf8 f (x ∷ xs) all = (all.0, lines_utf8 f xs all.1)
 

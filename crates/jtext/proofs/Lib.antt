@@ -40,3 +40,5 @@ pub mod Refusals
 pub mod PlainRuns
 pub mod Vectors
 pub mod SpelledKeyed
+pub mod Decimals
+pub mod NumberTests

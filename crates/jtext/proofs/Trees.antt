@@ -1,5 +1,5 @@
 -- Trees looked into: what a value of a kind is, the one level of each kind, and the parts of a tree in which no key stands twice.
-use Rattle.std.proofs.Common.{◌≡◌, ℕ, Bool, true, List, [], ◌∷◌, Option, Some, sym, ap, ◌∙◌, inl, inr, subst, rules}
+use Rattle.std.proofs.Common.{◌≡◌, ℕ, Bool, true, false, refl, List, [], ◌∷◌, Option, Some, sym, ap, ◌∙◌, inl, inr, subst, rules}
 use Rattle.std.specs.Str.{bytes_eq}
 use Rattle.std.proofs.lemmas.Bool.{cases_Bool, cond-true, cond-false}
 use Rattle.jtext.specs.declared.json.Json.{Json, out-Json, roll-out-Json, roll-Json, the_lemmas}
@@ -132,3 +132,23 @@ found_keyed key (p ∷ ps) v all e =
       | inl t ↦ let s : ◌≡◌ {A = Option Json} (Some p.1) (Some v) = sym (cond-true (bytes_eq p.0 key) (Some p.1) (find key ps) t) ∙ e in let i : p.1 ≡ v = cc in subst Keyed i h.0
       | inr f ↦ found_keyed key ps v h.1 (sym (cond-false (bytes_eq p.0 key) (Some p.1) (find key ps) f) ∙ e)
     ]
+
+-- ---- what other values have none of
+
+-- a value that is no list has no items
+pub no_items : (l : Json-F Json) → is_list_layer l ≡ false → items_layer l ≡ []
+no_items Json-F.Null e = refl
+no_items (Json-F.Bool b) e = refl
+no_items (Json-F.Num s) e = refl
+no_items (Json-F.Str s) e = refl
+no_items (Json-F.Arr xs) e = cc
+no_items (Json-F.Obj ps) e = refl
+
+-- a value that is no object has no fields
+pub no_fields : (l : Json-F Json) → is_object_layer l ≡ false → fields_of l ≡ []
+no_fields Json-F.Null e = refl
+no_fields (Json-F.Bool b) e = refl
+no_fields (Json-F.Num s) e = refl
+no_fields (Json-F.Str s) e = refl
+no_fields (Json-F.Arr xs) e = refl
+no_fields (Json-F.Obj ps) e = cc

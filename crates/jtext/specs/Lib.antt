@@ -20,5 +20,6 @@ pub mod Messages
 pub mod Gives
 pub mod Readings
 pub mod Reading
+pub mod Names
 pub mod KeySet
 pub mod Storage

@@ -47,6 +47,15 @@ is_null_layer (Json-F.Obj ps) = false
 abbrev pub is_null : Json → Bool
 is_null t = is_null_layer (out-Json t)
 
+-- `true`, seen at one level
+abbrev pub is_true_layer : Json-F Json → Bool
+is_true_layer Json-F.Null = false
+is_true_layer (Json-F.Bool b) = b
+is_true_layer (Json-F.Num s) = false
+is_true_layer (Json-F.Str s) = false
+is_true_layer (Json-F.Arr xs) = false
+is_true_layer (Json-F.Obj ps) = false
+
 -- ---- what stands in a value
 
 -- the items of a list, seen at one level
@@ -61,6 +70,11 @@ items_layer (Json-F.Obj ps) = []
 -- the items of a list, and none of another value
 abbrev pub items : Json → List Json
 items t = items_layer (out-Json t)
+
+-- the items of a list, and none where there is no value
+abbrev pub items_of : Option Json → List Json
+items_of None = []
+items_of (Some v) = items v
 
 -- the text of a string, seen at one level
 abbrev pub string_layer : Json-F Json → Option (List ℕ)

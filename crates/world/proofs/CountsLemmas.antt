@@ -4,6 +4,7 @@ use Rattle.std.proofs.Common.{sym, subst, ap, arith}
 use Rattle.world.specs.Counts.{
   Counts,
   CountsGrow,
+  Rose,
   DiskCause,
   NetCause,
   WaitCause,
@@ -11,6 +12,18 @@ use Rattle.world.specs.Counts.{
   RandCause,
   SayCause,
 }
+
+-- ---- one count
+
+-- a count that rose later has risen since earlier
+pub rose_since : (a b c : ℕ) → a ≤ b → Rose b c → Rose a c
+rose_since a b c more rose = grind (arith, more, rose)
+
+-- a count that rose has risen still
+pub rose_still : (a b c : ℕ) → Rose a b → b ≤ c → Rose a c
+rose_still a b c rose more = grind (arith, more, rose)
+
+-- ---- all of them
 
 -- no call was made
 pub grow_start : (c : Counts) → CountsGrow c c

@@ -6,3 +6,5 @@ pub mod SaveLemmas
 pub mod StatusLemmas
 pub mod TouchedLemmas
 pub mod WaitsLemmas
+pub mod Folders
+pub mod Rests

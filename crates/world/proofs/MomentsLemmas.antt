@@ -1,6 +1,7 @@
 -- How what is said of the moments of calls is put together.
 use Rattle.std.specs.Prelude.{
   ◌≡◌,
+  [],
   ℕ,
   ◌-◌,
   ◌<◌,
@@ -95,3 +96,15 @@ since_at {P} {before} (more {past} {entry} since p) t low high =
           let k : length (entry ∷ past) - t ≡ suc (length past - t) = omega arith in
           subst (λ n. P (drop n (entry ∷ past))) (sym k) (since_at since t low below)
     ]
+
+-- ---- from a journal that may not be told
+
+-- the journal, and the empty one where it isn't told
+abbrev pub or_none : Option (List Entry) → List Entry
+or_none None = []
+or_none (Some x) = x
+
+-- no call was made since it was told
+pub at_start : (P : List Entry → Type 0) (j : Option (List Entry)) → IfSome j (Since P (or_none j))
+at_start P None = tt
+at_start P (Some x) = start

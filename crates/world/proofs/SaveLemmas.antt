@@ -1,24 +1,7 @@
 -- What a crash leaves during and after a save, and what other calls make of it.
-use Rattle.std.specs.Prelude.{
-  ◌≡◌,
-  ◌⊎◌,
-  ℕ,
-  ◌+◌,
-  List,
-  [],
-  ◌∷◌,
-  ◌++◌,
-  Bool,
-  true,
-  false,
-  ◌&&◌,
-  if◌then◌else◌,
-  Some,
-  None,
-  refl,
-}
+use Rattle.std.specs.Prelude.{◌≡◌, ◌⊎◌, ℕ, ◌+◌, List, [], ◌∷◌, ◌++◌, Bool, true, false, if◌then◌else◌, Some, None, refl}
 use Rattle.std.proofs.Common.{sym, ◌∙◌, ap, subst, inl, inr, arith}
-use Rattle.std.proofs.lemmas.Bool.{cond-false, cond-true}
+use Rattle.std.proofs.lemmas.Bool.{and_parts, cond-false}
 use Rattle.std.proofs.lemmas.Slice.Eq.{bytes_eq-Decides}
 use Rattle.std.specs.Str.{bytes_eq}
 use Rattle.world.specs.declared.entry.Entry.{Entry}
@@ -27,7 +10,7 @@ use Rattle.world.specs.declared.did.Did.{Did}
 use Rattle.world.specs.declared.did.Did.TheVariants.{Done, Failed}
 use Rattle.world.specs.declared.left.Left.{Left}
 use Rattle.world.specs.declared.left.Left.TheVariants as left
-use Rattle.world.specs.Acked.{acked, is_acknowledging, is_renamed, renames, syncs_folder}
+use Rattle.world.specs.Acked.{acked, is_renamed, renames, syncs_folder}
 use Rattle.world.specs.Disk.{
   IsUnsettled,
   Place,
@@ -94,7 +77,7 @@ among_both o [] ys a = inr a
 among_both o (x ∷ xs) ys (inl e) = inl (inl e)
 among_both o (x ∷ xs) ys (inr a) = elim (among_both o xs ys a) [ inl b ↦ inl (inr b) | inr b ↦ inr b ]
 
-among_one : (o x : Left) → Among o (x ∷ []) → o ≡ x
+pub among_one : (o x : Left) → Among o (x ∷ []) → o ≡ x
 among_one o x (inl e) = e
 among_one o x (inr never) = absurd never
 
@@ -209,7 +192,7 @@ pub created_options : (path : List ℕ) (d : Did) (past : List Entry)
 created_options path Done past = ap (λ p. Place.options p) (created_own path Done past)
 created_options path Failed past = ap (λ p. Place.options p) (created_own path Failed past)
 
-either_way : (b : Bool) (p : Place) → (if b then p else p) ≡ p
+pub either_way : (b : Bool) (p : Place) → (if b then p else p) ≡ p
 either_way true p = refl
 either_way false p = refl
 
@@ -223,11 +206,7 @@ dir_sync_failed dir other past = either_way (bytes_eq dir (folder_of other)) (pl
 
 -- ---- acknowledged saves
 
-both_true : (a b : Bool) → (a && b) ≡ true → (a ≡ true) × (b ≡ true)
-both_true true b e = (refl, e)
-both_true false b e = cc
-
-same_path : (a b : List ℕ) → bytes_eq a b ≡ true → a ≡ b
+pub same_path : (a b : List ℕ) → bytes_eq a b ≡ true → a ≡ b
 same_path a b e = (bytes_eq-Decides a b).0 e
 
 counts_one : (b : Bool) (n : ℕ) → (if b then n + 1 else n) ≡ n + 1 → b ≡ true
@@ -242,7 +221,7 @@ syncs_is to _ e = cc
 
 pub renames_is : (from to : List ℕ) (entry : Entry) → renames from to entry ≡ true → entry ≡ Renamed from to Done
 renames_is from to (Renamed a b Done) e =
-    let both = both_true (bytes_eq from a) (bytes_eq to b) e in
+    let both = and_parts (bytes_eq from a) (bytes_eq to b) e in
     ap (λ x. Renamed x b Done) (sym (same_path from a both.0)) ∙ ap (λ y. Renamed from y Done) (sym (same_path to b both.1))
 renames_is from to (Renamed a b Failed) e = cc
 renames_is from to _ e = cc
@@ -257,5 +236,5 @@ pub acked_behind : (from to : List ℕ) (entry : Entry) (past : List Entry)
     → acked from to (entry ∷ past) ≡ acked from to past + 1
     → (entry ≡ DirSynced (folder_of to) Done) × ((older : List Entry) × (past ≡ Renamed from to Done ∷ older))
 acked_behind from to entry past e =
-    let both = both_true (syncs_folder to entry) (is_renamed from to past) (counts_one _ (acked from to past) e) in
+    let both = and_parts (syncs_folder to entry) (is_renamed from to past) (counts_one _ (acked from to past) e) in
     (syncs_is to entry both.0, rename_before from to past both.1)

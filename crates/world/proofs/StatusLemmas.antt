@@ -1,22 +1,5 @@
 -- How an entry changes a connection: the one that it names, and every other.
-use Rattle.std.specs.Prelude.{
-  ◌≡◌,
-  ◌==◌,
-  ℕ,
-  ◌+◌,
-  ◌*◌,
-  ◌<◌,
-  List,
-  ◌∷◌,
-  ◌++◌,
-  Bool,
-  true,
-  false,
-  Option,
-  Some,
-  None,
-  refl,
-}
+use Rattle.std.specs.Prelude.{◌≡◌, ℕ, ◌<◌, List, ◌∷◌, ◌++◌, true, false, Some, refl}
 use Rattle.std.proofs.Common.{◌≢◌, ◌∙◌, ap, arith}
 use Rattle.std.proofs.lemmas.Bool.{cond-true, cond-false, eq-eqb, eqb-true, false_from_ne_true}
 use Rattle.world.specs.declared.chan.Chan.{Chan}
@@ -131,7 +114,7 @@ status_elsewhere p _ past e = refl
 
 -- ---- other jobs
 
-chan_below : (chan : Chan) → chan_number chan < 4
+pub chan_below : (chan : Chan) → chan_number chan < 4
 chan_below Shell = omega arith
 chan_below Control = omega arith
 chan_below Iopub = omega arith

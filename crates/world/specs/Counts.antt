@@ -11,6 +11,10 @@ pub record Counts : Type 0 where
   pub say : ℕ
   pub last : ℕ
 
+-- nothing has failed, nothing was waited for, and no time was given
+abbrev pub no_counts : Counts
+no_counts = record { disk = 0; net = 0; waits = 0; child = 0; rand = 0; say = 0; last = 0 }
+
 -- a count has risen, or stands at the last value of a `u64`
 abbrev pub Rose : ℕ → ℕ → Type 0
 Rose before now = min (before + 1) (2 ^ 64 - 1) ≤ now

@@ -1,5 +1,5 @@
 -- Small journals, computed by laws: what a crash leaves and how a connection stands after each.
-use Rattle.std.specs.Prelude.{ℕ, List, [], ◌∷◌, codes, true, false, replicate}
+use Rattle.std.specs.Prelude.{List, [], ◌∷◌, codes, true, false, replicate}
 use Rattle.world.specs.declared.chan.Chan.TheVariants.{Control}
 use Rattle.world.specs.declared.conn.Conn.{Conn}
 use Rattle.world.specs.declared.connected.Connected.TheVariants.{Begun}

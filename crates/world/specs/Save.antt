@@ -1,9 +1,13 @@
 -- One save: create, writes, sync and rename of a temporary file, and sync of the folder.
-use Rattle.std.specs.Prelude.{◌≡◌, ℕ, List, [], ◌∷◌, ◌++◌}
+use Rattle.std.specs.Prelude.{◌≡◌, ℕ, List, [], ◌∷◌, ◌++◌, codes}
 use Rattle.world.specs.declared.entry.Entry.{Entry}
 use Rattle.world.specs.declared.entry.Entry.TheVariants.{Created, Wrote, Synced, Renamed, DirSynced}
 use Rattle.world.specs.declared.did.Did.TheVariants.{Done}
 use Rattle.world.specs.Disk.{folder_of}
+
+-- the file that a save writes first, beside the output
+abbrev pub temporary_of : List ℕ → List ℕ
+temporary_of output = output ++ codes ".nbrun-tmp"
 
 -- the file was created and these bytes were written to it, each call done and none between
 pub data Writes (path : List ℕ) (before : List Entry) : List ℕ → List Entry → Type 0 where

@@ -15,7 +15,12 @@ use Rattle.world.specs.declared.put.Put.{Put}
 use Rattle.world.specs.declared.put.Put.TheVariants as put
 use Rattle.world.specs.declared.read_file.ReadFile.{ReadFile}
 use Rattle.world.specs.declared.read_file.ReadFile.TheVariants as found
+use Rattle.world.specs.Moments.{Told}
 pub use Rattle.world.specs.Moments.{Tells}
+
+-- where a world tells its journal after calls, it told it before them, and the two are related so
+abbrev pub Between : {W : Type 0} → (W → Option (List Entry)) → W → W → (List Entry → List Entry → Type 0) → Type 0
+Between journal old new R = Told (journal old) (journal new) R
 
 -- where a world tells its journal after a call, it told it before, and has this one entry more
 abbrev pub Adds : {W : Type 0} → (W → Option (List Entry)) → W → W → Entry → Type 0
