@@ -12,14 +12,14 @@ abbrev pub text_for : List ℕ → Option (List ℕ)
 text_for word = if bytes_eq word (codes "--help") then Some HELP.now else if bytes_eq word (codes "--version") then Some VERSION.now else None
 
 -- the text that is printed in place of a run with these words: there is one where they are one word
-abbrev pub printed : List (List ℕ) → Option (List ℕ)
-printed [] = None
-printed (word ∷ []) = text_for word
-printed (word ∷ other ∷ words) = None
+abbrev pub text_to_print : List (List ℕ) → Option (List ℕ)
+text_to_print [] = None
+text_to_print (word ∷ []) = text_for word
+text_to_print (word ∷ other ∷ words) = None
 
 -- no text is printed for these words: they are those of a run
 abbrev pub IsRun : List (List ℕ) → Type 0
-IsRun words = printed words ≡ None
+IsRun words = text_to_print words ≡ None
 
 -- the entries of a printed text by the status: it was said whole, or up to a say that failed
 pub data Prints (text : List ℕ) (before : List Entry) : ℕ → List Entry → Type 0 where

@@ -53,8 +53,9 @@ not read, 4 no notebook, 5 kernel spec refused or no translator for parameters,
 ";
 
 /// What is printed in place of a run, where `--help` or `--version` is the only word.
-pub(crate) fn printed(words: &[String]) -> Option<&'static str>
-    ensures { option_map (λ text. text.now) result ≡ spec.printed (map string_bytes words.now) }
+pub(crate) fn text_to_print(words: &[String]) -> Option<&'static str>
+    ensures { option_map (λ text. text.now) result ≡
+        spec.text_to_print (map string_bytes words.now) }
 {
     match words {
         [word] => text_for(word.as_str()),

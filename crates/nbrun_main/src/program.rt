@@ -15,9 +15,9 @@ ghost use Rattle.nbrun_top.specs.Ran.{IsDelivered, IsOther, IsUntouched};
 ghost use Rattle.said_lines.specs.Speech.{heard};
 ghost use Rattle.save_disk.specs.Places.{acknowledged};
 ghost use Rattle.toy_exercise.specs.Reported.{IsOutcome};
-ghost use Rattle.nbrun_main.specs.Printed.{Prints, IsRun, printed as printed_for};
+ghost use Rattle.nbrun_main.specs.Printed.{Prints, IsRun, text_to_print as text_for_words};
 
-use crate::help::printed;
+use crate::help::text_to_print;
 use crate::printing::print;
 use crate::toys::Toys;
 use batch_run::Limits;
@@ -76,9 +76,9 @@ fn not_given(kind: ErrorKind) -> u8
 /// say their text where they stand alone, and all other words are those of a run.
 pub fn run_words<W: World>(alloc: Global, words: &[String], here: Text, w: &mut W) -> u8
     // The text is said whole with status 0, or else a say has failed and the status is 11.
-    ensures printed { (text : Plain ℕ) → printed_for (texts words.now) ≡ Some text →
+    ensures printed { (text : Plain ℕ) → text_for_words (texts words.now) ≡ Some text →
         Between W.journal w.old w.new (λ before. Prints text before result) }
-    ensures printed_status { (text : Plain ℕ) → printed_for (texts words.now) ≡ Some text →
+    ensures printed_status { (text : Plain ℕ) → text_for_words (texts words.now) ≡ Some text →
         (result ≡ 0) ⊎ (result ≡ 11) }
 
     // Words that execute nothing: each status has its cause, with all that was asked of the world
@@ -157,7 +157,7 @@ pub fn run_words<W: World>(alloc: Global, words: &[String], here: Text, w: &mut 
     ensures waits { IsRun (texts words.now) → WaitsAtMost W.counts w.old w.new (2 ^ 40) }
     ensures heard { IsRun (texts words.now) → result ≡ 0 → SayRose W.counts w.old w.new → ⊥ }
 {
-    match printed(words) {
+    match text_to_print(words) {
         Some(text) => print(w, text.as_bytes()),
         None => run(alloc, words, &Limits::usual(here), &Toys, w),
     }

@@ -96,7 +96,7 @@ fn what_is_no_program_can_not_be_started(rt: HostRuntime) -> Result<(), Fail> {
 }
 
 /// What a script that has these variables writes into a file.
-fn written(rt: &HostRuntime, script: &str, env: &Fields) -> Result<String, Fail>
+fn text_written_by(rt: &HostRuntime, script: &str, env: &Fields) -> Result<String, Fail>
     requires { AllStrings env.now }
 {
     let mut w = real_world(rt)?;
@@ -117,11 +117,11 @@ fn written(rt: &HostRuntime, script: &str, env: &Fields) -> Result<String, Fail>
 fn a_child_knows_who_started_it(rt: HostRuntime) -> Result<(), Fail> {
     let ours = format!(in rt.alloc(); "{}\n", process::id(rt.process()))?;
     let none = Fields::new(rt.alloc());
-    let told = written(&rt, "echo $JPY_PARENT_PID > written", &none)?;
+    let told = text_written_by(&rt, "echo $JPY_PARENT_PID > written", &none)?;
     assert_eq!(rt; told.as_str(), ours.as_str());
     let streams = "for i in 0 1 2; do s=\"$s $(readlink /proc/$$/fd/$i)\"; done; \
         echo $s > written";
-    let null = written(&rt, streams, &none)?;
+    let null = text_written_by(&rt, streams, &none)?;
     assert_eq!(rt; null.as_str(), "/dev/null /dev/null /dev/null\n");
     Ok(())
 }
@@ -135,7 +135,7 @@ fn the_variables_of_a_kernel_spec_go_over_ours(rt: HostRuntime) -> Result<(), Fa
     let parent = (text(&rt, "JPY_PARENT_PID")?, Json::Str(text(&rt, "none")?));
     let env = Fields::of_vec(vec![in rt.alloc(); colour, parent]?);
     let script = "echo \"$KERNEL_COLOUR, $JPY_PARENT_PID\" > written";
-    let told = written(&rt, script, &env)?;
+    let told = text_written_by(&rt, script, &env)?;
     assert_eq!(rt; told.as_str(), "dark red, none\n");
     Ok(())
 }

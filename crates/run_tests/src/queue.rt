@@ -176,11 +176,11 @@ impl Queue {
 
     /// Whether all that is due was handed out.
     pub(crate) fn is_dry(&self) -> bool {
-        self.due().is_empty()
+        self.rest().is_empty()
     }
 
     // What is due and wasn't handed out.
-    fn due(&self) -> &[u8]
+    fn rest(&self) -> &[u8]
         ensures { result.now ≡ drop self.now.given self.now.octets }
     {
         if self.octets.len() <= self.given {
@@ -214,7 +214,7 @@ impl Queue {
         ensures octets { take result buf.new ≡ take (length buf.old)
             (drop self.now.given self.now.octets) }
     {
-        let due = self.due();
+        let due = self.rest();
         let count = due.len().min(buf.len());
         buf[..count].copy_from_slice(&due[..count]);
         count
@@ -225,6 +225,6 @@ impl Queue {
         ensures { (room : ℕ) → 0 < room → result ≡ is_something (handing room
             (drop self.now.given self.now.octets) self.now.is_over) }
     {
-        !self.due().is_empty() || self.is_over
+        !self.rest().is_empty() || self.is_over
     }
 }

@@ -23,7 +23,7 @@ use Rattle.job_end.specs.declared.answer.Answer.{Answer}
 use Rattle.save_course.specs.Course.{IsRested}
 use Rattle.words.specs.declared.ask.Ask.{Ask}
 use Rattle.world.specs.declared.entry.Entry.{Entry}
-use Rattle.world.specs.Counts.{Counts}
+use Rattle.world.specs.Counts.{Counts, no_counts}
 use Rattle.world.specs.Moments.{Told}
 use Rattle.world.proofs.MomentsLemmas.{told_as}
 use Rattle.world_mem.specs.declared.near.Near.{Near}
@@ -33,7 +33,7 @@ use Rattle.world_mem.specs.Store.{files_of}
 use Rattle.toy_exercise.specs.declared.tally.Tally.{Tally}
 use Rattle.toy_exercise.specs.Counted.{AreNumbers}
 use Rattle.toy_exercise.specs.Exercise.{ask, output, IsOpened}
-use Rattle.toy_exercise.specs.Exercised.{no_counts, HasRun, IsTally, IsWhole}
+use Rattle.toy_exercise.specs.Exercised.{HasRun, IsTally, IsWhole}
 
 -- a job alone has no other beside it
 pub alone : (a : Ask) → IsApart (a ∷ []) 0 a

@@ -4,16 +4,12 @@ use Rattle.batch_run.specs.Batch.{Makes, LeavesOthers}
 use Rattle.toy_exercise.specs.Counted.{AreNumbers}
 use Rattle.toy_exercise.specs.Exercise.{ask, output, IsOpened}
 use Rattle.toy_exercise.specs.declared.tally.Tally.{Tally}
-use Rattle.world.specs.Counts.{Counts}
+use Rattle.world.specs.Counts.{no_counts}
 use Rattle.world.specs.declared.entry.Entry.{Entry}
 use Rattle.world_mem.specs.declared.near.Near.{Near}
 use Rattle.world_mem.specs.Folder.{file_at}
 use Rattle.world_mem.specs.Near.{journal_of, counts_of}
 use Rattle.world_mem.specs.Store.{files_of}
-
--- the counts at the start
-abbrev pub no_counts : Counts
-no_counts = record { disk = 0; net = 0; waits = 0; child = 0; rand = 0; say = 0; last = 0 }
 
 -- the journal of a world is told, and no memory was refused to it
 pub record IsWhole (near : Near) : Type 0 where

@@ -11,7 +11,7 @@ use words::Ask;
 
 /// How many cells and outputs the notebook in a file has: none where there is no file, or none with
 /// a notebook in it.
-pub(crate) fn counted(
+pub(crate) fn numbers_in_file(
     alloc: Global,
     ask: &Ask,
     file: Option<&Bytes>,
@@ -21,12 +21,12 @@ pub(crate) fn counted(
         spec.AreNumbers (option_map (λ bytes. bytes.now) file.entry) r.0 r.1) }
 {
     match file {
-        Some(bytes) => counted_in(alloc, ask, bytes),
+        Some(bytes) => numbers_in_bytes(alloc, ask, bytes),
         None => Ok((0, 0)),
     }
 }
 
-fn counted_in(alloc: Global, ask: &Ask, bytes: &Bytes) -> Result<(u64, u64), NoMemory>
+fn numbers_in_bytes(alloc: Global, ask: &Ask, bytes: &Bytes) -> Result<(u64, u64), NoMemory>
     requires asked { ask.now ≡ wanted }
     ensures { IfOk result (λ r. spec.AreNumbers (Some bytes.now) r.0 r.1) }
 {

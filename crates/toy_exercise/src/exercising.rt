@@ -9,7 +9,7 @@ ghost use Rattle.world_mem.specs.Store.{files_of};
 ghost use Rattle.toy_exercise.specs.Counted.{AreNumbers};
 ghost use Rattle.toy_exercise.specs.Exercised.{HasRun, IsTally, IsWhole};
 
-use crate::counting::counted;
+use crate::counting::numbers_in_file;
 use crate::opening::exercise_world;
 use crate::tally::Tally;
 use crate::usual::{OUTPUT, usual_ask};
@@ -27,7 +27,7 @@ const MOST_TURNS: u64 = 1_000_000;
 
 /// Opens the world of an exercise of `n` cells and runs its job there with at most that many waits,
 /// and never with more than a million.
-pub fn exercised(alloc: Global, n: u32, turns: u64) -> Result<Tally, NoMemory>
+pub fn run_exercise(alloc: Global, n: u32, turns: u64) -> Result<Tally, NoMemory>
     requires few { n ≤ 200 }
     ensures { IfOk result (IsTally n) }
 {
@@ -41,7 +41,7 @@ pub fn exercise(alloc: Global, n: u32, turns: u64, v: &mut MemWorld<Toy>) -> Res
     requires opened { spec.IsOpened n v.old.near }
     ensures { IfOk result (HasRun v.new.near) }
 {
-    match answered(alloc, turns, v) {
+    match answer_of_run(alloc, turns, v) {
         Ok(answer) => tally(alloc, answer, v),
         Err(refused) => Err(refused),
     }
@@ -59,7 +59,7 @@ fn tally(alloc: Global, answer: Answer, v: &MemWorld<Toy>) -> Result<Tally, NoMe
     }
     let path = Text::of(alloc, OUTPUT)?;
     let ask = usual_ask(alloc)?;
-    let (cells, outputs) = counted(alloc, &ask, v.file(&path))?;
+    let (cells, outputs) = numbers_in_file(alloc, &ask, v.file(&path))?;
     Ok(Tally {
         cells,
         outputs,
@@ -78,7 +78,7 @@ fn is_whole(v: &MemWorld<Toy>) -> bool
 }
 
 // How the job ends that is run over a world with so many waits.
-fn answered<W: World>(alloc: Global, turns: u64, w: &mut W) -> Result<Answer, NoMemory>
+fn answer_of_run<W: World>(alloc: Global, turns: u64, w: &mut W) -> Result<Answer, NoMemory>
     ensures job { IfOk result (λ answer. Told (W.journal w.old) (W.journal w.new)
         (λ before after. IsRested spec.output before →
         Makes spec.ask (Some answer) (W.counts w.old) (W.counts w.new) before after)) }

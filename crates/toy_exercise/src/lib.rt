@@ -9,7 +9,7 @@ mod reporting;
 mod tally;
 mod usual;
 
-pub use exercising::{exercise, exercised};
+pub use exercising::{exercise, run_exercise};
 pub use opening::exercise_world;
 pub use reporting::outcome;
 pub use tally::Tally;

@@ -3,7 +3,7 @@ ghost use Rattle.std.specs.Prelude.{◌≡◌, ◌≤◌, ◌++◌, codes, strin
 ghost use Rattle.std.specs.Fmt.{decimal};
 ghost use Rattle.toy_exercise.specs.Reported as spec;
 
-use crate::exercising::exercised;
+use crate::exercising::run_exercise;
 use crate::tally::Tally;
 use job_end::Answer;
 use jtext::{Bytes, NoMemory};
@@ -16,7 +16,7 @@ pub fn outcome(alloc: Global, n: u32, turns: u64) -> Result<Answer, NoMemory>
     requires few { n ≤ 200 }
     ensures { IfOk result (spec.IsOutcome n) }
 {
-    let tally = exercised(alloc, n, turns)?;
+    let tally = run_exercise(alloc, n, turns)?;
     let line = line(alloc, n, &tally)?;
     Ok(Answer {
         status: tally.answer.status,

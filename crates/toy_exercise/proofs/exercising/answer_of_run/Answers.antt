@@ -1,6 +1,6 @@
 use Rattle.toy_exercise.specs.Exercise.{ask}
 use Rattle.toy_exercise.proofs.RunLemmas.{one_ask, one_job}
-use Rattle.toy_exercise.proofs.exercising.answered.Goals as goal
+use Rattle.toy_exercise.proofs.exercising.answer_of_run.Goals as goal
 
 pub returns-clause-job : goal.returns-clause-job
 returns-clause-job g c =

@@ -1,6 +1,6 @@
 use Rattle.std.proofs.Common.{◌∙◌, refl}
 use Rattle.toy_exercise.proofs.CountLemmas.{counted_so, refused_so}
-use Rattle.toy_exercise.proofs.counting.counted_in.Goals as goal
+use Rattle.toy_exercise.proofs.counting.numbers_in_bytes.Goals as goal
 
 pub returns-in-Ok : goal.returns-in-Ok
 returns-in-Ok c = counted_so _ _ _ _ _ c.requires.asked (c.in_ok-bytes.ensures ∙ c.bytes.ensures) c.in-Ok.ensures.ok c.numbers.ensures
