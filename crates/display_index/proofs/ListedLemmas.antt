@@ -1,10 +1,12 @@
 -- Every id stays held for the cells of its places.
-use Rattle.std.proofs.Common.{◌≡◌, ◌==◌, ℕ, Bool, true, false, cond, not, ◌&&◌, ◌||◌, List, [], ◌∷◌, ◌++◌, refl, sym, ◌∙◌, ap, eqb-true, arith, ◌⊎◌, inl, inr, Result, Ok, Err, ◌+◌, ◌<◌, length, take, get_or}
+use Rattle.std.proofs.Common.{◌≡◌, ◌==◌, ℕ, Bool, true, false, cond, not, ◌||◌, List, [], ◌∷◌, ◌++◌, refl, sym, ◌∙◌, ap, eqb-true, arith, ◌⊎◌, inl, inr, Result, Ok, Err, ◌+◌, ◌<◌, length, take, get_or}
 use Rattle.std.specs.List.{list_any, list_all}
 use Rattle.std.specs.Result.{OnOk, OnErr}
 use Rattle.std.specs.Str.{bytes_eq}
 use Rattle.std.proofs.lemmas.List.{take_more}
 use Rattle.std.proofs.lemmas.Slice.Eq.{bytes_eq-Decides}
+use Rattle.std.proofs.lemmas.Bool.{and_parts, and_from, or_left, or_right, eq-eqb, false≢true}
+use Rattle.std.proofs.Math.Bool.{or-false, or_assoc}
 use Rattle.display_index.specs.declared.place.Place.{Place}
 use Rattle.display_index.specs.declared.by_id.ById.{ById}
 use Rattle.display_index.specs.declared.by_cell.ByCell.{ByCell}
@@ -12,33 +14,17 @@ use Rattle.display_index.specs.Listed.{places_at, ids_at, is_listed, AreListed, 
 
 -- ---- tests over lists
 
-and_parts : (a b : Bool) → (a && b) ≡ true → (a ≡ true) × (b ≡ true)
-and_parts true b e = (refl, e)
-and_parts false b e = cc
-
-and_made : (a b : Bool) → a ≡ true → b ≡ true → (a && b) ≡ true
-and_made true b e f = f
-and_made false b e f = cc
-
-or_left : (a b : Bool) → a ≡ true → (a || b) ≡ true
-or_left true b e = refl
-or_left false b e = cc
-
-or_right : (a b : Bool) → b ≡ true → (a || b) ≡ true
-or_right true b e = refl
-or_right false b e = e
-
-all-more : {A : Type 0} (f g : A → Bool) → ((x : A) → f x ≡ true → g x ≡ true) → (xs : List A) → list_all f xs ≡ true → list_all g xs ≡ true
+pub all-more : {A : Type 0} (f g : A → Bool) → ((x : A) → f x ≡ true → g x ≡ true) → (xs : List A) → list_all f xs ≡ true → list_all g xs ≡ true
 all-more f g h [] e = refl
 all-more f g h (x ∷ xs) e =
     let parts = and_parts (f x) (list_all f xs) e in
-    and_made (g x) (list_all g xs) (h x parts.0) (all-more f g h xs parts.1)
+    and_from (g x) (list_all g xs) (h x parts.0) (all-more f g h xs parts.1)
 
 all-snoc : {A : Type 0} (f : A → Bool) (xs : List A) (x : A) → list_all f xs ≡ true → f x ≡ true → list_all f (xs ++ x ∷ []) ≡ true
-all-snoc f [] x e h = and_made (f x) true h refl
+all-snoc f [] x e h = and_from (f x) true h refl
 all-snoc f (y ∷ ys) x e h =
     let parts = and_parts (f y) (list_all f ys) e in
-    and_made (f y) (list_all f (ys ++ x ∷ [])) parts.0 (all-snoc f ys x parts.1 h)
+    and_from (f y) (list_all f (ys ++ x ∷ [])) parts.0 (all-snoc f ys x parts.1 h)
 
 any_by : {A : Type 0} (f : A → Bool) (x : A) (xs ys : List A) (b : Bool) → f x ≡ b → (b || list_any f xs) ≡ true → (list_any f xs ≡ true → list_any f (xs ++ ys) ≡ true) → (b || list_any f (xs ++ ys)) ≡ true
 any_by f x xs ys true e h more = refl
@@ -69,9 +55,6 @@ any-all n h (p ∷ ps) e f =
 still_by : (b : Bool) (f : List ℕ → Bool) (xs : List (List ℕ)) (id : List ℕ) → list_any f xs ≡ true → list_any f (cond b (xs ++ id ∷ []) xs) ≡ true
 still_by true f xs id e = any-before f xs (id ∷ []) e
 still_by false f xs id e = e
-
-eqb-same : (n : ℕ) → (n == n) ≡ true
-eqb-same n = grind arith
 
 listed_place : (cells : ByCell) (ids : ById) (id : List ℕ) (place : Place)
     → (list_any (λ p. p.cell == place.cell) (places_at ids id) ≡ true) ⊎ (list_any (λ x. bytes_eq x id) (ids_at cells place.cell) ≡ true)
@@ -118,7 +101,7 @@ listed-tried (Err e) cells ids ids' id place here ok err h = listed-same cells i
 pub listed-new : (cells cells' : ByCell) (cell : ℕ) (id : List ℕ)
     → ((other : ℕ) → ids_at cells' other ≡ cond (cell == other) (ids_at cells other ++ id ∷ []) (ids_at cells other))
     → list_any (λ x. bytes_eq x id) (ids_at cells' cell) ≡ true
-listed-new cells cells' cell id c = rw (c cell, eqb-same cell) (any-last (λ x. bytes_eq x id) (ids_at cells cell) id ((bytes_eq-Decides id id).1 refl))
+listed-new cells cells' cell id c = rw (c cell, eq-eqb cell cell refl) (any-last (λ x. bytes_eq x id) (ids_at cells cell) id ((bytes_eq-Decides id id).1 refl))
 
 pub listed-kept : (cells cells' : ByCell) (cell : ℕ) (id : List ℕ)
     → ((other : ℕ) → ids_at cells' other ≡ cond (cell == other) (ids_at cells other ++ id ∷ []) (ids_at cells other))
@@ -131,11 +114,8 @@ listed-unchanged cells cells' c other p e = rw (c p.cell) e
 
 -- ---- a cell is cleared
 
-impossible : false ≡ true → ⊥
-impossible e = cc
-
 outside_same_by : (cell : ℕ) (h : ℕ → Bool) (p : Place) (ps : List Place) (b : Bool) → (p.cell == cell) ≡ b → h cell ≡ false → h p.cell ≡ true → outside cell ps ≡ ps → outside cell (p ∷ ps) ≡ p ∷ ps
-outside_same_by cell h p ps true e none here rest = absurd (impossible (sym none ∙ ap h (sym (eqb-true p.cell cell e)) ∙ here))
+outside_same_by cell h p ps true e none here rest = absurd (false≢true (sym none ∙ ap h (sym (eqb-true p.cell cell e)) ∙ here))
 outside_same_by cell h p ps false e none here rest = rw e (ap (λ qs. p ∷ qs) rest)
 
 outside-same : (cell : ℕ) (h : ℕ → Bool) (ps : List Place) → h cell ≡ false → list_all (λ p. h p.cell) ps ≡ true → outside cell ps ≡ ps
@@ -166,7 +146,7 @@ all_outside_by : (cell : ℕ) (h h' : ℕ → Bool) → ((n : ℕ) → (cell == 
     → h p.cell ≡ true → list_all (λ q. h' q.cell) (outside cell ps) ≡ true → list_all (λ q. h' q.cell) (outside cell (p ∷ ps)) ≡ true
 all_outside_by cell h h' same p ps true e here rest = rw e rest
 all_outside_by cell h h' same p ps false e here rest =
-    rw e (and_made (h' p.cell) (list_all (λ (q : Place). h' q.cell) (outside cell ps)) (same p.cell (differ p.cell cell e) ∙ here) rest)
+    rw e (and_from (h' p.cell) (list_all (λ (q : Place). h' q.cell) (outside cell ps)) (same p.cell (differ p.cell cell e) ∙ here) rest)
 
 all-outside : (cell : ℕ) (h h' : ℕ → Bool) → ((n : ℕ) → (cell == n) ≡ false → h' n ≡ h n) → (ps : List Place)
     → list_all (λ p. h p.cell) ps ≡ true → list_all (λ p. h' p.cell) (outside cell ps) ≡ true
@@ -198,17 +178,9 @@ cleared-more cell true false ps = refl
 cleared-more cell false true ps = refl
 cleared-more cell false false ps = refl
 
-last_any : (b : Bool) → (b || false) ≡ (false || b)
-last_any true = refl
-last_any false = refl
-
-or_assoc : (a b c : Bool) → (a || (b || c)) ≡ ((a || b) || c)
-or_assoc true b c = refl
-or_assoc false b c = refl
-
-any-snoc : {A : Type 0} (f : A → Bool) (xs : List A) (x : A) → list_any f (xs ++ x ∷ []) ≡ (list_any f xs || f x)
-any-snoc f [] x = last_any (f x)
-any-snoc f (y ∷ ys) x = ap (λ b. f y || b) (any-snoc f ys x) ∙ or_assoc (f y) (list_any f ys) (f x)
+pub any-snoc : {A : Type 0} (f : A → Bool) (xs : List A) (x : A) → list_any f (xs ++ x ∷ []) ≡ (list_any f xs || f x)
+any-snoc f [] x = or-false (f x)
+any-snoc f (y ∷ ys) x = ap (λ b. f y || b) (any-snoc f ys x) ∙ sym (or_assoc (f y) (list_any f ys) (f x))
 
 pub cleared-next : {A : Type 0} (cell : ℕ) (f : A → Bool) (xs : List A) (i : ℕ) (x : A) (was now next : List Place) → i < length xs → x ≡ get_or xs i x
     → now ≡ cond (list_any f (take i xs)) (outside cell was) was → next ≡ cond (f x) (outside cell now) now

@@ -1,19 +1,12 @@
 -- The places that stand after one more call.
 use Rattle.std.proofs.Common.{◌≡◌, ◌==◌, ℕ, Bool, true, false, cond, not, ◌&&◌, List, [], ◌∷◌, ◌++◌, refl, sym, ◌∙◌, ap, append-nil}
 use Rattle.std.specs.Str.{bytes_eq}
+use Rattle.std.proofs.Math.Bool.{and-true, and_assoc}
 use Rattle.display_index.specs.declared.place.Place.{Place}
 use Rattle.display_index.specs.Standing.{Call, stays, standing}
 use Rattle.display_index.specs.Standing.Call.{added, cleared}
 use Rattle.display_index.specs.declared.by_id.ById.{ById}
 use Rattle.display_index.specs.Listed.{places_at, outside}
-
-and_true : (b : Bool) → (b && true) ≡ b
-and_true true = refl
-and_true false = refl
-
-and_assoc : (a b c : Bool) → (a && (b && c)) ≡ ((a && b) && c)
-and_assoc true b c = refl
-and_assoc false b c = refl
 
 stays-added : (p : Place) (calls : List Call) (id : List ℕ) (q : Place) → stays p (calls ++ added id q ∷ []) ≡ stays p calls
 stays-added p [] id q = refl
@@ -21,10 +14,10 @@ stays-added p (added other r ∷ rest) id q = stays-added p rest id q
 stays-added p (cleared cell ∷ rest) id q = ap (λ b. not (p.cell == cell) && b) (stays-added p rest id q)
 
 stays-cleared : (p : Place) (calls : List Call) (c : ℕ) → stays p (calls ++ cleared c ∷ []) ≡ (stays p calls && not (p.cell == c))
-stays-cleared p [] c = and_true (not (p.cell == c))
+stays-cleared p [] c = and-true (not (p.cell == c))
 stays-cleared p (added other r ∷ rest) c = stays-cleared p rest c
 stays-cleared p (cleared cell ∷ rest) c =
-    ap (λ b. not (p.cell == cell) && b) (stays-cleared p rest c) ∙ and_assoc (not (p.cell == cell)) (stays p rest) (not (p.cell == c))
+    ap (λ b. not (p.cell == cell) && b) (stays-cleared p rest c) ∙ sym (and_assoc (not (p.cell == cell)) (stays p rest) (not (p.cell == c)))
 
 alone : (b : Bool) (p : Place) → cond (b && true) (p ∷ []) [] ≡ [] ++ cond b (p ∷ []) []
 alone true p = refl

@@ -1,4 +1,4 @@
-use Rattle.display_index.proofs.Answered.{on_ok}
+use Rattle.std.proofs.lemmas.Result.{on_ok_weaker}
 use Rattle.display_index.proofs.ListedLemmas.{listed-more, listed-tried}
 use Rattle.display_index.proofs.StandingLemmas.{added-stands}
 use Rattle.display_index.proofs.index.Index.add.Goals as goal
@@ -19,4 +19,4 @@ invariant_of-self-2 c =
 
 pub returns-clause-ok : goal.returns-clause-ok
 returns-clause-ok c =
-    on_ok c.add.result (λ h. λ calls s. added-stands c.args.self.now.by_id c.add.new.self c.args.id.now c.args.place h calls s) c.add.ensures.ok
+    on_ok_weaker c.add.result (λ h. λ calls s. added-stands c.args.self.now.by_id c.add.new.self c.args.id.now c.args.place h calls s) c.add.ensures.ok
