@@ -23,9 +23,9 @@ use Rattle.jcontent.specs.declared.content.Content.TheVariants as content
 use Rattle.jcontent.specs.declared.reply.ReplyIs.TheVariants as reply
 use Rattle.jcontent.specs.declared.shown.Shown.{Shown}
 use Rattle.jcontent.specs.Bundle.{pairs, bundle, bundle_at}
-use Rattle.jcontent.specs.Contents.{status, status_of, stream, stream_of, object, object_or_empty, metadata, display_id_in, display_id, shown_of, shown, display, display_of, update, update_of, outcome, outcome_of, error, error_of, named_by, raised, raised_by, reply_of, execute_reply, output, content_of}
+use Rattle.jcontent.specs.Contents.{status, status_of, stream, stream_of, object, object_or_empty, metadata, display_id_in, display_id, shown_of, shown_data, display, display_of, update, update_of, outcome, outcome_of, error, error_of, named_by, error_reply, raised_by, reply_of, execute_reply, output, content_of}
 use Rattle.jcontent.specs.IsRead.{IsInner, IsShown, IsCount, IsRead}
-use Rattle.jcontent.specs.Texts.{text_of, texts, texts_at, whole, count, is_true_at}
+use Rattle.jcontent.specs.Texts.{text_of, texts, texts_at, whole_number, count, is_true_at}
 use Rattle.jcontent.proofs.ReadTrees.{string_utf8, items_utf8, inner_field}
 
 -- ---- parts
@@ -71,7 +71,7 @@ texts_at_utf8 key t h = chained IsInner (λ ls. All IsUtf8 ls) texts texts_utf8 
 
 -- ---- counts
 
-whole_count : (o : Option (List ℕ)) → IsCount (whole o)
+whole_count : (o : Option (List ℕ)) → IsCount (whole_number o)
 whole_count None = refl
 whole_count (Some s) = kept (is_whole_text s) refl
   where
@@ -133,7 +133,7 @@ shown_by (Some ps) None id a b c = tt
 shown_by (Some ps) (Some m) id a b c =
     record { bundle = a.0; values = a.1; object = b.0; metadata = b.1; id = c }
 
-shown_is : (t : Json) → IsWhole t → IfSome (shown t) IsShown
+shown_is : (t : Json) → IsWhole t → IfSome (shown_data t) IsShown
 shown_is t h = shown_by (bundle_at t) (metadata t) (display_id t) (bundle_at_is_data t h) (metadata_is_about t h) (display_id_utf8 t h)
 
 -- ---- contents by their types
@@ -177,7 +177,7 @@ raised_read (Some v) h = named_read (string v) (string_utf8 v h.sound)
 reply_read : (t : Json) → IsWhole t → (o : Option (List ℕ)) → IsRead (reply_of t o)
 reply_read t h None = tt
 reply_read t h (Some status) =
-    chosen (bytes_eq status (codes "error")) (raised t) (content.ExecReply reply.Fine)
+    chosen (bytes_eq status (codes "error")) (error_reply t) (content.ExecReply reply.Fine)
     (λ e. raised_read (field t (codes "ename")) (at (codes "ename") t h)) tt
 
 output_read : (kind : List ℕ) (t : Json) → IsWhole t → IsRead (output kind t)
@@ -185,11 +185,11 @@ output_read kind t h =
     chosen (bytes_eq kind (codes "stream")) (stream t) (if bytes_eq kind (codes "display_data") then display t else if bytes_eq kind (codes "update_display_data") then update t else if bytes_eq kind (codes "execute_result") then outcome t else if bytes_eq kind (codes "error") then error t else content.Other)
     (λ e. stream_read (string_at t (codes "name")) (string_at t (codes "text")) (string_at_utf8 (codes "name") t h) (string_at_utf8 (codes "text") t h))
     (chosen (bytes_eq kind (codes "display_data")) (display t) (if bytes_eq kind (codes "update_display_data") then update t else if bytes_eq kind (codes "execute_result") then outcome t else if bytes_eq kind (codes "error") then error t else content.Other)
-    (λ e. display_read (shown t) (shown_is t h))
+    (λ e. display_read (shown_data t) (shown_is t h))
     (chosen (bytes_eq kind (codes "update_display_data")) (update t) (if bytes_eq kind (codes "execute_result") then outcome t else if bytes_eq kind (codes "error") then error t else content.Other)
-    (λ e. update_read (shown t) (shown_is t h))
+    (λ e. update_read (shown_data t) (shown_is t h))
     (chosen (bytes_eq kind (codes "execute_result")) (outcome t) (if bytes_eq kind (codes "error") then error t else content.Other)
-    (λ e. outcome_read (shown t) (count t) (shown_is t h) (whole_count (number_at t (codes "execution_count"))))
+    (λ e. outcome_read (shown_data t) (count t) (shown_is t h) (whole_count (number_at t (codes "execution_count"))))
     (chosen (bytes_eq kind (codes "error")) (error t) content.Other
     (λ e. error_read (string_at t (codes "ename")) (string_at t (codes "evalue")) (texts_at t (codes "traceback")) (string_at_utf8 (codes "ename") t h) (string_at_utf8 (codes "evalue") t h) (texts_at_utf8 (codes "traceback") t h))
     tt))))

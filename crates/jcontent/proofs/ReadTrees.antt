@@ -1,5 +1,5 @@
 -- The values under the keys of a tree: as the tree, no key twice, sound, and less deep.
-use Rattle.std.proofs.Common.{◌≡◌, ℕ, ◌<◌, ◌≤◌, false, List, [], ◌∷◌, map, Option, Some, None, refl, sym, ap, ◌∙◌, inl, inr, subst, arith}
+use Rattle.std.proofs.Common.{◌≡◌, ℕ, ◌<◌, ◌≤◌, List, [], ◌∷◌, map, Option, Some, None, refl, sym, ap, ◌∙◌, inl, inr, subst, arith}
 use Rattle.std.specs.List.{AllByRecursion}
 use Rattle.std.specs.Prelude.{unwrap_or}
 use Rattle.std.specs.Option.{IfSome}
@@ -10,13 +10,13 @@ use Rattle.jtext.specs.declared.json.Json.{Json, out-Json}
 use Rattle.jtext.specs.declared.json.Json.TheOpen.{Json-F}
 use Rattle.jtext.specs.declared.json.Json.TheVariants as json
 use Rattle.jtext.specs.Depth.{depth}
-use Rattle.jtext.specs.Find.{find, field, fields, fields_of}
+use Rattle.jtext.specs.Find.{find, field, fields}
 use Rattle.jtext.specs.Keyed.{Keyed, PairsKeyed}
-use Rattle.jtext.specs.Look.{is_object, is_object_layer, is_list, is_list_layer, items, items_layer, string}
+use Rattle.jtext.specs.Look.{is_object, is_list, items, string}
 use Rattle.jtext.specs.Sound as sound
 use Rattle.jtext.specs.Sound.{Sound, AllSound, PairsSound}
 use Rattle.jtext.proofs.Depths.{depth-Obj, pairs-all}
-use Rattle.jtext.proofs.Trees.{object_is, list_is, text_is, open_Null, open_Bool, open_Num, open_Str, open_Arr, open_Obj, as_array, as_object, same_items, same_pairs, pairs_keyed, pair_keyed}
+use Rattle.jtext.proofs.Trees.{object_is, list_is, text_is, open_Null, open_Bool, open_Num, open_Str, open_Arr, open_Obj, as_array, as_object, same_items, same_pairs, pairs_keyed, pair_keyed, no_items, no_fields}
 use Rattle.jcontent.specs.IsRead.{IsInner}
 use Rattle.jcontent.specs.Texts.{text_of}
 
@@ -76,14 +76,6 @@ texts_utf8 : (xs : List Json) → AllSound xs → AllByRecursion IsUtf8 (map tex
 texts_utf8 [] all = tt
 texts_utf8 (x ∷ xs) all = let h = first_sound x xs all in (or_empty (string x) (string_utf8 x h.0), texts_utf8 xs h.1)
 
-no_items : (l : Json-F Json) → is_list_layer l ≡ false → items_layer l ≡ []
-no_items Json-F.Null e = refl
-no_items (Json-F.Bool b) e = refl
-no_items (Json-F.Num s) e = refl
-no_items (Json-F.Str s) e = refl
-no_items (Json-F.Arr xs) e = cc
-no_items (Json-F.Obj ps) e = refl
-
 sound_items : (t : Json) → Sound t → AllSound (items t)
 sound_items t s =
     elim (cases_Bool (is_list t)) [
@@ -96,14 +88,6 @@ pub items_utf8 : (t : Json) → Sound t → AllByRecursion IsUtf8 (map text_of (
 items_utf8 t s = texts_utf8 (items t) (sound_items t s)
 
 -- ---- values under keys
-
-no_fields : (l : Json-F Json) → is_object_layer l ≡ false → fields_of l ≡ []
-no_fields Json-F.Null e = refl
-no_fields (Json-F.Bool b) e = refl
-no_fields (Json-F.Num s) e = refl
-no_fields (Json-F.Str s) e = refl
-no_fields (Json-F.Arr xs) e = refl
-no_fields (Json-F.Obj ps) e = cc
 
 inner_pairs : (ps : List (List ℕ × Json)) → PairsKeyed ps → PairsSound ps → AllByRecursion (λ p. depth p.1 ≤ 99) ps → AllByRecursion (λ p. IsInner p.1) ps
 inner_pairs [] k s w = tt

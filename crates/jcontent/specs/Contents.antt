@@ -66,8 +66,8 @@ shown_of (Some pairs) None id = None
 shown_of (Some pairs) (Some about) id = Some (record { bundle = pairs; metadata = about; id = id })
 
 -- what is shown: the bundle `data`, its metadata and its display id
-abbrev pub shown : Json → Option Shown
-shown t = shown_of (bundle_at t) (metadata t) (display_id t)
+abbrev pub shown_data : Json → Option Shown
+shown_data t = shown_of (bundle_at t) (metadata t) (display_id t)
 
 -- of what is shown, if something is
 abbrev pub display_of : Option Shown → Content
@@ -76,7 +76,7 @@ display_of (Some s) = content.Display s
 
 -- `display_data`
 abbrev pub display : Json → Content
-display t = display_of (shown t)
+display t = display_of (shown_data t)
 
 -- of what is shown, if it has a display id
 abbrev pub update_of : Option Shown → Content
@@ -85,7 +85,7 @@ update_of (Some s) = if is_some s.id then content.Update s else content.Other
 
 -- `update_display_data`, which names what it updates
 abbrev pub update : Json → Content
-update t = update_of (shown t)
+update t = update_of (shown_data t)
 
 -- of what is shown, if something is, and the count
 abbrev pub outcome_of : Option Shown → Option (List ℕ) → Content
@@ -94,7 +94,7 @@ outcome_of (Some s) n = content.Outcome s n
 
 -- `execute_result`
 abbrev pub outcome : Json → Content
-outcome t = outcome_of (shown t) (count t)
+outcome t = outcome_of (shown_data t) (count t)
 
 -- of name, value and traceback, if all are there
 abbrev pub error_of : Option (List ℕ) → Option (List ℕ) → Option (List (List ℕ)) → Content
@@ -118,13 +118,13 @@ raised_by None = content.ExecReply (reply.Error [])
 raised_by (Some v) = named_by (string v)
 
 -- a reply of the status `error`: `ename` is a string, and empty where it is absent
-abbrev pub raised : Json → Content
-raised t = raised_by (field t (codes "ename"))
+abbrev pub error_reply : Json → Content
+error_reply t = raised_by (field t (codes "ename"))
 
 -- of the status, if there is one
 abbrev pub reply_of : Json → Option (List ℕ) → Content
 reply_of t None = content.Other
-reply_of t (Some status) = if bytes_eq status (codes "error") then raised t else content.ExecReply reply.Fine
+reply_of t (Some status) = if bytes_eq status (codes "error") then error_reply t else content.ExecReply reply.Fine
 
 -- `execute_reply`: the string `status`
 abbrev pub execute_reply : Json → Content

@@ -1,18 +1,8 @@
 -- Texts, flags and counts in the content of a message (Jupyter messaging 5.3).
-use Rattle.std.specs.Prelude.{ℕ, Bool, false, List, [], map, Option, Some, None, if◌then◌else◌, codes, unwrap_or, option_and_then}
+use Rattle.std.specs.Prelude.{ℕ, Bool, List, [], map, Option, Some, None, if◌then◌else◌, codes, unwrap_or, option_and_then}
 use Rattle.jtext.specs.declared.json.Json.{Json, out-Json}
-use Rattle.jtext.specs.declared.json.Json.TheOpen.{Json-F}
 use Rattle.jtext.specs.Find.{field}
-use Rattle.jtext.specs.Look.{string, items, is_strings, is_whole_text, there_and, number_at}
-
--- `true`, seen at one level
-abbrev pub is_true_layer : Json-F Json → Bool
-is_true_layer Json-F.Null = false
-is_true_layer (Json-F.Bool b) = b
-is_true_layer (Json-F.Num s) = false
-is_true_layer (Json-F.Str s) = false
-is_true_layer (Json-F.Arr xs) = false
-is_true_layer (Json-F.Obj ps) = false
+use Rattle.jtext.specs.Look.{string, items, is_strings, is_whole_text, there_and, number_at, is_true_layer}
 
 -- the value is `true`
 abbrev pub is_true : Json → Bool
@@ -35,10 +25,10 @@ abbrev pub texts_at : Json → List ℕ → Option (List (List ℕ))
 texts_at t key = option_and_then texts (field t key)
 
 -- the number, where it is whole and isn't negative
-abbrev pub whole : Option (List ℕ) → Option (List ℕ)
-whole None = None
-whole (Some s) = if is_whole_text s then Some s else None
+abbrev pub whole_number : Option (List ℕ) → Option (List ℕ)
+whole_number None = None
+whole_number (Some s) = if is_whole_text s then Some s else None
 
 -- the execution count: none where `execution_count` is absent, no number, or a number that counts nothing
 abbrev pub count : Json → Option (List ℕ)
-count t = whole (number_at t (codes "execution_count"))
+count t = whole_number (number_at t (codes "execution_count"))

@@ -56,7 +56,7 @@ fn status(alloc: Global, t: &Json) -> Result<Content, NoMemory>
     let Some(state) = text_at(alloc, t, "execution_state")? else {
         return Ok(Content::Other);
     };
-    Ok(Content::Status(State::named(state.as_str())))
+    Ok(Content::Status(State::of_name(state.as_str())))
 }
 
 fn stream(alloc: Global, t: &Json) -> Result<Content, NoMemory>

@@ -26,14 +26,14 @@ pub(crate) fn execute_reply(alloc: Global, t: &Json) -> Result<Content, NoMemory
         return Ok(Content::Other);
     };
     if status.as_str() == "error" {
-        raised(alloc, t)
+        error_reply(alloc, t)
     } else {
         Ok(Content::ExecReply(ReplyIs::Fine))
     }
 }
 
-fn raised(alloc: Global, t: &Json) -> Result<Content, NoMemory>
-    ensures { IfOk result (λ r. r ≡ contents.raised t.now) }
+fn error_reply(alloc: Global, t: &Json) -> Result<Content, NoMemory>
+    ensures { IfOk result (λ r. r ≡ contents.error_reply t.now) }
 {
     match field(t, "ename") {
         Some(Json::Str(ename)) => Ok(Content::ExecReply(ReplyIs::Error {

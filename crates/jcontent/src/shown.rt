@@ -20,7 +20,7 @@ pub struct Shown {
 
 impl Shown {
     ghost use Rattle.std.specs.Prelude.{◌≡◌, IfOk};
-    ghost use Rattle.jcontent.specs.Contents.{shown as shown_by};
+    ghost use Rattle.jcontent.specs.Contents.{shown_data as shown_by};
 
     /// What the content shows; `None` where it has no bundle, or metadata that is no object.
     pub(crate) fn of(alloc: Global, t: &Json) -> Result<Option<Shown>, NoMemory>

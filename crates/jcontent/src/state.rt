@@ -16,7 +16,7 @@ impl State {
     ghost use Rattle.jcontent.specs.Contents.{state_named};
 
     /// The state of that name.
-    pub(crate) fn named(name: &str) -> State
+    pub(crate) fn of_name(name: &str) -> State
         ensures { result ≡ state_named name.now }
     {
         if name == "busy" {
