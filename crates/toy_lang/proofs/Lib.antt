@@ -1,4 +1,3 @@
-pub mod NumberTests
 pub mod VariableSteps
 pub mod LiteralSteps
 pub mod LineSteps

@@ -2,27 +2,19 @@
 use Rattle.std.proofs.Common.{◌≡◌, ℕ, suc, ◌+◌, ◌<◌, Bool, true, false, cond, not, ◌&&◌, ◌==◌, List, [], ◌∷◌, ◌++◌, length, take, drop, Option, Some, None, refl, sym, ap, subst, ◌∙◌, arith}
 use Rattle.std.specs.Prelude.{nat_lt, slice_index}
 use Rattle.std.specs.List.{list_all, position_or_len}
-use Rattle.std.proofs.lemmas.Bool.{cond-true}
+use Rattle.std.proofs.lemmas.Bool.{cond-true, and_from, and_parts}
 use Rattle.std.proofs.lemmas.Bool.Decides.{nat_tests}
 use Rattle.std.proofs.lemmas.List.{length-append}
 use Rattle.std.proofs.Math.Seq.{take-append_seam, drop-append-add}
-use Rattle.toy_lang.specs.Expressions.{is_name, is_name_byte, is_letter}
 use Rattle.toy_lang.specs.Lines.{split_word}
 use Rattle.toy_lang.specs.Table.{is_word_byte}
-
-pub both : (a b : Bool) → (a && b) ≡ true → (a ≡ true) × (b ≡ true)
-both true b e = (refl, e)
-both false b e = cc
-
-both_true : (a b : Bool) → a ≡ true → b ≡ true → (a && b) ≡ true
-both_true true b e f = f
-both_true false b e f = e
+use Rattle.jtext.specs.Names.{is_name, is_name_byte, is_letter}
 
 word_before : (w rest : List ℕ) → list_all is_word_byte w ≡ true
     → position_or_len (λ c. c == 32) (w ++ 32 ∷ rest) ≡ length w
 word_before [] rest h = refl
 word_before (c ∷ cs) rest h =
-    let t = both (is_word_byte c) (list_all is_word_byte cs) h in
+    let t = and_parts (is_word_byte c) (list_all is_word_byte cs) h in
     let more = word_before cs rest t.1 in
     let n : ℕ = position_or_len (λ x. x == 32) (cs ++ 32 ∷ rest) in
     let grown : 1 + n ≡ length (c ∷ cs) = omega (arith, more) in
@@ -59,12 +51,12 @@ name_byte_unspaced c e = by_test (c == 32) refl
 all_unspaced : (w : List ℕ) → list_all is_name_byte w ≡ true → list_all is_word_byte w ≡ true
 all_unspaced [] h = refl
 all_unspaced (c ∷ cs) h =
-    let t = both (is_name_byte c) (list_all is_name_byte cs) h in
-    both_true (is_word_byte c) (list_all is_word_byte cs) (name_byte_unspaced c t.0) (all_unspaced cs t.1)
+    let t = and_parts (is_name_byte c) (list_all is_name_byte cs) h in
+    and_from (is_word_byte c) (list_all is_word_byte cs) (name_byte_unspaced c t.0) (all_unspaced cs t.1)
 
 -- a name has no space
 pub name_unspaced : (w : List ℕ) → is_name w ≡ true → list_all is_word_byte w ≡ true
-name_unspaced w h = all_unspaced w (both (nat_lt 0 (length w) && is_letter (slice_index w 0))
+name_unspaced w h = all_unspaced w (and_parts (nat_lt 0 (length w) && is_letter (slice_index w 0))
     (list_all is_name_byte w) h).1
 
 -- ---- back
@@ -89,7 +81,7 @@ at_first (c ∷ cs) lt = by_test (position_or_len (λ x. x == 32) cs) (is_word_b
         let here : P (suc n) = (
           ap (λ l. c ∷ l) parts.0 ∙ ap (λ k. c ∷ (take n cs ++ 32 ∷ drop k (c ∷ cs)))
               (let e : suc (n + 1) ≡ suc n + 1 = omega arith in e),
-          both_true (is_word_byte c) (list_all is_word_byte (take n cs)) is parts.1,
+          and_from (is_word_byte c) (list_all is_word_byte (take n cs)) is parts.1,
         ) in
         subst P one here
 

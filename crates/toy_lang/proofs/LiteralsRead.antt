@@ -5,7 +5,7 @@ use Rattle.std.proofs.lemmas.Bool.{cond-true, cond-false}
 use Rattle.std.proofs.lemmas.Bool.Decides.{nat_tests}
 use Rattle.toy_lang.specs.declared.literal.Stage.{Stage}
 use Rattle.toy_lang.specs.declared.literal.Stage.TheVariants.{Unopened, Open, Escape, Code, Closed}
-use Rattle.toy_lang.specs.Literals.{escaped, unescaped, coded, after_digit, longer, digit, is_scalar, bytes_of, text_from}
+use Rattle.toy_lang.specs.Literals.{escape_step, open_step, code_step, after_digit, longer, digit, is_scalar, bytes_of, text_from}
 use Rattle.toy_lang.specs.Spellings.{short, code_from, IsCode, IsEscape, Letters, done, plain, escaped as in_escape, IsLiteral}
 
 -- what is read on, where a character comes to this
@@ -22,7 +22,7 @@ same_text (Some t) = refl
 
 -- ---- one character
 
-plain_char : (c : ℕ) → c ≢ 34 → c ≢ 92 → unescaped c ≡ (Some c, Open)
+plain_char : (c : ℕ) → c ≢ 34 → c ≢ 92 → open_step c ≡ (Some c, Open)
 plain_char c a b =
     let quote : (c == 34) ≡ false = grind (arith, nat_tests) in
     let slash : (c == 92) ≡ false = grind (arith, nat_tests) in
@@ -44,7 +44,7 @@ one_of_five false false false true g c r e = ap (option_map (λ n. (Some n, Open
 one_of_five false false false false true c r e = ap (option_map (λ n. (Some n, Open))) e
 one_of_five false false false false false c r e = absurd (no_char c e)
 
-short_char : (l c : ℕ) → short l ≡ Some c → escaped l ≡ Some (Some c, Open)
+short_char : (l c : ℕ) → short l ≡ Some c → escape_step l ≡ Some (Some c, Open)
 short_char l c e = one_of_five (l == 92) (l == 34) (l == 116) (l == 110) (l == 114) c _ e
 
 -- ---- codes
@@ -65,7 +65,7 @@ longer_by : (k v : ℕ) → 16 * k + v ≤ 0x10FFFF → longer k v ≡ Some (16 
 longer_by k v le = cond-true _ (Some (16 * k + v)) None (grind (arith, nat_tests))
 
 coded_by : (count k v d : ℕ) → digit d ≡ Some v → 16 * k + v ≤ 0x10FFFF
-    → coded count k d ≡ after_digit count (16 * k + v)
+    → code_step count k d ≡ after_digit count (16 * k + v)
 coded_by count k v d e le =
     ap (λ r. option_and_then (after_digit count) (option_and_then (longer k) r)) e
     ∙ ap (option_and_then (after_digit count)) (longer_by k v le)
@@ -80,7 +80,7 @@ code_read count k c (d ∷ ds) rest len some e scalar =
   where
     by_rest : (v : ℕ) (es : List ℕ) → digit d ≡ Some v → length (d ∷ es) ≡ count → code_from (16 * k + v) es ≡ Some c
         → (0 < length es → text_from (Code (count - 1) (16 * k + v)) (es ++ rest) ≡ with_char c (text_from Open rest))
-        → onward (es ++ rest) (coded count k d) ≡ with_char c (text_from Open rest)
+        → onward (es ++ rest) (code_step count k d) ≡ with_char c (text_from Open rest)
     by_rest v [] is len last more =
         let same : 16 * k + v ≡ c = cc in
         let le : 16 * k + v ≤ 0x10FFFF = omega (arith, same, scalar_range c scalar) in
@@ -98,13 +98,13 @@ code_read count k c (d ∷ ds) rest len some e scalar =
     by_digit : ((v : ℕ) → code_from (16 * k + v) ds ≡ Some c → 0 < length ds
         → text_from (Code (count - 1) (16 * k + v)) (ds ++ rest) ≡ with_char c (text_from Open rest))
         → (r : Option ℕ) → digit d ≡ r → option_and_then (λ v. code_from (16 * k + v) ds) r ≡ Some c
-        → onward (ds ++ rest) (coded count k d) ≡ with_char c (text_from Open rest)
+        → onward (ds ++ rest) (code_step count k d) ≡ with_char c (text_from Open rest)
     by_digit more None is h = absurd (no_char c h)
     by_digit more (Some v) is h = by_rest v ds is len h (more v h)
 
 -- ---- escapes
 
-code_escape : (letter count c : ℕ) (e rest : List ℕ) → 0 < count → escaped letter ≡ Some (None, Code count 0)
+code_escape : (letter count c : ℕ) (e rest : List ℕ) → 0 < count → escape_step letter ≡ Some (None, Code count 0)
     → IsCode letter count c e
     → text_from Escape (e ++ rest) ≡ with_char c (text_from Open rest)
 code_escape letter count c e rest some begins is =

@@ -4,7 +4,7 @@ use Rattle.std.specs.Prelude.{option_and_then, encode_utf8, nat_lt, nat_le}
 use Rattle.std.proofs.lemmas.Bool.Decides.{nat_tests}
 use Rattle.toy_lang.specs.declared.literal.Stage.{Stage}
 use Rattle.toy_lang.specs.declared.literal.Stage.TheVariants.{Unopened, Open, Escape, Code, Closed}
-use Rattle.toy_lang.specs.Literals.{advance, opening, escaped, unescaped, coded, after_digit, longer, digit, is_scalar, bytes_of, text_from}
+use Rattle.toy_lang.specs.Literals.{advance, opening, escape_step, open_step, code_step, after_digit, longer, digit, is_scalar, bytes_of, text_from}
 use Rattle.toy_lang.specs.Spellings.{code_from, IsCode, IsEscape, Letters, done, plain, escaped as in_escape, IsLiteral}
 use Rattle.toy_lang.proofs.LiteralsRead.{onward}
 
@@ -74,7 +74,7 @@ turn_unopened x xs t p e n = by_quote (x == 34) refl e
         let quote : x ≡ 34 = grind (arith, nat_tests) in
         (m.2.0, subst (λ z. Letters z m.2.0) (sym m.1) m.2.1, ap (λ c. c ∷ xs) quote ∙ ap (λ l. 34 ∷ l) m.2.2)
 
-turn_open : (x : ℕ) (xs t : List ℕ) (p : Step) → ◌≡◌ {A = Option Step} (Some (unescaped x)) (Some p) → Next t xs p
+turn_open : (x : ℕ) (xs t : List ℕ) (p : Step) → ◌≡◌ {A = Option Step} (Some (open_step x)) (Some p) → Next t xs p
     → Opened t (x ∷ xs)
 turn_open x xs t p e n = by_quote (x == 34) refl e
   where
@@ -151,7 +151,7 @@ coded_behind letter count x xs t p into some same e n =
       chars = ap (λ c. c ∷ xs) same ∙ ap (λ l. letter ∷ l) r.chars;
     }
 
-turn_escape : (x : ℕ) (xs t : List ℕ) (p : Step) → escaped x ≡ Some p → Next t xs p → Behind IsEscape t (x ∷ xs)
+turn_escape : (x : ℕ) (xs t : List ℕ) (p : Step) → escape_step x ≡ Some p → Next t xs p → Behind IsEscape t (x ∷ xs)
 turn_escape x xs t p e n =
     elim (five_back (x == 92) (x == 34) (x == 116) (x == 110) (x == 114) _ p e) [
       | inl s ↦
@@ -180,7 +180,7 @@ turn_escape x xs t p e n =
 
 -- ---- within a code
 
-turn_code : (count code x : ℕ) (xs t : List ℕ) (p : Step) → coded count code x ≡ Some p → Next t xs p → 0 < count
+turn_code : (count code x : ℕ) (xs t : List ℕ) (p : Step) → code_step count code x ≡ Some p → Next t xs p → 0 < count
     → Behind (IsRest count code) t (x ∷ xs)
 turn_code count code x xs t p e n some = by_digit (digit x) refl e
   where

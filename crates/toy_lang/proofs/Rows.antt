@@ -7,11 +7,11 @@ use Rattle.std.proofs.lemmas.Bool.Decides.{nat_tests}
 use Rattle.std.proofs.lemmas.Slice.Eq.{bytes_eq-Decides}
 use Rattle.std.specs.List.{list_all}
 use Rattle.jtext.proofs.Keys.{strip_sound}
+use Rattle.jtext.specs.Names.{is_name}
 use Rattle.toy_lang.specs.declared.verb.Verb.{Verb}
 use Rattle.toy_lang.specs.declared.verb.Verb.TheVariants as verb
-use Rattle.toy_lang.specs.Expressions.{is_name}
 use Rattle.toy_lang.specs.Lines as lines
-use Rattle.toy_lang.specs.Lines.{split_word, strip_equals, assigned, identified, named, assigned_or_command, statement_of_words, statement}
+use Rattle.toy_lang.specs.Lines.{split_word, strip_equals, assignment, identify, raise_of, assigned_or_command, statement_of_words, statement}
 use Rattle.toy_lang.specs.Table.{is_word_byte, IsWord, IsCommand, print, err, result, show, update, raise, IsStatement, assign, command}
 use Rattle.toy_lang.proofs.LineWords.{word_split, parted, name_unspaced}
 
@@ -33,7 +33,7 @@ some_bytes (c ∷ cs) h = grind (arith, nat_tests)
 
 with_id_read : (v : Verb) (id e : List ℕ) → IsWord id → lines.with_id v (id ++ 32 ∷ e) ≡ Some (v, id, e)
 with_id_read v id e w =
-    ap (option_and_then (identified v)) (word_split id e w.unspaced)
+    ap (option_and_then (identify v)) (word_split id e w.unspaced)
     ∙ cond-false (length id == 0) None (Some (v, id, e)) (some_bytes id w.some)
 
 commanded : (head rest : List ℕ) (s : Read) → list_all is_word_byte head ≡ true → is_name head ≡ true
@@ -56,7 +56,7 @@ command_read v word e head rest (update id x w) other =
     commanded (codes "update") (id ++ 32 ∷ x) (verb.Update, id, x) refl refl other (with_id_read verb.Update id x w)
 command_read v word e head rest (raise name x n) other =
     commanded (codes "raise") (name ++ 32 ∷ x) (verb.Raise, name, x) refl refl other
-    (ap (option_and_then named) (word_split name x (name_unspaced name n))
+    (ap (option_and_then raise_of) (word_split name x (name_unspaced name n))
     ∙ cond-true (is_name name) (Some (verb.Raise, name, x)) None n)
 
 -- a row of the table is read as what it is
@@ -102,7 +102,7 @@ id_back v head w rest s rule same e = by_split (split_word rest) refl e
         moved v p.0 p.1 head w rest s same (same_read (v, p.0, p.1) s h)
         (subst P (sym parts.0) (rule p.0 p.1 (record { some = some; unspaced = parts.1 })))
 
-    by_split : (r : Option (List ℕ × List ℕ)) → split_word rest ≡ r → option_and_then (identified v) r ≡ Some s
+    by_split : (r : Option (List ℕ × List ℕ)) → split_word rest ≡ r → option_and_then (identify v) r ≡ Some s
         → IsCommand s.0 s.1 s.2 w rest
     by_split None is h = absurd (no_read s h)
     by_split (Some p) is h = by_length p (length p.0 == 0) is refl h
@@ -119,7 +119,7 @@ name_back w rest s same e = by_split (split_word rest) refl e
         moved verb.Raise p.0 p.1 (codes "raise") w rest s same (same_read (verb.Raise, p.0, p.1) s h)
         (subst P (sym (parted rest p is).0) (raise p.0 p.1 n))
 
-    by_split : (r : Option (List ℕ × List ℕ)) → split_word rest ≡ r → option_and_then named r ≡ Some s
+    by_split : (r : Option (List ℕ × List ℕ)) → split_word rest ≡ r → option_and_then raise_of r ≡ Some s
         → IsCommand s.0 s.1 s.2 w rest
     by_split None is h = absurd (no_read s h)
     by_split (Some p) is h = by_name p (is_name p.0) is refl h
@@ -195,7 +195,7 @@ command_name v word e head rest (show id x w) = refl
 command_name v word e head rest (update id x w) = refl
 command_name v word e head rest (raise name x n) = refl
 
-assign_back : (w rest x : List ℕ) (s : Read) → assigned w rest ≡ Some x → (verb.Assign, w, x) ≡ s
+assign_back : (w rest x : List ℕ) (s : Read) → assignment w rest ≡ Some x → (verb.Assign, w, x) ≡ s
     → IsStatement s.0 s.1 s.2 (w ++ 32 ∷ rest)
 assign_back w rest x s e same = by_name (is_name w) refl e
   where
@@ -212,9 +212,9 @@ assign_back w rest x s e same = by_name (is_name w) refl e
 
 words_back : (w rest : List ℕ) (s : Read) → statement_of_words (w, rest) ≡ Some s
     → IsStatement s.0 s.1 s.2 (w ++ 32 ∷ rest)
-words_back w rest s e = by_assigned (assigned w rest) refl e
+words_back w rest s e = by_assigned (assignment w rest) refl e
   where
-    by_assigned : (r : Option (List ℕ)) → assigned w rest ≡ r → assigned_or_command w rest r ≡ Some s
+    by_assigned : (r : Option (List ℕ)) → assignment w rest ≡ r → assigned_or_command w rest r ≡ Some s
         → IsStatement s.0 s.1 s.2 (w ++ 32 ∷ rest)
     by_assigned (Some x) is h = assign_back w rest x s is (same_read (verb.Assign, w, x) s h)
     by_assigned None is h =

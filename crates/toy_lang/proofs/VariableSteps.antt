@@ -1,11 +1,12 @@
 -- Setting a variable, at the place where its name is found.
-use Rattle.std.proofs.Common.{◌≡◌, ℕ, zero, suc, ◌+◌, ◌<◌, Bool, true, false, cond, List, [], ◌∷◌, ◌++◌, Option, Some, None, length, get_or, set, refl, sym, ap, ◌∙◌, arith}
+use Rattle.std.proofs.Common.{◌≡◌, ℕ, zero, suc, ◌+◌, ◌<◌, true, false, List, [], ◌∷◌, ◌++◌, Option, Some, None, length, get_or, set, refl, sym, ap, ◌∙◌, arith}
 use Rattle.std.specs.List.{position, position_from}
 use Rattle.std.specs.Str.{bytes_eq}
 use Rattle.std.proofs.lemmas.Iterator.Adapters.{position_from-zero}
 use Rattle.std.proofs.lemmas.Bool.{cond-true, cond-false}
 use Rattle.std.proofs.lemmas.List.Quantifiers.{position-Some}
 use Rattle.toy_lang.specs.Variables.{Variables, with_variable}
+use Rattle.jtext.proofs.Edits.{not_first}
 
 nothing : List ℕ × List ℕ
 nothing = ([], [])
@@ -27,11 +28,6 @@ pub set_variable_at : (name value : List ℕ) (vs : Variables) (i : ℕ)
     → position (λ v. bytes_eq v.0 name) vs ≡ Some i → set vs i (name, value) ≡ with_variable name value vs
 set_variable_at name value vs i e =
     let is = position-Some (λ v. bytes_eq v.0 name) vs i nothing e in set_at name value vs i is.0 is.1 is.2
-
-not_first : {A : Type 0} (b : Bool) (i : A) (r : Option A) → cond b (Some i) r ≡ None
-    → (b ≡ false) × (r ≡ None)
-not_first true i r e = cc
-not_first false i r e = (refl, e)
 
 absent_from : (name value : List ℕ) (vs : Variables) (i : ℕ)
     → position_from (λ v. bytes_eq v.0 name) i vs ≡ None

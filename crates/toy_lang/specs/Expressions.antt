@@ -1,40 +1,15 @@
 -- Expressions of the toy language: a JSON number, `True`, `False`, `None`, a string literal, a text that begins
 -- with `[` or `{`, or a variable's name.
-use Rattle.std.specs.Prelude.{ℕ, Bool, false, List, Option, Some, None, if◌then◌else◌, ◌&&◌, ◌||◌, ◌==◌, nat_le, nat_lt, length, slice_index, codes}
-use Rattle.std.specs.Char.{is_ascii_digit}
-use Rattle.std.specs.List.{list_all}
+use Rattle.std.specs.Prelude.{ℕ, Bool, List, Option, Some, None, if◌then◌else◌, ◌&&◌, ◌||◌, ◌==◌, nat_lt, length, slice_index, codes}
 use Rattle.std.specs.Str.{bytes_eq}
-use Rattle.jtext.specs.Reading.{after_number}
+use Rattle.jtext.specs.Names.{is_name, is_number}
 use Rattle.toy_lang.specs.declared.expression.Value.{Value}
 use Rattle.toy_lang.specs.declared.expression.Value.TheVariants.{Of, Unset, Malformed}
 use Rattle.toy_lang.specs.Literals.{literal_text}
 use Rattle.toy_lang.specs.Variables as variables
 use Rattle.toy_lang.specs.Variables.{Variables}
 
--- ---- names
-
--- a letter of ASCII or `_`
-abbrev pub is_letter : ℕ → Bool
-is_letter c = (nat_le 97 c && nat_le c 122) || (nat_le 65 c && nat_le c 90) || (c == 95)
-
--- a letter or a digit
-abbrev pub is_name_byte : ℕ → Bool
-is_name_byte c = is_letter c || is_ascii_digit c
-
--- a letter, then letters and digits
-abbrev pub is_name : List ℕ → Bool
-is_name text = nat_lt 0 (length text) && is_letter (slice_index text 0) && list_all is_name_byte text
-
 -- ---- what stands for itself
-
--- nothing follows
-abbrev pub is_nothing : Option (List ℕ) → Bool
-is_nothing None = false
-is_nothing (Some rest) = length rest == 0
-
--- a number of JSON (RFC 8259, section 6): nothing follows the number at the front
-abbrev pub is_number : List ℕ → Bool
-is_number text = is_nothing (after_number text)
 
 -- one of the three constants
 abbrev pub is_constant : List ℕ → Bool

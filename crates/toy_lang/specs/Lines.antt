@@ -1,9 +1,9 @@
 -- What a line of the toy language does, by the language's table.
-use Rattle.std.specs.Prelude.{ℕ, ◌+◌, ◌-◌, ◌*◌, Bool, true, false, List, [], ◌∷◌, ◌++◌, Option, Some, None, if◌then◌else◌, ◌||◌, ◌==◌, nat_lt, length, option_map, option_and_then, codes}
-use Rattle.std.specs.Char.{is_ascii_digit}
+use Rattle.std.specs.Prelude.{ℕ, Bool, true, false, List, [], ◌∷◌, ◌++◌, Option, Some, None, if◌then◌else◌, ◌||◌, ◌==◌, nat_lt, length, option_map, option_and_then, codes}
 use Rattle.std.specs.List.{list_all, position_or_len, before_first, after_first}
 use Rattle.std.specs.Str.{bytes_eq}
 use Rattle.jtext.specs.Readings.{strip_word}
+use Rattle.jtext.specs.Names.{is_name, number_from}
 use Rattle.toy_lang.specs.declared.deed.Deed.{Deed}
 use Rattle.toy_lang.specs.declared.deed.Deed.TheVariants.{Pass, Set, Give}
 use Rattle.toy_lang.specs.declared.effect.Effect.TheVariants as effect
@@ -12,7 +12,7 @@ use Rattle.toy_lang.specs.declared.expression.Value.TheVariants.{Of, Unset, Malf
 use Rattle.toy_lang.specs.declared.verb.Verb.{Verb}
 use Rattle.toy_lang.specs.declared.verb.Verb.TheVariants.{Assign, Print, PrintError, Show, Update, Conclude, Raise}
 use Rattle.toy_lang.specs.Variables.{Variables}
-use Rattle.toy_lang.specs.Expressions.{begins_with, is_name, value}
+use Rattle.toy_lang.specs.Expressions.{begins_with, value}
 
 -- ---- errors
 
@@ -33,11 +33,6 @@ is_blank_byte c = (c == 32) || (c == 9)
 -- a comment or a blank line
 abbrev pub is_passed : List ℕ → Bool
 is_passed line = begins_with 35 line || list_all is_blank_byte line
-
--- the number that n and the decimal digits after it make; no number where another byte stands
-abbrev pub number_from : ℕ → List ℕ → Option ℕ
-number_from n [] = Some n
-number_from n (c ∷ cs) = if is_ascii_digit c then number_from (n * 10 + (c - 48)) cs else None
 
 -- the number of 1 to 9 digits
 abbrev pub milliseconds : List ℕ → Option ℕ
@@ -74,24 +69,24 @@ abbrev pub strip_equals : List ℕ → Option (List ℕ)
 strip_equals rest = strip_word (codes "= ") rest
 
 -- the expression of `NAME = EXPR`
-abbrev pub assigned : List ℕ → List ℕ → Option (List ℕ)
-assigned word rest = if is_name word then strip_equals rest else None
+abbrev pub assignment : List ℕ → List ℕ → Option (List ℕ)
+assignment word rest = if is_name word then strip_equals rest else None
 
 -- an id, which isn't empty, and an expression
-abbrev pub identified : Verb → List ℕ × List ℕ → Option (Verb × List ℕ × List ℕ)
-identified verb p = if length p.0 == 0 then None else Some (verb, p.0, p.1)
+abbrev pub identify : Verb → List ℕ × List ℕ → Option (Verb × List ℕ × List ℕ)
+identify verb p = if length p.0 == 0 then None else Some (verb, p.0, p.1)
 
 -- `ID EXPR`
 abbrev pub with_id : Verb → List ℕ → Option (Verb × List ℕ × List ℕ)
-with_id verb rest = option_and_then (identified verb) (split_word rest)
+with_id verb rest = option_and_then (identify verb) (split_word rest)
 
 -- a name and an expression
-abbrev pub named : List ℕ × List ℕ → Option (Verb × List ℕ × List ℕ)
-named p = if is_name p.0 then Some (Raise, p.0, p.1) else None
+abbrev pub raise_of : List ℕ × List ℕ → Option (Verb × List ℕ × List ℕ)
+raise_of p = if is_name p.0 then Some (Raise, p.0, p.1) else None
 
 -- `NAME EXPR`
 abbrev pub with_name : List ℕ → Option (Verb × List ℕ × List ℕ)
-with_name rest = option_and_then named (split_word rest)
+with_name rest = option_and_then raise_of (split_word rest)
 
 -- a command and what stands behind it
 abbrev pub command : List ℕ → List ℕ → Option (Verb × List ℕ × List ℕ)
@@ -111,7 +106,7 @@ assigned_or_command word rest None = command word rest
 
 -- the statement of a first word and what stands behind it
 abbrev pub statement_of_words : List ℕ × List ℕ → Option (Verb × List ℕ × List ℕ)
-statement_of_words p = assigned_or_command p.0 p.1 (assigned p.0 p.1)
+statement_of_words p = assigned_or_command p.0 p.1 (assignment p.0 p.1)
 
 -- the statement of a line
 abbrev pub statement : List ℕ → Option (Verb × List ℕ × List ℕ)

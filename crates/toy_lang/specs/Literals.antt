@@ -11,15 +11,15 @@ abbrev pub opening : ℕ → Option (Option ℕ × Stage)
 opening c = if c == 34 then Some (None, Open) else None
 
 -- a quote closes the literal, a backslash begins an escape, and any other character is itself
-abbrev pub unescaped : ℕ → Option ℕ × Stage
-unescaped c =
+abbrev pub open_step : ℕ → Option ℕ × Stage
+open_step c =
     if c == 34 then (None, Closed)
     else if c == 92 then (None, Escape)
     else (Some c, Open)
 
 -- after a backslash: `\`, `"`, `t`, `n`, `r`, or the letter of a code of two, four or eight digits
-abbrev pub escaped : ℕ → Option (Option ℕ × Stage)
-escaped c =
+abbrev pub escape_step : ℕ → Option (Option ℕ × Stage)
+escape_step c =
     if c == 92 then Some (Some 92, Open)
     else if c == 34 then Some (Some 34, Open)
     else if c == 116 then Some (Some 9, Open)
@@ -53,15 +53,15 @@ after_digit left code =
     else None
 
 -- within a code, of which so many digits are left
-abbrev pub coded : ℕ → ℕ → ℕ → Option (Option ℕ × Stage)
-coded left code c = option_and_then (after_digit left) (option_and_then (longer code) (digit c))
+abbrev pub code_step : ℕ → ℕ → ℕ → Option (Option ℕ × Stage)
+code_step left code c = option_and_then (after_digit left) (option_and_then (longer code) (digit c))
 
 -- the character of the text that ends with this one, if one does, and the stage after it
 abbrev pub advance : Stage → ℕ → Option (Option ℕ × Stage)
 advance Unopened c = opening c
-advance Open c = Some (unescaped c)
-advance Escape c = escaped c
-advance (Code left code) c = coded left code c
+advance Open c = Some (open_step c)
+advance Escape c = escape_step c
+advance (Code left code) c = code_step left code c
 advance Closed c = None
 
 -- ---- all characters

@@ -4,8 +4,8 @@ use Rattle.std.specs.Prelude.{◌≡◌, ◌≢◌, ℕ, Bool, true, List, [], �
 use Rattle.std.specs.List.{list_all}
 use Rattle.toy_lang.specs.declared.verb.Verb.{Verb}
 use Rattle.toy_lang.specs.declared.verb.Verb.TheVariants as verb
-use Rattle.toy_lang.specs.Expressions.{is_name}
 use Rattle.toy_lang.specs.Lines.{strip_equals}
+use Rattle.jtext.specs.Names.{is_name}
 
 -- a byte other than the space
 abbrev pub is_word_byte : ℕ → Bool

@@ -1,6 +1,7 @@
 //! Expressions: literals, and the names of variables.
 ghost use Rattle.std.specs.Prelude.{◌≡◌, IfOk, length};
 ghost use Rattle.std.specs.List.{list_all};
+ghost use Rattle.jtext.specs.Names as names;
 ghost use Rattle.toy_lang.specs.Expressions as spec;
 
 use crate::State;
@@ -70,7 +71,7 @@ fn is_constant(word: &str) -> bool
 }
 
 fn is_number(alloc: Global, text: &str) -> Result<bool, NoMemory>
-    ensures { IfOk result (λ r. r ≡ spec.is_number text.now) }
+    ensures { IfOk result (λ r. r ≡ names.is_number text.now) }
 {
     match NumText::of(alloc, text) {
         Ok(_) => Ok(true),
@@ -87,25 +88,25 @@ pub(crate) fn begins_with(text: &[u8], c: u8) -> bool
 
 /// Whether the text is a name: a letter of ASCII or `_`, then such letters, digits and `_`.
 pub(crate) fn is_name(text: &[u8]) -> bool
-    ensures { result ≡ spec.is_name text.now }
+    ensures { result ≡ names.is_name text.now }
 {
     0 < text.len() && is_letter(text[0]) && all_name_bytes(text)
 }
 
 fn is_letter(c: u8) -> bool
-    ensures { result ≡ spec.is_letter c }
+    ensures { result ≡ names.is_letter c }
 {
     matches!(c, b'a'..=b'z' | b'A'..=b'Z' | b'_')
 }
 
 fn is_name_byte(c: u8) -> bool
-    ensures { result ≡ spec.is_name_byte c }
+    ensures { result ≡ names.is_name_byte c }
 {
     is_letter(c) || c.is_ascii_digit()
 }
 
 fn all_name_bytes(text: &[u8]) -> bool
-    ensures { result ≡ list_all spec.is_name_byte text.now }
+    ensures { result ≡ list_all names.is_name_byte text.now }
 {
     text.iter().all(|c| is_name_byte(*c))
 }

@@ -2,8 +2,8 @@
 ghost use Rattle.std.specs.Prelude.{◌≡◌, ◌∷◌, ◌++◌, ◌↔◌, [], ℕ, List, true, false, Some};
 ghost use Rattle.std.specs.List.{list_any};
 ghost use Rattle.std.specs.Str.{chars};
+ghost use Rattle.jtext.specs.Names.{is_number};
 ghost use Rattle.jtext.specs.Number.{IsNumber};
-ghost use Rattle.toy_lang.specs.Expressions.{is_number};
 ghost use Rattle.toy_lang.specs.Lines.{statement};
 ghost use Rattle.toy_lang.specs.Literals.{literal_text};
 ghost use Rattle.toy_lang.specs.Runs.{effects, is_last};

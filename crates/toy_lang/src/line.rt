@@ -2,6 +2,7 @@
 ghost use Rattle.std.specs.Prelude.{◌≡◌, ◌≤◌, [], ◌∷◌, ◌++◌};
 ghost use Rattle.std.specs.Prelude.{length, option_map, IfOk};
 ghost use Rattle.std.specs.List.{list_all};
+ghost use Rattle.jtext.specs.Names as names;
 ghost use Rattle.toy_lang.specs.Lines as spec;
 
 use crate::deed::Deed;
@@ -79,7 +80,7 @@ fn milliseconds(text: &[u8]) -> Option<u64>
 
 fn number(text: &[u8]) -> Option<u64>
     requires { length text.now ≤ 9 }
-    ensures { result ≡ spec.number_from 0 text.now }
+    ensures { result ≡ names.number_from 0 text.now }
 {
     let mut n: u64 = 0;
     for c in text {
@@ -120,11 +121,11 @@ fn deed_of_value(alloc: Global, verb: Verb, word: &str, text: Text) -> Result<De
         },
         Verb::Print => Deed::Give(Effect::Print {
             err: false,
-            text: ended(alloc, &text)?,
+            text: with_line_end(alloc, &text)?,
         }),
         Verb::PrintError => Deed::Give(Effect::Print {
             err: true,
-            text: ended(alloc, &text)?,
+            text: with_line_end(alloc, &text)?,
         }),
         Verb::Show => Deed::Give(Effect::Show {
             id: Text::of(alloc, word)?,
@@ -146,7 +147,7 @@ fn deed_of_value(alloc: Global, verb: Verb, word: &str, text: Text) -> Result<De
 }
 
 /// The text with a line end.
-fn ended(alloc: Global, text: &Text) -> Result<Text, NoMemory>
+fn with_line_end(alloc: Global, text: &Text) -> Result<Text, NoMemory>
     ensures { IfOk result (λ r. r ≡ text.now ++ 10 ∷ []) }
 {
     let mut out = String::new(alloc);

@@ -48,9 +48,9 @@ fn advance(stage: Stage, c: char) -> Option<(Option<char>, Stage)>
 {
     match stage {
         Stage::Unopened => opening(c),
-        Stage::Open => Some(unescaped(c)),
-        Stage::Escape => escaped(c),
-        Stage::Code { left, code } => coded(left, code, c),
+        Stage::Open => Some(open_step(c)),
+        Stage::Escape => escape_step(c),
+        Stage::Code { left, code } => code_step(left, code, c),
         Stage::Closed => None,
     }
 }
@@ -65,8 +65,8 @@ fn opening(c: char) -> Option<(Option<char>, Stage)>
     }
 }
 
-fn unescaped(c: char) -> (Option<char>, Stage)
-    ensures { result ≡ spec.unescaped c }
+fn open_step(c: char) -> (Option<char>, Stage)
+    ensures { result ≡ spec.open_step c }
 {
     match c {
         '"' => (None, Stage::Closed),
@@ -75,8 +75,8 @@ fn unescaped(c: char) -> (Option<char>, Stage)
     }
 }
 
-fn escaped(c: char) -> Option<(Option<char>, Stage)>
-    ensures { result ≡ spec.escaped c }
+fn escape_step(c: char) -> Option<(Option<char>, Stage)>
+    ensures { result ≡ spec.escape_step c }
 {
     match c {
         '\\' => Some((Some('\\'), Stage::Open)),
@@ -91,8 +91,8 @@ fn escaped(c: char) -> Option<(Option<char>, Stage)>
     }
 }
 
-fn coded(left: u8, code: u32, c: char) -> Option<(Option<char>, Stage)>
-    ensures { result ≡ spec.coded left code c }
+fn code_step(left: u8, code: u32, c: char) -> Option<(Option<char>, Stage)>
+    ensures { result ≡ spec.code_step left code c }
 {
     let code = longer(code, digit(c)?)?;
     if 1 < left {

@@ -12,15 +12,15 @@ pub(crate) fn statement(line: &str) -> Option<(Verb, &str, &str)>
     ensures { option_map (λ r. (r.0, r.1.now, r.2.now)) result ≡ spec.statement line.now }
 {
     let (word, rest) = split_word(line)?;
-    match assigned(word, rest) {
+    match assignment(word, rest) {
         Some(expression) => Some((Verb::Assign, word, expression)),
         None => command(word, rest),
     }
 }
 
 /// The expression of `NAME = EXPR`, behind its first word.
-fn assigned<'a>(word: &str, rest: &'a str) -> Option<&'a str>
-    ensures { option_map (λ r. r.now) result ≡ spec.assigned word.now rest.now }
+fn assignment<'a>(word: &str, rest: &'a str) -> Option<&'a str>
+    ensures { option_map (λ r. r.now) result ≡ spec.assignment word.now rest.now }
 {
     if is_name(word.as_bytes()) {
         strip_equals(rest)

@@ -1,6 +1,6 @@
 use Rattle.std.proofs.Common.{◌≡◌, ◌^◌, ◌<◌, drop}
-use Rattle.toy_lang.specs.Lines.{number_from}
 use Rattle.toy_lang.proofs.line.number.Given as goal
+use Rattle.jtext.specs.Names.{number_from}
 
 abbrev pub invariant-loop-c : goal.invariant-loop-c
 invariant-loop-c l = record {
