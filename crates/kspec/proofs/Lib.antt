@@ -1,4 +1,3 @@
-pub mod Decimals
 pub mod Faultless
 mod Filled
 mod Pairs

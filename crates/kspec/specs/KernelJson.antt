@@ -6,7 +6,7 @@ use Rattle.jtext.specs.declared.json.Json.{Json}
 use Rattle.jtext.specs.Depth.{depth}
 use Rattle.jtext.specs.Find.{field, fields}
 use Rattle.jtext.specs.Grammar.{Spells}
-use Rattle.jtext.specs.Look.{is_object, is_string, is_strings, items, string, string_at, there_and, absent_or}
+use Rattle.jtext.specs.Look.{is_object, is_string, is_strings, items, string, string_at, there_and, absent_or, items_of}
 use Rattle.kspec.specs.declared.start.Spec.{Spec}
 use Rattle.kspec.specs.declared.spec_fault.SpecFault.{SpecFault}
 use Rattle.kspec.specs.declared.spec_fault.SpecFault.TheVariants.{NotJson, NoArgv, BadEnv, SignalMode}
@@ -49,11 +49,6 @@ fault_of interrupt t =
 -- the text of a string, empty for another value
 abbrev pub text_of : Json → List ℕ
 text_of v = unwrap_or (string v) []
-
--- the items of a list, and none where there is no value
-abbrev pub items_of : Option Json → List Json
-items_of None = []
-items_of (Some v) = items v
 
 -- the pairs of an object, and none where there is no value
 abbrev pub pairs_of : Option Json → List (List ℕ × Json)

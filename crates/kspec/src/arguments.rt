@@ -14,13 +14,13 @@ pub fn argv(alloc: Global, s: &Spec, file: &Text, folder: &Text) -> Result<Texts
 {
     let mut words = Texts::new(alloc);
     for word in s.argv.as_slice() {
-        words.push(filled(alloc, word.as_str(), file.as_str(), folder.as_str())?)?;
+        words.push(fill(alloc, word.as_str(), file.as_str(), folder.as_str())?)?;
     }
     Ok(words)
 }
 
 /// The word with each name replaced.
-fn filled(alloc: Global, word: &str, file: &str, folder: &str) -> Result<Text, NoMemory>
+fn fill(alloc: Global, word: &str, file: &str, folder: &str) -> Result<Text, NoMemory>
     ensures { IfOk result (λ text. IsFilled file.now folder.now word.now text) }
 {
     let mut out = String::new(alloc);

@@ -2,7 +2,7 @@
 ghost use Rattle.std.specs.Prelude.{◌≡◌, ◌⊎◌, map, IfOk, IfErr, MatchOption};
 ghost use Rattle.std.specs.List.{list_all};
 ghost use Rattle.jtext.specs.Find as find;
-ghost use Rattle.jtext.specs.Look.{is_string};
+ghost use Rattle.jtext.specs.Look.{is_string, items_of};
 ghost use Rattle.kspec.specs.KernelJson as kernel_json;
 ghost use Rattle.kspec.specs.declared.spec_fault.SpecFault.TheVariants as fault;
 
@@ -108,7 +108,7 @@ fn spec_of(alloc: Global, t: &Json) -> Result<Spec, NoMemory>
 }
 
 fn items_at<'a>(t: &'a Json, key: &str) -> &'a [Json]
-    ensures { result.now ≡ kernel_json.items_of (find.field t.now key.now) }
+    ensures { result.now ≡ items_of (find.field t.now key.now) }
 {
     match field(t, key) {
         Some(v) => v.items(),

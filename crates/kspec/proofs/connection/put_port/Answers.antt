@@ -1,5 +1,5 @@
 use Rattle.std.proofs.Common.{rules}
-use Rattle.kspec.proofs.Decimals.{decimal_is_number}
+use Rattle.jtext.proofs.Decimals.{decimal_is_number}
 use Rattle.kspec.proofs.connection.put_port.Goals as goal
 
 pub of_number-requires : goal.of_number-requires

@@ -2,7 +2,7 @@ use Rattle.std.proofs.Common.{ℕ, List, ◌++◌, length, string_bytes}
 use denote.Text.{Utf8}
 use denote.Shadow.{shadow}
 use Rattle.kspec.specs.Arguments.{IsFilled}
-use Rattle.kspec.proofs.arguments.filled.Given as goal
+use Rattle.kspec.proofs.arguments.fill.Given as goal
 
 abbrev pub invariant-loop-front : goal.invariant-loop-front
 invariant-loop-front l =

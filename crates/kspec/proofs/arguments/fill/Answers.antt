@@ -1,7 +1,7 @@
 use Rattle.std.proofs.Common.{◌∙◌, ◌++◌, ap, sym, subst, string_bytes, arith, rules}
 use Rattle.kspec.specs.Arguments.{IsFilled}
 use Rattle.kspec.proofs.Filled.{on_brace, no_brace, regrouped}
-use Rattle.kspec.proofs.arguments.filled.Goals as goal
+use Rattle.kspec.proofs.arguments.fill.Goals as goal
 
 pub loop-front-preserved : goal.loop-front-preserved
 loop-front-preserved c =
