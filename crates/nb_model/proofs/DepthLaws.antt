@@ -7,11 +7,10 @@ use Rattle.std.proofs.lemmas.Bool.{cases_Bool}
 use Rattle.jtext.specs.declared.json.Json.{Json, out-Json}
 use Rattle.jtext.specs.declared.json.Json.TheVariants as json
 use Rattle.jtext.specs.Depth.{depth, highest, highest_of_pairs}
-use Rattle.jtext.specs.declared.json.Json.TheOpen.{Json-F}
-use Rattle.jtext.specs.Find.{find, field, fields, fields_of}
+use Rattle.jtext.specs.Find.{find, field, fields}
 use Rattle.jtext.specs.Keyed.{Keyed}
 use Rattle.jtext.specs.Sorting.{byte_order, insert_sorted, by_key}
-use Rattle.jtext.specs.Look.{is_object, is_object_layer}
+use Rattle.jtext.specs.Look.{is_object}
 use Rattle.jtext.proofs.Depths.{depth-Arr, depth-Obj, depth-Null, depth-Str, highest-le, highest-all, pairs-le, pairs-all}
 use Rattle.nb_model.specs.declared.kind.Kind.{Kind}
 use Rattle.nb_model.specs.declared.kind.Kind.TheVariants as kind
@@ -22,7 +21,7 @@ use Rattle.nb_model.specs.Reading.{notebook_of}
 use Rattle.nb_model.specs.Tree.{optional_pair, cell_tree, notebook_tree}
 use Rattle.jtext.specs.Edit.{set_pair, set_field, set_within}
 use Rattle.nb_model.specs.Prepared.{pending_mark, prepared_cell, prepared_notebook}
-use Rattle.jtext.proofs.Trees.{object_is}
+use Rattle.jtext.proofs.Trees.{object_is, no_fields}
 use Rattle.nb_model.proofs.TreeLaws.{notebook_same, pairs_with}
 use Rattle.nb_model.proofs.PreparedLaws.{prepared_with, kind_stays}
 
@@ -68,14 +67,6 @@ pub all-found : (Q : Json → Type 0) (key : List ℕ) (ps : List (List ℕ × J
 all-found Q key [] null all = null
 all-found Q key (p ∷ ps) null all =
     elim (bytes_eq p.0 key) as (λ b. Q (unwrap_or (cond b (Some p.1) (find key ps)) json.Null)) [ true ↦ all.0 | false ↦ all-found Q key ps null all.1 ]
-
-pub no_fields : (l : Json-F Json) → is_object_layer l ≡ false → fields_of l ≡ []
-no_fields Json-F.Null e = refl
-no_fields (Json-F.Bool b) e = refl
-no_fields (Json-F.Num s) e = refl
-no_fields (Json-F.Str s) e = refl
-no_fields (Json-F.Arr xs) e = refl
-no_fields (Json-F.Obj ps) e = cc
 
 fields_within : (m : ℕ) (t : Json) → depth t ≤ suc m → AllByRecursion (λ p. depth p.1 ≤ m) (fields t)
 fields_within m t h =

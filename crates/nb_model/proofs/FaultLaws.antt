@@ -4,7 +4,7 @@ use Rattle.std.specs.Prelude.{is_some, is_none, option_map, option_and_then, unw
 use Rattle.std.specs.Option.{option_or}
 use Rattle.std.specs.List.{list_any, list_all, position_from}
 use Rattle.std.specs.Str.{bytes_eq}
-use Rattle.std.proofs.lemmas.Bool.{cases_Bool, cond-true, cond-false}
+use Rattle.std.proofs.lemmas.Bool.{cases_Bool, cond-true, cond-false, and_parts, not-true, not-false}
 use Rattle.std.proofs.lemmas.List.Folds.{list_all_at}
 use Rattle.std.proofs.lemmas.List.Quantifiers.{position-Some}
 use Rattle.std.proofs.lemmas.Option.{slice_get-get_or}
@@ -17,6 +17,7 @@ use Rattle.jtext.specs.Look.{is_object, is_list, items, string, is_string, there
 use Rattle.nb_model.specs.declared.nb_fault.NbFault.TheVariants as fault
 use Rattle.nb_model.specs.Keys.{is_text, is_number, has, may_have, has_only, has_version}
 use Rattle.jtext.specs.Bundle.{is_multiline, is_bundle, is_json_type}
+use Rattle.jtext.proofs.Edits.{not_first}
 use Rattle.nb_model.specs.Schema.{notebook_keys, kernelspec_required, prose_cell_keys, code_cell_keys, stream_required, display_required, result_required, error_required, output_keys}
 use Rattle.nb_model.specs.Values.{is_count}
 use Rattle.nb_model.specs.Valid as valid
@@ -24,14 +25,11 @@ use Rattle.nb_model.specs.Reading.{value_at}
 use Rattle.nb_model.specs.Pointer.{place_unless, under_key, under_item}
 use Rattle.nb_model.specs.Places as place
 use Rattle.nb_model.specs.Faults.{repeated_id, fault_within, fault_of}
-use Rattle.nb_model.proofs.PreparedLaws.{and_eq}
+use Rattle.nb_model.proofs.PreparedLaws.{and_eq, or_eq, is_prose_name}
 use Rattle.nb_model.proofs.RegroupedTests.{two_keys, result_keys, error_keys, prose_keys, code_keys, top_level_keys, kernelspec_keys, one_key, and_left, version_first, one_more, one_taken}
-use Rattle.nb_model.proofs.Tautologies.{always, same, from_same, and_parts}
+use Rattle.nb_model.proofs.Tautologies.{always, same, from_same}
 
 -- ---- parts of a place
-
-or_eq : {a b x y : Bool} → a ≡ x → b ≡ y → (a || b) ≡ (x || y)
-or_eq p q = ap₂ (λ u v. u || v) p q
 
 none-or : {A : Type 0} (a b : Option A) → is_none (option_or a b) ≡ (is_none a && is_none b)
 none-or None b = refl
@@ -56,14 +54,6 @@ none-unless : (b : Bool) → is_none (place_unless b) ≡ b
 none-unless true = refl
 none-unless false = refl
 
-not_not : (b : Bool) → not b ≡ false → b ≡ true
-not_not true e = refl
-not_not false e = sym e
-
-not_true : (b : Bool) → not b ≡ true → b ≡ false
-not_true true e = sym e
-not_true false e = refl
-
 -- the first pair that fails is where the tests of all fail
 none-pairs : {X A : Type 0} (test : X → Bool) (f : X → Option A) (ps : List X) → ((p : X) → test p ≡ false → is_none (f p) ≡ false)
     → is_none (option_and_then f (find (λ p. not (test p)) ps)) ≡ list_all test ps
@@ -76,15 +66,11 @@ none-pairs test f (p ∷ ps) h =
           ap (λ b. is_none (option_and_then f (cond (not b) (Some p) (find (λ q. not (test q)) ps)))) e ∙ h p e ∙ ap (λ b. b && list_all test ps) (sym e)
     ]
 
-not_first : {A : Type 0} (b : Bool) (i : A) (r : Option A) → cond b (Some i) r ≡ None → (b ≡ false) × (r ≡ None)
-not_first true i r e = cc
-not_first false i r e = (refl, e)
-
 all_pass : (test : Json → Bool) (xs : List Json) (i : ℕ) → position_from (λ x. not (test x)) i xs ≡ None → list_all test xs ≡ true
 all_pass test [] i e = refl
 all_pass test (x ∷ xs) i e =
     let h = not_first (not (test x)) i (position_from (λ y. not (test y)) (i + 1) xs) e in
-    and_eq (not_not (test x) h.0) (all_pass test xs (i + 1) h.1)
+    and_eq (not-false (test x) h.0) (all_pass test xs (i + 1) h.1)
 
 option_cases : {A : Type 0} (o : Option A) → (o ≡ None) ⊎ ((x : A) × (o ≡ Some x))
 option_cases None = inl refl
@@ -97,7 +83,7 @@ none-items test f xs h =
       | inl e ↦ ap (λ o. is_none (option_and_then f o)) e ∙ sym (all_pass test xs 0 (sym (position_from-zero (λ x. not (test x)) xs) ∙ e))
       | inr p ↦
           let is = position-Some (λ x. not (test x)) xs p.0 json.Null p.1 in
-          let fails = not_true (test (get_or xs p.0 json.Null)) is.1 in
+          let fails = not-true (test (get_or xs p.0 json.Null)) is.1 in
           ap (λ o. is_none (option_and_then f o)) p.1 ∙ h p.0 (get_or xs p.0 json.Null) (slice_get-get_or xs p.0 json.Null is.0) fails ∙ sym (list_all_at test xs p.0 json.Null is.0 fails)
     ]
 
@@ -278,9 +264,6 @@ common-split c = and_eq (and_eq (has-split (codes "id") valid.is_id c) (has-spli
 
 there : (key : List ℕ) (test : Json → Bool) (t : Json) → has key test t ≡ true → is_some (field t key) ≡ true
 there key test t = elim (field t key) as (λ o. there_and test o ≡ true → is_some o ≡ true) [ None ↦ λ e. e | Some v ↦ λ e. refl ]
-
-abbrev is_prose_name : Json → Bool
-is_prose_name v = is_text (codes "raw") v || is_text (codes "markdown") v
 
 common_tells : (c : Json) → Tells (place.of_common c) (may_have (codes "id") valid.is_id c && (may_have (codes "metadata") valid.is_cell_metadata c && may_have (codes "source") is_multiline c))
 common_tells c = record { is = common-none c }

@@ -2,14 +2,13 @@
 use Rattle.std.proofs.Common.{◌≡◌, ◌≢◌, ℕ, Bool, true, false, not, ◌&&◌, ◌||◌, List, [], ◌∷◌, ◌++◌, map, Some, None, refl, sym, ap, ap₂, ◌∙◌, inl, inr, is_gt}
 use Rattle.std.specs.List.{list_any, list_all}
 use Rattle.std.specs.Str.{bytes_eq}
-use Rattle.std.proofs.lemmas.Bool.{cases_Bool, cond-true, cond-false}
+use Rattle.std.proofs.lemmas.Bool.{cases_Bool, cond-true, cond-false, and_parts, not-true}
 use Rattle.std.proofs.lemmas.Slice.Eq.{bytes_eq-Decides}
 use Rattle.jtext.specs.declared.json.Json.{Json}
 use Rattle.jtext.specs.Find.{find}
 use Rattle.jtext.specs.Grammar.{Lacks, Distinct}
 use Rattle.jtext.specs.Sorting.{byte_order, insert_sorted, by_key}
 use Rattle.nb_model.specs.Tree.{optional_pair}
-use Rattle.nb_model.proofs.Tautologies.{and_parts}
 
 -- the pairs with these keys, in this order
 abbrev pub chosen : List (List ℕ) → List (List ℕ × Json) → List (List ℕ × Json)
@@ -31,16 +30,12 @@ record IsAbove (k j : List ℕ) : Type 0 where
   more : is_gt (byte_order j k) ≡ true
   differs : bytes_eq k j ≡ false
 
-not_true : (b : Bool) → not b ≡ true → b ≡ false
-not_true true e = sym e
-not_true false e = refl
-
 first_above : (k j : List ℕ) (js : List (List ℕ)) → above k (j ∷ js) ≡ true → IsAbove k j
 first_above k j js e =
     let h = and_parts (not (is_gt (byte_order k j)) && (is_gt (byte_order j k) && not (bytes_eq k j))) (above k js) e in
     let g = and_parts (not (is_gt (byte_order k j))) (is_gt (byte_order j k) && not (bytes_eq k j)) h.0 in
     let f = and_parts (is_gt (byte_order j k)) (not (bytes_eq k j)) g.1 in
-    record { less = not_true (is_gt (byte_order k j)) g.0; more = f.0; differs = not_true (bytes_eq k j) f.1 }
+    record { less = not-true (is_gt (byte_order k j)) g.0; more = f.0; differs = not-true (bytes_eq k j) f.1 }
 
 rest_above : (k j : List ℕ) (js : List (List ℕ)) → above k (j ∷ js) ≡ true → above k js ≡ true
 rest_above k j js e = (and_parts (not (is_gt (byte_order k j)) && (is_gt (byte_order j k) && not (bytes_eq k j))) (above k js) e).1

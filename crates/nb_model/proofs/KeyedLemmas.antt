@@ -3,12 +3,11 @@ use Rattle.std.proofs.Common.{◌≡◌, ◌≢◌, ℕ, true, false, not, List,
 use Rattle.std.specs.Prelude.{unwrap_or}
 use Rattle.std.specs.List.{AllByRecursion, list_any}
 use Rattle.std.specs.Str.{bytes_eq}
-use Rattle.std.proofs.lemmas.Bool.{cases_Bool, cond-true, cond-false}
+use Rattle.std.proofs.lemmas.Bool.{cases_Bool, cond-true, cond-false, and_parts}
 use Rattle.jtext.specs.declared.json.Json.{Json, out-Json}
-use Rattle.jtext.specs.declared.json.Json.TheOpen.{Json-F}
 use Rattle.jtext.specs.declared.json.Json.TheVariants as json
 use Rattle.jtext.specs.Find.{field, fields}
-use Rattle.jtext.specs.Look.{is_object, is_list, is_list_layer, items, items_layer}
+use Rattle.jtext.specs.Look.{is_object, is_list, items}
 use Rattle.jtext.specs.Grammar.{Lacks, Distinct}
 use Rattle.jtext.specs.Keyed as keyed
 use Rattle.jtext.specs.Keyed.{Keyed, AllKeyed, PairsKeyed}
@@ -19,10 +18,10 @@ use Rattle.nb_model.specs.declared.cell.Cell.{Cell}
 use Rattle.nb_model.specs.declared.notebook.Notebook.{Notebook}
 use Rattle.nb_model.specs.Tree.{optional_pair, cell_tree, notebook_tree}
 use Rattle.jtext.specs.Edit.{set_pair, set_field, set_within}
-use Rattle.nb_model.proofs.Tautologies.{and_parts, not_or}
+use Rattle.nb_model.proofs.Tautologies.{not_or}
 use Rattle.nb_model.proofs.PreparedLaws.{no_repeat}
-use Rattle.nb_model.proofs.DepthLaws.{all-set_pair, all-found, no_fields}
-use Rattle.jtext.proofs.Trees.{object_is, list_is, items_keyed, pairs_keyed, first_keyed, pair_keyed, found_keyed}
+use Rattle.nb_model.proofs.DepthLaws.{all-set_pair, all-found}
+use Rattle.jtext.proofs.Trees.{object_is, list_is, items_keyed, pairs_keyed, first_keyed, pair_keyed, found_keyed, no_items, no_fields}
 use Rattle.nb_model.proofs.TreeLaws.{pairs_with}
 use Rattle.nb_model.proofs.CellValues.{Values, prose_pairs, all-map, all-unmap, top_pairs}
 
@@ -92,14 +91,6 @@ keyed-set_within outer key v t kv kt =
 
 pub keyed_value : (key : List ℕ) (t v : Json) → Keyed t → field t key ≡ Some v → Keyed v
 keyed_value key t v k e = found_keyed key (fields t) v (pairs_of (fields t) (fields_keyed t k).0) e
-
-no_items : (l : Json-F Json) → is_list_layer l ≡ false → items_layer l ≡ []
-no_items Json-F.Null e = refl
-no_items (Json-F.Bool b) e = refl
-no_items (Json-F.Num s) e = refl
-no_items (Json-F.Str s) e = refl
-no_items (Json-F.Arr xs) e = cc
-no_items (Json-F.Obj ps) e = refl
 
 pub keyed_items : (t : Json) → Keyed t → AllKeyed (items t)
 keyed_items t k =

@@ -4,6 +4,7 @@ pub mod Tautologies
 pub mod RegroupedTests
 pub mod FaultLaws
 pub mod IdLemmas
+pub mod IdTexts
 pub mod KeyOrders
 pub mod TreeLaws
 pub mod PreparedLaws

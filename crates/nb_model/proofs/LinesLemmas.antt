@@ -1,10 +1,11 @@
 -- Where the first line of a text ends.
-use Rattle.std.proofs.Common.{◌≡◌, ◌==◌, ℕ, zero, suc, ◌+◌, ◌<◌, Bool, true, false, cond, List, [], ◌∷◌, Option, Some, None, length, take, drop, get_or, refl, sym, ◌∙◌, ap, arith, add-one, eqb-true}
+use Rattle.std.proofs.Common.{◌≡◌, ◌==◌, ℕ, zero, suc, ◌+◌, ◌<◌, true, false, List, [], ◌∷◌, Some, None, length, take, drop, get_or, sym, ◌∙◌, ap, arith, add-one, eqb-true}
 use Rattle.std.specs.List.{position, position_from}
 use Rattle.std.proofs.lemmas.List.Quantifiers.{position-Some}
 use Rattle.std.proofs.lemmas.Iterator.Adapters.{position_from-zero}
 use Rattle.std.proofs.lemmas.Bool.{cond-true, cond-false}
 use Rattle.nb_model.specs.Lines.{lines_of, before_first_line}
+use Rattle.jtext.proofs.Edits.{not_first}
 
 -- after the first line end at i the first line is cut
 pub lines_of-cut : (s : List ℕ) (i : ℕ) → i < length s → (get_or s i 0 == 10) ≡ true → ((k : ℕ) → k < i → (get_or s k 0 == 10) ≡ false)
@@ -24,10 +25,6 @@ lines_of-whole (c ∷ d ∷ cs) some none =
     ∙ ap (before_first_line c) (lines_of-whole (d ∷ cs) (omega arith) (λ k below. none (suc k) (omega arith)))
 
 -- ---- by the place of the first line end
-
-not_first : (b : Bool) (i : ℕ) (r : Option ℕ) → cond b (Some i) r ≡ None → (b ≡ false) × (r ≡ None)
-not_first true i r e = cc
-not_first false i r e = (refl, e)
 
 none_passes : (s : List ℕ) (i : ℕ) → position_from (λ b. b == 10) i s ≡ None → (k : ℕ) → k < length s → (get_or s k 0 == 10) ≡ false
 none_passes [] i e k lt = absurd (omega arith)

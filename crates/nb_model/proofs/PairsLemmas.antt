@@ -9,6 +9,7 @@ use Rattle.std.proofs.lemmas.Slice.Eq.{bytes_eq-Decides}
 use Rattle.jtext.specs.declared.json.Json.{Json}
 use Rattle.jtext.specs.declared.json.Json.TheVariants as json
 use Rattle.jtext.specs.Find.{find}
+use Rattle.jtext.proofs.Edits.{not_first}
 use Rattle.nb_model.specs.Pairs.{pairs_without}
 use Rattle.nb_model.specs.declared.kind.Kind.{Kind}
 use Rattle.nb_model.specs.declared.cell.Cell.{Cell}
@@ -29,10 +30,6 @@ rest_at key (q ∷ qs) (suc i) lt here none =
 
 pub without-at : (key : List ℕ) (ps : List (List ℕ × Json)) (i : ℕ) → position (λ q. bytes_eq q.0 key) ps ≡ Some i → remove ps i ≡ pairs_without key ps
 without-at key ps i e = let is = position-Some (λ q. bytes_eq q.0 key) ps i nothing e in rest_at key ps i is.0 is.1 is.2
-
-not_first : {A : Type 0} (b : Bool) (i : A) (r : Option A) → cond b (Some i) r ≡ None → (b ≡ false) × (r ≡ None)
-not_first true i r e = cc
-not_first false i r e = (refl, e)
 
 absent_from : (key : List ℕ) (ps : List (List ℕ × Json)) (i : ℕ) → position_from (λ q. bytes_eq q.0 key) i ps ≡ None → pairs_without key ps ≡ ps
 absent_from key [] i e = refl

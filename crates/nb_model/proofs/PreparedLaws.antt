@@ -3,8 +3,9 @@ use Rattle.std.proofs.Common.{◌≡◌, ℕ, Bool, true, false, cond, not, ◌&
 use Rattle.std.specs.Prelude.{codes, unwrap_or, option_and_then}
 use Rattle.std.specs.List.{list_any, list_all}
 use Rattle.std.specs.Str.{bytes_eq}
-use Rattle.std.proofs.lemmas.Bool.{cases_Bool, cond-true, cond-false}
+use Rattle.std.proofs.lemmas.Bool.{cases_Bool, cond-true, cond-false, and_parts}
 use Rattle.std.proofs.lemmas.Slice.Eq.{bytes_eq-Decides}
+use Rattle.std.proofs.Math.Bool.{or-false}
 use Rattle.jtext.specs.declared.json.Json.{Json, out-Json, the_lemmas}
 use Rattle.jtext.specs.declared.json.Json.TheOpen.{Json-F}
 use Rattle.jtext.specs.declared.json.Json.TheVariants as json
@@ -24,12 +25,14 @@ use Rattle.nb_model.specs.Tree.{optional_pair, count_tree, cell_tree, notebook_t
 use Rattle.jtext.specs.Edit.{set_pair, set_field}
 use Rattle.nb_model.specs.Kind.{is_code}
 use Rattle.nb_model.specs.Prepared.{pending_mark, prepared_cell, prepared_notebook}
-use Rattle.nb_model.proofs.Tautologies.{and_parts}
 use Rattle.nb_model.proofs.TreeLaws.{pairs_with}
 use Rattle.nb_model.proofs.CellValues.{top_pairs}
 
 pub and_eq : {a b x y : Bool} → a ≡ x → b ≡ y → (a && b) ≡ (x && y)
 and_eq p q = ap₂ (λ u v. u && v) p q
+
+pub or_eq : {a b x y : Bool} → a ≡ x → b ≡ y → (a || b) ≡ (x || y)
+or_eq p q = ap₂ (λ u v. u || v) p q
 
 -- ---- tests of a built object
 
@@ -63,7 +66,7 @@ has_at key test qs v e = ap (λ ps. there_and test (find key ps)) (fields_Obj qs
 may_at : (key : List ℕ) (test : Json → Bool) (qs : List (List ℕ × Json)) (o : Option Json) → find key qs ≡ o → may_have key test (json.Obj qs) ≡ absent_or test o
 may_at key test qs o e = ap (λ ps. absent_or test (find key ps)) (fields_Obj qs) ∙ ap (absent_or test) e
 
-only_at : (keys : List (List ℕ)) (qs : List (List ℕ × Json)) → list_all (λ p. list_any (λ key. bytes_eq p.0 key) keys) qs ≡ true → has_only keys (json.Obj qs) ≡ true
+pub only_at : (keys : List (List ℕ)) (qs : List (List ℕ × Json)) → list_all (λ p. list_any (λ key. bytes_eq p.0 key) keys) qs ≡ true → has_only keys (json.Obj qs) ≡ true
 only_at keys qs e = ap (list_all (λ p. list_any (λ key. bytes_eq p.0 key) keys)) (fields_Obj qs) ∙ e
 
 text_is : (text s : List ℕ) → is_text text (json.Str s) ≡ bytes_eq s text
@@ -98,7 +101,7 @@ outputs_is xs = ap₂ (λ b ys. b && list_all valid.is_output ys) (list_Arr xs) 
 id_is : (s : List ℕ) → valid.is_id (json.Str s) ≡ is_id_text s
 id_is s = ap (there_and is_id_text) (string_Str s)
 
-abbrev is_prose_name : Json → Bool
+abbrev pub is_prose_name : Json → Bool
 is_prose_name v = is_text (codes "raw") v || is_text (codes "markdown") v
 
 prose_name : (s : List ℕ) → is_prose_name (json.Str s) ≡ (bytes_eq s (codes "raw") || bytes_eq s (codes "markdown"))
@@ -119,10 +122,6 @@ code_tree c =
     (common_at qs c refl refl refl)) (has_at (codes "outputs") valid.are_outputs qs (json.Arr c.outputs) refl ∙ outputs_is c.outputs))
     (has_at (codes "execution_count") is_count qs (count_tree c.count) refl ∙ count_is c.count) in
     and_eq (object_Obj qs) (ap₂ (λ a b. a || b) no_prose is_code_cell)
-
-or_false : (a : Bool) → (a || false) ≡ a
-or_false true = refl
-or_false false = refl
 
 -- a cell of text, with its pairs as they are for its attachments
 abbrev prose_pairs : List ℕ → Cell → Option Json → List (List ℕ × Json)
@@ -146,7 +145,7 @@ prose_tree name c o named other =
     (may_at (codes "attachments") valid.are_attachments qs o attached) in
     let no_code : valid.is_code_cell (json.Obj qs) ≡ false =
     and_eq (and_eq (and_eq (and_eq (has_at (codes "cell_type") (is_text (codes "code")) qs (json.Str name) type ∙ text_is (codes "code") name ∙ other) refl) refl) refl) refl in
-    and_eq (object_Obj qs) (ap₂ (λ a b. a || b) is_prose_cell no_code ∙ or_false (common_fits c && absent_or valid.are_attachments o))
+    and_eq (object_Obj qs) (ap₂ (λ a b. a || b) is_prose_cell no_code ∙ or-false (common_fits c && absent_or valid.are_attachments o))
 
 -- the tree of a cell is one exactly where its parts fit
 pub cell_tree-fits : (c : Cell) → valid.is_cell (cell_tree c) ≡ cell_fits c

@@ -4,6 +4,7 @@ use Rattle.std.specs.Prelude.{codes, unwrap_or}
 use Rattle.std.specs.List.{AllByRecursion, AllZip, list_all}
 use Rattle.std.specs.Str.{bytes_eq}
 use Rattle.std.proofs.lemmas.List.Elements.{recursion_from_All}
+use Rattle.std.proofs.lemmas.Bool.{and_parts}
 use Rattle.jtext.specs.declared.json.Json.{Json}
 use Rattle.jtext.specs.declared.json.Json.TheVariants as json
 use Rattle.jtext.specs.Depth.{depth}
@@ -25,7 +26,6 @@ use Rattle.nb_model.proofs.CellValues.{Values, top_pairs, metadata_in, with_meta
 use Rattle.nb_model.proofs.DepthLaws.{object_within, values_within, field_set_within, set_within_within, list_within, within_list}
 use Rattle.nb_model.proofs.KeyedLemmas.{keyed-set_field, keyed-set_within, cell_keyed, values_keyed, notebook_keyed, parts_keyed, items_of}
 use Rattle.nb_model.proofs.PreparedLaws.{and_eq, count_is, common_fits, count_fits, kind_fits, cell_fits, no_repeat, common_kept, metadata_of, cell_metadata_kept, metadata_kept_at, notebook_fits, notebook_tree-fits}
-use Rattle.nb_model.proofs.Tautologies.{and_parts}
 use Rattle.nb_model.proofs.TreeLaws.{pairs_with}
 
 -- ---- marks

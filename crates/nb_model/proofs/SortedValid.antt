@@ -1,5 +1,5 @@
 -- A notebook stays valid when the pairs of each object are sorted by their keys.
-use Rattle.std.proofs.Common.{◌≡◌, ℕ, Bool, ◌||◌, List, [], ◌∷◌, map, Some, None, refl, sym, ap, ap₂, ◌∙◌, codes, subst, ◌≤◌}
+use Rattle.std.proofs.Common.{◌≡◌, ℕ, ◌||◌, List, [], ◌∷◌, map, Some, None, refl, sym, ap, ap₂, ◌∙◌, codes, subst, ◌≤◌}
 use Rattle.std.specs.Prelude.{is_some, unwrap_or, option_map, option_and_then}
 use Rattle.std.specs.Str.{bytes_eq}
 use Rattle.jtext.specs.declared.json.Json.{Json}
@@ -17,14 +17,11 @@ use Rattle.jtext.specs.Bundle.{is_multiline, is_json_type, is_bundle}
 use Rattle.nb_model.specs.Values.{is_count, is_id_text}
 use Rattle.nb_model.specs.Valid as valid
 use Rattle.nb_model.specs.Valid.{Valid}
-use Rattle.nb_model.proofs.PreparedLaws.{and_eq, no_repeat, ids_are}
+use Rattle.nb_model.proofs.PreparedLaws.{and_eq, no_repeat, ids_are, or_eq}
 use Rattle.jtext.proofs.Trees.{first_keyed}
 use Rattle.jtext.proofs.SpelledKeyed.{spells_keyed}
 use Rattle.nb_model.specs.Schema.{notebook_keys, prose_cell_keys, code_cell_keys, stream_required, display_required, result_required, error_required, output_keys}
 use Rattle.nb_model.proofs.SortedTrees.{Stays, object_sorted, list_sorted, string_sorted, number_sorted, null_sorted, field_sorted, has-stays, may_have-stays, has_only-stays, items-stay, items_of_sorted, values-stay, depth_stays}
-
-or_eq : {a b x y : Bool} → a ≡ x → b ≡ y → (a || b) ≡ (x || y)
-or_eq p q = ap₂ (λ u v. u || v) p q
 
 -- ---- values
 

@@ -4,7 +4,7 @@ use Rattle.std.specs.Prelude.{nat_le}
 use Rattle.std.specs.List.{AllByRecursion, list_all}
 use Rattle.std.specs.Option.{IfSome}
 use Rattle.std.specs.Str.{IsUtf8}
-use Rattle.std.proofs.lemmas.Bool.{leb-true}
+use Rattle.std.proofs.lemmas.Bool.{leb-true, and_parts}
 use Rattle.std.proofs.lemmas.List.{take_more}
 use Rattle.jtext.specs.declared.json.Json.{Json}
 use Rattle.jtext.specs.Number.{IsNumber}
@@ -17,7 +17,6 @@ use Rattle.nb_model.specs.declared.kind.Kind.TheVariants as kind
 use Rattle.nb_model.specs.declared.cell.Cell.{Cell}
 use Rattle.nb_model.specs.declared.notebook.Notebook.{Notebook}
 use Rattle.nb_model.specs.Tree.{optional_pair, count_tree, cell_tree, notebook_tree}
-use Rattle.nb_model.proofs.Tautologies.{and_parts}
 use Rattle.nb_model.proofs.TreeLaws.{pairs_with}
 use Rattle.nb_model.proofs.CellValues.{Values, prose_pairs, top_pairs}
 

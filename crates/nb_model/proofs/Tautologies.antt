@@ -1,5 +1,6 @@
 -- Equations between tests that hold whatever their parts are, by going through all cases.
 use Rattle.std.proofs.Common.{◌≡◌, ℕ, zero, suc, Bool, true, false, not, ◌&&◌, ◌||◌, refl, sym}
+use Rattle.std.proofs.lemmas.Bool.{and_parts}
 
 -- a test of so many parts
 abbrev pub Test : ℕ → Type 0
@@ -14,10 +15,6 @@ passes (suc n) f = passes n (f true) && passes n (f false)
 abbrev pub Holds : (n : ℕ) → Test n → Type 0
 Holds zero b = b ≡ true
 Holds (suc n) f = (b : Bool) → Holds n (f b)
-
-pub and_parts : (a b : Bool) → (a && b) ≡ true → (a ≡ true) × (b ≡ true)
-and_parts true b e = (refl, e)
-and_parts false b e = cc
 
 pub not_or : (a b : Bool) → not (a || b) ≡ true → (a ≡ false) × (not b ≡ true)
 not_or false b n = (refl, n)

@@ -1,22 +1,21 @@
 -- The id of the new cell is the id of a cell, and none of the other ids.
-use Rattle.std.proofs.Common.{◌≡◌, ◌⊎◌, ℕ, zero, suc, ◌+◌, ◌<◌, ◌≤◌, ◌^◌, ◌%◌, true, false, ◌&&◌, ◌||◌, List, [], ◌∷◌, length, drop, refl, sym, ap, ap₂, ◌∙◌, inl, inr, arith, codes}
+use Rattle.std.proofs.Common.{◌≡◌, ◌⊎◌, ℕ, zero, suc, ◌+◌, ◌<◌, ◌≤◌, ◌^◌, true, false, ◌||◌, List, [], ◌∷◌, length, drop, refl, sym, ap, ◌∙◌, inl, inr, arith, codes}
 use Rattle.std.proofs.lemmas.Bool.{cases_Bool, cond-true, cond-false, le-leb}
-use Rattle.std.proofs.lemmas.Bool.Decides.{nat_tests}
 use Rattle.std.proofs.lemmas.Cmp.{nat_list_eq_equiv}
-use Rattle.std.proofs.lemmas.Fmt.{decimal_is_IsNumeral_wide, decimal_by_steps_wide, length-decimal-le_wide}
+use Rattle.std.proofs.lemmas.Fmt.{decimal_is_IsNumeral_wide, length-decimal-le_wide}
 use Rattle.std.proofs.lemmas.List.{length-append}
-use Rattle.std.proofs.lemmas.List.Folds.{list_all-append}
 use Rattle.std.proofs.lemmas.Map.Keys.{IsDistinct-cons}
 use Rattle.std.proofs.lemmas.Map.Made.{length-le_from_is_member}
 use Rattle.std.proofs.lemmas.Slice.Eq.{bytes_eq-Decides}
 use Rattle.std.specs.Fmt.{decimal}
-use Rattle.std.specs.List.{AllByRecursion, IsDistinct, list_any, list_all}
+use Rattle.std.specs.List.{AllByRecursion, IsDistinct, list_any}
 use Rattle.std.specs.Str.{bytes_eq}
 use Rattle.std.specs.Str.Parse.{digits_value}
 use Rattle.jtext.proofs.Keys.{not_equal}
 use Rattle.nb_params.specs.Injected.{numbered_id, free_from, fresh_id}
-use Rattle.nb_model.specs.Values.{is_id_byte, is_id_text}
+use Rattle.nb_model.specs.Values.{is_id_text}
 use Rattle.nb_model.proofs.PreparedLaws.{and_eq}
+use Rattle.nb_model.proofs.IdTexts.{decimal_in_id}
 
 -- ---- ids by number
 
@@ -107,13 +106,6 @@ fresh_id-free ids h =
     ]
 
 -- ---- the form of ids
-
-digit_in_id : (d : ℕ) → d < 10 → is_id_byte (48 + d) ≡ true
-digit_in_id d h = grind (arith, nat_tests)
-
-decimal_in_id : (n : ℕ) → n < 10 ^ 64 → list_all is_id_byte (decimal n) ≡ true
-decimal_in_id = decimal_by_steps_wide (λ n ds. list_all is_id_byte ds ≡ true) (λ n h. ap (λ b. b && true) (digit_in_id n h))
-    (λ n ds h all. list_all-append is_id_byte ds ((48 + n % 10) ∷ []) ∙ ap₂ (λ a b. a && (b && true)) all (digit_in_id (n % 10) (omega arith)))
 
 numbered_is_id : (n : ℕ) → n < 10 ^ 44 → is_id_text (numbered_id n) ≡ true
 numbered_is_id n h =

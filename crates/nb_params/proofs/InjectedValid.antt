@@ -1,6 +1,7 @@
 -- An injected notebook is valid where the notebook is.
 use Rattle.std.proofs.Common.{◌≡◌, ℕ, suc, ◌<◌, ◌≤◌, ◌^◌, Bool, true, false, ◌&&◌, List, [], ◌∷◌, map, length, refl, sym, ap, ap₂, ◌∙◌, arith, cond, codes, rules}
 use Rattle.std.specs.List.{AllByRecursion, list_all}
+use Rattle.std.proofs.lemmas.Bool.{and_parts}
 use Rattle.jtext.specs.declared.json.Json.{Json, the_lemmas}
 use Rattle.jtext.specs.declared.json.Json.TheVariants as json
 use Rattle.jtext.specs.Depth.{depth}
@@ -17,8 +18,7 @@ use Rattle.nb_model.specs.Tree.{cell_tree, notebook_tree}
 use Rattle.nb_model.specs.Reading.{value_at}
 use Rattle.jtext.specs.Edit.{set_field, set_within}
 use Rattle.nb_model.specs.Kind.{is_code}
-use Rattle.nb_params.specs.Injected.{hidden_cell, parameters_cell, fresh_id, ids, parametrised_notebook, injected_notebook}
-use Rattle.nb_model.proofs.Tautologies.{and_parts}
+use Rattle.nb_params.specs.Injected.{hidden_cell, parameters_cell, fresh_id, ids, parametrised_notebook, injected_notebook, parameters_metadata}
 use Rattle.nb_model.proofs.PreparedLaws.{and_eq, common_fits, count_fits, kind_fits, cell_fits, no_repeat, cell_metadata_kept, metadata_kept, common_kept, metadata_of, notebook_fits, notebook_tree-fits}
 use Rattle.nb_model.proofs.DepthLaws.{string_within, items_within, object_within, values_within, null_within, set_within_within, list_within, within_list}
 use Rattle.nb_model.proofs.Multilines.{strings_multiline}
@@ -30,14 +30,11 @@ use Rattle.nb_params.proofs.InjectedCells.{hidden_values, all_injected, metadata
 
 -- ---- the new cell
 
-abbrev tagged : Json
-tagged = json.Obj ((codes "tags", json.Arr (json.Str (codes "injected-parameters") ∷ [])) ∷ [])
-
-tagged_fits : is_cell_metadata tagged ≡ true
-tagged_fits = search (rules, the_lemmas)
+metadata_fits : is_cell_metadata parameters_metadata ≡ true
+metadata_fits = search (rules, the_lemmas)
 
 new_fits : (is : List (List ℕ)) (ps : List (List ℕ × Json)) → length is < 10 ^ 44 → cell_fits (parameters_cell (fresh_id is) ps) ≡ true
-new_fits is ps h = and_eq (and_eq (and_eq (and_eq (fresh_id-is_id is h) tagged_fits) (strings_multiline (lines_of (python ps)))) refl) refl
+new_fits is ps h = and_eq (and_eq (and_eq (and_eq (fresh_id-is_id is h) metadata_fits) (strings_multiline (lines_of (python ps)))) refl) refl
 
 -- ---- hidden sources
 

@@ -1,6 +1,6 @@
 -- Where the new cell stands, and what holds of all cells then.
 use Rattle.std.proofs.Common.{◌≡◌, ◌⊎◌, ℕ, zero, suc, ◌+◌, ◌<◌, ◌≤◌, ◌^◌, true, false, not, ◌&&◌, ◌||◌, List, [], ◌∷◌, ◌++◌, length, take, drop, refl, sym, ap, ap₂, ◌∙◌, inl, inr, arith, subst, codes, Option, Some, None}
-use Rattle.std.proofs.lemmas.Bool.{or_parts}
+use Rattle.std.proofs.lemmas.Bool.{or_parts, and_parts}
 use Rattle.std.proofs.lemmas.List.{take-append-drop, map-append, length-map}
 use Rattle.std.specs.List.{AllByRecursion, list_any, position}
 use Rattle.std.specs.Str.{bytes_eq}
@@ -9,7 +9,7 @@ use Rattle.nb_model.specs.declared.cell.Cell.{Cell}
 use Rattle.nb_model.specs.Tags.{is_tagged}
 use Rattle.nb_params.specs.Injected.{with_parameters, placed_at, placed_after, parameters_cell, fresh_id, ids}
 use Rattle.nb_model.proofs.PreparedLaws.{no_repeat}
-use Rattle.nb_model.proofs.Tautologies.{and_parts, not_or}
+use Rattle.nb_model.proofs.Tautologies.{not_or}
 use Rattle.nb_params.proofs.Ids.{turned}
 use Rattle.nb_params.proofs.FreshIds.{fresh_id-free}
 

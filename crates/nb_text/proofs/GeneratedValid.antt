@@ -1,10 +1,8 @@
 -- A generated notebook is valid, and none of its objects has a key twice.
-use Rattle.std.proofs.Common.{◌≡◌, ℕ, zero, suc, ◌+◌, ◌<◌, ◌≤◌, ◌^◌, ◌%◌, true, false, ◌&&◌, ◌||◌, not, List, [], ◌∷◌, ◌++◌, length, map, drop, refl, sym, ap, ap₂, ◌∙◌, arith, codes, rules}
+use Rattle.std.proofs.Common.{◌≡◌, ℕ, zero, suc, ◌+◌, ◌<◌, ◌≤◌, ◌^◌, true, false, ◌||◌, not, List, [], ◌∷◌, ◌++◌, length, map, drop, refl, sym, ap, ap₂, ◌∙◌, arith, codes, rules}
 use Rattle.std.proofs.lemmas.Bool.{le-leb}
-use Rattle.std.proofs.lemmas.Bool.Decides.{nat_tests}
-use Rattle.std.proofs.lemmas.Fmt.{decimal_is_IsNumeral_wide, decimal_by_steps_wide, length-decimal-le_wide}
+use Rattle.std.proofs.lemmas.Fmt.{decimal_is_IsNumeral_wide, length-decimal-le_wide}
 use Rattle.std.proofs.lemmas.List.{length-append}
-use Rattle.std.proofs.lemmas.List.Folds.{list_all-append}
 use Rattle.std.specs.Fmt.{decimal}
 use Rattle.std.specs.List.{AllByRecursion, list_any, list_all}
 use Rattle.std.specs.Str.{bytes_eq}
@@ -18,13 +16,14 @@ use Rattle.jtext.proofs.Keys.{not_equal}
 use Rattle.nb_model.specs.declared.kind.Kind.TheVariants as kind
 use Rattle.nb_model.specs.Tree.{cell_tree, notebook_tree}
 use Rattle.nb_model.specs.Valid.{is_metadata, is_cell_metadata, Valid}
-use Rattle.nb_model.specs.Values.{is_id_byte, is_id_text}
+use Rattle.nb_model.specs.Values.{is_id_text}
 use Rattle.nb_model.proofs.CellValues.{all-map, top_pairs}
 use Rattle.nb_model.proofs.DepthLaws.{string_within, items_within, object_within, null_within, within_list}
 use Rattle.nb_model.proofs.KeyedLemmas.{pairs_of, distinct_from, cell_keyed, string_list_keyed, notebook_keyed}
 use Rattle.nb_model.proofs.PreparedLaws.{and_eq, cell_fits, no_repeat, notebook_tree-fits}
 use Rattle.nb_model.proofs.Multilines.{strings_multiline}
 use Rattle.nb_model.proofs.TreeLaws.{pairs_with}
+use Rattle.nb_model.proofs.IdTexts.{decimal_in_id}
 use Rattle.nb_text.specs.Generated.{generated_cell, cells_from, kernelspec, kernel, verb, generated_notebook}
 
 -- ---- ids
@@ -45,13 +44,6 @@ later_apart i j (suc n) lt h = ap₂ (λ a b. a || b) (ids_apart i j (omega arit
 ids_differ : (j n : ℕ) → j + n < 10 ^ 64 → no_repeat (map (λ c. c.id) (cells_from j n)) ≡ true
 ids_differ j zero h = refl
 ids_differ j (suc n) h = and_eq (ap not (later_apart j (j + 1) n (omega arith) (omega arith))) (ids_differ (j + 1) n (omega arith))
-
-digit_in_id : (d : ℕ) → d < 10 → is_id_byte (48 + d) ≡ true
-digit_in_id d h = grind (arith, nat_tests)
-
-decimal_in_id : (n : ℕ) → n < 10 ^ 64 → list_all is_id_byte (decimal n) ≡ true
-decimal_in_id = decimal_by_steps_wide (λ n ds. list_all is_id_byte ds ≡ true) (λ n h. ap (λ b. b && true) (digit_in_id n h))
-    (λ n ds h all. list_all-append is_id_byte ds ((48 + n % 10) ∷ []) ∙ ap₂ (λ a b. a && (b && true)) all (digit_in_id (n % 10) (omega arith)))
 
 id_fits : (n : ℕ) → n < 10 ^ 44 → is_id_text (id n) ≡ true
 id_fits n h =

@@ -12,20 +12,11 @@ use Rattle.jtext.specs.Sound as sound
 use Rattle.jtext.specs.Sound.{Sound, AllSound, PairsSound}
 use Rattle.jtext.proofs.Indented.{indented-Null, indented-Bool, indented-Num, indented-Str, array_text, object_text, indented-none, indented-empty}
 use Rattle.jtext.proofs.Sorts.{all-sort_by}
-use Rattle.jtext.proofs.Utf8s.{Ascii, utf8_ascii, ascii-append, word_utf8, number_utf8, quoted_utf8, joined_utf8}
-
-further_ascii : (m : List ℕ) → Ascii m → Ascii (further m)
-further_ascii m a = ascii-append m (32 ∷ []) a (omega arith, tt)
-
-line_utf8 : (m b : List ℕ) → Ascii m → IsUtf8 b → IsUtf8 (on_line m b)
-line_utf8 m b a u = IsUtf8-append (10 ∷ m) b (utf8_ascii (10 ∷ m) (omega arith, a)) u
+use Rattle.jtext.proofs.Utf8s.{Ascii, utf8_ascii, word_utf8, number_utf8, quoted_utf8, joined_utf8}
+use Rattle.jtext.proofs.IndentedSpells.{further_ascii, line_utf8, lines_utf8}
 
 abbrev Line : List ℕ → List ℕ × Json → List ℕ
 Line m p = on_line m (named (p.0, indented p.1 m))
-
-lines_utf8 : {A : Type 0} (f : A → List ℕ) (xs : List A) → AllByRecursion (λ x. IsUtf8 (f x)) xs → AllByRecursion IsUtf8 (map f xs)
-lines_utf8 f [] all = tt
-lines_utf8 f (x ∷ xs) all = (all.0, lines_utf8 f xs all.1)
 
 -- lines between two brackets
 between_utf8 : (start close : ℕ) (inner m : List ℕ) → Ascii (start ∷ []) → Ascii (close ∷ []) → Ascii m → IsUtf8 inner → IsUtf8 (start ∷ (inner ++ on_line m (close ∷ [])))
