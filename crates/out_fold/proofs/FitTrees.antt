@@ -1,8 +1,9 @@
 -- The trees of outputs that were read are outputs of nbformat.
 use Rattle.std.proofs.Common.{◌≡◌, ℕ, ◌<◌, ◌≤◌, Bool, true, false, ◌&&◌, ◌||◌, List, [], ◌∷◌, map, Option, Some, None, refl, sym, ap, ◌∙◌, arith, codes}
 use Rattle.std.specs.Prelude.{if◌then◌else◌, is_some}
-use Rattle.std.specs.List.{AllByRecursion, list_all, list_any}
+use Rattle.std.specs.List.{AllByRecursion, list_all}
 use Rattle.std.specs.Str.{bytes_eq}
+use Rattle.std.proofs.lemmas.Bool.{and_parts, and_from, or_left, or_right}
 use Rattle.jtext.specs.declared.json.Json.{Json, out-Json}
 use Rattle.jtext.specs.declared.json.Json.TheOpen.{Json-F}
 use Rattle.jtext.specs.declared.json.Json.TheVariants as json
@@ -15,7 +16,7 @@ use Rattle.jtext.specs.Keyed.{Keyed, PairsKeyed}
 use Rattle.jtext.specs.Look.{is_object, is_list, items, is_string, is_strings, there_and}
 use Rattle.jtext.proofs.Depths.{depth-Arr, depth-Null, depth-Num, depth-Str, highest-le}
 use Rattle.jtext.proofs.Trees.{pairs_keyed}
-use Rattle.nb_model.specs.Keys.{is_text, has, has_only}
+use Rattle.nb_model.specs.Keys.{is_text, has}
 use Rattle.nb_model.specs.Lines.{lines_of, lines_tree}
 use Rattle.nb_model.specs.Schema.{stream_required, display_required, result_required, error_required, output_keys}
 use Rattle.nb_model.specs.Tree.{count_tree}
@@ -23,23 +24,20 @@ use Rattle.nb_model.specs.Valid.{is_stream, is_display, is_result, is_error, is_
 use Rattle.nb_model.specs.Values.{is_count}
 use Rattle.nb_model.proofs.DepthLaws.{object_within, values_within}
 use Rattle.nb_model.proofs.KeyedLemmas.{values_of, pairs_of, distinct_from, string_list_keyed}
-use Rattle.nb_model.proofs.PreparedLaws.{fields_Obj, object_Obj, string_Str, list_Arr, items_Arr, count_is}
+use Rattle.nb_model.proofs.PreparedLaws.{fields_Obj, object_Obj, string_Str, list_Arr, items_Arr, count_is, only_at}
 use Rattle.jcontent.specs.declared.content.Content.{Content}
 use Rattle.jcontent.specs.declared.content.Content.TheVariants as content
 use Rattle.jcontent.specs.declared.shown.Shown.{Shown}
 use Rattle.jcontent.specs.IsRead.{IsInner, IsShown, IsCount}
 use Rattle.out_fold.specs.Cells.{date_pairs}
-use Rattle.out_fold.specs.Tree.{is_text_type, lines_layer, in_lines, stored_pair, stored, stream_tree, display_tree, result_tree, error_tree, output_tree}
-use Rattle.out_fold.proofs.ListTests.{no, and_parts, and_made, or_left, or_right}
+use Rattle.out_fold.specs.Tree.{is_text_type, lines_layer, in_lines, stored_pair, stored_bundle, stream_tree, display_tree, result_tree, error_tree, output_tree}
+use Rattle.out_fold.proofs.ListTests.{no}
 use Rattle.out_fold.proofs.ReadOutputs.{IsReadOutput}
 
 -- ---- tests of a built object
 
 has_at : (key : List ℕ) (test : Json → Bool) (qs : List (List ℕ × Json)) (v : Json) → find key qs ≡ Some v → test v ≡ true → has key test (json.Obj qs) ≡ true
 has_at key test qs v e h = ap (λ ps. there_and test (find key ps)) (fields_Obj qs) ∙ ap (there_and test) e ∙ h
-
-only_at : (keys : List (List ℕ)) (qs : List (List ℕ × Json)) → list_all (λ p. list_any (λ key. bytes_eq p.0 key) keys) qs ≡ true → has_only keys (json.Obj qs) ≡ true
-only_at keys qs e = ap (list_all (λ p. list_any (λ key. bytes_eq p.0 key) keys)) (fields_Obj qs) ∙ e
 
 text_is : (text s : List ℕ) → bytes_eq s text ≡ true → is_text text (json.Str s) ≡ true
 text_is text s e = ap (there_and (λ x. bytes_eq x text)) (string_Str s) ∙ e
@@ -49,12 +47,12 @@ string_is s = ap is_some (string_Str s)
 
 each_string : (ls : List (List ℕ)) → list_all is_string (map (λ l. json.Str l) ls) ≡ true
 each_string [] = refl
-each_string (l ∷ ls) = and_made (is_string (json.Str l)) (list_all is_string (map (λ k. json.Str k) ls)) (string_is l) (each_string ls)
+each_string (l ∷ ls) = and_from (is_string (json.Str l)) (list_all is_string (map (λ k. json.Str k) ls)) (string_is l) (each_string ls)
 
 strings_are : (ls : List (List ℕ)) → is_strings (json.Arr (map (λ l. json.Str l) ls)) ≡ true
 strings_are ls =
     let xs = map (λ l. json.Str l) ls in
-    and_made (is_list (json.Arr xs)) (list_all is_string (items (json.Arr xs))) (list_Arr xs) (ap (list_all is_string) (items_Arr xs) ∙ each_string ls)
+    and_from (is_list (json.Arr xs)) (list_all is_string (items (json.Arr xs))) (list_Arr xs) (ap (list_all is_string) (items_Arr xs) ∙ each_string ls)
 
 lines_are : (s : List ℕ) → is_multiline (lines_tree s) ≡ true
 lines_are s = or_right (is_string (lines_tree s)) (is_strings (lines_tree s)) (strings_are (lines_of s))
@@ -115,12 +113,12 @@ data_stored : (ps : List (List ℕ × Json)) → list_all is_datum ps ≡ true �
 data_stored [] e = refl
 data_stored (p ∷ ps) e =
     let h = and_parts (is_datum p) (list_all is_datum ps) e in
-    and_made (is_datum (stored_pair p)) (list_all is_datum (map stored_pair ps)) (datum_stored p h.0) (data_stored ps h.1)
+    and_from (is_datum (stored_pair p)) (list_all is_datum (map stored_pair ps)) (datum_stored p h.0) (data_stored ps h.1)
 
-bundle_stored : (ps : List (List ℕ × Json)) → is_bundle (json.Obj ps) ≡ true → is_bundle (stored ps) ≡ true
+bundle_stored : (ps : List (List ℕ × Json)) → is_bundle (json.Obj ps) ≡ true → is_bundle (stored_bundle ps) ≡ true
 bundle_stored ps e =
     let h = and_parts (is_object (json.Obj ps)) (list_all is_datum (fields (json.Obj ps))) e in
-    and_made (is_object (stored ps)) (list_all is_datum (fields (stored ps))) (object_Obj (map stored_pair ps))
+    and_from (is_object (stored_bundle ps)) (list_all is_datum (fields (stored_bundle ps))) (object_Obj (map stored_pair ps))
     (ap (list_all is_datum) (fields_Obj (map stored_pair ps)) ∙ data_stored ps (ap (list_all is_datum) (sym (fields_Obj ps)) ∙ h.1))
 
 lacks_stored : (key : List ℕ) (ps : List (List ℕ × Json)) → Lacks key ps → Lacks key (map stored_pair ps)
@@ -131,13 +129,13 @@ distinct_stored : (ps : List (List ℕ × Json)) → Distinct ps → Distinct (m
 distinct_stored [] d = tt
 distinct_stored (p ∷ ps) d = (lacks_stored p.0 ps d.0, distinct_stored ps d.1)
 
-keyed_stored : (ps : List (List ℕ × Json)) → Keyed (json.Obj ps) → Keyed (stored ps)
+keyed_stored : (ps : List (List ℕ × Json)) → Keyed (json.Obj ps) → Keyed (stored_bundle ps)
 keyed_stored ps k =
     let h = pairs_keyed (json.Obj ps) ps k refl in
     let qs = map stored_pair ps in
     keyed.object qs (pairs_of qs (stored_values Keyed ps (values_of ps h.0) (λ s. string_list_keyed (lines_of s)))) (distinct_stored ps h.1)
 
-depth_stored : (ps : List (List ℕ × Json)) → depth (json.Obj ps) < 100 → depth (stored ps) ≤ 99
+depth_stored : (ps : List (List ℕ × Json)) → depth (json.Obj ps) < 100 → depth (stored_bundle ps) ≤ 99
 depth_stored ps h =
     object_within 98 (map stored_pair ps)
     (stored_values (λ v. depth v ≤ 98) ps (values_within 98 ps (below (depth (json.Obj ps)) h)) (λ s. up (depth (lines_tree s)) 1 98 (list_depth (lines_of s)) (omega arith)))
@@ -176,7 +174,7 @@ strings_part ls = record { keyed = string_list_keyed ls; within = up (depth (jso
 inner_part : (v : Json) → IsInner v → IsPart v
 inner_part v h = record { keyed = h.keyed; within = below (depth v) h.within }
 
-stored_part : (ps : List (List ℕ × Json)) → IsInner (json.Obj ps) → IsPart (stored ps)
+stored_part : (ps : List (List ℕ × Json)) → IsInner (json.Obj ps) → IsPart (stored_bundle ps)
 stored_part ps h = record { keyed = keyed_stored ps h.keyed; within = depth_stored ps h.within }
 
 null_depth : depth json.Null ≤ 0
@@ -191,26 +189,26 @@ count_part (Some s) = record { keyed = keyed.number s; within = up (depth (json.
 
 -- one of four
 pick : (o : Json) → is_object o ≡ true → (is_stream o || is_display o || is_result o || is_error o) ≡ true → is_output o ≡ true
-pick o is one = and_made (is_object o) (is_stream o || is_display o || is_result o || is_error o) is one
+pick o is one = and_from (is_object o) (is_stream o || is_display o || is_result o || is_error o) is one
 
 and3 : (a b c : Bool) → a ≡ true → b ≡ true → c ≡ true → (a && b && c) ≡ true
-and3 a b c p q r = and_made (a && b) c (and_made a b p q) r
+and3 a b c p q r = and_from (a && b) c (and_from a b p q) r
 
 and4 : (a b c d : Bool) → a ≡ true → b ≡ true → c ≡ true → d ≡ true → (a && b && c && d) ≡ true
-and4 a b c d p q r s = and_made (a && b && c) d (and3 a b c p q r) s
+and4 a b c d p q r s = and_from (a && b && c) d (and3 a b c p q r) s
 
 and5 : (a b c d e : Bool) → a ≡ true → b ≡ true → c ≡ true → d ≡ true → e ≡ true → (a && b && c && d && e) ≡ true
-and5 a b c d e p q r s t = and_made (a && b && c && d) e (and4 a b c d p q r s) t
+and5 a b c d e p q r s t = and_from (a && b && c && d) e (and4 a b c d p q r s) t
 
 -- the pairs of each kind
 abbrev stream_pairs : List ℕ → List ℕ → List (List ℕ × Json)
 stream_pairs name text = (codes "name", json.Str name) ∷ (codes "output_type", json.Str (codes "stream")) ∷ (codes "text", lines_tree text) ∷ []
 
 abbrev display_pairs : Shown → List (List ℕ × Json)
-display_pairs s = (codes "data", stored s.bundle) ∷ (codes "metadata", s.metadata) ∷ (codes "output_type", json.Str (codes "display_data")) ∷ []
+display_pairs s = (codes "data", stored_bundle s.bundle) ∷ (codes "metadata", s.metadata) ∷ (codes "output_type", json.Str (codes "display_data")) ∷ []
 
 abbrev result_pairs : Shown → Option (List ℕ) → List (List ℕ × Json)
-result_pairs s count = (codes "data", stored s.bundle) ∷ (codes "execution_count", count_tree count) ∷ (codes "metadata", s.metadata) ∷ (codes "output_type", json.Str (codes "execute_result")) ∷ []
+result_pairs s count = (codes "data", stored_bundle s.bundle) ∷ (codes "execution_count", count_tree count) ∷ (codes "metadata", s.metadata) ∷ (codes "output_type", json.Str (codes "execute_result")) ∷ []
 
 abbrev error_pairs : List ℕ → List ℕ → List (List ℕ) → List (List ℕ × Json)
 error_pairs ename evalue traceback = (codes "ename", json.Str ename) ∷ (codes "evalue", json.Str evalue) ∷ (codes "output_type", json.Str (codes "error")) ∷ (codes "traceback", json.Arr (map (λ l. json.Str l) traceback)) ∷ []
@@ -230,14 +228,14 @@ display_is : (s : Shown) → IsShown s → is_display (json.Obj (display_pairs s
 display_is s h =
     let qs = display_pairs s in
     and4 _ _ _ _ (type_at (codes "display_data") qs refl refl) (only_at (output_keys display_required) qs refl)
-    (has_at (codes "data") is_bundle qs (stored s.bundle) refl (bundle_stored s.bundle h.bundle))
+    (has_at (codes "data") is_bundle qs (stored_bundle s.bundle) refl (bundle_stored s.bundle h.bundle))
     (has_at (codes "metadata") is_object qs s.metadata refl h.object)
 
 result_is : (s : Shown) (count : Option (List ℕ)) → IsShown s → IsCount count → is_result (json.Obj (result_pairs s count)) ≡ true
 result_is s count h n =
     let qs = result_pairs s count in
     and5 _ _ _ _ _ (type_at (codes "execute_result") qs refl refl) (only_at (output_keys result_required) qs refl)
-    (has_at (codes "data") is_bundle qs (stored s.bundle) refl (bundle_stored s.bundle h.bundle))
+    (has_at (codes "data") is_bundle qs (stored_bundle s.bundle) refl (bundle_stored s.bundle h.bundle))
     (has_at (codes "metadata") is_object qs s.metadata refl h.object)
     (has_at (codes "execution_count") is_count qs (count_tree count) refl (count_is count ∙ n))
 

@@ -2,25 +2,20 @@
 use Rattle.std.proofs.Common.{◌≡◌, ◌≢◌, ◌==◌, ℕ, zero, suc, ◌+◌, ◌-◌, ◌<◌, ◌≤◌, Bool, true, false, cond, List, [], ◌∷◌, ◌++◌, length, get_or, set, Option, Some, None, Result, Ok, Err, refl, sym, ◌∙◌, ap, arith, eqb-true, get_or-set_same, get_or-set_other, map, append-nil}
 use Rattle.std.specs.Option.{option_or}
 use Rattle.std.specs.Result.{OnOk, OnErr}
+use Rattle.std.proofs.lemmas.Bool.{cond-true, cond-false, eq-eqb, ne_eqb}
 use Rattle.jcontent.specs.declared.content.Content.{Content}
 use Rattle.out_fold.specs.declared.latest.Data.{Data}
 use Rattle.out_fold.specs.declared.folded.Folded.{Folded}
 use Rattle.out_fold.specs.declared.folds.Folds.{Folds}
-use Rattle.out_fold.specs.Shown.{shows, latest, resolved, outputs}
+use Rattle.out_fold.specs.Shown.{shows, latest, resolve, outputs}
 use Rattle.out_fold.specs.Tree.{output_tree}
 use Rattle.out_fold.specs.Cells.{Used, begun, with_message, with_reply, contents, all_contents, joined_where, outputs_of, count_of, dates_of, date_pairs}
-use Rattle.out_fold.specs.Held.{nothing, folded, folded_at, step, held_at, data_of, Ordered, Holds, Took, Kept, IsSameShape}
+use Rattle.out_fold.specs.Held.{nothing, fold_of, folded_at, step, held_at, data_of, Ordered, Holds, Took, Kept, IsSameShape}
 use Rattle.out_fold.proofs.ShownLemmas.{latest-snoc, outputs-held}
 use Rattle.out_fold.proofs.JoinedLemmas.{joined-resolved}
 use Rattle.out_fold.proofs.CellLemmas.{folded-message, all-message, all-reply, all-snoc}
 
 -- ---- cells in their order
-
-eqb-same : (n : ℕ) → (n == n) ≡ true
-eqb-same n = grind arith
-
-eqb-other : (m n : ℕ) → m ≢ n → (m == n) ≡ false
-eqb-other m n h = grind arith
 
 pub ordered-least : (low : ℕ) (us : List Used) (u : Used) (next : ℕ) → Ordered low (us ++ u ∷ []) next → (low ≤ u.cell) × (u.cell + 1 ≡ next)
 ordered-least low [] u next h = h
@@ -43,27 +38,19 @@ ordered-below low (u ∷ us) next h = let rest = ordered-below (u.cell + 1) us n
 
 -- ---- the last cell, and the others
 
-first_of_two : {A : Type 0} (b : Bool) (x y : A) → b ≡ true → cond b x y ≡ x
-first_of_two true x y e = refl
-first_of_two false x y e = cc
-
-pub second_of_two : {A : Type 0} (b : Bool) (x y : A) → b ≡ false → cond b x y ≡ y
-second_of_two true x y e = cc
-second_of_two false x y e = refl
-
 -- of the last cell, what was folded of the last
-pub at-last : (low : ℕ) (us : List Used) (u : Used) (next : ℕ) → Ordered low (us ++ u ∷ []) next → folded_at (us ++ u ∷ []) u.cell ≡ folded u
-at-last low [] u next h = first_of_two (u.cell == u.cell) (folded u) nothing (eqb-same u.cell)
+pub at-last : (low : ℕ) (us : List Used) (u : Used) (next : ℕ) → Ordered low (us ++ u ∷ []) next → folded_at (us ++ u ∷ []) u.cell ≡ fold_of u
+at-last low [] u next h = cond-true (u.cell == u.cell) (fold_of u) nothing (eq-eqb u.cell u.cell refl)
 at-last low (v ∷ us) u next h =
     let rest = ordered-least (v.cell + 1) us u next h.1 in
     let apart : v.cell ≢ u.cell = λ e. omega (arith, rest.0, e) in
-    second_of_two (v.cell == u.cell) (folded v) (folded_at (us ++ u ∷ []) u.cell) (eqb-other v.cell u.cell apart)
+    cond-false (v.cell == u.cell) (fold_of v) (folded_at (us ++ u ∷ []) u.cell) (ne_eqb v.cell u.cell apart)
     ∙ at-last (v.cell + 1) us u next h.1
 
 -- of another cell, what it was
 at-other : (us : List Used) (u : Used) (cell : ℕ) → u.cell ≢ cell → folded_at (us ++ u ∷ []) cell ≡ folded_at us cell
-at-other [] u cell h = second_of_two (u.cell == cell) (folded u) nothing (eqb-other u.cell cell h)
-at-other (v ∷ us) u cell h = ap (λ r. cond (v.cell == cell) (folded v) r) (at-other us u cell h)
+at-other [] u cell h = cond-false (u.cell == cell) (fold_of u) nothing (ne_eqb u.cell cell h)
+at-other (v ∷ us) u cell h = ap (λ r. cond (v.cell == cell) (fold_of v) r) (at-other us u cell h)
 
 -- past the last cell, nothing
 at-past : (low : ℕ) (us : List Used) (next cell : ℕ) → Ordered low us next → next ≤ cell → folded_at us cell ≡ nothing
@@ -71,29 +58,29 @@ at-past low [] next cell h le = refl
 at-past low (v ∷ us) next cell h le =
     let below = ordered-below (v.cell + 1) us next h.1 in
     let apart : v.cell ≢ cell = λ e. omega (arith, below, le, e) in
-    second_of_two (v.cell == cell) (folded v) (folded_at us cell) (eqb-other v.cell cell apart)
+    cond-false (v.cell == cell) (fold_of v) (folded_at us cell) (ne_eqb v.cell cell apart)
     ∙ at-past (v.cell + 1) us next cell h.1 le
 
 -- ---- the calls
 
 held-current : (f : Folds) (cell : ℕ) → cell + 1 ≡ f.next → held_at f cell ≡ f.current
-held-current f cell e = first_of_two ((cell + 1) == f.next) f.current (get_or f.cells cell nothing) (rw e (eqb-same f.next))
+held-current f cell e = cond-true ((cell + 1) == f.next) f.current (get_or f.cells cell nothing) (rw e (eq-eqb f.next f.next refl))
 
 held-other : (f : Folds) (cell : ℕ) → cell + 1 ≢ f.next → held_at f cell ≡ get_or f.cells cell nothing
-held-other f cell h = second_of_two ((cell + 1) == f.next) f.current (get_or f.cells cell nothing) (eqb-other (cell + 1) f.next h)
+held-other f cell h = cond-false ((cell + 1) == f.next) f.current (get_or f.cells cell nothing) (ne_eqb (cell + 1) f.next h)
 
 held-same : (f f' : Folds) → Kept f f' → (cell : ℕ) → held_at f' cell ≡ held_at f cell
 held-same f f' k cell = rw (k.next, k.cells, k.current) refl
 
 changed_at : (f f' : Folds) (us : List Used) (u u' : Used) → u'.cell ≡ u.cell → f'.next ≡ f.next → f'.cells ≡ f.cells
-    → (f.current ≡ folded u → f'.current ≡ folded u') → Holds f (us ++ u ∷ [])
+    → (f.current ≡ fold_of u → f'.current ≡ fold_of u') → Holds f (us ++ u ∷ [])
     → (cell : ℕ) → cell < length f.cells → (b : Bool) → ((cell + 1) == f.next) ≡ b → u.cell + 1 ≡ f.next
     → held_at f' cell ≡ folded_at (us ++ u' ∷ []) cell
 changed_at f f' us u u' same next cells current s cell lt true e last =
     let e1 : cell + 1 ≡ f.next = eqb-true (cell + 1) f.next e in
     let here : cell ≡ u.cell = omega (arith, e1, last) in
     let here' : u'.cell ≡ cell = omega (arith, here, same) in
-    let was : f.current ≡ folded u = sym (held-current f cell e1) ∙ s.cells cell lt ∙ ap (λ n. folded_at (us ++ u ∷ []) n) here ∙ at-last 0 us u f.next s.order in
+    let was : f.current ≡ fold_of u = sym (held-current f cell e1) ∙ s.cells cell lt ∙ ap (λ n. folded_at (us ++ u ∷ []) n) here ∙ at-last 0 us u f.next s.order in
     held-current f' cell (e1 ∙ sym next) ∙ current was
     ∙ sym (at-last 0 us u' f.next (ordered-same 0 us u u' f.next same s.order)) ∙ ap (λ n. folded_at (us ++ u' ∷ []) n) here'
 changed_at f f' us u u' same next cells current s cell lt false e last =
@@ -106,7 +93,7 @@ changed_at f f' us u u' same next cells current s cell lt false e last =
 
 -- where only the current cell changes, so does what is held
 changed : (f f' : Folds) (us : List Used) (u u' : Used) → u'.cell ≡ u.cell → f'.next ≡ f.next → f'.cells ≡ f.cells
-    → (f.current ≡ folded u → f'.current ≡ folded u') → Holds f (us ++ u ∷ [])
+    → (f.current ≡ fold_of u → f'.current ≡ fold_of u') → Holds f (us ++ u ∷ [])
     → (cell : ℕ) → cell < length f'.cells → held_at f' cell ≡ folded_at (us ++ u' ∷ []) cell
 changed f f' us u u' same next cells current s cell lt =
     let last = ordered-least 0 us u f.next s.order in
@@ -176,7 +163,7 @@ before-start f f' cell n s zero e =
     ap (λ cs. get_or cs n nothing) (s.same e) ∙ sym (held-other f n (λ x. absurd (omega (arith, x, e))))
 before-start f f' cell n s (suc m) e = before_by f f' cell n s m e ((n + 1) == f.next) refl
 
-all-begun : (us : List Used) (cell : ℕ) → all_contents (us ++ begun cell ∷ []) ≡ all_contents us
+pub all-begun : (us : List Used) (cell : ℕ) → all_contents (us ++ begun cell ∷ []) ≡ all_contents us
 all-begun us cell = all-snoc us (begun cell) ∙ append-nil (all_contents us)
 
 start_at : (f f' : Folds) (us : List Used) (cell n : ℕ) → Starts f f' cell → f.next ≤ cell → Holds f us → n < length f.cells
@@ -208,22 +195,22 @@ map-map : {A B C : Type 0} (f : B → C) (g : A → B) (xs : List A) → map f (
 map-map f g [] = refl
 map-map f g (x ∷ xs) = ap (λ r. f (g x) ∷ r) (map-map f g xs)
 
-joined_where-resolved : (merge : Bool) (known : List ℕ → Option Data) (cs : List Content) → joined_where merge (map (resolved known) cs) ≡ map (resolved known) (joined_where merge cs)
+joined_where-resolved : (merge : Bool) (known : List ℕ → Option Data) (cs : List Content) → joined_where merge (map (resolve known) cs) ≡ map (resolve known) (joined_where merge cs)
 joined_where-resolved true known cs = joined-resolved known cs
 joined_where-resolved false known cs = refl
 
 own_items : (merge : Bool) (known before : List ℕ → Option Data) (u : Used) (us : List Used)
     → ((id : List ℕ) (d : Data) → latest id (before id) (contents u ++ all_contents us) ≡ Some d → known id ≡ Some d)
-    → map (λ c. output_tree (resolved known c)) (joined_where merge (folded u).outputs) ≡ map output_tree (joined_where merge (outputs (contents u) (all_contents us)))
+    → map (λ c. output_tree (resolve known c)) (joined_where merge (fold_of u).outputs) ≡ map output_tree (joined_where merge (outputs (contents u) (all_contents us)))
 own_items merge known before u us h =
-    sym (map-map output_tree (resolved known) (joined_where merge (folded u).outputs))
-    ∙ ap (λ cs. map output_tree cs) (sym (joined_where-resolved merge known (folded u).outputs))
+    sym (map-map output_tree (resolve known) (joined_where merge (fold_of u).outputs))
+    ∙ ap (λ cs. map output_tree cs) (sym (joined_where-resolved merge known (fold_of u).outputs))
     ∙ ap (λ cs. map output_tree (joined_where merge cs)) (sym (outputs-held known before (contents u) (all_contents us) h))
 
 items_by : (merge : Bool) (known : List ℕ → Option Data) (u : Used) (us : List Used) (cell : ℕ) (b : Bool)
-    → map (λ c. output_tree (resolved known c)) (joined_where merge (folded u).outputs) ≡ map output_tree (joined_where merge (outputs (contents u) (all_contents us)))
-    → map (λ c. output_tree (resolved known c)) (joined_where merge (folded_at us cell).outputs) ≡ outputs_of merge us cell
-    → map (λ c. output_tree (resolved known c)) (joined_where merge (cond b (folded u) (folded_at us cell)).outputs)
+    → map (λ c. output_tree (resolve known c)) (joined_where merge (fold_of u).outputs) ≡ map output_tree (joined_where merge (outputs (contents u) (all_contents us)))
+    → map (λ c. output_tree (resolve known c)) (joined_where merge (folded_at us cell).outputs) ≡ outputs_of merge us cell
+    → map (λ c. output_tree (resolve known c)) (joined_where merge (cond b (fold_of u) (folded_at us cell)).outputs)
     ≡ cond b (map output_tree (joined_where merge (outputs (contents u) (all_contents us)))) (outputs_of merge us cell)
 items_by merge known u us cell true own rest = own
 items_by merge known u us cell false own rest = rest
@@ -231,7 +218,7 @@ items_by merge known u us cell false own rest = rest
 -- the outputs of a cell, by what is held
 items_at : (merge : Bool) (known before : List ℕ → Option Data) (us : List Used) (cell : ℕ)
     → ((id : List ℕ) (d : Data) → latest id (before id) (all_contents us) ≡ Some d → known id ≡ Some d)
-    → map (λ c. output_tree (resolved known c)) (joined_where merge (folded_at us cell).outputs) ≡ outputs_of merge us cell
+    → map (λ c. output_tree (resolve known c)) (joined_where merge (folded_at us cell).outputs) ≡ outputs_of merge us cell
 items_at true known before [] cell h = refl
 items_at false known before [] cell h = refl
 items_at merge known before (u ∷ us) cell h =
@@ -240,13 +227,13 @@ items_at merge known before (u ∷ us) cell h =
     (items_at merge known (λ id. latest id (before id) (contents u)) us cell (λ id d e. h id d (latest-through id (before id) (contents u) (all_contents us) ∙ e)))
 
 pub outputs-held-at : (f : Folds) (us : List Used) (cell : ℕ) → Holds f us → cell < length f.cells
-    → map (λ c. output_tree (resolved (data_of f.latest) c)) (joined_where f.merge (held_at f cell).outputs) ≡ outputs_of f.merge us cell
+    → map (λ c. output_tree (resolve (data_of f.latest) c)) (joined_where f.merge (held_at f cell).outputs) ≡ outputs_of f.merge us cell
 outputs-held-at f us cell s lt =
-    ap (λ (x : Folded). map (λ c. output_tree (resolved (data_of f.latest) c)) (joined_where f.merge x.outputs)) (s.cells cell lt)
+    ap (λ (x : Folded). map (λ c. output_tree (resolve (data_of f.latest) c)) (joined_where f.merge x.outputs)) (s.cells cell lt)
     ∙ items_at f.merge (data_of f.latest) (λ id. None) us cell s.latest
 
 count_by : (u : Used) (us : List Used) (cell : ℕ) (b : Bool) → (folded_at us cell).count ≡ count_of us cell
-    → (cond b (folded u) (folded_at us cell)).count ≡ cond b (folded u).count (count_of us cell)
+    → (cond b (fold_of u) (folded_at us cell)).count ≡ cond b (fold_of u).count (count_of us cell)
 count_by u us cell true e = refl
 count_by u us cell false e = e
 
@@ -255,8 +242,8 @@ count-at [] cell = refl
 count-at (u ∷ us) cell = count_by u us cell (u.cell == cell) (count-at us cell)
 
 dates_by : (u : Used) (us : List Used) (cell : ℕ) (b : Bool) → (let x = folded_at us cell in date_pairs x.input x.busy x.idle x.reply) ≡ dates_of us cell
-    → (let x = cond b (folded u) (folded_at us cell) in date_pairs x.input x.busy x.idle x.reply)
-    ≡ cond b (date_pairs (folded u).input (folded u).busy (folded u).idle (folded u).reply) (dates_of us cell)
+    → (let x = cond b (fold_of u) (folded_at us cell) in date_pairs x.input x.busy x.idle x.reply)
+    ≡ cond b (date_pairs (fold_of u).input (fold_of u).busy (fold_of u).idle (fold_of u).reply) (dates_of us cell)
 dates_by u us cell true e = refl
 dates_by u us cell false e = e
 

@@ -1,28 +1,13 @@
 -- Which outputs are live after one more message.
-use Rattle.std.proofs.Common.{◌≡◌, Bool, true, false, cond, not, ◌&&◌, ◌||◌, List, [], ◌∷◌, ◌++◌, refl, ◌∙◌, ap}
+use Rattle.std.proofs.Common.{◌≡◌, Bool, true, false, cond, not, ◌&&◌, ◌||◌, List, [], ◌∷◌, ◌++◌, refl}
 use Rattle.std.specs.List.{list_any}
+use Rattle.std.proofs.Math.Bool.{or-true, and-false}
+use Rattle.std.proofs.lemmas.Bool.{or_parts}
 use Rattle.jcontent.specs.declared.content.Content.{Content}
 use Rattle.jcontent.specs.declared.content.Content.TheVariants as content
 use Rattle.out_fold.specs.Live.{appends, clears_now, clears_later, stays, live}
 use Rattle.out_fold.specs.Held.{waits, ends_wait}
-
--- ---- tests
-
-or_false : (b : Bool) → (b || false) ≡ b
-or_false true = refl
-or_false false = refl
-
-or_true : (b : Bool) → (b || true) ≡ true
-or_true true = refl
-or_true false = refl
-
-or_assoc : (a b c : Bool) → (a || (b || c)) ≡ ((a || b) || c)
-or_assoc true b c = refl
-or_assoc false b c = refl
-
-any-snoc : (p : Content → Bool) (xs : List Content) (x : Content) → list_any p (xs ++ x ∷ []) ≡ (list_any p xs || p x)
-any-snoc p [] x = or_false (p x)
-any-snoc p (y ∷ ys) x = ap (λ b. p y || b) (any-snoc p ys x) ∙ or_assoc (p y) (list_any p ys) (p x)
+use Rattle.display_index.proofs.ListedLemmas.{any-snoc}
 
 -- a message that appends clears nothing
 appends_alone : (c : Content) → appends c ≡ true → (clears_now c ≡ false) × (clears_later c ≡ false)
@@ -51,15 +36,11 @@ stays_parts true l s e = cc
 stays_parts false true s e = cc
 stays_parts false false s e = (refl, e)
 
-either_false : (a b : Bool) → (a || b) ≡ false → (a ≡ false) × (b ≡ false)
-either_false true b e = cc
-either_false false b e = (refl, e)
-
 stays-ends : (xs : List Content) → stays xs ≡ true → list_any appends xs ≡ false → list_any ends_wait xs ≡ false
 stays-ends [] s a = refl
 stays-ends (x ∷ xs) s a =
     let first = stays_parts (clears_now x) (clears_later x && list_any appends xs) (stays xs) s in
-    let rest = either_false (appends x) (list_any appends xs) a in
+    let rest = or_parts (appends x) (list_any appends xs) a in
     rw (rest.0, first.0) (stays-ends xs first.1 rest.1)
 
 -- ---- one more that appends
@@ -79,7 +60,7 @@ stays_case false true false true false false h = refl
 pub stays-appended : (xs : List Content) (c : Content) → appends c ≡ true → stays (xs ++ c ∷ []) ≡ (stays xs && not (waits xs))
 stays-appended [] c e = let alone = appends_alone c e in rw (alone.0, alone.1) refl
 stays-appended (x ∷ xs) c e =
-    rw (any-snoc appends xs c, e, or_true (list_any appends xs), stays-appended xs c e)
+    rw (any-snoc appends xs c, e, or-true (list_any appends xs), stays-appended xs c e)
     (stays_case (clears_now x) (clears_later x) (list_any appends xs) (stays xs) (waits xs) (list_any ends_wait xs) (stays-ends xs))
 
 -- where the next one ends the wait, no clear waits after it
@@ -90,7 +71,7 @@ ended_case false = refl
 pub waits-ended : (xs : List Content) (c : Content) → ends_wait c ≡ true → clears_later c ≡ false → waits (xs ++ c ∷ []) ≡ false
 waits-ended [] c e l = rw l refl
 waits-ended (x ∷ xs) c e l =
-    rw (waits-ended xs c e l, any-snoc ends_wait xs c, e, or_true (list_any ends_wait xs)) (ended_case (clears_later x))
+    rw (waits-ended xs c e l, any-snoc ends_wait xs c, e, or-true (list_any ends_wait xs)) (ended_case (clears_later x))
 
 live_case : (a l s w e : Bool) (x c : Content) (ls : List Content) → (l ≡ true → a ≡ false) → (e ≡ false → ls ≡ [])
     → cond (a && (s && not w)) (x ∷ (cond w [] ls ++ c ∷ [])) (cond w [] ls ++ c ∷ []) ≡ cond (w || (l && not e)) [] (cond (a && s) (x ∷ ls) ls) ++ c ∷ []
@@ -126,13 +107,9 @@ now_alone (content.Clear true) e = cc
 now_alone (content.Clear false) e = (refl, refl)
 now_alone _ e = cc
 
-and_false : (b : Bool) → (b && false) ≡ false
-and_false true = refl
-and_false false = refl
-
 pub live-cleared : (xs : List Content) (c : Content) → clears_now c ≡ true → live (xs ++ c ∷ []) ≡ []
 live-cleared [] c e = rw (now_alone c e).0 refl
-live-cleared (x ∷ xs) c e = rw (stays-cleared xs c e, and_false (appends x)) (live-cleared xs c e)
+live-cleared (x ∷ xs) c e = rw (stays-cleared xs c e, and-false (appends x)) (live-cleared xs c e)
 
 -- ---- one more that does neither
 

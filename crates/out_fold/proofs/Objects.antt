@@ -1,11 +1,7 @@
 -- Objects from their pairs.
-use Rattle.std.proofs.Common.{◌≡◌, ℕ, List, [], ◌∷◌, ◌∙◌, ap}
+use Rattle.std.proofs.Common.{◌≡◌, ℕ, List, [], ◌∷◌}
 use Rattle.jtext.specs.declared.json.Json.{Json}
 use Rattle.jtext.specs.declared.json.Json.TheVariants as json
-
--- a pair by its value
-pub keyed : (key : List ℕ) {p : List ℕ × Json} {v w : Json} → p ≡ (key, v) → v ≡ w → p ≡ (key, w)
-keyed key a b = a ∙ ap (λ x. (key, x)) b
 
 pub of_3 : {r : Json} {a b c a' b' c' : List ℕ × Json} → r ≡ json.Obj (a ∷ b ∷ c ∷ []) → a ≡ a' → b ≡ b' → c ≡ c' → r ≡ json.Obj (a' ∷ b' ∷ c' ∷ [])
 of_3 r a b c = cc

@@ -4,6 +4,8 @@ use Rattle.std.specs.List.{list_any}
 use Rattle.std.specs.Option.{option_and_then}
 use Rattle.std.specs.Str.{bytes_eq}
 use Rattle.std.proofs.lemmas.Slice.Eq.{bytes_eq-Decides}
+use Rattle.std.proofs.lemmas.Bool.{or_left, or_right, eq-eqb}
+use Rattle.std.proofs.lemmas.List.Folds.{list_any-append}
 use Rattle.jcontent.specs.declared.content.Content.{Content}
 use Rattle.jcontent.specs.declared.shown.Shown.{Shown}
 use Rattle.display_index.specs.declared.index.Index.{Index}
@@ -13,11 +15,12 @@ use Rattle.display_index.specs.Standing.Call.{added, cleared}
 use Rattle.display_index.specs.Listed.{outside}
 use Rattle.display_index.specs.Held as index
 use Rattle.display_index.proofs.StandingLemmas.{standing-added, standing-cleared}
+use Rattle.display_index.proofs.ListedLemmas.{any-snoc}
 use Rattle.out_fold.specs.Live.{appends, clears_now}
 use Rattle.out_fold.specs.Shown.{shown_in, data_if, data_under, data_shown}
 use Rattle.out_fold.specs.Names.{name_of, has_id}
-use Rattle.out_fold.specs.Placing.{has_place, IsWithin, Grown, Placed, Settled, settled}
-use Rattle.out_fold.proofs.ListTests.{no, eqb-same, any-append, any-snoc, or_left, or_right, either}
+use Rattle.out_fold.specs.Placing.{has_place, IsWithin, Grown, Placed, Settled, settle}
+use Rattle.out_fold.proofs.ListTests.{no, either}
 
 -- ---- the display id of a message
 
@@ -74,14 +77,14 @@ placed-already calls x c cell id e h s = record {
 more_added : (calls : List Call) (id other : List ℕ) (p : Place) (n : ℕ) → has_place calls other n ≡ true → has_place (calls ++ added id p ∷ []) other n ≡ true
 more_added calls id other p n h =
     ap (λ ps. list_any (λ (q : Place). q.cell == n) ps) (standing-added other calls id p)
-    ∙ any-append (λ (q : Place). q.cell == n) (standing other calls) (cond (bytes_eq id other) (p ∷ []) [])
+    ∙ list_any-append (λ (q : Place). q.cell == n) (standing other calls) (cond (bytes_eq id other) (p ∷ []) [])
     ∙ or_left (has_place calls other n) (list_any (λ (q : Place). q.cell == n) (cond (bytes_eq id other) (p ∷ []) [])) h
 
 here_added : (calls : List Call) (id : List ℕ) (p : Place) → has_place (calls ++ added id p ∷ []) id p.cell ≡ true
 here_added calls id p =
     ap (λ ps. list_any (λ (q : Place). q.cell == p.cell) ps) (standing-added id calls id p ∙ ap (λ b. standing id calls ++ cond b (p ∷ []) []) ((bytes_eq-Decides id id).1 refl))
     ∙ any-snoc (λ (q : Place). q.cell == p.cell) (standing id calls) p
-    ∙ or_right (has_place calls id p.cell) (p.cell == p.cell) (eqb-same p.cell)
+    ∙ or_right (has_place calls id p.cell) (p.cell == p.cell) (eq-eqb p.cell p.cell refl)
 
 last_by : (m n cells : ℕ) (b : Bool) → (m == n) ≡ b → m < cells → (b || false) ≡ true → n < cells
 last_by m n cells true e lt h = let same : m ≡ n = grind (arith, e) in omega (arith, same, lt)
@@ -95,7 +98,7 @@ within_added : (calls : List Call) (id : List ℕ) (p : Place) (cells : ℕ) →
 within_added calls id p cells lt w = λ other n h.
     let there : (has_place calls other n || list_any (λ (q : Place). q.cell == n) (cond (bytes_eq id other) (p ∷ []) [])) ≡ true =
     sym (ap (λ ps. list_any (λ (q : Place). q.cell == n) ps) (standing-added other calls id p)
-    ∙ any-append (λ (q : Place). q.cell == n) (standing other calls) (cond (bytes_eq id other) (p ∷ []) [])) ∙ h in
+    ∙ list_any-append (λ (q : Place). q.cell == n) (standing other calls) (cond (bytes_eq id other) (p ∷ []) [])) ∙ h in
     either (has_place calls other n) (list_any (λ (q : Place). q.cell == n) (cond (bytes_eq id other) (p ∷ []) [])) (n < cells)
     (λ e. w other n e) (λ e. one_by (bytes_eq id other) p n cells lt e) there
 
@@ -134,11 +137,11 @@ settled_by false cell calls id n e h = h
 
 -- another cell keeps its places
 pub settled-other : (c : Content) (cell : ℕ) (calls : List Call) (id : List ℕ) (n : ℕ) → (cell == n) ≡ false → has_place calls id n ≡ true
-    → has_place (settled c cell calls) id n ≡ true
+    → has_place (settle c cell calls) id n ≡ true
 settled-other c cell calls id n e h = settled_by (clears_now c) cell calls id n e h
 
 -- and so does every one, where nothing is cleared
-pub settled-same : (c : Content) (cell : ℕ) (calls : List Call) → clears_now c ≡ false → settled c cell calls ≡ calls
+pub settled-same : (c : Content) (cell : ℕ) (calls : List Call) → clears_now c ≡ false → settle c cell calls ≡ calls
 settled-same c cell calls e = ap (λ b. cond b (calls ++ cleared cell ∷ []) calls) e
 
 less_by : (k : Bool) (p : Place) (n : ℕ) (xs ys : List Place) (b : Bool) → (p.cell == n) ≡ b → (list_any (λ q. q.cell == n) xs ≡ true → list_any (λ q. q.cell == n) ys ≡ true)
@@ -156,7 +159,7 @@ within_by true cell calls cells w = λ id n h.
     w id n (any-less cell n (standing id calls) (sym (ap (λ ps. list_any (λ (p : Place). p.cell == n) ps) (standing-cleared id calls cell)) ∙ h))
 within_by false cell calls cells w = w
 
-within_settled : (c : Content) (cell : ℕ) (calls : List Call) (cells : ℕ) → IsWithin cells calls → IsWithin cells (settled c cell calls)
+within_settled : (c : Content) (cell : ℕ) (calls : List Call) (cells : ℕ) → IsWithin cells calls → IsWithin cells (settle c cell calls)
 within_settled c cell calls cells w = within_by (clears_now c) cell calls cells w
 
 -- ---- the message as a whole
@@ -165,7 +168,7 @@ pub placed-grown : (calls : List Call) (x : Index) (c : Content) (cell : ℕ) �
 placed-grown calls x c cell p = record { calls' = p.calls'; told = p.told; more = p.more; within = p.within }
 
 pub placed-settled : (calls : List Call) (x x' : Index) (c : Content) (cell : ℕ) → Placed calls x c cell
-    → ((told : List Call) → index.StandsFor x told → index.StandsFor x' (settled c cell told)) → Settled calls x' c cell
+    → ((told : List Call) → index.StandsFor x told → index.StandsFor x' (settle c cell told)) → Settled calls x' c cell
 placed-settled calls x x' c cell p settles = record {
   calls' = p.calls';
   told = settles p.calls' p.told;

@@ -2,6 +2,7 @@
 use Rattle.std.proofs.Common.{◌≡◌, ℕ, zero, suc, ◌+◌, ◌-◌, ◌<◌, List, [], ◌∷◌, ◌++◌, length, set, get_or, drop, Option, Some, refl, sym, ◌∙◌, ap, arith}
 use Rattle.std.proofs.lemmas.List.{set-set, set_at, drop_more, length_push}
 use Rattle.std.specs.List.{slice_get}
+use Rattle.std.proofs.lemmas.Option.{same_Some}
 use Rattle.jcontent.specs.declared.content.Content.{Content}
 use Rattle.out_fold.specs.declared.latest.Data.{Data}
 use Rattle.out_fold.specs.Shown.{latest}
@@ -22,12 +23,9 @@ get-last : {A : Type 0} (us : List A) (u : A) → slice_get (us ++ u ∷ []) (le
 get-last [] u = refl
 get-last (v ∷ us) u = get-last us u
 
-same-some : {A : Type 0} {x y : A} → Some x ≡ Some y → x ≡ y
-same-some e = cc
-
 get-set : {A : Type 0} (xs : List A) (i : ℕ) (x : A) → slice_get xs i ≡ Some x → set xs i x ≡ xs
 get-set [] i x e = cc
-get-set (y ∷ ys) zero x e = ap (λ z. z ∷ ys) (sym (same-some e))
+get-set (y ∷ ys) zero x e = ap (λ z. z ∷ ys) (sym (same_Some y x e))
 get-set (y ∷ ys) (suc i) x e = ap (λ zs. y ∷ zs) (get-set ys i x e)
 
 -- the last one, given back as it was
@@ -42,7 +40,7 @@ last_is us u xs i e at =
 -- what was last
 pub taken-last : {A : Type 0} (us : List A) (u : A) (xs : List A) (i : ℕ) (x : A) → xs ≡ us ++ u ∷ [] → i ≡ length xs - 1 → slice_get xs i ≡ Some x → x ≡ u
 taken-last us u xs i x e at g =
-    same-some (sym g ∙ ap (λ ys. slice_get ys i) e ∙ ap (λ k. slice_get (us ++ u ∷ []) k) (last_is us u xs i e at) ∙ get-last us u)
+    same_Some x u (sym g ∙ ap (λ ys. slice_get ys i) e ∙ ap (λ k. slice_get (us ++ u ∷ []) k) (last_is us u xs i e at) ∙ get-last us u)
 
 -- another one put in its place
 pub changed-last : {A : Type 0} (us : List A) (u : A) (xs : List A) (i : ℕ) (x between : A) → xs ≡ us ++ u ∷ [] → i ≡ length xs - 1

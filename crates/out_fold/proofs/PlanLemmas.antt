@@ -4,9 +4,13 @@ use Rattle.std.specs.List.{list_any, list_all, insert, remove}
 use Rattle.std.specs.List.Sorted.{IsBinarySearchResult}
 use Rattle.std.specs.Result.{IfOk, IfErr}
 use Rattle.std.proofs.lemmas.List.Sorted.{searched}
+use Rattle.std.proofs.lemmas.Bool.{and_parts, and_from, or_parts, or_left, or_right, eq-eqb}
+use Rattle.std.proofs.Math.Bool.{or_assoc}
+use Rattle.std.proofs.lemmas.List.Folds.{list_any-append}
 use Rattle.display_index.specs.declared.place.Place.{Place}
+use Rattle.display_index.proofs.ListedLemmas.{all-more, any-snoc}
 use Rattle.out_fold.specs.Plans.{is_in, increases, lead, Covers}
-use Rattle.out_fold.proofs.ListTests.{no, and_parts, and_made, or_false, or_left, or_right, all-more, any-append, any-snoc, eqb-same}
+use Rattle.out_fold.proofs.ListTests.{no}
 
 -- a cell in its place
 abbrev ins : ℕ → List ℕ → List ℕ
@@ -38,11 +42,11 @@ in-ins x n (y ∷ ys) = in_by x y n ys (nat_lt y x) (in-ins x n ys)
 
 all_by : (f : ℕ → Bool) (x y : ℕ) (ys : List ℕ) (b : Bool) → f x ≡ true → f y ≡ true → list_all f ys ≡ true → list_all f (ins x ys) ≡ true
     → list_all f (cond b (y ∷ ins x ys) (x ∷ y ∷ ys)) ≡ true
-all_by f x y ys true h i r q = and_made (f y) (list_all f (ins x ys)) i q
-all_by f x y ys false h i r q = and_made (f x) (list_all f (y ∷ ys)) h (and_made (f y) (list_all f ys) i r)
+all_by f x y ys true h i r q = and_from (f y) (list_all f (ins x ys)) i q
+all_by f x y ys false h i r q = and_from (f x) (list_all f (y ∷ ys)) h (and_from (f y) (list_all f ys) i r)
 
 all-ins : (f : ℕ → Bool) (x : ℕ) (ys : List ℕ) → f x ≡ true → list_all f ys ≡ true → list_all f (ins x ys) ≡ true
-all-ins f x [] h e = and_made (f x) true h refl
+all-ins f x [] h e = and_from (f x) true h refl
 all-ins f x (y ∷ ys) h e =
     let parts = and_parts (f y) (list_all f ys) e in
     all_by f x y ys (nat_lt y x) h parts.0 parts.1 (all-ins f x ys h parts.1)
@@ -55,17 +59,17 @@ below x y z e f = grind (arith, e, f)
 
 sorted_by : (x y : ℕ) (ys : List ℕ) (b : Bool) → nat_lt y x ≡ b → (y == x) ≡ false → list_all (nat_lt y) ys ≡ true → increases ys ≡ true → increases (ins x ys) ≡ true
     → increases (cond b (y ∷ ins x ys) (x ∷ y ∷ ys)) ≡ true
-sorted_by x y ys true e f h i q = and_made (list_all (nat_lt y) (ins x ys)) (increases (ins x ys)) (all-ins (nat_lt y) x ys e h) q
+sorted_by x y ys true e f h i q = and_from (list_all (nat_lt y) (ins x ys)) (increases (ins x ys)) (all-ins (nat_lt y) x ys e h) q
 sorted_by x y ys false e f h i q =
     let up = above x y e f in
-    and_made (list_all (nat_lt x) (y ∷ ys)) (increases (y ∷ ys))
-    (and_made (nat_lt x y) (list_all (nat_lt x) ys) up (all-more (nat_lt y) (nat_lt x) (λ z g. below x y z up g) ys h))
-    (and_made (list_all (nat_lt y) ys) (increases ys) h i)
+    and_from (list_all (nat_lt x) (y ∷ ys)) (increases (y ∷ ys))
+    (and_from (nat_lt x y) (list_all (nat_lt x) ys) up (all-more (nat_lt y) (nat_lt x) (λ z g. below x y z up g) ys h))
+    (and_from (list_all (nat_lt y) ys) (increases ys) h i)
 
 sorted-ins : (x : ℕ) (ys : List ℕ) → is_in ys x ≡ false → increases ys ≡ true → increases (ins x ys) ≡ true
 sorted-ins x [] a i = refl
 sorted-ins x (y ∷ ys) a i =
-    let apart = or_false (y == x) (is_in ys x) a in
+    let apart = or_parts (y == x) (is_in ys x) a in
     let parts = and_parts (list_all (nat_lt y) ys) (increases ys) i in
     sorted_by x y ys (nat_lt y x) refl apart.0 parts.0 parts.1 (sorted-ins x ys apart.1 parts.1)
 
@@ -102,9 +106,9 @@ pub covers-one : (plan new : List ℕ) (cell : ℕ) (ps : List Place) → increa
     → ((n : ℕ) → is_in new n ≡ ((cell == n) || is_in plan n)) → Covers plan new cell ps
 covers-one plan new cell ps i all h = record {
   sorted = i;
-  kept = λ n e. (or_false (cell == n) (is_in plan n) (sym (h n) ∙ e)).1;
-  current = h cell ∙ or_left (cell == cell) (is_in plan cell) (eqb-same cell);
-  placed = λ n e. none_in ps plan n all (or_false (cell == n) (is_in plan n) (sym (h n) ∙ e)).1;
+  kept = λ n e. (or_parts (cell == n) (is_in plan n) (sym (h n) ∙ e)).1;
+  current = h cell ∙ or_left (cell == cell) (is_in plan cell) (eq-eqb cell cell refl);
+  placed = λ n e. none_in ps plan n all (or_parts (cell == n) (is_in plan n) (sym (h n) ∙ e)).1;
   only = λ n e. or_left ((cell == n) || is_in plan n) (list_any (λ (p : Place). p.cell == n) ps) (sym (h n) ∙ e);
 }
 
@@ -112,9 +116,9 @@ pub covers-union : (plan new : List ℕ) (cell : ℕ) (ps : List Place) → incr
     → ((n : ℕ) → is_in new n ≡ (((cell == n) || is_in plan n) || list_any (λ p. p.cell == n) ps)) → Covers plan new cell ps
 covers-union plan new cell ps i h = record {
   sorted = i;
-  kept = λ n e. (or_false (cell == n) (is_in plan n) (or_false ((cell == n) || is_in plan n) (list_any (λ (p : Place). p.cell == n) ps) (sym (h n) ∙ e)).0).1;
-  current = h cell ∙ or_left ((cell == cell) || is_in plan cell) (list_any (λ (p : Place). p.cell == cell) ps) (or_left (cell == cell) (is_in plan cell) (eqb-same cell));
-  placed = λ n e. (or_false ((cell == n) || is_in plan n) (list_any (λ (p : Place). p.cell == n) ps) (sym (h n) ∙ e)).1;
+  kept = λ n e. (or_parts (cell == n) (is_in plan n) (or_parts ((cell == n) || is_in plan n) (list_any (λ (p : Place). p.cell == n) ps) (sym (h n) ∙ e)).0).1;
+  current = h cell ∙ or_left ((cell == cell) || is_in plan cell) (list_any (λ (p : Place). p.cell == cell) ps) (or_left (cell == cell) (is_in plan cell) (eq-eqb cell cell refl));
+  placed = λ n e. (or_parts ((cell == n) || is_in plan n) (list_any (λ (p : Place). p.cell == n) ps) (sym (h n) ∙ e)).1;
   only = λ n e. sym (h n) ∙ e;
 }
 
@@ -138,10 +142,6 @@ in-next cells rest cells₁ rest₁ cells₂ plan before after p e h f g n =
     ∙ or_next (p.cell == n) (is_in cells₁ n) (is_in rest₁ n) (is_in plan n) (list_any (λ (q : Place). q.cell == n) before) (f n ∙ h n)
     ∙ ap (λ b. is_in plan n || b) (sym (any-snoc (λ (q : Place). q.cell == n) before p) ∙ ap (λ ps. list_any (λ (q : Place). q.cell == n) ps) (sym e))
 
-or_assoc : (a b c : Bool) → (a || (b || c)) ≡ ((a || b) || c)
-or_assoc true b c = refl
-or_assoc false b c = refl
-
 -- the last of the plan, and the cell
 pub in-all : (cells rest cells₁ cells₂ plan : List ℕ) (cell : ℕ) (ps : List Place)
     → ((n : ℕ) → (is_in cells n || is_in rest n) ≡ (is_in plan n || list_any (λ q. q.cell == n) ps))
@@ -149,7 +149,7 @@ pub in-all : (cells rest cells₁ cells₂ plan : List ℕ) (cell : ℕ) (ps : L
     → ((n : ℕ) → is_in cells₂ n ≡ ((cell == n) || is_in cells₁ n))
     → (n : ℕ) → is_in cells₂ n ≡ (((cell == n) || is_in plan n) || list_any (λ q. q.cell == n) ps)
 in-all cells rest cells₁ cells₂ plan cell ps h f g n =
-    g n ∙ ap (λ b. (cell == n) || b) (f n ∙ h n) ∙ or_assoc (cell == n) (is_in plan n) (list_any (λ (q : Place). q.cell == n) ps)
+    g n ∙ ap (λ b. (cell == n) || b) (f n ∙ h n) ∙ sym (or_assoc (cell == n) (is_in plan n) (list_any (λ (q : Place). q.cell == n) ps))
 
 take-drop : (k : ℕ) (xs : List ℕ) → take k xs ++ drop k xs ≡ xs
 take-drop zero xs = refl
@@ -161,8 +161,8 @@ pub in-below : (cells cells₁ rest : List ℕ) (k : ℕ) → ((n : ℕ) → is_
     → (n : ℕ) → (is_in cells₁ n || is_in (drop k rest) n) ≡ (is_in cells n || is_in rest n)
 in-below cells cells₁ rest k h n =
     ap (λ b. b || is_in (drop k rest) n) (h n)
-    ∙ sym (or_assoc (is_in cells n) (is_in (take k rest) n) (is_in (drop k rest) n))
-    ∙ ap (λ b. is_in cells n || b) (sym (any-append (λ m. m == n) (take k rest) (drop k rest)) ∙ ap (λ ys. is_in ys n) (take-drop k rest))
+    ∙ or_assoc (is_in cells n) (is_in (take k rest) n) (is_in (drop k rest) n)
+    ∙ ap (λ b. is_in cells n || b) (sym (list_any-append (λ m. m == n) (take k rest) (drop k rest)) ∙ ap (λ ys. is_in ys n) (take-drop k rest))
 
 or_more : (p a b : Bool) → (p || (a || b)) ≡ (a || (b || p))
 or_more true true b = refl
@@ -213,7 +213,7 @@ rises (x ∷ xs) h (suc i) (suc j) le l = rises xs (and_parts (list_all (nat_lt 
 
 in-at : (xs : List ℕ) (x i : ℕ) → i < length xs → get_or xs i 0 ≡ x → is_in xs x ≡ true
 in-at [] x i l e = absurd (omega (arith, l))
-in-at (y ∷ ys) x zero l e = or_left (y == x) (is_in ys x) (ap (λ k. k == x) e ∙ eqb-same x)
+in-at (y ∷ ys) x zero l e = or_left (y == x) (is_in ys x) (ap (λ k. k == x) e ∙ eq-eqb x x refl)
 in-at (y ∷ ys) x (suc i) l e = or_right (y == x) (is_in ys x) (in-at ys x i (omega (arith, l)) e)
 
 above_no : (y x : ℕ) → x < y → (y == x) ≡ false

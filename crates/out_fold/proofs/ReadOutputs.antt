@@ -14,9 +14,9 @@ use Rattle.jcontent.specs.declared.shown.Shown.{Shown}
 use Rattle.jcontent.specs.IsRead.{IsInner, IsShown, IsCount, IsRead}
 use Rattle.out_fold.specs.declared.latest.Data.{Data}
 use Rattle.out_fold.specs.Live.{appends, stays}
-use Rattle.out_fold.specs.Shown.{data_in, data_if, data_under, shows, latest, with_data, known_to, resolved, shown, outputs}
-use Rattle.out_fold.specs.Joined.{text_of, fused, joined_after, joined}
-use Rattle.out_fold.specs.Cells.{joined_where, told, last_count}
+use Rattle.out_fold.specs.Shown.{data_in, data_if, data_under, shows, latest, with_data, known_to, resolve, shown_output, outputs}
+use Rattle.out_fold.specs.Joined.{text_of, fuse, joined_after, join}
+use Rattle.out_fold.specs.Cells.{joined_where, count_in, last_count}
 
 -- ---- data
 
@@ -70,14 +70,14 @@ module _ (known : List ℕ → Option Data) (all : (id : List ℕ) → IfSome (k
   read_known : (s : Shown) → IsShown s → IsShown (known_to known s)
   read_known s h = read_with s (option_and_then known s.id) h (known_read known all s.id)
 
-  read_resolved : (c : Content) → IsRead c → appends c ≡ true → IsReadOutput (resolved known c)
+  read_resolved : (c : Content) → IsRead c → appends c ≡ true → IsReadOutput (resolve known c)
   read_resolved (content.Display s) h e = (read_known s h, refl)
   read_resolved (content.Outcome s count) h e = ((read_known s h.0, h.1), refl)
   read_resolved (content.Stream name text) h e = (h, refl)
   read_resolved (content.Error ename evalue traceback) h e = (h, refl)
   read_resolved _ h e = (h, e)
 
-read_shown : (c : Content) (after : List Content) → IsRead c → appends c ≡ true → AllByRecursion IsRead after → IsReadOutput (shown c after)
+read_shown : (c : Content) (after : List Content) → IsRead c → appends c ≡ true → AllByRecursion IsRead after → IsReadOutput (shown_output c after)
 read_shown c after h e all = read_resolved (λ id. latest id None after) (λ id. read_latest id None after tt all) c h e
 
 both : {A : Type 0} (P : A → Type 0) (xs ys : List A) → AllByRecursion P xs → AllByRecursion P ys → AllByRecursion P (xs ++ ys)
@@ -95,7 +95,7 @@ first_part false b e = e
 read_outputs : (cs later : List Content) → AllByRecursion IsRead cs → AllByRecursion IsRead later → AllByRecursion IsReadOutput (outputs cs later)
 read_outputs [] later a b = tt
 read_outputs (c ∷ rest) later a b =
-    listed (appends c && stays rest) (shown c (rest ++ later)) (outputs rest later)
+    listed (appends c && stays rest) (shown_output c (rest ++ later)) (outputs rest later)
     (λ e. read_shown c (rest ++ later) a.0 (first_part (appends c) (stays rest) e) (both IsRead rest later a.1 b))
     (read_outputs rest later a.1 b)
 
@@ -111,7 +111,7 @@ read_stream : (name text : List ℕ) (next : Content) → IsUtf8 name → IsUtf8
 read_stream name text (content.Stream other more) n t h = read_fused_text (bytes_eq other name) name text more n t h.1
 read_stream name text _ n t h = tt
 
-read_fused : (c next : Content) → IsReadOutput c → IsReadOutput next → IfSome (fused c next) IsReadOutput
+read_fused : (c next : Content) → IsReadOutput c → IsReadOutput next → IfSome (fuse c next) IsReadOutput
 read_fused (content.Stream name text) next a b = read_stream name text next a.0.0 a.0.1 b.0
 read_fused _ next a b = tt
 
@@ -123,10 +123,10 @@ either f (Some x) d h each other = each x h
 read_after : (c : Content) (rest : List Content) → IsReadOutput c → AllByRecursion IsReadOutput rest → AllByRecursion IsReadOutput (joined_after c rest)
 read_after c [] h all = (h, tt)
 read_after c (next ∷ rest) h all =
-    either (λ one. joined_after one rest) (fused c next) (c ∷ joined_after next rest) (read_fused c next h all.0)
+    either (λ one. joined_after one rest) (fuse c next) (c ∷ joined_after next rest) (read_fused c next h all.0)
     (λ one is. read_after one rest is all.1) (h, read_after next rest all.0 all.1)
 
-read_joined : (cs : List Content) → AllByRecursion IsReadOutput cs → AllByRecursion IsReadOutput (joined cs)
+read_joined : (cs : List Content) → AllByRecursion IsReadOutput cs → AllByRecursion IsReadOutput (join cs)
 read_joined [] all = tt
 read_joined (c ∷ rest) all = read_after c rest all.0 all.1
 
@@ -137,7 +137,7 @@ read_joined_where false cs later a b = read_outputs cs later a b
 
 -- ---- counts
 
-read_told : (c : Content) → IsRead c → IsCount (told c)
+read_told : (c : Content) → IsRead c → IsCount (count_in c)
 read_told (content.Input count) h = h
 read_told (content.Outcome s count) h = h.1
 read_told _ h = refl
@@ -148,7 +148,7 @@ count_or (Some s) p a b = a
 
 pub read_count : (before : Option (List ℕ)) (cs : List Content) → IsCount before → AllByRecursion IsRead cs → IsCount (last_count before cs)
 read_count before [] h all = h
-read_count before (c ∷ rest) h all = read_count (option_or (told c) before) rest (count_or (told c) before (read_told c all.0) h) all.1
+read_count before (c ∷ rest) h all = read_count (option_or (count_in c) before) rest (count_or (count_in c) before (read_told c all.0) h) all.1
 
 -- ---- requests
 

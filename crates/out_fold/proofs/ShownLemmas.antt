@@ -10,8 +10,8 @@ use Rattle.jcontent.specs.declared.content.Content.TheVariants as content
 use Rattle.jcontent.specs.declared.shown.Shown.{Shown}
 use Rattle.out_fold.specs.declared.latest.Data.{Data}
 use Rattle.out_fold.specs.Live.{appends, stays, live}
-use Rattle.out_fold.specs.Shown.{data_in, data_if, shows, latest, with_data, known_to, resolved, shown, outputs}
-use Rattle.out_fold.specs.Held.{without_data, held}
+use Rattle.out_fold.specs.Shown.{data_in, data_if, shows, latest, with_data, known_to, resolve, shown_output, outputs}
+use Rattle.out_fold.specs.Held.{without_data, held_output}
 
 pub same_text : (s : List ℕ) → bytes_eq s s ≡ true
 same_text s = (bytes_eq-Decides s s).1 refl
@@ -68,7 +68,7 @@ shown-held known b m (Some id) after h =
     (λ d e. h id d (latest-or id (data_if (bytes_eq id id) (record { bundle = b; metadata = m; id = Some id })) after
     ∙ ap (λ o. option_or (latest id None after) o) (data_if-same id (record { bundle = b; metadata = m; id = Some id })) ∙ e))
 
-pub resolved-held : (known : List ℕ → Option Data) (c : Content) (after : List Content) → Knows known (λ id. shows id c) after → resolved known (held c) ≡ shown c after
+pub resolved-held : (known : List ℕ → Option Data) (c : Content) (after : List Content) → Knows known (λ id. shows id c) after → resolve known (held_output c) ≡ shown_output c after
 resolved-held known (content.Display s) after h = ap (λ x. content.Display x) (shown-held known s.bundle s.metadata s.id after h)
 resolved-held known (content.Outcome s count) after h = ap (λ x. content.Outcome x count) (shown-held known s.bundle s.metadata s.id after h)
 resolved-held known _ after h = refl
@@ -76,13 +76,13 @@ resolved-held known _ after h = refl
 -- ---- all of them
 
 some_of : (known : List ℕ → Option Data) (c : Content) (rest later : List Content) (b : Bool) (ls os : List Content)
-    → resolved known (held c) ≡ shown c (rest ++ later) → os ≡ map (resolved known) (map held ls)
-    → cond b (shown c (rest ++ later) ∷ os) os ≡ map (resolved known) (map held (cond b (c ∷ ls) ls))
+    → resolve known (held_output c) ≡ shown_output c (rest ++ later) → os ≡ map (resolve known) (map held_output ls)
+    → cond b (shown_output c (rest ++ later) ∷ os) os ≡ map (resolve known) (map held_output (cond b (c ∷ ls) ls))
 some_of known c rest later true ls os e f = cc
 some_of known c rest later false ls os e f = f
 
 pub outputs-held : (known before : List ℕ → Option Data) (own later : List Content) → Knows known before (own ++ later)
-    → outputs own later ≡ map (resolved known) (map held (live own))
+    → outputs own later ≡ map (resolve known) (map held_output (live own))
 outputs-held known before [] later h = refl
 outputs-held known before (c ∷ rest) later h =
     some_of known c rest later (appends c && stays rest) (live rest) (outputs rest later)

@@ -1,9 +1,10 @@
 -- Which lists a fold stands for after a call, and which cells are as they were.
-use Rattle.std.proofs.Common.{◌≡◌, ◌≢◌, ℕ, ◌<◌, ◌==◌, ◌+◌, length, Bool, true, false, cond, ◌&&◌, ◌||◌, List, [], ◌∷◌, ◌++◌, map, Option, Some, None, is_some, refl, sym, ◌∙◌, ap, arith, append_assoc, append-nil, eqb-true}
+use Rattle.std.proofs.Common.{◌≡◌, ◌≢◌, ℕ, ◌<◌, ◌==◌, ◌+◌, length, Bool, true, false, cond, ◌&&◌, ◌||◌, List, [], ◌∷◌, ◌++◌, map, Option, Some, None, is_some, refl, sym, ◌∙◌, ap, arith, append_assoc, eqb-true}
 use Rattle.std.specs.List.{All, AllByRecursion, list_any}
 use Rattle.std.proofs.lemmas.List.Elements.{All-from_recursion}
 use Rattle.std.specs.Option.{option_or}
 use Rattle.std.specs.Str.{bytes_eq}
+use Rattle.std.proofs.lemmas.Bool.{or_parts, or_left, or_right, cond-false, eq-eqb, ne_eqb}
 use Rattle.jtext.specs.declared.json.Json.{Json}
 use Rattle.jcontent.specs.declared.content.Content.{Content}
 use Rattle.jcontent.specs.declared.content.Content.TheVariants as content
@@ -11,23 +12,24 @@ use Rattle.jcontent.specs.declared.shown.Shown.{Shown}
 use Rattle.display_index.specs.declared.place.Place.{Place}
 use Rattle.display_index.specs.Standing.{Call}
 use Rattle.display_index.specs.Held as index
+use Rattle.display_index.proofs.ListedLemmas.{any-snoc}
 use Rattle.out_fold.specs.declared.latest.Data.{Data}
 use Rattle.out_fold.specs.declared.folds.Folds.{Folds}
 use Rattle.out_fold.specs.declared.fold.Fold.{Fold}
 use Rattle.out_fold.specs.Live.{appends, clears_now, stays, live}
-use Rattle.out_fold.specs.Shown.{shows, data_if, latest, with_data, known_to, shown, outputs}
+use Rattle.out_fold.specs.Shown.{shows, data_if, latest, with_data, known_to, shown_output, outputs}
 use Rattle.out_fold.specs.Tree.{output_tree}
 use Rattle.out_fold.specs.Cells.{Used, begun, with_message, with_reply, contents, all_contents, joined_where, outputs_of, last_count, count_of, last_date, is_input, says_busy, says_idle, date_pairs, dates_of}
 use Rattle.out_fold.specs.Held.{Holds, Ordered, waits}
 use Rattle.out_fold.specs.Names.{name_of, has_id}
-use Rattle.out_fold.specs.Placing.{has_place, IsWithin, named_places, Grown, Settled, settled}
+use Rattle.out_fold.specs.Placing.{has_place, IsWithin, named_places, Grown, Settled, settle}
 use Rattle.out_fold.specs.Plans.{is_in, Covers}
 use Rattle.out_fold.specs.Stands.{has_output, StandsFor, SameCell, Rested, cells_of, merge_of}
-use Rattle.out_fold.proofs.ListTests.{no, eqb-same, eqb-other, or_false, or_left, or_right, either, any-snoc}
+use Rattle.out_fold.proofs.ListTests.{no, either}
 use Rattle.out_fold.proofs.LiveLemmas.{live-snoc}
 use Rattle.out_fold.proofs.ShownLemmas.{same_text, latest-snoc}
-use Rattle.out_fold.proofs.CellLemmas.{contents-snoc, all-message, all-reply, all-snoc}
-use Rattle.out_fold.proofs.FoldLemmas.{second_of_two, ordered-least, ordered-same}
+use Rattle.out_fold.proofs.CellLemmas.{contents-snoc, all-message, all-reply}
+use Rattle.out_fold.proofs.FoldLemmas.{ordered-least, ordered-same, all-begun}
 use Rattle.out_fold.proofs.PlaceLemmas.{named, unnamed, settled-other, settled-same}
 
 -- ---- outputs with a display id
@@ -38,11 +40,11 @@ output-other (v ∷ us) u id cell e = ap (λ b. cond (v.cell == cell) (list_any 
 
 output-last : (low : ℕ) (us : List Used) (u : Used) (next : ℕ) (id : List ℕ) → Ordered low (us ++ u ∷ []) next
     → has_output (us ++ u ∷ []) id u.cell ≡ list_any (λ c. has_id id c) (live (contents u))
-output-last low [] u next id h = ap (λ b. cond b (list_any (λ c. has_id id c) (live (contents u))) false) (eqb-same u.cell)
+output-last low [] u next id h = ap (λ b. cond b (list_any (λ c. has_id id c) (live (contents u))) false) (eq-eqb u.cell u.cell refl)
 output-last low (v ∷ us) u next id h =
     let rest = ordered-least (v.cell + 1) us u next h.1 in
     let apart : v.cell ≢ u.cell = λ e. absurd (omega (arith, rest.0, e)) in
-    ap (λ b. cond b (list_any (λ c. has_id id c) (live (contents v))) (has_output (us ++ u ∷ []) id u.cell)) (eqb-other v.cell u.cell apart)
+    ap (λ b. cond b (list_any (λ c. has_id id c) (live (contents v))) (has_output (us ++ u ∷ []) id u.cell)) (ne_eqb v.cell u.cell apart)
     ∙ output-last (v.cell + 1) us u next id h.1
 
 last_true : (b : Bool) → (b || false) ≡ true → b ≡ true
@@ -80,7 +82,7 @@ shown_by c b m (Some id) after h =
     ap (λ o. with_data (record { bundle = b; metadata = m; id = Some id }) o)
     (latest-snoc id None after c ∙ unknown_by (shows id c) (latest id None after) (λ e. no (sym (h id e) ∙ own_id id (record { bundle = b; metadata = m; id = Some id }))))
 
-shown-same : (d c : Content) (after : List Content) → ((id : List ℕ) → is_some (shows id c) ≡ true → has_id id d ≡ false) → shown d (after ++ c ∷ []) ≡ shown d after
+shown-same : (d c : Content) (after : List Content) → ((id : List ℕ) → is_some (shows id c) ≡ true → has_id id d ≡ false) → shown_output d (after ++ c ∷ []) ≡ shown_output d after
 shown-same (content.Display s) c after h = ap (λ x. content.Display x) (shown_by c s.bundle s.metadata s.id after h)
 shown-same (content.Outcome s count) c after h = ap (λ x. content.Outcome x count) (shown_by c s.bundle s.metadata s.id after h)
 shown-same _ c after h = refl
@@ -88,11 +90,11 @@ shown-same _ c after h = refl
 outputs_by : (d : Content) (rest later : List Content) (c : Content) (b : Bool)
     → ((id : List ℕ) → is_some (shows id c) ≡ true → list_any (λ x. has_id id x) (cond b (d ∷ live rest) (live rest)) ≡ false)
     → (((id : List ℕ) → is_some (shows id c) ≡ true → list_any (λ x. has_id id x) (live rest) ≡ false) → outputs rest (later ++ c ∷ []) ≡ outputs rest later)
-    → cond b (shown d (rest ++ (later ++ c ∷ [])) ∷ outputs rest (later ++ c ∷ [])) (outputs rest (later ++ c ∷ [])) ≡ cond b (shown d (rest ++ later) ∷ outputs rest later) (outputs rest later)
+    → cond b (shown_output d (rest ++ (later ++ c ∷ [])) ∷ outputs rest (later ++ c ∷ [])) (outputs rest (later ++ c ∷ [])) ≡ cond b (shown_output d (rest ++ later) ∷ outputs rest later) (outputs rest later)
 outputs_by d rest later c true h more =
-    let first = ap (λ xs. shown d xs) (sym (append_assoc rest later (c ∷ []))) ∙ shown-same d c (rest ++ later) (λ id e. (or_false (has_id id d) (list_any (λ x. has_id id x) (live rest)) (h id e)).0) in
-    let others = more (λ id e. (or_false (has_id id d) (list_any (λ x. has_id id x) (live rest)) (h id e)).1) in
-    ap (λ x. x ∷ outputs rest (later ++ c ∷ [])) first ∙ ap (λ xs. shown d (rest ++ later) ∷ xs) others
+    let first = ap (λ xs. shown_output d xs) (sym (append_assoc rest later (c ∷ []))) ∙ shown-same d c (rest ++ later) (λ id e. (or_parts (has_id id d) (list_any (λ x. has_id id x) (live rest)) (h id e)).0) in
+    let others = more (λ id e. (or_parts (has_id id d) (list_any (λ x. has_id id x) (live rest)) (h id e)).1) in
+    ap (λ x. x ∷ outputs rest (later ++ c ∷ [])) first ∙ ap (λ xs. shown_output d (rest ++ later) ∷ xs) others
 outputs_by d rest later c false h more = more h
 
 outputs-same : (own later : List Content) (c : Content) → ((id : List ℕ) → is_some (shows id c) ≡ true → list_any (λ d. has_id id d) (live own) ≡ false)
@@ -115,29 +117,26 @@ same-outputs : (merge : Bool) (us : List Used) (u : Used) (c : Content) (date : 
     → ((id : List ℕ) → is_some (shows id c) ≡ true → has_output (us ++ u ∷ []) id cell ≡ false)
     → outputs_of merge (us ++ with_message u c date ∷ []) cell ≡ outputs_of merge (us ++ u ∷ []) cell
 same-outputs merge [] u c date cell e h =
-    second_of_two (u.cell == cell) _ _ e ∙ sym (second_of_two (u.cell == cell) _ _ e)
+    cond-false (u.cell == cell) _ _ e ∙ sym (cond-false (u.cell == cell) _ _ e)
 same-outputs merge (v ∷ us) u c date cell e h =
     cell_by merge v us u c date cell (v.cell == cell) h (λ g. same-outputs merge us u c date cell e g)
 
 same-count : (us : List Used) (u u' : Used) (cell : ℕ) → (u.cell == cell) ≡ false → u'.cell ≡ u.cell → count_of (us ++ u' ∷ []) cell ≡ count_of (us ++ u ∷ []) cell
-same-count [] u u' cell e s = second_of_two (u'.cell == cell) _ _ (ap (λ n. n == cell) s ∙ e) ∙ sym (second_of_two (u.cell == cell) _ _ e)
+same-count [] u u' cell e s = cond-false (u'.cell == cell) _ _ (ap (λ n. n == cell) s ∙ e) ∙ sym (cond-false (u.cell == cell) _ _ e)
 same-count (v ∷ us) u u' cell e s = ap (λ x. cond (v.cell == cell) (last_count None (contents v)) x) (same-count us u u' cell e s)
 
 same-dates : (us : List Used) (u u' : Used) (cell : ℕ) → (u.cell == cell) ≡ false → u'.cell ≡ u.cell → dates_of (us ++ u' ∷ []) cell ≡ dates_of (us ++ u ∷ []) cell
-same-dates [] u u' cell e s = second_of_two (u'.cell == cell) _ _ (ap (λ n. n == cell) s ∙ e) ∙ sym (second_of_two (u.cell == cell) _ _ e)
+same-dates [] u u' cell e s = cond-false (u'.cell == cell) _ _ (ap (λ n. n == cell) s ∙ e) ∙ sym (cond-false (u.cell == cell) _ _ e)
 same-dates (v ∷ us) u u' cell e s = ap (λ x. cond (v.cell == cell) (date_pairs (last_date is_input None v.own) (last_date says_busy None v.own) (last_date says_idle None v.own) v.reply) x) (same-dates us u u' cell e s)
 
 reply-outputs : (merge : Bool) (us : List Used) (u : Used) (date : Option (List ℕ)) (cell : ℕ) → (u.cell == cell) ≡ false
     → outputs_of merge (us ++ with_reply u date ∷ []) cell ≡ outputs_of merge (us ++ u ∷ []) cell
-reply-outputs merge [] u date cell e = second_of_two (u.cell == cell) _ _ e ∙ sym (second_of_two (u.cell == cell) _ _ e)
+reply-outputs merge [] u date cell e = cond-false (u.cell == cell) _ _ e ∙ sym (cond-false (u.cell == cell) _ _ e)
 reply-outputs merge (v ∷ us) u date cell e =
     ap (λ cs. cond (v.cell == cell) (map output_tree (joined_where merge (outputs (contents v) cs))) (outputs_of merge (us ++ with_reply u date ∷ []) cell)) (all-reply us u date)
     ∙ ap (λ x. cond (v.cell == cell) (map output_tree (joined_where merge (outputs (contents v) (all_contents (us ++ u ∷ []))))) x) (reply-outputs merge us u date cell e)
 
 -- ---- a cell begins
-
-all-begun : (us : List Used) (cell : ℕ) → all_contents (us ++ begun cell ∷ []) ≡ all_contents us
-all-begun us cell = all-snoc us (begun cell) ∙ append-nil (all_contents us)
 
 nothing_of : (b merge : Bool) → cond b (map output_tree (joined_where merge [])) [] ≡ []
 nothing_of true true = refl
@@ -239,7 +238,7 @@ found-after : (us : List Used) (u : Used) (next : ℕ) (calls calls' : List Call
     → ((id : List ℕ) (n : ℕ) → has_output (us ++ u ∷ []) id n ≡ true → has_place calls id n ≡ true)
     → ((id : List ℕ) (n : ℕ) → has_place calls id n ≡ true → has_place calls' id n ≡ true)
     → (appends c ≡ true → (id : List ℕ) → has_id id c ≡ true → has_place calls' id u.cell ≡ true)
-    → (id : List ℕ) (n : ℕ) (b : Bool) → (u.cell == n) ≡ b → has_output (us ++ with_message u c date ∷ []) id n ≡ true → has_place (settled c u.cell calls') id n ≡ true
+    → (id : List ℕ) (n : ℕ) (b : Bool) → (u.cell == n) ≡ b → has_output (us ++ with_message u c date ∷ []) id n ≡ true → has_place (settle c u.cell calls') id n ≡ true
 found-after us u next calls calls' c date o found more here id n false e h =
     settled-other c u.cell calls' id n e (more id n (found id n (output-other us u id n e ∙ sym (output-other us (with_message u c date) id n e) ∙ h)))
 found-after us u next calls calls' c date o found more here id n true e h =
@@ -274,9 +273,9 @@ message-stands-for f f' us u c date cell same h s p lt m v =
     let o : Ordered 0 (us ++ u ∷ []) f.held.next = s.held.order in
     record {
       held = h;
-      calls = settled c cell p.calls';
+      calls = settle c cell p.calls';
       told = p.told;
-      found = λ id n e. ap (λ k. has_place (settled c k p.calls') id n) (sym same)
+      found = λ id n e. ap (λ k. has_place (settle c k p.calls') id n) (sym same)
           ∙ found-after us u f.held.next s.calls p.calls' c date o s.found p.more (λ a i g. ap (λ k. has_place p.calls' i k) same ∙ p.here a i g) id n (u.cell == n) refl e;
       within = λ id n e. as_many n (cells_of f) (cells_of f') m (p.within (cells_of f) lt s.within id n e);
       touches = λ n e. as_many n (cells_of f) (cells_of f') m
@@ -312,7 +311,7 @@ pub current-within : (f : Folds) (cell : ℕ) → cell + 1 ≡ f.next → cell <
 current-within f cell e = let le = f.within in omega (arith, le, e)
 
 cell_apart : (new : List ℕ) (m cell n : ℕ) → m ≡ cell → is_in new cell ≡ true → is_in new n ≡ false → (m == n) ≡ false
-cell_apart new m cell n e h g = eqb-other m n (λ x. no (sym g ∙ ap (λ k. is_in new k) (sym (sym e ∙ x)) ∙ h))
+cell_apart new m cell n e h g = ne_eqb m n (λ x. no (sym g ∙ ap (λ k. is_in new k) (sym (sym e ∙ x)) ∙ h))
 
 named_by : (c : Content) (calls : List Call) (id : List ℕ) (n : ℕ) → is_some (shows id c) ≡ true → (o : Option (List ℕ)) → name_of c ≡ o
     → has_place calls id n ≡ true → list_any (λ p. p.cell == n) (named_places calls o) ≡ false → true ≡ false
@@ -370,7 +369,7 @@ reply-rested f new merge was us u date cell ps same v m r n e =
 all_below : (cells : ℕ) (ns : List ℕ) → ((n : ℕ) → is_in ns n ≡ true → n < cells) → AllByRecursion (λ n. n < cells) ns
 all_below cells [] h = tt
 all_below cells (n ∷ ns) h =
-    (h n (or_left (n == n) (is_in ns n) (eqb-same n)), all_below cells ns (λ k e. h k (or_right (n == k) (is_in ns k) e)))
+    (h n (or_left (n == n) (is_in ns n) (eq-eqb n n refl)), all_below cells ns (λ k e. h k (or_right (n == k) (is_in ns k) e)))
 
 -- each touched cell is one of the notebook's
 pub touched-below : (f : Fold) (us : List Used) (ns : List ℕ) → ns ≡ f.touched → StandsFor f us → All (λ n. n < cells_of f) ns

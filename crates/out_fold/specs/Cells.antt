@@ -10,7 +10,7 @@ use Rattle.jcontent.specs.declared.state.State.TheVariants as state
 pub use Rattle.out_fold.specs.declared.message.Message.{Message}
 pub use Rattle.out_fold.specs.declared.used.Used.{Used}
 use Rattle.out_fold.specs.Shown.{outputs}
-use Rattle.out_fold.specs.Joined.{joined}
+use Rattle.out_fold.specs.Joined.{join}
 use Rattle.out_fold.specs.Tree.{output_tree}
 
 -- a request for which nothing was used yet
@@ -35,7 +35,7 @@ all_contents us = flat_map contents us
 
 -- these outputs, joined where that is asked for
 abbrev pub joined_where : Bool → List Content → List Content
-joined_where merge cs = if merge then joined cs else cs
+joined_where merge cs = if merge then join cs else cs
 
 -- the outputs of the cell: empty where it was not begun
 abbrev pub outputs_of : Bool → List Used → ℕ → List Json
@@ -43,15 +43,15 @@ outputs_of merge [] cell = []
 outputs_of merge (u ∷ us) cell = if u.cell == cell then map output_tree (joined_where merge (outputs (contents u) (all_contents us))) else outputs_of merge us cell
 
 -- the execution count that a message tells
-abbrev pub told : Content → Option (List ℕ)
-told (content.Input count) = count
-told (content.Outcome shown count) = count
-told _ = None
+abbrev pub count_in : Content → Option (List ℕ)
+count_in (content.Input count) = count
+count_in (content.Outcome shown count) = count
+count_in _ = None
 
 -- the last count told; where there is none, this
 abbrev pub last_count : Option (List ℕ) → List Content → Option (List ℕ)
 last_count before [] = before
-last_count before (c ∷ rest) = last_count (option_or (told c) before) rest
+last_count before (c ∷ rest) = last_count (option_or (count_in c) before) rest
 
 -- the execution count of the cell
 abbrev pub count_of : List Used → ℕ → Option (List ℕ)
@@ -89,13 +89,13 @@ last_date kind before [] = before
 last_date kind before (m ∷ rest) = last_date kind (if kind m.content then m.date else before) rest
 
 -- the pair of a date, where there is one
-abbrev pub dated : List ℕ → Option (List ℕ) → List (List ℕ × Json)
-dated key None = []
-dated key (Some date) = (key, json.Str date) ∷ []
+abbrev pub date_pair : List ℕ → Option (List ℕ) → List (List ℕ × Json)
+date_pair key None = []
+date_pair key (Some date) = (key, json.Str date) ∷ []
 
 -- the pairs of `metadata.execution`, by these four dates
 abbrev pub date_pairs : Option (List ℕ) → Option (List ℕ) → Option (List ℕ) → Option (List ℕ) → List (List ℕ × Json)
-date_pairs input busy idle reply = dated (codes "iopub.execute_input") input ++ (dated (codes "iopub.status.busy") busy ++ (dated (codes "iopub.status.idle") idle ++ dated (codes "shell.execute_reply") reply))
+date_pairs input busy idle reply = date_pair (codes "iopub.execute_input") input ++ (date_pair (codes "iopub.status.busy") busy ++ (date_pair (codes "iopub.status.idle") idle ++ date_pair (codes "shell.execute_reply") reply))
 
 -- the dates of the cell
 abbrev pub dates_of : List Used → ℕ → List (List ℕ × Json)

@@ -13,7 +13,7 @@ use Rattle.out_fold.specs.declared.folded.Folded.{Folded}
 use Rattle.out_fold.specs.declared.folds.Folds.{Folds}
 use Rattle.out_fold.specs.Live.{appends, clears_now, clears_later, live}
 use Rattle.out_fold.specs.Shown.{shows, latest}
-use Rattle.out_fold.specs.Cells.{Used, contents, all_contents, told, last_count, says_busy, says_idle, is_input, last_date}
+use Rattle.out_fold.specs.Cells.{Used, contents, all_contents, count_in, last_count, says_busy, says_idle, is_input, last_date}
 
 -- ---- an output
 
@@ -23,10 +23,10 @@ without_data None s = s
 without_data (Some id) s = record { bundle = []; metadata = json.Null; id = Some id }
 
 -- an output as it is held: the data of a display id are held once
-abbrev pub held : Content → Content
-held (content.Display s) = content.Display (without_data s.id s)
-held (content.Outcome s count) = content.Outcome (without_data s.id s) count
-held c = c
+abbrev pub held_output : Content → Content
+held_output (content.Display s) = content.Display (without_data s.id s)
+held_output (content.Outcome s count) = content.Outcome (without_data s.id s) count
+held_output c = c
 
 -- ---- a cell
 
@@ -40,9 +40,9 @@ waits [] = false
 waits (c ∷ rest) = waits rest || (clears_later c && not (list_any ends_wait rest))
 
 -- what is held of the messages of a request
-abbrev pub folded : Used → Folded
-folded u = record {
-  outputs = map held (live (contents u));
+abbrev pub fold_of : Used → Folded
+fold_of u = record {
+  outputs = map held_output (live (contents u));
   waits = waits (contents u);
   count = last_count None (contents u);
   input = last_date is_input None u.own;
@@ -58,20 +58,20 @@ nothing = record { outputs = []; waits = false; count = None; input = None; busy
 -- what is held of the messages of the cell
 abbrev pub folded_at : List Used → ℕ → Folded
 folded_at [] cell = nothing
-folded_at (u ∷ us) cell = if u.cell == cell then folded u else folded_at us cell
+folded_at (u ∷ us) cell = if u.cell == cell then fold_of u else folded_at us cell
 
 -- ---- one more message
 
 -- the outputs that are held after one more message
 abbrev pub next_outputs : Folded → Content → List Content
-next_outputs f c = if clears_now c then [] else if appends c then (if f.waits then [] else f.outputs) ++ held c ∷ [] else f.outputs
+next_outputs f c = if clears_now c then [] else if appends c then (if f.waits then [] else f.outputs) ++ held_output c ∷ [] else f.outputs
 
 -- what is held of a cell after one more message
 abbrev pub step : Folded → Content → Option (List ℕ) → Folded
 step f c date = record {
   outputs = next_outputs f c;
   waits = (if ends_wait c then false else f.waits || clears_later c);
-  count = option_or (told c) f.count;
+  count = option_or (count_in c) f.count;
   input = (if is_input c then date else f.input);
   busy = (if says_busy c then date else f.busy);
   idle = (if says_idle c then date else f.idle);

@@ -11,19 +11,19 @@ text_of name (content.Stream other text) = if bytes_eq other name then Some text
 text_of name _ = None
 
 -- two streams of one name as one, their texts joined
-abbrev pub fused : Content → Content → Option Content
-fused (content.Stream name text) next = option_map (λ more. content.Stream name (text ++ more)) (text_of name next)
-fused _ next = None
+abbrev pub fuse : Content → Content → Option Content
+fuse (content.Stream name text) next = option_map (λ more. content.Stream name (text ++ more)) (text_of name next)
+fuse _ next = None
 
 -- an output and those after it, neighbouring streams of one name fused
 abbrev pub joined_after : Content → List Content → List Content
 joined_after c [] = c ∷ []
-joined_after c (next ∷ rest) = option_map_or (λ both. joined_after both rest) (fused c next) (c ∷ joined_after next rest)
+joined_after c (next ∷ rest) = option_map_or (λ both. joined_after both rest) (fuse c next) (c ∷ joined_after next rest)
 
 -- outputs in which no neighbouring streams have one name
-abbrev pub joined : List Content → List Content
-joined [] = []
-joined (c ∷ rest) = joined_after c rest
+abbrev pub join : List Content → List Content
+join [] = []
+join (c ∷ rest) = joined_after c rest
 
 -- how many streams of this name come first
 abbrev pub run_len : List ℕ → List Content → ℕ

@@ -39,13 +39,13 @@ pub record Placed (calls : List Call) (x : Index) (c : Content) (cell : ℕ) : T
   pub here : appends c ≡ true → (id : List ℕ) → has_id id c ≡ true → has_place calls' id cell ≡ true
 
 -- the calls with the clear that the message brings
-abbrev pub settled : Content → ℕ → List Call → List Call
-settled c cell calls = if clears_now c then calls ++ cleared cell ∷ [] else calls
+abbrev pub settle : Content → ℕ → List Call → List Call
+settle c cell calls = if clears_now c then calls ++ cleared cell ∷ [] else calls
 
 -- what had a place has one but for what the message clears, and so has its output, where it has a display id
 pub record Settled (calls : List Call) (x : Index) (c : Content) (cell : ℕ) : Type 0 where
   pub calls' : List Call
-  pub told : index.StandsFor x (settled c cell calls')
+  pub told : index.StandsFor x (settle c cell calls')
   pub more : (id : List ℕ) (n : ℕ) → has_place calls id n ≡ true → has_place calls' id n ≡ true
-  pub within : (cells : ℕ) → cell < cells → IsWithin cells calls → IsWithin cells (settled c cell calls')
+  pub within : (cells : ℕ) → cell < cells → IsWithin cells calls → IsWithin cells (settle c cell calls')
   pub here : appends c ≡ true → (id : List ℕ) → has_id id c ≡ true → has_place calls' id cell ≡ true

@@ -33,7 +33,7 @@ without None cells = cells
 without (Some at) cells = remove cells at
 
 -- the cells as they were before
-abbrev pub restored : Before → List ℕ → List ℕ
-restored before.Same cells = cells
-restored (before.Without at) cells = without (Some at) cells
-restored (before.Cells old) cells = old
+abbrev pub cells_before : Before → List ℕ → List ℕ
+cells_before before.Same cells = cells
+cells_before (before.Without at) cells = without (Some at) cells
+cells_before (before.Cells old) cells = old

@@ -53,16 +53,16 @@ abbrev pub known_to : (List ℕ → Option Data) → Shown → Shown
 known_to known s = with_data s (option_and_then known s.id)
 
 -- the same of an output
-abbrev pub resolved : (List ℕ → Option Data) → Content → Content
-resolved known (content.Display s) = content.Display (known_to known s)
-resolved known (content.Outcome s count) = content.Outcome (known_to known s) count
-resolved known c = c
+abbrev pub resolve : (List ℕ → Option Data) → Content → Content
+resolve known (content.Display s) = content.Display (known_to known s)
+resolve known (content.Outcome s count) = content.Outcome (known_to known s) count
+resolve known c = c
 
 -- an output as it is shown in the end: with the data of the last message after it that shows something under its display id
-abbrev pub shown : Content → List Content → Content
-shown c after = resolved (λ id. latest id None after) c
+abbrev pub shown_output : Content → List Content → Content
+shown_output c after = resolve (λ id. latest id None after) c
 
 -- the outputs of a request: those of its live messages, as they are shown after its own messages and the later ones of other requests
 abbrev pub outputs : List Content → List Content → List Content
 outputs [] later = []
-outputs (c ∷ rest) later = if appends c && stays rest then shown c (rest ++ later) ∷ outputs rest later else outputs rest later
+outputs (c ∷ rest) later = if appends c && stays rest then shown_output c (rest ++ later) ∷ outputs rest later else outputs rest later

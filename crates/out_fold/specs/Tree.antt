@@ -33,8 +33,8 @@ abbrev pub stored_pair : List ℕ × Json → List ℕ × Json
 stored_pair p = (p.0, (if is_text_type p.0 then in_lines p.1 else p.1))
 
 -- a bundle of a message, as it is stored
-abbrev pub stored : List (List ℕ × Json) → Json
-stored bundle = json.Obj (map stored_pair bundle)
+abbrev pub stored_bundle : List (List ℕ × Json) → Json
+stored_bundle bundle = json.Obj (map stored_pair bundle)
 
 -- `stream`
 abbrev pub stream_tree : List ℕ → List ℕ → Json
@@ -42,11 +42,11 @@ stream_tree name text = json.Obj ((codes "name", json.Str name) ∷ (codes "outp
 
 -- `display_data`
 abbrev pub display_tree : Shown → Json
-display_tree s = json.Obj ((codes "data", stored s.bundle) ∷ (codes "metadata", s.metadata) ∷ (codes "output_type", json.Str (codes "display_data")) ∷ [])
+display_tree s = json.Obj ((codes "data", stored_bundle s.bundle) ∷ (codes "metadata", s.metadata) ∷ (codes "output_type", json.Str (codes "display_data")) ∷ [])
 
 -- `execute_result`, with its own count or `null`
 abbrev pub result_tree : Shown → Option (List ℕ) → Json
-result_tree s count = json.Obj ((codes "data", stored s.bundle) ∷ (codes "execution_count", count_tree count) ∷ (codes "metadata", s.metadata) ∷ (codes "output_type", json.Str (codes "execute_result")) ∷ [])
+result_tree s count = json.Obj ((codes "data", stored_bundle s.bundle) ∷ (codes "execution_count", count_tree count) ∷ (codes "metadata", s.metadata) ∷ (codes "output_type", json.Str (codes "execute_result")) ∷ [])
 
 -- `error`
 abbrev pub error_tree : List ℕ → List ℕ → List (List ℕ) → Json

@@ -7,8 +7,8 @@ use nb_model::split_lines;
 use std::alloc::Global;
 
 /// The bundle of a message, with the strings of text types as lines.
-pub(crate) fn stored(alloc: Global, bundle: &Fields) -> Result<Json, NoMemory>
-    ensures { IfOk result (λ r. r ≡ spec.stored bundle.now) }
+pub(crate) fn stored_bundle(alloc: Global, bundle: &Fields) -> Result<Json, NoMemory>
+    ensures { IfOk result (λ r. r ≡ spec.stored_bundle bundle.now) }
 {
     let mut pairs = Fields::new(alloc);
     for (key, value) in bundle.as_slice() {

@@ -20,10 +20,10 @@ pub(crate) fn content(alloc: Global, c: &Content) -> Result<Content, NoMemory>
             name: Text::of(alloc, name.as_str())?,
             text: Text::of(alloc, text.as_str())?,
         }),
-        Content::Display(shown) => Ok(Content::Display(whole(alloc, shown)?)),
-        Content::Update(shown) => Ok(Content::Update(whole(alloc, shown)?)),
+        Content::Display(shown) => Ok(Content::Display(full_copy(alloc, shown)?)),
+        Content::Update(shown) => Ok(Content::Update(full_copy(alloc, shown)?)),
         Content::Outcome { shown, count: told } => Ok(Content::Outcome {
-            shown: whole(alloc, shown)?,
+            shown: full_copy(alloc, shown)?,
             count: count(alloc, told)?,
         }),
         Content::Error {
@@ -53,7 +53,7 @@ fn reply_is(alloc: Global, reply: &ReplyIs) -> Result<ReplyIs, NoMemory>
     }
 }
 
-fn whole(alloc: Global, shown: &Shown) -> Result<Shown, NoMemory>
+fn full_copy(alloc: Global, shown: &Shown) -> Result<Shown, NoMemory>
     ensures { IfOk result (λ r. r ≡ shown.now) }
 {
     let bundle = bundle(alloc, &shown.bundle)?;
@@ -85,16 +85,16 @@ pub(crate) fn bundle(alloc: Global, pairs: &Fields) -> Result<Fields, NoMemory>
 }
 
 /// What an output holds of what it shows: its data stand under its display id where it has one.
-pub(crate) fn shown(alloc: Global, shown: &Shown) -> Result<Shown, NoMemory>
+pub(crate) fn shown_held(alloc: Global, shown: &Shown) -> Result<Shown, NoMemory>
     ensures { IfOk result (λ r. r ≡ without_data shown.now.id shown.now) }
 {
     match &shown.id {
-        Some(id) => named(alloc, id),
-        None => unnamed(alloc, shown),
+        Some(id) => with_id(alloc, id),
+        None => without_id(alloc, shown),
     }
 }
 
-fn named(alloc: Global, id: &Text) -> Result<Shown, NoMemory>
+fn with_id(alloc: Global, id: &Text) -> Result<Shown, NoMemory>
     ensures { IfOk result (λ r.
         r ≡ record { bundle = []; metadata = json.Null; id = Some id.now }) }
 {
@@ -106,7 +106,7 @@ fn named(alloc: Global, id: &Text) -> Result<Shown, NoMemory>
     })
 }
 
-fn unnamed(alloc: Global, shown: &Shown) -> Result<Shown, NoMemory>
+fn without_id(alloc: Global, shown: &Shown) -> Result<Shown, NoMemory>
     ensures { IfOk result (λ r. r ≡ record {
       bundle = shown.now.bundle;
       metadata =

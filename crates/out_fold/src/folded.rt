@@ -28,7 +28,7 @@ pub struct Folded {
 impl Folded {
     ghost use Rattle.std.specs.Prelude.{◌≡◌, ◌++◌, ◌∷◌, [], OnOk, OnErr, true, false, if◌then◌else◌};
     ghost use Rattle.std.specs.Option.{option_copied, option_or};
-    ghost use Rattle.out_fold.specs.Held.{nothing, step, held};
+    ghost use Rattle.out_fold.specs.Held.{nothing, step, held_output};
 
     /// Nothing was used. It takes no memory.
     pub(crate) fn new(alloc: Global) -> Folded
@@ -133,13 +133,13 @@ impl Folded {
     fn display(&mut self, alloc: Global, shown: &Shown) -> Result<(), NoMemory>
         ensures ok { OnOk result (self.new
             ≡ record self.old {
-              outputs = (if self.old.waits then [] else self.old.outputs) ++ held
+              outputs = (if self.old.waits then [] else self.old.outputs) ++ held_output
                   (content.Display shown.now) ∷ [];
               waits = false;
             }) }
         ensures err { OnErr result (self.new ≡ self.old) }
     {
-        let shown = copies::shown(alloc, shown)?;
+        let shown = copies::shown_held(alloc, shown)?;
         self.append(alloc, Content::Display(shown))
     }
 
@@ -151,7 +151,7 @@ impl Folded {
     ) -> Result<(), NoMemory>
         ensures ok { OnOk result (self.new
             ≡ record self.old {
-              outputs = (if self.old.waits then [] else self.old.outputs) ++ held
+              outputs = (if self.old.waits then [] else self.old.outputs) ++ held_output
                   (content.Outcome shown.now count.now) ∷ [];
               waits = false;
               count = option_or count.now
@@ -159,7 +159,7 @@ impl Folded {
             }) }
         ensures err { OnErr result (self.new ≡ self.old) }
     {
-        let shown = copies::shown(alloc, shown)?;
+        let shown = copies::shown_held(alloc, shown)?;
         let own = copies::count(alloc, count)?;
         let told = copies::count(alloc, count)?;
         self.append(alloc, Content::Outcome { shown, count: own })?;

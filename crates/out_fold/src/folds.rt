@@ -152,7 +152,7 @@ impl Folds {
         ensures { (us : Plain Used) → Holds self.now us
             → IfOk result (λ items. items ≡ outputs_of (merge_of self.now) us cell) }
     {
-        let held = self.held(cell);
+        let held = self.fold_of(cell);
         output_items(
             self.alloc,
             held.outputs.as_slice(),
@@ -166,7 +166,7 @@ impl Folds {
         requires { cell < cells_of self.now }
         ensures { (us : Plain Used) → Holds self.now us → option_copied result ≡ count_of us cell }
     {
-        self.held(cell).count.as_ref()
+        self.fold_of(cell).count.as_ref()
     }
 
     /// The dates of a cell's messages and of its reply, as nbclient writes them into
@@ -176,7 +176,7 @@ impl Folds {
         ensures { (us : Plain Used) → Holds self.now us
             → IfOk result (λ dates. dates ≡ dates_of us cell) }
     {
-        date_fields(self.alloc, self.held(cell))
+        date_fields(self.alloc, self.fold_of(cell))
     }
 
     /// The current cell.
@@ -195,7 +195,7 @@ impl Folds {
         u32::try_from(self.current.outputs.len()).unwrap_or(u32::MAX)
     }
 
-    fn held(&self, cell: u32) -> &Folded
+    fn fold_of(&self, cell: u32) -> &Folded
         requires { cell < cells_of self.now }
         ensures { result.now ≡ held_at self.now cell }
     {

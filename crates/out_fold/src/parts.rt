@@ -63,8 +63,8 @@ pub(crate) fn shown_under<'a>(id: &Text, c: &'a Content) -> Option<&'a Shown>
 }
 
 /// The execution count that the message tells.
-pub(crate) fn told(c: &Content) -> Option<&NumText>
-    ensures { option_copied result ≡ cells.told c.now }
+pub(crate) fn count_in(c: &Content) -> Option<&NumText>
+    ensures { option_copied result ≡ cells.count_in c.now }
 {
     match c {
         Content::Input(count) => count.as_ref(),

@@ -85,7 +85,7 @@ fn last_is_in(places: &Places, cell: u32) -> bool
 /// Takes out the places in the cell, where the message clears it at once.
 pub(crate) fn settle(index: &mut Index, cell: u32, c: &Content)
     ensures { (calls : Plain Call) → ids.StandsFor index.old calls
-        → ids.StandsFor index.new (spec.settled c.now cell calls) }
+        → ids.StandsFor index.new (spec.settle c.now cell calls) }
 {
     if clears_now(c) {
         index.clear(cell);

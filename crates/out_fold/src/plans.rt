@@ -1,7 +1,7 @@
 //! The cells that may have changed, in increasing order.
 ghost use Rattle.std.specs.Prelude.{◌≡◌, ◌==◌, ◌||◌, ◌≤◌, ℕ, true, false, length, Some, IfOk, IfErr, OnOk, OnErr};
 ghost use Rattle.std.specs.List.{list_all, list_any};
-ghost use Rattle.out_fold.specs.Plans.{is_in, increases, lead, without, restored, Covers};
+ghost use Rattle.out_fold.specs.Plans.{is_in, increases, lead, without, cells_before, Covers};
 
 use crate::before::Before;
 use display_index::Place;
@@ -21,7 +21,7 @@ pub(crate) fn touch(
     requires { increases plan.old ≡ true }
     ensures sorted { increases plan.new ≡ true }
     ensures covers { OnOk result (Covers plan.old plan.new cell places.now) }
-    ensures before { IfOk result (λ b. restored b plan.new ≡ plan.old) }
+    ensures before { IfOk result (λ b. cells_before b plan.new ≡ plan.old) }
     ensures err { OnErr result (plan.new ≡ plan.old) }
 {
     if has_cells(plan.as_slice(), places) {
@@ -33,7 +33,7 @@ pub(crate) fn touch(
 
 /// Makes the cells what they were.
 pub(crate) fn restore(plan: &mut Plan, before: Before)
-    ensures { plan.new ≡ restored before plan.old }
+    ensures { plan.new ≡ cells_before before plan.old }
 {
     match before {
         Before::Same => {}
@@ -54,7 +54,7 @@ fn touch_one(plan: &mut Plan, cell: u32) -> Result<Before, NoMemory>
     requires { increases plan.old ≡ true }
     ensures sorted { increases plan.new ≡ true }
     ensures members { OnOk result ((n : ℕ) → is_in plan.new n ≡ (cell == n || is_in plan.old n)) }
-    ensures before { IfOk result (λ b. restored b plan.new ≡ plan.old) }
+    ensures before { IfOk result (λ b. cells_before b plan.new ≡ plan.old) }
     ensures err { OnErr result (plan.new ≡ plan.old) }
 {
     match put_cell(plan, cell)? {
@@ -72,7 +72,7 @@ fn touch_all(
     requires { increases plan.old ≡ true }
     ensures sorted { increases plan.new ≡ true }
     ensures covers { OnOk result (Covers plan.old plan.new cell places.now) }
-    ensures before { IfOk result (λ b. restored b plan.new ≡ plan.old) }
+    ensures before { IfOk result (λ b. cells_before b plan.new ≡ plan.old) }
     ensures err { OnErr result (plan.new ≡ plan.old) }
 {
     let cells = union(alloc, plan.as_slice(), cell, places)?;

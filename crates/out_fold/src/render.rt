@@ -1,11 +1,11 @@
 //! What is held, as it is saved.
 ghost use Rattle.std.specs.Prelude.{◌≡◌, ◌≤◌, ◌∷◌, ◌++◌, length, drop, map, IfOk, OnOk};
 ghost use Rattle.std.specs.Option.{option_copied, option_and_then};
-ghost use Rattle.out_fold.specs.Shown.{resolved, known_to};
-ghost use Rattle.out_fold.specs.Joined.{joined};
+ghost use Rattle.out_fold.specs.Shown.{resolve, known_to};
+ghost use Rattle.out_fold.specs.Joined.{join};
 ghost use Rattle.out_fold.specs.Tree as tree;
 ghost use Rattle.out_fold.specs.Cells as cells;
-ghost use Rattle.out_fold.specs.Cells.{joined_where, dated};
+ghost use Rattle.out_fold.specs.Cells.{joined_where, date_pair};
 ghost use Rattle.out_fold.specs.Held.{data_of};
 
 use crate::folded::Folded;
@@ -24,7 +24,7 @@ pub(crate) fn output_items(
     merge: bool,
 ) -> Result<Items, NoMemory>
     ensures { IfOk result (λ r. r ≡ map
-        (λ c. tree.output_tree (resolved (data_of latest.now) c))
+        (λ c. tree.output_tree (resolve (data_of latest.now) c))
         (joined_where merge outputs.now)) }
 {
     if merge {
@@ -36,7 +36,7 @@ pub(crate) fn output_items(
 
 fn plain_items(alloc: Global, outputs: &[Content], latest: &Latest) -> Result<Items, NoMemory>
     ensures { IfOk result (λ r. r ≡ map
-        (λ c. tree.output_tree (resolved (data_of latest.now) c)) outputs.now) }
+        (λ c. tree.output_tree (resolve (data_of latest.now) c)) outputs.now) }
 {
     let mut items = Items::new(alloc);
     for c in outputs {
@@ -47,7 +47,7 @@ fn plain_items(alloc: Global, outputs: &[Content], latest: &Latest) -> Result<It
 
 fn joined_items(alloc: Global, outputs: &[Content], latest: &Latest) -> Result<Items, NoMemory>
     ensures { IfOk result (λ r. r ≡ map
-        (λ c. tree.output_tree (resolved (data_of latest.now) c)) (joined outputs.now)) }
+        (λ c. tree.output_tree (resolve (data_of latest.now) c)) (join outputs.now)) }
 {
     let mut items = Items::new(alloc);
     let mut rest = outputs;
@@ -69,9 +69,9 @@ fn joined_item(
 ) -> Result<(Json, usize), NoMemory>
     ensures within { IfOk result (λ r. r.1 ≤ length after.now) }
     ensures first { IfOk result (λ r. map
-        (λ c. tree.output_tree (resolved (data_of latest.now) c)) (joined (first.now ∷ after.now))
-        ≡ r.0 ∷ map (λ c. tree.output_tree (resolved (data_of latest.now) c))
-        (joined (drop r.1 after.now))) }
+        (λ c. tree.output_tree (resolve (data_of latest.now) c)) (join (first.now ∷ after.now))
+        ≡ r.0 ∷ map (λ c. tree.output_tree (resolve (data_of latest.now) c))
+        (join (drop r.1 after.now))) }
 {
     match first {
         Content::Stream { name, text } => {
@@ -85,7 +85,7 @@ fn joined_item(
 }
 
 fn item(alloc: Global, c: &Content, latest: &Latest) -> Result<Json, NoMemory>
-    ensures { IfOk result (λ r. r ≡ tree.output_tree (resolved (data_of latest.now) c.now)) }
+    ensures { IfOk result (λ r. r ≡ tree.output_tree (resolve (data_of latest.now) c.now)) }
 {
     match c {
         Content::Stream { name, text } => stream_tree(alloc, name, text.as_str()),
@@ -112,7 +112,7 @@ fn item(alloc: Global, c: &Content, latest: &Latest) -> Result<Json, NoMemory>
 fn bundle_of<'a>(shown: &'a Shown, latest: &'a Latest) -> &'a Fields
     ensures { result.now ≡ (known_to (data_of latest.now) shown.now).bundle }
 {
-    match known(shown, latest) {
+    match known_data(shown, latest) {
         Some(data) => &data.bundle,
         None => &shown.bundle,
     }
@@ -121,13 +121,13 @@ fn bundle_of<'a>(shown: &'a Shown, latest: &'a Latest) -> &'a Fields
 fn metadata_of<'a>(shown: &'a Shown, latest: &'a Latest) -> &'a Json
     ensures { result.now ≡ (known_to (data_of latest.now) shown.now).metadata }
 {
-    match known(shown, latest) {
+    match known_data(shown, latest) {
         Some(data) => &data.metadata,
         None => &shown.metadata,
     }
 }
 
-fn known<'a>(shown: &'a Shown, latest: &'a Latest) -> Option<&'a Data>
+fn known_data<'a>(shown: &'a Shown, latest: &'a Latest) -> Option<&'a Data>
     ensures { option_copied result ≡ option_and_then (data_of latest.now) shown.now.id }
 {
     match &shown.id {
@@ -170,7 +170,8 @@ fn put_date(
     key: &str,
     date: Option<&Text>,
 ) -> Result<(), NoMemory>
-    ensures { OnOk result (fields.new ≡ fields.old ++ dated key.now (option_copied date.entry)) }
+    ensures { OnOk result (fields.new
+        ≡ fields.old ++ date_pair key.now (option_copied date.entry)) }
 {
     match date {
         Some(text) => fields.push(text_pair(alloc, key, text.as_str())?),

@@ -28,7 +28,7 @@ pub(crate) fn outputs(
     for (i, message) in own.iter().enumerate() {
         let after = &own[i + 1..];
         if appends(&message.content) && stays(after) {
-            outputs.push(shown(alloc, &message.content, after, later)?)?;
+            outputs.push(shown_output(alloc, &message.content, after, later)?)?;
         }
     }
     Ok(outputs)
@@ -61,8 +61,13 @@ fn one_appends(messages: &[Message]) -> bool
 }
 
 /// An output as it is shown after these messages.
-fn shown(alloc: Global, c: &Content, after: &[Message], later: &[Used]) -> Result<Content, NoMemory>
-    ensures { IfOk result (λ r. r ≡ spec.shown c.now
+fn shown_output(
+    alloc: Global,
+    c: &Content,
+    after: &[Message],
+    later: &[Used],
+) -> Result<Content, NoMemory>
+    ensures { IfOk result (λ r. r ≡ spec.shown_output c.now
         (contents_of after.now ++ all_contents later.now)) }
 {
     match c {

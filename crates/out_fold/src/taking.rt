@@ -6,7 +6,7 @@ ghost use Rattle.display_index.specs.Held as ids;
 ghost use Rattle.out_fold.specs.Cells.{Used, with_message};
 ghost use Rattle.out_fold.specs.Held.{Holds, IsSameShape, next_of};
 ghost use Rattle.out_fold.specs.Placing.{named_places, Grown, Settled};
-ghost use Rattle.out_fold.specs.Plans.{increases, restored, Covers};
+ghost use Rattle.out_fold.specs.Plans.{increases, cells_before, Covers};
 
 use crate::before::Before;
 use crate::folds::Folds;
@@ -31,7 +31,7 @@ pub(crate) fn touch_named(
     ensures sorted { increases touched.new ≡ true }
     ensures covers { OnOk result ((calls : Plain Call) → ids.StandsFor index.now calls
         → Covers touched.old touched.new cell (named_places calls (option_copied name.entry))) }
-    ensures before { IfOk result (λ b. restored b touched.new ≡ touched.old) }
+    ensures before { IfOk result (λ b. cells_before b touched.new ≡ touched.old) }
     ensures err { OnErr result (touched.new ≡ touched.old) }
 {
     touch(alloc, touched, cell, places_of(index, name))

@@ -4,7 +4,7 @@ ghost use Rattle.jtext.specs.declared.json.Json.TheVariants as json;
 ghost use Rattle.nb_model.specs.Tree.{count_tree};
 ghost use Rattle.out_fold.specs.Tree as spec;
 
-use crate::bundle::stored;
+use crate::bundle::stored_bundle;
 use jtext::{Fields, Items, Json, NoMemory, NumText, Text, Texts, copy};
 use nb_model::split_lines;
 use std::alloc::Global;
@@ -29,7 +29,7 @@ pub(crate) fn display_tree(
     ensures { IfOk result (λ r. r ≡ spec.display_tree
         (record { bundle = bundle.now; metadata = metadata.now; id = None })) }
 {
-    let bundle = stored(alloc, bundle)?;
+    let bundle = stored_bundle(alloc, bundle)?;
     let metadata = copy(alloc, metadata)?;
     let shown = pair(alloc, "data", bundle)?;
     let about = pair(alloc, "metadata", metadata)?;
@@ -47,7 +47,7 @@ pub(crate) fn result_tree(
     ensures { IfOk result (λ r. r ≡ spec.result_tree
         (record { bundle = bundle.now; metadata = metadata.now; id = None }) count.now) }
 {
-    let bundle = stored(alloc, bundle)?;
+    let bundle = stored_bundle(alloc, bundle)?;
     let metadata = copy(alloc, metadata)?;
     let count = number_or_null(alloc, count)?;
     let shown = pair(alloc, "data", bundle)?;

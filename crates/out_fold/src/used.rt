@@ -6,7 +6,7 @@ ghost use Rattle.out_fold.specs.Plain.{contents_of, date_under};
 
 use crate::kind::Kind;
 use crate::message::Message;
-use crate::parts::{is_of, told};
+use crate::parts::{count_in, is_of};
 use crate::render::date_pairs;
 use jtext::{Fields, List, NoMemory, NumText, Text};
 use std::alloc::Global;
@@ -63,7 +63,7 @@ fn last_count(messages: &[Message]) -> Option<&NumText>
 {
     let mut last = None;
     for message in messages {
-        if let Some(count) = told(&message.content) {
+        if let Some(count) = count_in(&message.content) {
             last = Some(count);
         }
     }

@@ -1,8 +1,9 @@
 use Rattle.std.proofs.Common.{ap, codes}
 use Rattle.jtext.specs.declared.json.Json.TheVariants as json
 use Rattle.out_fold.proofs.Answered.{if_ok}
-use Rattle.out_fold.proofs.Objects.{keyed, of_4}
+use Rattle.out_fold.proofs.Objects.{of_4}
 use Rattle.out_fold.proofs.tree.error_tree.Goals as goal
+use Rattle.jcontent.proofs.Pairs.{keyed}
 
 pub returns : goal.returns
 returns c =

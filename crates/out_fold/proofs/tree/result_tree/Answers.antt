@@ -1,7 +1,8 @@
 use Rattle.std.proofs.Common.{codes}
 use Rattle.out_fold.proofs.Answered.{if_ok}
-use Rattle.out_fold.proofs.Objects.{keyed, of_4}
+use Rattle.out_fold.proofs.Objects.{of_4}
 use Rattle.out_fold.proofs.tree.result_tree.Goals as goal
+use Rattle.jcontent.proofs.Pairs.{keyed}
 
 pub returns : goal.returns
 returns c =

@@ -9,6 +9,6 @@ pub returns : goal.returns
 returns c = λ us s.
     if_ok c.date_fields.result
     (λ dates e. e
-    ∙ ap (λ (h : Folded). date_pairs h.input h.busy h.idle h.reply) (c.held.ensures ∙ s.cells c.args.cell c.requires)
+    ∙ ap (λ (h : Folded). date_pairs h.input h.busy h.idle h.reply) (c.fold_of.ensures ∙ s.cells c.args.cell c.requires)
     ∙ dates-at us c.args.cell)
     c.date_fields.ensures
