@@ -1,6 +1,6 @@
 -- Words are refused exactly where they are outside the grammar.
 use Rattle.std.proofs.Common.{◌≡◌, ◌≤◌, ℕ, ◌==◌, Bool, true, false, cond, not, ◌&&◌, List, [], ◌∷◌, ◌++◌, Option, Some, None, refl, sym, ap, ◌∙◌, arith}
-use Rattle.std.proofs.lemmas.Bool.{and_parts, and_from}
+use Rattle.std.proofs.lemmas.Bool.{and_parts, and_from, false≢true, not_from_false, not-true, not-false}
 use Rattle.std.specs.Prelude.{is_some, is_none, find, option_map}
 use Rattle.std.specs.List.{list_any, list_all}
 use Rattle.std.proofs.lemmas.Bool.Decides.{nat_tests}
@@ -15,15 +15,17 @@ use Rattle.words.specs.declared.takes.Takes.{Takes}
 use Rattle.words.specs.declared.takes.Takes.TheVariants.{Nothing, Text, Seconds, Count, NameAndText}
 use Rattle.words.specs.declared.part.Part.{Part}
 use Rattle.words.specs.contracts.choice.ChoicePartialEq.TheImpl.Laws as equality
-use Rattle.words.specs.Numbers.{seconds, count, is_name}
+use Rattle.words.specs.Numbers.{seconds, count}
 use Rattle.words.specs.Parts.{word, parts_of, has_values, is_unknown, is_once, is_same, is_choice, is_of_batch_kind, repeats, takes_of}
 use Rattle.words.specs.Paths.{path, path_text, word_at, are_apart}
 use Rattle.words.specs.Forms.{form_of, extra}
 use Rattle.words.specs.Refusals.{word_index, value_fault, fault_of, first_fault, second_path_fault, beyond, missing, form_fault, refusal}
 use Rattle.words.specs.Grammar.{fits, is_well_formed, paths_in, fits_form, IsCommand}
-use Rattle.words.proofs.Truths.{no_some, not_true, if_none, else_none, or_none, none_or, negated, unnegated, doubly}
+use Rattle.words.proofs.Truths.{no_some, else_none, or_none, none_or}
 use Rattle.words.proofs.ApartLemmas.{no_earlier, no_earlier_apart}
 use Rattle.words.proofs.PathCounts.{path_none, none_path}
+use Rattle.jtext.specs.Names.{is_name}
+use Rattle.jtext.proofs.Edits.{not_first}
 
 -- ---- values
 
@@ -32,7 +34,7 @@ number_fits None u e = absurd (no_some u e)
 number_fits (Some n) u e = refl
 
 fit_number : (o : Option ℕ) (u : Usage) → is_some o ≡ true → cond (is_none o) (Some u) None ≡ None
-fit_number None u e = absurd (not_true e)
+fit_number None u e = absurd (false≢true e)
 fit_number (Some n) u e = refl
 
 value_fits : (t : Takes) (value : List ℕ) (i : ℕ) → value_fault t value i ≡ None → fits t value ≡ true
@@ -55,12 +57,12 @@ fit_value NameAndText value i e = ap (λ b. cond b None (Some (usage.BadName (wo
 part_sound : (words : List (List ℕ)) (before : List Part) (p : Part) → fault_of words before p ≡ None
     → (is_well_formed words p ≡ true) × (list_any (repeats p) before ≡ false)
 part_sound words before p e =
-    let known = if_none (is_unknown p.kind) (usage.Unknown (word_index p.at)) _ e in
-    let once = if_none (list_any (repeats p) before) (usage.Twice (word_index p.at)) _ known.1 in
-    let valued = if_none (not (has_values words p)) (usage.NoValue (word_index p.at)) _ once.1 in
+    let known = not_first (is_unknown p.kind) (usage.Unknown (word_index p.at)) _ e in
+    let once = not_first (list_any (repeats p) before) (usage.Twice (word_index p.at)) _ known.1 in
+    let valued = not_first (not (has_values words p)) (usage.NoValue (word_index p.at)) _ once.1 in
     let fit = value_fits (takes_of p.kind) (word p.first words) p.first valued.1 in (
-      and_from (not (is_unknown p.kind)) (has_values words p && fits (takes_of p.kind) (word p.first words)) (negated (is_unknown p.kind) known.0)
-          (and_from (has_values words p) (fits (takes_of p.kind) (word p.first words)) (doubly (has_values words p) valued.0) fit),
+      and_from (not (is_unknown p.kind)) (has_values words p && fits (takes_of p.kind) (word p.first words)) (not_from_false (is_unknown p.kind) known.0)
+          (and_from (has_values words p) (fits (takes_of p.kind) (word p.first words)) (not-false (has_values words p) valued.0) fit),
       once.0,
     )
 
@@ -69,7 +71,7 @@ part_faultless words before p well once =
     let known = and_parts (not (is_unknown p.kind)) (has_values words p && fits (takes_of p.kind) (word p.first words)) well in
     let valued = and_parts (has_values words p) (fits (takes_of p.kind) (word p.first words)) known.1 in
     let value = value_fault (takes_of p.kind) (word p.first words) p.first in
-    ap (λ b. cond b (Some (usage.Unknown (word_index p.at))) (cond (list_any (repeats p) before) (Some (usage.Twice (word_index p.at))) (cond (not (has_values words p)) (Some (usage.NoValue (word_index p.at))) value))) (unnegated (is_unknown p.kind) known.0)
+    ap (λ b. cond b (Some (usage.Unknown (word_index p.at))) (cond (list_any (repeats p) before) (Some (usage.Twice (word_index p.at))) (cond (not (has_values words p)) (Some (usage.NoValue (word_index p.at))) value))) (not-true (is_unknown p.kind) known.0)
     ∙ ap (λ b. cond b (Some (usage.Twice (word_index p.at))) (cond (not (has_values words p)) (Some (usage.NoValue (word_index p.at))) value)) once
     ∙ ap (λ b. cond (not b) (Some (usage.NoValue (word_index p.at))) value) valued.0
     ∙ fit_value (takes_of p.kind) (word p.first words) p.first valued.1
@@ -82,7 +84,7 @@ parts_sound words before (p ∷ ps) e =
     let here = part_sound words before p parts.0 in
     let there = parts_sound words (before ++ p ∷ []) ps parts.1 in (
       and_from (is_well_formed words p) (list_all (is_well_formed words) ps) here.0 there.0,
-      and_from (not (list_any (repeats p) before)) (no_earlier repeats (before ++ p ∷ []) ps) (negated (list_any (repeats p) before) here.1) there.1,
+      and_from (not (list_any (repeats p) before)) (no_earlier repeats (before ++ p ∷ []) ps) (not_from_false (list_any (repeats p) before) here.1) there.1,
     )
 
 parts_faultless : (words : List (List ℕ)) (before ps : List Part) → list_all (is_well_formed words) ps ≡ true → no_earlier repeats before ps ≡ true → first_fault words before ps ≡ None
@@ -91,7 +93,7 @@ parts_faultless words before (p ∷ ps) well once =
     let w = and_parts (is_well_formed words p) (list_all (is_well_formed words) ps) well in
     let o = and_parts (not (list_any (repeats p) before)) (no_earlier repeats (before ++ p ∷ []) ps) once in
     none_or (fault_of words before p) (first_fault words (before ++ p ∷ []) ps)
-    (part_faultless words before p w.0 (unnegated (list_any (repeats p) before) o.0))
+    (part_faultless words before p w.0 (not-true (list_any (repeats p) before) o.0))
     (parts_faultless words (before ++ p ∷ []) ps w.1 o.1)
 
 -- ---- repetitions

@@ -1,6 +1,6 @@
 -- A jobs file has a fault exactly where it isn't valid.
 use Rattle.std.proofs.Common.{◌≡◌, ℕ, ◌+◌, true, cond, not, ◌&&◌, List, [], ◌∷◌, ◌++◌, length, Option, Some, None, refl, sym, ap, ◌∙◌}
-use Rattle.std.proofs.lemmas.Bool.{and_parts, and_from}
+use Rattle.std.proofs.lemmas.Bool.{and_parts, and_from, false≢true, not_from_false, not-true}
 use Rattle.std.specs.Prelude.{is_some, codes}
 use Rattle.std.specs.List.{list_any, list_all}
 use Rattle.std.specs.Str.{bytes_eq}
@@ -8,23 +8,24 @@ use Rattle.std.specs.Cmp.Lexicographic.{nat_list_eq_equiv}
 use Rattle.jtext.specs.declared.json.Json.{Json}
 use Rattle.jtext.specs.Find.{field, fields}
 use Rattle.jtext.specs.Look.{is_object, is_list, items, there_and}
+use Rattle.jtext.proofs.Edits.{not_first}
 use Rattle.words.specs.declared.member.Member.{Member}
 use Rattle.words.specs.declared.place.Place.TheVariants as place
 use Rattle.words.specs.declared.used_path.UsedPath.{UsedPath}
 use Rattle.words.specs.Members.{has_key, member_of, takes_value}
 use Rattle.words.specs.JobsFile.{member_takes, is_member, is_job, is_count, are_jobs, is_batch, jobs_of, paths_of, is_equal, IsJobsFile}
 use Rattle.words.specs.JobsFaults.{value_fault_of, value_fault, first_value_fault, has_job_keys, job_fault, first_job_fault, list_fault, list_fault_of, shape_fault, first_equal, fault}
-use Rattle.words.proofs.Truths.{not_true, no_some, if_none, else_none, or_none, none_or, negated, unnegated}
+use Rattle.words.proofs.Truths.{no_some, else_none, or_none, none_or}
 use Rattle.words.proofs.ApartLemmas.{no_earlier, no_earlier_apart}
 
 -- ---- members
 
 value_sound : (i : ℕ) (v : Json) (m : Option Member) → is_some m ≡ true → value_fault_of i v m ≡ None → member_takes m v ≡ true
-value_sound i v None known e = absurd (not_true known)
+value_sound i v None known e = absurd (false≢true known)
 value_sound i v (Some m) known e = (else_none (takes_value m v) (place.Value i m) None e).0
 
 value_faultless : (i : ℕ) (v : Json) (m : Option Member) → member_takes m v ≡ true → (is_some m ≡ true) × (value_fault_of i v m ≡ None)
-value_faultless i v None takes = absurd (not_true takes)
+value_faultless i v None takes = absurd (false≢true takes)
 value_faultless i v (Some m) takes = (refl, ap (λ b. cond b None (Some (place.Value i m))) takes)
 
 values_sound : (i : ℕ) (ps : List (List ℕ × Json)) → list_all (λ p. is_some (member_of p.0)) ps ≡ true → first_value_fault i ps ≡ None → list_all is_member ps ≡ true
@@ -99,7 +100,7 @@ under_sound None e = absurd (no_some place.Whole e)
 under_sound (Some v) e = list_sound v e
 
 under_faultless : (o : Option Json) → there_and are_jobs o ≡ true → list_fault_of o ≡ None
-under_faultless None is = absurd (not_true is)
+under_faultless None is = absurd (false≢true is)
 under_faultless (Some v) is = list_faultless v is
 
 shape_sound : (t : Json) → shape_fault t ≡ None → is_batch t ≡ true
@@ -124,15 +125,15 @@ equal_flips p q = nat_list_eq_equiv.symm p.path q.path
 differ_sound : (before ps : List UsedPath) → first_equal before ps ≡ None → no_earlier is_equal before ps ≡ true
 differ_sound before [] e = refl
 differ_sound before (p ∷ ps) e =
-    let parts = if_none (list_any (is_equal p) before) p.place (first_equal (before ++ p ∷ []) ps) e in
-    and_from (not (list_any (is_equal p) before)) (no_earlier is_equal (before ++ p ∷ []) ps) (negated (list_any (is_equal p) before) parts.0)
+    let parts = not_first (list_any (is_equal p) before) p.place (first_equal (before ++ p ∷ []) ps) e in
+    and_from (not (list_any (is_equal p) before)) (no_earlier is_equal (before ++ p ∷ []) ps) (not_from_false (list_any (is_equal p) before) parts.0)
     (differ_sound (before ++ p ∷ []) ps parts.1)
 
 differ_faultless : (before ps : List UsedPath) → no_earlier is_equal before ps ≡ true → first_equal before ps ≡ None
 differ_faultless before [] is = refl
 differ_faultless before (p ∷ ps) is =
     let parts = and_parts (not (list_any (is_equal p) before)) (no_earlier is_equal (before ++ p ∷ []) ps) is in
-    ap (λ b. cond b (Some p.place) (first_equal (before ++ p ∷ []) ps)) (unnegated (list_any (is_equal p) before) parts.0)
+    ap (λ b. cond b (Some p.place) (first_equal (before ++ p ∷ []) ps)) (not-true (list_any (is_equal p) before) parts.0)
     ∙ differ_faultless (before ++ p ∷ []) ps parts.1
 
 -- ---- the law

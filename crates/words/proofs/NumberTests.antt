@@ -1,45 +1,16 @@
--- The test of a number is the number grammar.
-use Rattle.std.proofs.Common.{◌≡◌, ℕ, Bool, true, false, cond, ◌==◌, List, [], ◌∷◌, length, Option, Some, None, Result, Ok, Err, IfOk, refl, sym, ap, ◌∙◌, subst, arith}
+-- A word stands for a number where it is one, by the number grammar.
+use Rattle.std.proofs.Common.{◌≡◌, ℕ, Bool, true, false, cond, List, Result, Ok, Err, IfOk, refl, sym, ap, ◌∙◌, subst}
 use Rattle.std.specs.Prelude.{codes}
 use Rattle.std.specs.Str.{bytes_eq}
-use Rattle.std.proofs.lemmas.Bool.Decides.{nat_tests}
-use Rattle.std.proofs.lemmas.List.{append-nil}
+use Rattle.std.proofs.lemmas.Bool.{false≢true}
 use Rattle.jtext.specs.Number.{IsNumber}
-use Rattle.jtext.specs.Reading.{after_number}
 use Rattle.jtext.specs.declared.json.Json.{Json}
 use Rattle.jtext.specs.declared.json.Json.TheVariants as json
 use Rattle.jtext.specs.declared.no_memory.NoMemory.{NoMemory}
 use Rattle.jtext.proofs.Keys.{not_equal}
-use Rattle.jtext.proofs.Numbers.{number_text}
-use Rattle.jtext.proofs.NumberSound.{not_number, more_than_number, number_sound}
-use Rattle.words.proofs.Truths.{not_true}
-use Rattle.words.specs.Values.{is_number, is_nothing, number_or_text, value_of, IsValue}
-
-tested : (s : List ℕ) → IsNumber s → (r : Option (List ℕ)) → after_number s ≡ r → is_nothing r ≡ true
-tested s is None e = absurd (not_number s is e)
-tested s is (Some []) e = refl
-tested s is (Some (c ∷ cs)) e = absurd (more_than_number s (c ∷ cs) is e (grind (arith, nat_tests)))
-
--- a number passes the test
-pub number_passes : (s : List ℕ) → IsNumber s → is_number s ≡ true
-number_passes s is = tested s is (after_number s) refl
-
-sound : (s : List ℕ) → (r : Option (List ℕ)) → after_number s ≡ r → is_nothing r ≡ true → IsNumber s
-sound s None e t = absurd (not_true t)
-sound s (Some []) e t = number_text s s [] (number_sound s [] e) (sym (append-nil s))
-sound s (Some (c ∷ cs)) e t = absurd (not_true (let n : false ≡ (length (c ∷ cs) == 0) = grind (arith, nat_tests) in n ∙ t))
-
--- what passes the test is a number
-pub number_of_test : (s : List ℕ) → is_number s ≡ true → IsNumber s
-number_of_test s t = sound s (after_number s) refl t
-
--- a text that is no number fails it
-pub number_fails : (s : List ℕ) → (IsNumber s → ⊥) → is_number s ≡ false
-number_fails s none = by_case (is_number s) refl
-  where
-    by_case : (b : Bool) → is_number s ≡ b → is_number s ≡ false
-    by_case true e = absurd (none (number_of_test s e))
-    by_case false e = e
+use Rattle.jtext.specs.Names.{is_number}
+use Rattle.jtext.proofs.NumberTests.{number_passes, number_fails}
+use Rattle.words.specs.Values.{number_or_text, value_of, IsValue}
 
 -- a number is taken as it stands
 pub number_taken : (s n : List ℕ) → n ≡ s → IsNumber s → json.Num n ≡ number_or_text s
@@ -50,7 +21,7 @@ pub text_taken : (s t : List ℕ) → t ≡ s → (IsNumber s → ⊥) → json.
 text_taken s t same none = ap (λ x. json.Str x) same ∙ ap (λ b. cond b (json.Num s) (json.Str s)) (sym (number_fails s none))
 
 not_word : (t w : List ℕ) → is_number w ≡ false → IsNumber t → bytes_eq t w ≡ false
-not_word t w other is = not_equal t w (λ same. not_true (sym other ∙ ap is_number same ∙ number_passes t is))
+not_word t w other is = not_equal t w (λ same. false≢true (sym other ∙ ap is_number same ∙ number_passes t is))
 
 else_three : (a b c : Bool) (x y z n : Json) → a ≡ false → b ≡ false → c ≡ false → cond a x (cond b y (cond c z n)) ≡ n
 else_three a b c x y z n ea eb ec = ap (λ k. cond k x (cond b y (cond c z n))) ea ∙ ap (λ k. cond k y (cond c z n)) eb ∙ ap (λ k. cond k z n) ec

@@ -14,14 +14,14 @@ use Rattle.jtext.specs.Find.{find, fields, fields_of, field}
 use Rattle.jtext.specs.Grammar.{Distinct}
 use Rattle.jtext.specs.Keyed as keyed
 use Rattle.jtext.specs.Keyed.{Keyed, AllKeyed, PairsKeyed}
-use Rattle.jtext.specs.Look.{is_object, items, items_layer, there_and}
+use Rattle.jtext.specs.Look.{is_object, items, items_layer, there_and, items_of}
 use Rattle.jtext.proofs.Trees.{open_Null, open_Bool, open_Num, open_Str, open_Arr, open_Obj}
 use Rattle.jtext.proofs.SpelledKeyed.{spelled_keyed}
 use Rattle.jtext.proofs.Depths.{depth-Arr, depth-Obj, highest-all, pairs-all}
+use Rattle.jtext.specs.Names.{is_name}
 use Rattle.words.specs.declared.ask.Ask.{Ask}
-use Rattle.words.specs.Numbers.{is_name}
 use Rattle.words.specs.Members.{member_of, are_parameters}
-use Rattle.words.specs.JobsFile.{member_takes, is_member, is_job, are_jobs, items_of, jobs_of, IsJobsFile, IsTextOf}
+use Rattle.words.specs.JobsFile.{member_takes, is_member, is_job, are_jobs, jobs_of, IsJobsFile, IsTextOf}
 use Rattle.words.specs.JobsAsked.{ask_of_job, asks_of}
 use Rattle.words.specs.Runnable.{IsParameter, IsRunnable}
 

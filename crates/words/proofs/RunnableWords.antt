@@ -1,6 +1,6 @@
 -- The words ask for what a run can do.
 use Rattle.std.proofs.Common.{◌≡◌, ◌≤◌, ◌<◌, ◌^◌, ℕ, ◌*◌, Bool, true, false, cond, not, ◌&&◌, List, [], ◌∷◌, Option, Some, None, IfSome, refl, sym, ap, ◌∙◌, subst, arith}
-use Rattle.std.proofs.lemmas.Bool.{and_parts}
+use Rattle.std.proofs.lemmas.Bool.{and_parts, false≢true}
 use Rattle.std.specs.Prelude.{nat_le, codes, option_map, option_and_then, unwrap_or}
 use Rattle.std.specs.List.{AllByRecursion, list_all}
 use Rattle.std.specs.Str.{bytes_eq}
@@ -21,17 +21,17 @@ use Rattle.words.specs.declared.kind.Kind.{Kind}
 use Rattle.words.specs.declared.kind.Kind.TheVariants.{Path, End, Unknown, Chosen}
 use Rattle.words.specs.declared.part.Part.{Part}
 use Rattle.words.specs.declared.takes.Takes.TheVariants.{NameAndText}
-use Rattle.words.specs.Numbers.{seconds, count, within, number_from, is_name}
+use Rattle.words.specs.Numbers.{seconds, count, within}
 use Rattle.words.specs.Parts.{word, parts_of, has_values, is_unknown, is_choice, takes_of}
 use Rattle.words.specs.Forms.{form_of}
 use Rattle.words.specs.Grammar.{fits, is_well_formed}
-use Rattle.words.specs.Values.{is_number, value_of}
+use Rattle.words.specs.Values.{value_of}
 use Rattle.words.specs.Parameters.{with_parameter, parameters_from}
 use Rattle.jtext.specs.Edit.{set_pair}
+use Rattle.jtext.specs.Names.{number_from, is_name, is_number}
 use Rattle.words.specs.Asked.{option_value, milliseconds, ask_of, command_in, asked}
 use Rattle.words.specs.Refusals.{refusal}
 use Rattle.words.specs.Runnable.{IsParameter, IsRunnable, IsRunnableCommand}
-use Rattle.words.proofs.Truths.{not_true}
 use Rattle.words.proofs.PairLemmas.{all-set_pair, distinct-set_pair}
 use Rattle.words.proofs.GrammarLaws.{only_commands}
 
@@ -70,23 +70,23 @@ plain_value text =
 
 names_value : (c : Choice) → is_choice choice.Parameter (Chosen c) ≡ true → takes_of (Chosen c) ≡ NameAndText
 names_value choice.Parameter e = refl
-names_value c e = absurd (not_true e)
+names_value c e = absurd (false≢true e)
 
 names_raw : (c : Choice) → is_choice choice.RawParameter (Chosen c) ≡ true → takes_of (Chosen c) ≡ NameAndText
 names_raw choice.RawParameter e = refl
-names_raw c e = absurd (not_true e)
+names_raw c e = absurd (false≢true e)
 
 takes_name : (k : Kind) → is_choice choice.Parameter k ≡ true → takes_of k ≡ NameAndText
 takes_name (Chosen c) e = names_value c e
-takes_name Path e = absurd (not_true e)
-takes_name End e = absurd (not_true e)
-takes_name Unknown e = absurd (not_true e)
+takes_name Path e = absurd (false≢true e)
+takes_name End e = absurd (false≢true e)
+takes_name Unknown e = absurd (false≢true e)
 
 takes_raw_name : (k : Kind) → is_choice choice.RawParameter k ≡ true → takes_of k ≡ NameAndText
 takes_raw_name (Chosen c) e = names_raw c e
-takes_raw_name Path e = absurd (not_true e)
-takes_raw_name End e = absurd (not_true e)
-takes_raw_name Unknown e = absurd (not_true e)
+takes_raw_name Path e = absurd (false≢true e)
+takes_raw_name End e = absurd (false≢true e)
+takes_raw_name Unknown e = absurd (false≢true e)
 
 -- the first value of a part that takes a name is one
 named : (words : List (List ℕ)) (p : Part) → is_well_formed words p ≡ true → takes_of p.kind ≡ NameAndText → is_name (word p.first words) ≡ true

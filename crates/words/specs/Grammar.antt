@@ -8,10 +8,11 @@ use Rattle.words.specs.declared.form.Form.{Form}
 use Rattle.words.specs.declared.form.Form.TheVariants.{One, Batch, Exercise}
 use Rattle.words.specs.declared.part.Part.{Part}
 use Rattle.words.specs.Apart.{are_distinct}
-use Rattle.words.specs.Numbers.{seconds, count, is_name}
+use Rattle.words.specs.Numbers.{seconds, count}
 use Rattle.words.specs.Parts.{word, parts_of, has_values, is_path, is_unknown, is_choice, is_of_batch_kind, repeats, takes_of}
 use Rattle.words.specs.Paths.{path_text, are_apart}
 use Rattle.words.specs.Forms.{form_of}
+use Rattle.jtext.specs.Names.{is_name}
 
 -- the first value of an option is of its kind
 abbrev pub fits : Takes → List ℕ → Bool

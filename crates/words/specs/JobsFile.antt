@@ -6,7 +6,7 @@ use Rattle.jtext.specs.declared.json.Json.{Json}
 use Rattle.jtext.specs.Find.{field, fields}
 use Rattle.jtext.specs.Grammar.{Spells}
 use Rattle.jtext.specs.Depth.{depth}
-use Rattle.jtext.specs.Look.{is_object, is_list, items, there_and, string_at}
+use Rattle.jtext.specs.Look.{is_object, is_list, items, there_and, string_at, items_of}
 use Rattle.words.specs.declared.member.Member.{Member}
 use Rattle.words.specs.declared.member.Member.TheVariants as member
 use Rattle.words.specs.declared.place.Place.{Place}
@@ -14,7 +14,8 @@ use Rattle.words.specs.declared.place.Place.TheVariants as place
 use Rattle.words.specs.declared.used_path.UsedPath.{UsedPath}
 use Rattle.words.specs.Apart.{are_distinct}
 use Rattle.words.specs.Members.{has_key, member_of, takes_value}
-use Rattle.words.specs.Paths.{temporary_of, connection_of}
+use Rattle.words.specs.Paths.{connection_of}
+use Rattle.world.specs.Save.{temporary_of}
 
 -- ---- the shape
 
@@ -44,11 +45,6 @@ abbrev pub is_batch : Json → Bool
 is_batch t = is_object t && list_all (λ p. bytes_eq p.0 (codes "jobs")) (fields t) && there_and are_jobs (field t (codes "jobs"))
 
 -- ---- the paths
-
--- the items of a list that may be missing
-abbrev pub items_of : Option Json → List Json
-items_of None = []
-items_of (Some v) = items v
 
 -- the jobs, in the order of the file
 abbrev pub jobs_of : Json → List Json

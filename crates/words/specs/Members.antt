@@ -5,9 +5,9 @@ use Rattle.std.specs.Str.{bytes_eq}
 use Rattle.jtext.specs.declared.json.Json.{Json}
 use Rattle.jtext.specs.Find.{field, fields}
 use Rattle.jtext.specs.Look.{is_object, is_string, string, there_and}
+use Rattle.jtext.specs.Names.{is_name}
 use Rattle.words.specs.declared.member.Member.{Member}
 use Rattle.words.specs.declared.member.Member.TheVariants.{Input, Output, Kernel, Cwd, Parameters}
-use Rattle.words.specs.Numbers.{is_name}
 
 -- the member with this name
 abbrev pub member_of : List ℕ → Option Member

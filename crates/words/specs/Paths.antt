@@ -3,6 +3,7 @@ use Rattle.std.specs.Prelude.{ℕ, Bool, List, [], ◌∷◌, ◌++◌, Option, 
 use Rattle.std.specs.Str.{bytes_eq}
 use Rattle.words.specs.declared.part.Part.{Part}
 use Rattle.words.specs.Parts.{is_path, word}
+pub use Rattle.world.specs.Save.{temporary_of}
 
 -- the index of the nth path, counted from 0
 abbrev pub path : ℕ → List Part → Option ℕ
@@ -19,10 +20,6 @@ abbrev pub path_text : ℕ → List (List ℕ) → List Part → List ℕ
 path_text n words parts = word_at words (path n parts)
 
 -- ---- the paths that a run writes
-
--- the file that a save writes first
-abbrev pub temporary_of : List ℕ → List ℕ
-temporary_of output = output ++ codes ".nbrun-tmp"
 
 -- the connection file
 abbrev pub connection_of : List ℕ → List ℕ

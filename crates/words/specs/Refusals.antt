@@ -10,10 +10,11 @@ use Rattle.words.specs.declared.takes.Takes.TheVariants.{Nothing, Text, Seconds,
 use Rattle.words.specs.declared.form.Form.{Form}
 use Rattle.words.specs.declared.form.Form.TheVariants as form
 use Rattle.words.specs.declared.part.Part.{Part}
-use Rattle.words.specs.Numbers.{seconds, count, is_name}
+use Rattle.words.specs.Numbers.{seconds, count}
 use Rattle.words.specs.Parts.{word, parts_of, has_values, is_unknown, repeats, takes_of}
 use Rattle.words.specs.Paths.{path, path_text, are_apart}
 use Rattle.words.specs.Forms.{form_of, extra}
+use Rattle.jtext.specs.Names.{is_name}
 
 -- the index of a word as a refusal gives it: beyond 32 bits, the last one that they hold
 abbrev pub word_index : ℕ → ℕ

@@ -5,10 +5,10 @@ use Rattle.jtext.specs.declared.json.Json.{Json}
 use Rattle.jtext.specs.Depth.{depth}
 use Rattle.jtext.specs.Grammar.{Distinct}
 use Rattle.jtext.specs.Keyed.{Keyed}
+use Rattle.jtext.specs.Names.{is_name}
 use Rattle.words.specs.declared.ask.Ask.{Ask}
 use Rattle.words.specs.declared.command.Command.{Command}
 use Rattle.words.specs.declared.command.Command.TheVariants as command
-use Rattle.words.specs.Numbers.{is_name}
 
 -- a parameter: its name is one, no object in its value has a key twice, and it nests at most 100 deep
 pub record IsParameter (p : List ℕ × Json) : Type 0 where

@@ -1,19 +1,10 @@
 -- The values of parameters: a word, and the value that it stands for.
-use Rattle.std.specs.Prelude.{◌≡◌, ℕ, Bool, true, false, List, Option, Some, None, if◌then◌else◌, ◌==◌, length, codes}
+use Rattle.std.specs.Prelude.{◌≡◌, ℕ, true, false, List, if◌then◌else◌, codes}
 use Rattle.std.specs.Str.{bytes_eq}
 use Rattle.jtext.specs.Number.{IsNumber}
-use Rattle.jtext.specs.Reading.{after_number}
 use Rattle.jtext.specs.declared.json.Json.{Json}
 use Rattle.jtext.specs.declared.json.Json.TheVariants as json
-
--- nothing follows
-abbrev pub is_nothing : Option (List ℕ) → Bool
-is_nothing None = false
-is_nothing (Some rest) = length rest == 0
-
--- the text is a number: nothing follows the number at its front
-abbrev pub is_number : List ℕ → Bool
-is_number text = is_nothing (after_number text)
+use Rattle.jtext.specs.Names.{is_number}
 
 -- a number, or else the text itself
 abbrev pub number_or_text : List ℕ → Json

@@ -1,8 +1,8 @@
 //! The members of a job in a jobs file.
 ghost use Rattle.std.specs.Prelude.{◌≡◌};
 ghost use Rattle.std.specs.List.{list_all};
+ghost use Rattle.jtext.specs.Names.{is_name};
 ghost use Rattle.words.specs.Members as spec;
-ghost use Rattle.words.specs.Numbers.{is_name};
 
 use crate::number::is_name;
 use jtext::{Json, Text};

@@ -1,6 +1,7 @@
 //! The numbers and the names that options take.
 ghost use Rattle.std.specs.Prelude.{◌≡◌, ◌≤◌, ◌<◌, length, IfSome};
 ghost use Rattle.std.specs.List.{list_all};
+ghost use Rattle.jtext.specs.Names as names;
 ghost use Rattle.words.specs.Numbers as spec;
 
 /// The seconds of a time: 1 to 9 decimal digits, and at least 1.
@@ -37,7 +38,7 @@ fn number_within(text: &[u8], digits: usize, least: u64, most: u64) -> Option<u6
 
 fn number(text: &[u8]) -> Option<u64>
     requires { length text.now ≤ 9 }
-    ensures { result ≡ spec.number_from 0 text.now }
+    ensures { result ≡ names.number_from 0 text.now }
 {
     let mut n: u64 = 0;
     for c in text {
@@ -52,25 +53,25 @@ fn number(text: &[u8]) -> Option<u64>
 /// Whether the text is a parameter's name: a letter of ASCII or `_`, then such letters, digits
 /// and `_`.
 pub(crate) fn is_name(text: &[u8]) -> bool
-    ensures { result ≡ spec.is_name text.now }
+    ensures { result ≡ names.is_name text.now }
 {
     0 < text.len() && is_letter(text[0]) && all_name_bytes(text)
 }
 
 fn is_letter(c: u8) -> bool
-    ensures { result ≡ spec.is_letter c }
+    ensures { result ≡ names.is_letter c }
 {
     matches!(c, b'a'..=b'z' | b'A'..=b'Z' | b'_')
 }
 
 fn is_name_byte(c: u8) -> bool
-    ensures { result ≡ spec.is_name_byte c }
+    ensures { result ≡ names.is_name_byte c }
 {
     is_letter(c) || c.is_ascii_digit()
 }
 
 fn all_name_bytes(text: &[u8]) -> bool
-    ensures { result ≡ list_all spec.is_name_byte text.now }
+    ensures { result ≡ list_all names.is_name_byte text.now }
 {
     text.iter().all(|c| is_name_byte(*c))
 }

@@ -1,6 +1,6 @@
 use Rattle.std.proofs.Common.{◌≡◌, ◌^◌, ◌<◌, drop}
-use Rattle.words.specs.Numbers.{number_from}
 use Rattle.words.proofs.number.number.Given as goal
+use Rattle.jtext.specs.Names.{number_from}
 
 abbrev pub invariant-loop-c : goal.invariant-loop-c
 invariant-loop-c l = record {
