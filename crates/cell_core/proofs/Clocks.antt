@@ -1,6 +1,6 @@
 -- Lemmas on the clock and the deadlines.
 use Rattle.std.proofs.Common.{◌≡◌, ℕ, suc, ◌+◌, ◌<◌, ◌≤◌, List, [], ◌∷◌, length, drop, Bool, true, false, ◌&&◌, ◌||◌, if◌then◌else◌, nat_le, Option, Some, None, is_some, refl, sym, ap, subst, ◌∙◌, true≢false, arith, inl, inr, le-leb}
-use Rattle.std.proofs.lemmas.Bool.{cases_Bool, and_right, cases_lt, lt-leb}
+use Rattle.std.proofs.lemmas.Bool.{cases_Bool, and_right, cases_lt, lt-leb, or_right, or_parts, or_from}
 use Rattle.cell_core.specs.declared.event.Event.{Event}
 use Rattle.cell_core.specs.declared.event.Event.TheVariants.{Saved, Ready, Io, Reply, Moment, Looked, Lost, Broken}
 use Rattle.cell_core.specs.declared.clock.Clock.{Clock}
@@ -14,22 +14,11 @@ use Rattle.cell_core.specs.StandsFor.{Hears, IsAsked}
 use Rattle.cell_core.proofs.Lists.{since_some, since_none, since_now}
 use Rattle.cell_core.proofs.SavesLemmas.{at}
 
-pub or_parts : (x y : Bool) → (x || y) ≡ false → (x ≡ false) × (y ≡ false)
-or_parts false y h = (refl, h)
-or_parts true y h = absurd (true≢false h)
-
-pub or_none : (x y : Bool) → x ≡ false → y ≡ false → (x || y) ≡ false
-or_none x y p q = rw (p, q) refl
-
-pub or_right : (x y : Bool) → y ≡ true → (x || y) ≡ true
-or_right true y h = refl
-or_right false y h = h
-
 pub looked_none : (test : List Event → Bool) (events : List Event) → held test events ≡ false → looked test events ≡ false
 looked_none test [] h = refl
 looked_none test (event ∷ past) h =
     let parts = or_parts (test (event ∷ past)) (held test past) h in
-    or_none _ _ (and_right (is_looked event) (held test past) parts.1) (looked_none test past parts.1)
+    or_from _ _ (and_right (is_looked event) (held test past) parts.1) (looked_none test past parts.1)
 
 pub since_unheld : (test : List Event → Bool) (events : List Event) → held test events ≡ false → since test events ≡ None
 since_unheld test [] h = refl
@@ -133,7 +122,7 @@ hears_more h Saved rises found b = record { now = h.now; read = h.read; turned =
 hears_more h Ready rises found b = record { now = h.now; read = h.read; turned = h.turned; lost_is = h.lost_is; unseen = h.unseen; rising = h.rising; unbroken = h.unbroken }
 hears_more h (Io m) rises found b = record { now = h.now; read = h.read; turned = h.turned; lost_is = h.lost_is; unseen = h.unseen; rising = h.rising; unbroken = h.unbroken }
 hears_more h (Reply f) rises found b = record { now = h.now; read = h.read; turned = h.turned; lost_is = h.lost_is; unseen = h.unseen; rising = h.rising; unbroken = h.unbroken }
-hears_more h Looked rises found b = record { now = h.now; read = h.read; turned = h.turned; lost_is = h.lost_is; unseen = or_none _ _ (h.lost_is ∙ found refl) h.unseen; rising = h.rising; unbroken = h.unbroken }
+hears_more h Looked rises found b = record { now = h.now; read = h.read; turned = h.turned; lost_is = h.lost_is; unseen = or_from _ _ (h.lost_is ∙ found refl) h.unseen; rising = h.rising; unbroken = h.unbroken }
 hears_more h Lost rises found b = record { now = h.now; read = h.read; turned = h.turned; lost_is = refl; unseen = h.unseen; rising = h.rising; unbroken = h.unbroken }
 hears_more h Broken rises found b = absurd (true≢false b)
 
@@ -171,7 +160,7 @@ pub queued_none : (task : Task) (k t : ℕ) (events : List Event) → held (is_t
 queued_none task k t [] h = refl
 queued_none task k t (event ∷ past) h =
     let parts = or_parts (is_turn_at t (event ∷ past)) (held (is_turn_at t) past) h in
-    or_none _ _ (rw (since_unheld (is_turn_at t) past parts.1) (grind arith)) (queued_none task k t past parts.1)
+    or_from _ _ (rw (since_unheld (is_turn_at t) past parts.1) (grind arith)) (queued_none task k t past parts.1)
 
 -- The deadline of a request, one event later.
 pub deadline_replied : (task : Task) (last : Standing) (events : List Event) → is_some (reply last.later) ≡ true → has_idle (own last.later) ≡ false → deadline task last events ≡ Some (replied_at last events + 4000)
@@ -214,7 +203,7 @@ by_limit_stays task k true event past (Some first) asked now =
 
 -- an event that is no look queues nothing
 pub unlooked_queues : (task : Task) (k first : ℕ) (interrupted : Bool) (event : Event) (past : List Event) → is_looked event ≡ false → IsAsked task k first interrupted past → queued task k first (event ∷ past) ≡ interrupted
-unlooked_queues task k first false event past h a = or_none _ _ (rw h refl) a.0
+unlooked_queues task k first false event past h a = or_from _ _ (rw h refl) a.0
 unlooked_queues task k first true event past h a = or_right _ _ a.0
 
 not_turn : (t : ℕ) (event : Event) (past : List Event) → is_moment event ≡ false → is_turn_at t (event ∷ past) ≡ false
@@ -234,7 +223,7 @@ between_more : (t : ℕ) (event : Event) (past between : List Event) (v : Option
 between_more t event past between (Some l) e m h before s =
     let same : event ∷ l ≡ between = (let both = sym (since_some (is_turn_at t) event past l e) ∙ s in cc) in
     let was = before l e in
-    subst (λ (b : List Event). (came is_moment b ≡ false) × (came is_looked b ≡ false)) same (or_none _ _ m was.0, or_none _ _ h was.1)
+    subst (λ (b : List Event). (came is_moment b ≡ false) × (came is_looked b ≡ false)) same (or_from _ _ m was.0, or_from _ _ h was.1)
 between_more t event past between None e m h before s =
     (let clash : None ≡ Some between = sym (since_none (is_turn_at t) event past e (not_turn t event past m)) ∙ s in absurd (cc))
 
@@ -262,11 +251,11 @@ asked_more task k first false event past m h a =
 pub asked_unheld : (task : Task) (k first : ℕ) (interrupted : Bool) (event : Event) (past : List Event) → (interrupted ≡ false → held (is_turn_at first) past ≡ false) → IsAsked task k first interrupted past → IsAsked task k first interrupted (event ∷ past)
 asked_unheld task k first true event past h a = looked_between task k first event past a
 asked_unheld task k first false event past h a =
-    (or_none _ _ (rw (since_unheld (is_turn_at first) past (h refl)) (grind arith)) a.0, λ between s. unheld_between first event past between (h refl) s)
+    (or_from _ _ (rw (since_unheld (is_turn_at first) past (h refl)) (grind arith)) a.0, λ between s. unheld_between first event past between (h refl) s)
 
 pub queued_unheld : (task : Task) (k first : ℕ) (interrupted : Bool) (event : Event) (past : List Event) → (interrupted ≡ false → held (is_turn_at first) past ≡ false) → IsAsked task k first interrupted past → queued task k first (event ∷ past) ≡ interrupted
 queued_unheld task k first true event past h a = or_right _ _ a.0
-queued_unheld task k first false event past h a = or_none _ _ (rw (since_unheld (is_turn_at first) past (h refl)) (grind arith)) a.0
+queued_unheld task k first false event past h a = or_from _ _ (rw (since_unheld (is_turn_at first) past (h refl)) (grind arith)) a.0
 
 pub deadline_stays : (task : Task) (k : ℕ) (fatal : Option Bool) (interrupted : Bool) (event : Event) (later past : List Event) → reply later ≡ fatal → reply (event ∷ later) ≡ fatal
     → (is_some fatal ≡ true → has_idle (own later) ≡ false) → (is_some fatal ≡ true → has_idle (own (event ∷ later)) ≡ false)

@@ -20,7 +20,7 @@ use Rattle.cell_core.specs.Acts.{has_stopped, heard, act_at}
 use Rattle.cell_core.specs.declared.clock.Clock.{Clock}
 use Rattle.cell_core.specs.declared.clock.Clock.TheVariants.{Unread}
 use Rattle.cell_core.specs.Holds.{running_state, awaits, now_of, is_past, read_again, clock_after, lost_after}
-use Rattle.cell_core.specs.Moves.{move, stays, ends, fails, stops, in_preparing, start_due, look_or, in_starting, late, in_running, on_passed, in_passing, in_closing, in_failing, moved}
+use Rattle.cell_core.specs.Moves.{move, stays, ends, fails, stops, in_preparing, start_due, look_or, in_starting, late, in_running, on_passed, in_passing, in_closing, in_failing, next_move}
 use Rattle.cell_core.specs.StandsFor.{IsStarting, IsPassing, IsFailing, HasStopped, IsAt}
 use Rattle.cell_core.proofs.Requests.{reached_waits}
 use Rattle.cell_core.proofs.SavesLemmas.{over_not_passed, mark, rest_after, rest_of_none, saves_none, stop_mark, marks, saves_more}
@@ -166,7 +166,7 @@ first_far task =
     ]
 
 move_far : (task : Task) (clock : Clock) (lost : Bool) (state : State) (event : Event) (past : List Event) (asked : List ℕ) → IsAt task clock lost state past → is_stopped state ≡ false → is_saved event ≡ awaits state → SoFar task state past asked
-    → Far task (moved task clock lost state event) (event ∷ past) asked
+    → Far task (next_move task clock lost state event) (event ∷ past) asked
 move_far task clock lost Preparing event past asked a live h e =
     subst (λ (x : Event). Far task (in_preparing task x) (x ∷ past) asked) (sym (saved_is event h))
     (subst (λ (es : List Event). Far task (in_preparing task Saved) (Saved ∷ es) asked) (sym a.0) (subst (λ (xs : List ℕ). Far task (in_preparing task Saved) (Saved ∷ []) xs) (sym e) (first_far task)))
@@ -191,14 +191,14 @@ tally_live task event past clock lost state a e live h timely later =
     let f = follows task clock lost state event past a h timely later in
     let g = (shows task clock lost state (heard task past) a live).goes_on in
     let far = move_far task clock lost state event (heard task past) (asked_for task past) a live h e in
-    let asked : asked_for task (event ∷ past) ≡ asked_for task past ++ settled_by (moved task clock lost state event).step.act = ap (λ (act : Act). asked_for task past ++ settled_by act) (sym f.act) in
+    let asked : asked_for task (event ∷ past) ≡ asked_for task past ++ settled_by (next_move task clock lost state event).step.act = ap (λ (act : Act). asked_for task past ++ settled_by act) (sym f.act) in
     record {
       clock = clock_after clock event;
       lost = lost_after lost event;
-      state = (moved task clock lost state event).state;
+      state = (next_move task clock lost state event).state;
       stands = f.stands;
-      so_far = subst (λ (xs : List ℕ). SoFar task (moved task clock lost state event).state (heard task (event ∷ past)) xs) (sym asked)
-          (subst (λ (es : List Event). SoFar task (moved task clock lost state event).state es (asked_for task past ++ settled_by (moved task clock lost state event).step.act)) (sym (ap (λ (b : Bool). if b then heard task past else event ∷ heard task past) g)) far);
+      so_far = subst (λ (xs : List ℕ). SoFar task (next_move task clock lost state event).state (heard task (event ∷ past)) xs) (sym asked)
+          (subst (λ (es : List Event). SoFar task (next_move task clock lost state event).state es (asked_for task past ++ settled_by (next_move task clock lost state event).step.act)) (sym (ap (λ (b : Bool). if b then heard task past else event ∷ heard task past) g)) far);
     }
 
 tally_step : (task : Task) (event : Event) (past : List Event) (clock : Clock) (lost : Bool) (state : State) → IsAt task clock lost state (heard task past) → SoFar task state (heard task past) (asked_for task past)

@@ -1,7 +1,7 @@
 -- Where each last look that was asked for is done before the clock is read again, every event comes in time.
-use Rattle.std.proofs.Common.{◌≡◌, ◌⊎◌, ℕ, ◌+◌, ◌<◌, ◌≤◌, List, [], ◌∷◌, ◌++◌, length, Bool, true, false, not, ◌&&◌, ◌||◌, if◌then◌else◌, nat_le, nat_lt, Option, Some, None, option_map, refl, sym, ap, subst, ◌∙◌, true≢false, arith, inl, inr}
+use Rattle.std.proofs.Common.{◌≡◌, ℕ, ◌+◌, ◌<◌, List, [], ◌∷◌, ◌++◌, length, Bool, true, false, not, ◌&&◌, if◌then◌else◌, nat_le, nat_lt, Option, Some, None, option_map, refl, sym, ap, subst, ◌∙◌, true≢false, arith, inl, inr}
 use Rattle.std.specs.Option.{ForSome}
-use Rattle.std.proofs.lemmas.Bool.{and_parts, and_right, cases_Bool, lt-leb}
+use Rattle.std.proofs.lemmas.Bool.{and_right, lt-leb, false_from_ne_true}
 use Rattle.cell_core.specs.declared.event.Event.{Event}
 use Rattle.cell_core.specs.declared.event.Event.TheVariants.{Saved, Ready, Io, Reply, Moment, Looked, Lost, Broken}
 use Rattle.cell_core.specs.declared.brief.Brief.TheVariants.{Idle, Else}
@@ -17,9 +17,8 @@ use Rattle.cell_core.specs.Events.{is_saved, is_looked, came}
 use Rattle.cell_core.specs.Acts.{act_of, awaits_saved, due_of, has_stopped, heard, Meets, IsTimely}
 use Rattle.cell_core.specs.Holds.{running_state, awaits, now_of, is_turned, is_past, looks_in, read_again, clock_after, lost_after, due_in}
 use Rattle.cell_core.specs.LastLooks.{IsAnswered, IsLookedThrough, IsInTurn, TakesTurns}
-use Rattle.cell_core.specs.Moves.{move, stays, sent, limit_from, ends, fails, stops, in_preparing, start_due, look_or, in_starting, late, in_running, on_passed, in_passing, in_closing, in_failing, moved}
+use Rattle.cell_core.specs.Moves.{move, stays, sends, ends, fails, stops, in_preparing, start_due, look_or, in_starting, late, in_running, on_passed, in_passing, in_closing, in_failing, next_move}
 use Rattle.cell_core.specs.StandsFor.{IsAt}
-use Rattle.cell_core.proofs.Clocks.{or_parts}
 use Rattle.cell_core.proofs.Looks.{looks_is, timely}
 use Rattle.cell_core.proofs.Moving.{shows}
 use Rattle.cell_core.proofs.RightClosing.{saved_is}
@@ -126,17 +125,13 @@ no_entry {task} {due} {past} through d o =
       | inr answered ↦ answered_not task o.event o.before past o.such.0 o.such.1 (o.such.2 ∙ sym d) answered
     ]
 
-is_false : (b : Bool) → (b ≡ true → ⊥) → b ≡ false
-is_false true h = absurd (h refl)
-is_false false h = refl
-
 -- nothing is owed
 record Calm (clock : Clock) (lost : Bool) (due : Option ℕ) : Type 0 where
   found : lost ≡ false
   early : is_past clock due ≡ false
 
 calm : {task : Task} {clock : Clock} {lost : Bool} {due : Option ℕ} {past : List Event} → IsLookedThrough task past → due_of task past ≡ due → Owes task clock lost due past → Calm clock lost due
-calm through d o = record { found = is_false _ (λ l. no_loss through (o.loss l)); early = is_false _ (λ p. no_entry through d (o.entry p)) }
+calm through d o = record { found = false_from_ne_true _ (λ l. no_loss through (o.loss l)); early = false_from_ne_true _ (λ p. no_entry through d (o.entry p)) }
 
 -- ---- over the moves
 
@@ -151,7 +146,7 @@ ends_owes task clock lost k false events loss = loss
 
 -- a request that comes to stand
 sent_owes : (task : Task) (clock : Clock) (lost : Bool) (k : ℕ) (event : Event) (past : List Event) → ForSome task.times.limit_ms (λ limit. 0 < limit) → is_looked event ≡ false → (lost ≡ true → Open task AtLoss past)
-    → OwesIn task clock lost (sent task clock k).state (event ∷ past)
+    → OwesIn task clock lost (sends task clock k).state (event ∷ past)
 sent_owes task clock lost k event past later h loss = new_due event h loss (limit_ahead task clock task.times.limit_ms later)
 
 -- what is known of the newest event and the move
@@ -207,7 +202,7 @@ starting_owes task clock lost due Broken past later n = tt
 
 passed_owes : (task : Task) (clock : Clock) (lost : Bool) (k : ℕ) (past : List Event) → ForSome task.times.limit_ms (λ limit. 0 < limit) → (lost ≡ true → Open task AtLoss past) → OwesIn task clock lost (on_passed task clock k).state (Saved ∷ past)
 passed_owes task clock lost k past later loss =
-    if_owes task clock lost (Saved ∷ past) (nat_lt (k + 1) (length task.plan)) (sent task clock (k + 1)) (if nat_lt (cell_of task k + 1) task.cells then move Closing false (Save task.cells) else stops Done)
+    if_owes task clock lost (Saved ∷ past) (nat_lt (k + 1) (length task.plan)) (sends task clock (k + 1)) (if nat_lt (cell_of task k + 1) task.cells then move Closing false (Save task.cells) else stops Done)
     (λ e. sent_owes task clock lost (k + 1) Saved past later refl loss)
     (λ e. if_owes task clock lost (Saved ∷ past) (nat_lt (cell_of task k + 1) task.cells) (move Closing false (Save task.cells)) (stops Done) (λ f. tt) (λ f. tt))
 
@@ -257,8 +252,8 @@ calm_at : {task : Task} {clock : Clock} {lost : Bool} {due : Option ℕ} (event 
 calm_at {task} event past h g d o t e = calm ((subst (λ (v : Event). IsInTurn task v past) e h) g).1 d o
 
 owes_after : (task : Task) (clock : Clock) (lost : Bool) (state : State) (event : Event) (past : List Event) → IsAt task clock lost state (heard task past) → OwesIn task clock lost state past
-    → is_saved event ≡ awaits state → IsInTurn task event past → Follows task clock lost (moved task clock lost state event) event past → ForSome task.times.limit_ms (λ limit. 0 < limit)
-    → OwesIn task (clock_after clock event) (lost_after lost event) (moved task clock lost state event).state (event ∷ past)
+    → is_saved event ≡ awaits state → IsInTurn task event past → Follows task clock lost (next_move task clock lost state event) event past → ForSome task.times.limit_ms (λ limit. 0 < limit)
+    → OwesIn task (clock_after clock event) (lost_after lost event) (next_move task clock lost state event).state (event ∷ past)
 owes_after task clock lost Preparing event past a o s h f later =
     subst (λ (e : Event). OwesIn task (clock_after clock e) (lost_after lost e) (in_preparing task e).state (e ∷ past)) (sym (saved_is event s)) (first_owes task clock lost past a.2)
 owes_after task clock lost (Passing k) event past a o s h f later =
@@ -275,7 +270,7 @@ owes_after task clock lost (Starting due) event past a o s h f later =
       owed = o;
       in_turn = calm_at event past h (shows task clock lost (Starting due) (heard task past) a refl).goes_on (due_is task clock lost (Starting due) past a) o;
       act = sym f.act;
-      until = due_is task (clock_after clock event) (lost_after lost event) (moved task clock lost (Starting due) event).state (event ∷ past) f.stands;
+      until = due_is task (clock_after clock event) (lost_after lost event) (next_move task clock lost (Starting due) event).state (event ∷ past) f.stands;
     })
 owes_after task clock lost (Running r) event past a o s h f later =
     running_owes task clock lost r.at r.fatal r.idle r.due r.interrupted event past
@@ -284,7 +279,7 @@ owes_after task clock lost (Running r) event past a o s h f later =
       owed = o;
       in_turn = calm_at event past h (shows task clock lost (Running r) (heard task past) a refl).goes_on (due_is task clock lost (Running r) past a) o;
       act = sym f.act;
-      until = due_is task (clock_after clock event) (lost_after lost event) (moved task clock lost (Running r) event).state (event ∷ past) f.stands;
+      until = due_is task (clock_after clock event) (lost_after lost event) (next_move task clock lost (Running r) event).state (event ∷ past) f.stands;
     })
 
 turned : (task : Task) (events : List Event) → TakesTurns task events → ForSome task.times.limit_ms (λ limit. 0 < limit) → Turned task events
@@ -297,7 +292,7 @@ turned task (event ∷ past) h later =
     record {
       clock = clock_after before.clock event;
       lost = lost_after before.lost event;
-      state = (moved task before.clock before.lost before.state event).state;
+      state = (next_move task before.clock before.lost before.state event).state;
       meets = (h.0, timely_now, before.meets);
       stands = f.stands;
       owed = owes_after task before.clock before.lost before.state event past before.stands before.owed at h.1 f later;

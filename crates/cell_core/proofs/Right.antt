@@ -1,5 +1,6 @@
 -- What it means that a move keeps the relation and answers as the definitions do, and lemmas for every state.
 use Rattle.std.proofs.Common.{◌≡◌, ℕ, ◌+◌, ◌≤◌, List, [], ◌∷◌, length, Bool, false, Option, Some, None, refl, ap, ◌∙◌, rules, ◌⊎◌}
+use Rattle.std.proofs.lemmas.Bool.{or_from}
 use Rattle.cell_core.specs.declared.event.Event.{Event}
 use Rattle.cell_core.specs.declared.event.Event.TheVariants.{Saved}
 use Rattle.cell_core.specs.declared.why.Why.{Why}
@@ -17,7 +18,6 @@ use Rattle.cell_core.specs.StandsFor.{Stands, IsRunning, IsAt}
 use Rattle.cell_core.proofs.Requests.{reached_more, reached_saved, standing_is}
 use Rattle.cell_core.proofs.SavesLemmas.{at, over_not_passed, why_none_on, unacked_quiet}
 use Rattle.cell_core.proofs.Moving.{no_cause_on}
-use Rattle.cell_core.proofs.Clocks.{or_none}
 
 -- The move keeps the relation, and its answer is the definitions'.
 pub record Right (task : Task) (clock : Clock) (lost : Bool) (to : Moved) (event : Event) (past : List Event) : Type 0 where
@@ -51,4 +51,4 @@ used_is s event = ap (λ (v : Option Standing). is_used event v) (standing_is s)
 
 pub unlooked_by : (due : Option ℕ) (event : Event) (past : List Event) → is_looked event ≡ false → looked_by due past ≡ false → looked_by due (event ∷ past) ≡ false
 unlooked_by None event past h c = refl
-unlooked_by (Some t) event past h c = or_none _ _ (rw h refl) c
+unlooked_by (Some t) event past h c = or_from _ _ (rw h refl) c

@@ -1,7 +1,7 @@
 -- Each move in the other states keeps the relation, and its answer is the definitions'; and so does every move.
-use Rattle.std.proofs.Common.{◌≡◌, ℕ, suc, ◌+◌, ◌<◌, ◌≤◌, List, [], ◌∷◌, ◌++◌, length, Bool, true, false, not, ◌&&◌, ◌||◌, if◌then◌else◌, nat_lt, Option, Some, None, is_some, is_none, refl, sym, ap, subst, ◌∙◌, true≢false, arith, inl, inr, append-nil, length-append}
+use Rattle.std.proofs.Common.{◌≡◌, ℕ, suc, ◌+◌, ◌<◌, ◌≤◌, List, [], ◌∷◌, ◌++◌, length, Bool, true, false, not, ◌&&◌, if◌then◌else◌, nat_lt, Option, Some, None, is_some, is_none, refl, sym, ap, subst, ◌∙◌, true≢false, arith, inl, inr, append-nil, length-append}
 use Rattle.std.specs.Option.{ForSome}
-use Rattle.std.proofs.lemmas.Bool.{and_from, cases_lt, le-ltb, lt-ltb, eq-eqb}
+use Rattle.std.proofs.lemmas.Bool.{and_from, cases_lt, le-ltb, lt-ltb, eq-eqb, or_right}
 use Rattle.cell_core.specs.declared.event.Event.{Event}
 use Rattle.cell_core.specs.declared.event.Event.TheVariants.{Saved, Ready, Io, Reply, Moment, Looked, Lost, Broken}
 use Rattle.cell_core.specs.declared.why.Why.{Why}
@@ -18,7 +18,7 @@ use Rattle.cell_core.specs.declared.clock.Clock.{Clock}
 use Rattle.cell_core.specs.declared.clock.Clock.TheVariants.{Unread}
 use Rattle.cell_core.specs.Holds.{awaits}
 use Rattle.cell_core.specs.Deadlines.{entry_and_more, deadline, first_deadline, second_deadline, by_limit, looked_by, queued, replied_at}
-use Rattle.cell_core.specs.Moves.{move, sent, stops, in_preparing, on_passed, in_passing, in_closing, in_failing, moved}
+use Rattle.cell_core.specs.Moves.{move, sends, stops, in_preparing, on_passed, in_passing, in_closing, in_failing, next_move}
 use Rattle.cell_core.specs.StandsFor.{Hears, Reached, Stands, Fails, IsPassing, IsClosing, IsFailing, HasStopped, IsAt}
 use Rattle.cell_core.proofs.Requests.{reached_next, standing_none}
 use Rattle.cell_core.proofs.SavesLemmas.{at, mark, rest_of_none, unacked_none, saves_none, unacked_failed, unacked_passed, why_fails, why_done, failing_none, failing_fails, failing_more, no_stop_none, left, passes_none, closing_at, marks, length-marks, saves_more}
@@ -96,7 +96,7 @@ next_stands {task} {k} {later} {past} s p lt =
       ready = s.ready;
     }
 
-pub right_next : (task : Task) (clock : Clock) (lost : Bool) (k : ℕ) (past : List Event) → IsPassing task clock lost k past → k + 1 < length task.plan → ForSome task.times.limit_ms (λ limit. 0 < limit) → Right task clock lost (sent task clock (k + 1)) Saved past
+pub right_next : (task : Task) (clock : Clock) (lost : Bool) (k : ℕ) (past : List Event) → IsPassing task clock lost k past → k + 1 < length task.plan → ForSome task.times.limit_ms (λ limit. 0 < limit) → Right task clock lost (sends task clock (k + 1)) Saved past
 right_next task clock lost k past a lt later =
     sent_right Saved (next_stands a.stands a.passed lt) (hears_more a.hears Saved tt (λ e. absurd (true≢false (sym e))) refl) later refl refl refl (sym (used_is a.stands Saved))
 
@@ -166,17 +166,13 @@ planned_by p q c d a b = cc
 pub planned_none : {task : Task} {a : ℕ} {events : List Event} → Reached task 0 None a events → planned task events ≡ prepared ∷ rest_of_none task
 planned_none {task} {a} {events} r = planned_by _ _ _ _ (passes_none r (length task.plan)) (closing_at task _ _ _ _ (standing_none r) (passes_none r (length task.plan)))
 
-pub or_true : (x y : Bool) → y ≡ true → (x || y) ≡ true
-or_true true y h = refl
-or_true false y h = h
-
 pub why_empty : {task : Task} {a : ℕ} {events : List Event} → Reached task 0 None a events → length task.plan ≡ 0 → length (prepared ∷ rest_of_none task) ≡ a → why task events ≡ Some Done
 why_empty {task} {a} {events} r e l =
     let n = r.acknowledged in
     let all : length (planned task events) ≡ acked events = ap (λ (xs : List Prefix). length xs) (planned_none r) ∙ l ∙ sym n in
     let done : is_done task events ≡ true =
     and_from (is_whole task (standing task events)) _ (ap (λ (v : Option Standing). is_whole task v) (standing_none r) ∙ eq-eqb (length task.plan) 0 e)
-    (or_true (nat_lt 0 (length task.plan)) _ (eq-eqb (length (planned task events)) (acked events) all)) in
+    (or_right (nat_lt 0 (length task.plan)) _ (eq-eqb (length (planned task events)) (acked events) all)) in
     ap (λ (b : Bool). if b then Some Done else why_not_done task (standing task events) events) done
 
 pub right_empty_closed : (task : Task) (clock : Clock) (lost : Bool) → length task.plan ≡ 0 → 0 < task.cells → Right task clock lost (in_closing Saved) Saved (Saved ∷ [])
@@ -246,7 +242,7 @@ saved_is Broken h = absurd (true≢false (sym h))
 
 -- any move
 pub right : (task : Task) (clock : Clock) (lost : Bool) (state : State) (event : Event) (past : List Event) → IsAt task clock lost state past → is_stopped state ≡ false → is_saved event ≡ awaits state → Keeps task event past
-    → ForSome task.times.limit_ms (λ limit. 0 < limit) → Right task clock lost (moved task clock lost state event) event past
+    → ForSome task.times.limit_ms (λ limit. 0 < limit) → Right task clock lost (next_move task clock lost state event) event past
 right task clock lost Preparing event past a live h keeps later =
     subst (λ (e : Event). Right task clock lost (in_preparing task e) e past) (sym (saved_is event h))
     (subst (λ (es : List Event). Right task clock lost (in_preparing task Saved) Saved es) (sym a.0)

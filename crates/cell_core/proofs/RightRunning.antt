@@ -1,6 +1,6 @@
 -- Each move while a request stands keeps the relation, and its answer is the definitions'.
 use Rattle.std.proofs.Common.{◌≡◌, ℕ, ◌+◌, ◌<◌, ◌≤◌, List, ◌∷◌, Bool, true, false, not, ◌&&◌, ◌||◌, if◌then◌else◌, Option, Some, None, is_some, is_none, refl, sym, ap, subst, ◌∙◌, true≢false, arith, inl, inr, nat_le}
-use Rattle.std.proofs.lemmas.Bool.{and_from, and_left, and_right, cases_Bool}
+use Rattle.std.proofs.lemmas.Bool.{and_from, and_left, and_right, cases_Bool, or_right, or_parts, or_from}
 use Rattle.cell_core.specs.declared.event.Event.{Event}
 use Rattle.cell_core.specs.declared.event.Event.TheVariants.{Saved, Ready, Io, Reply, Moment, Looked, Lost, Broken}
 use Rattle.cell_core.specs.declared.brief.Brief.{Brief}
@@ -9,7 +9,6 @@ use Rattle.cell_core.specs.declared.why.Why.{Why}
 use Rattle.cell_core.specs.declared.why.Why.TheVariants.{CellError, KernelLost, TimedOut, NoIdle, BadPeer}
 use Rattle.cell_core.specs.declared.act.Act.{Act}
 use Rattle.cell_core.specs.declared.act.Act.TheVariants.{Nothing, Look, Interrupt}
-use Rattle.cell_core.specs.declared.state.State.TheVariants.{Running}
 use Rattle.cell_core.specs.Task.{Task}
 use Rattle.cell_core.specs.Events.{is_moment, is_looked, is_turn_at, held, since, time, is_saved, is_broken, is_lost, came, looked}
 use Rattle.cell_core.specs.Requests.{has_idle, own, reply, is_over, is_fatal, is_passed, after, Standing, standing}
@@ -25,7 +24,7 @@ use Rattle.cell_core.proofs.Requests.{standing_is}
 use Rattle.cell_core.proofs.SavesLemmas.{at, over_not_passed, unacked_fails, unacked_more, fatal_not_passed}
 use Rattle.cell_core.proofs.Causes.{queued_by, is_interruptible, late_is}
 use Rattle.cell_core.proofs.Lists.{own_stays, reply_stays, since_some}
-use Rattle.cell_core.proofs.Clocks.{or_parts, or_none, or_right, looked_none, since_unheld, since_held, past_is, ahead, Rises, hears_more, time_at, deadline_replied, deadline_unreplied, replied_now, unlooked_queues, asked_more, asked_unheld, queued_unheld, deadline_stays}
+use Rattle.cell_core.proofs.Clocks.{looked_none, since_unheld, since_held, past_is, ahead, Rises, hears_more, time_at, deadline_replied, deadline_unreplied, replied_now, unlooked_queues, asked_more, asked_unheld, queued_unheld, deadline_stays}
 use Rattle.cell_core.proofs.Right.{Right, act_saves, act_on, stands_more, used_is, unlooked_by}
 
 -- where the reply is there, the idle isn't
@@ -181,7 +180,7 @@ looked_deadline {task} {clock} {lost} {k} {fatal} {idle} {due} {interrupted} {pa
 
 pub looked_calm : (due : Option ℕ) (past : List Event) → passed_by due past ≡ false → looked_by due past ≡ false → looked_by due (Looked ∷ past) ≡ false
 looked_calm None past q c = refl
-looked_calm (Some t) past q c = or_none _ _ q c
+looked_calm (Some t) past q c = or_from _ _ q c
 
 pub looked_runs : {task : Task} {clock : Clock} {k : ℕ} {fatal : Option Bool} {idle : Bool} {due : Option ℕ} {interrupted : Bool} {past : List Event}
     → (a : IsRunning task clock false k fatal idle due interrupted past) → passed_by due past ≡ false → IsRunning task clock false k fatal idle due interrupted (Looked ∷ past)
@@ -341,7 +340,7 @@ interrupt_right {task} {clock} {k} {idle} {due} {past} a passed on =
       on = a.on;
       hears = hears_more a.hears Looked tt (λ e. refl) refl;
       until = interrupted_until task clock k past a.later first there.0 a.replied l.1 on queued_it there.1 quiet.0 a.hears.now;
-      calm = or_none _ _ far (looked_none (is_turn_at (now_of clock + 10000)) past far);
+      calm = or_from _ _ far (looked_none (is_turn_at (now_of clock + 10000)) past far);
       asked = λ n other f o.
           let same : first ≡ other = (let both = sym l.1 ∙ f in cc) in
           subst (λ (i : ℕ). IsAsked task k i true (Looked ∷ past)) same (queued_it, (Looked ∷ there.0, since_some (is_turn_at first) Looked past there.0 there.1, refl));

@@ -18,7 +18,7 @@ use Rattle.cell_core.specs.declared.clock.Clock.{Clock}
 use Rattle.cell_core.specs.declared.clock.Clock.TheVariants.{Unread, Started, Turned}
 use Rattle.cell_core.specs.Holds.{now_of, is_read, is_past, read_again, clock_after, lost_after}
 use Rattle.cell_core.specs.Deadlines.{first_deadline, start_from, start_deadline, by_limit, looked_by}
-use Rattle.cell_core.specs.Moves.{move, stays, limit_from, sent, stops, start_due, in_starting}
+use Rattle.cell_core.specs.Moves.{move, stays, limit_from, sends, stops, start_due, in_starting}
 use Rattle.cell_core.specs.StandsFor.{Hears, Reached, Stands, IsStarting, IsRunning, HasStopped}
 use Rattle.cell_core.proofs.Requests.{reached_waits, reached_first, standing_none}
 use Rattle.cell_core.proofs.SavesLemmas.{at, rest_of_none, unacked_none, saves_none, failing_none, no_stop_none}
@@ -128,7 +128,7 @@ sent_runs {task} {clock} {lost} {k} {events} s hears later =
     }
 
 pub sent_right : {task : Task} {clock : Clock} {lost : Bool} {k : ℕ} {past : List Event} (event : Event) → Stands task k [] (k + 1) (event ∷ past) → Hears clock lost (event ∷ past) → ForSome task.times.limit_ms (λ limit. 0 < limit)
-    → clock_after clock event ≡ clock → lost_after lost event ≡ lost → answers task (Some (at k [])) (event ∷ past) ≡ Send (cell_of task k) → false ≡ is_used event (standing task past) → Right task clock lost (sent task clock k) event past
+    → clock_after clock event ≡ clock → lost_after lost event ≡ lost → answers task (Some (at k [])) (event ∷ past) ≡ Send (cell_of task k) → false ≡ is_used event (standing task past) → Right task clock lost (sends task clock k) event past
 sent_right {task} {clock} {lost} {k} {past} event s hears later c l n t =
     let runs = sent_runs s hears later in
     record {

@@ -19,7 +19,7 @@ use Rattle.cell_core.specs.Acts.{is_empty, has_stopped, heard, act_at, due_at, i
 use Rattle.cell_core.specs.declared.clock.Clock.{Clock}
 use Rattle.cell_core.specs.declared.clock.Clock.TheVariants.{Unread, Started, Turned}
 use Rattle.cell_core.specs.Holds.{running_state, awaits, now_of, is_past, read_again, clock_after, lost_after}
-use Rattle.cell_core.specs.Moves.{move, stays, sent, ends, fails, stops, in_preparing, start_due, look_or, in_starting, late, in_running, on_passed, in_passing, in_closing, in_failing, moved}
+use Rattle.cell_core.specs.Moves.{move, stays, sends, ends, fails, stops, in_preparing, start_due, look_or, in_starting, late, in_running, on_passed, in_passing, in_closing, in_failing, next_move}
 use Rattle.cell_core.specs.StandsFor.{Stands, HasStopped, IsAt, failing_in}
 use Rattle.cell_core.proofs.Requests.{standing_is, standing_none}
 use Rattle.cell_core.proofs.SavesLemmas.{over_not_passed, why_none_on, why_fails}
@@ -47,18 +47,18 @@ pub record Follows (task : Task) (clock : Clock) (lost : Bool) (to : Moved) (eve
   pub takes : to.step.takes ≡ takes_of task event past
 
 live : (task : Task) (clock : Clock) (lost : Bool) (state : State) (event : Event) (past : List Event) → IsAt task clock lost state (heard task past) → is_stopped state ≡ false → is_saved event ≡ awaits state → IsTimely task event past
-    → ForSome task.times.limit_ms (λ limit. 0 < limit) → Follows task clock lost (moved task clock lost state event) event past
+    → ForSome task.times.limit_ms (λ limit. 0 < limit) → Follows task clock lost (next_move task clock lost state event) event past
 live task clock lost state event past a l h timely later =
     let g = (shows task clock lost state (heard task past) a l).goes_on in
     let r = right task clock lost state event (heard task past) a l h (keeps_by task event past timely g) later in
     record {
-      stands = subst (λ (es : List Event). IsAt task (clock_after clock event) (lost_after lost event) (moved task clock lost state event).state es) (sym (ap (λ (b : Bool). if b then heard task past else event ∷ heard task past) g)) r.stands;
+      stands = subst (λ (es : List Event). IsAt task (clock_after clock event) (lost_after lost event) (next_move task clock lost state event).state es) (sym (ap (λ (b : Bool). if b then heard task past else event ∷ heard task past) g)) r.stands;
       act = r.act ∙ sym (ap (λ (b : Bool). if b then Nothing else act_at task (event ∷ heard task past)) g);
       takes = r.takes ∙ sym (ap (λ (b : Bool). if b then false else is_used event (standing task (heard task past))) g);
     }
 
 pub follows : (task : Task) (clock : Clock) (lost : Bool) (state : State) (event : Event) (past : List Event) → IsAt task clock lost state (heard task past) → is_saved event ≡ awaits state → IsTimely task event past
-    → ForSome task.times.limit_ms (λ limit. 0 < limit) → Follows task clock lost (moved task clock lost state event) event past
+    → ForSome task.times.limit_ms (λ limit. 0 < limit) → Follows task clock lost (next_move task clock lost state event) event past
 follows task clock lost (Stopped failing) event past a h timely later =
     record {
       stands = subst (λ (es : List Event). HasStopped task failing es) (sym (ap (λ (b : Bool). if b then heard task past else event ∷ heard task past) a.stopped)) a;
@@ -107,7 +107,7 @@ state_for task (event ∷ past) meets later =
     record {
       clock = clock_after before.clock event;
       lost = lost_after before.lost event;
-      state = (moved task before.clock before.lost before.state event).state;
+      state = (next_move task before.clock before.lost before.state event).state;
       stands = (follows task before.clock before.lost before.state event past before.stands (meets.0 ∙ awaits_is task before.clock before.lost before.state past before.stands) meets.1 later).stands;
     }
 
@@ -168,7 +168,7 @@ starting_awaits task clock lost due Broken = refl
 
 passed_awaits : (task : Task) (clock : Clock) (k : ℕ) → awaits (on_passed task clock k).state ≡ is_save (on_passed task clock k).step.act
 passed_awaits task clock k =
-    if_awaits (nat_lt (k + 1) (length task.plan)) (sent task clock (k + 1)) (if nat_lt (cell_of task k + 1) task.cells then move Closing false (Save task.cells) else stops Done) refl
+    if_awaits (nat_lt (k + 1) (length task.plan)) (sends task clock (k + 1)) (if nat_lt (cell_of task k + 1) task.cells then move Closing false (Save task.cells) else stops Done) refl
     (if_awaits (nat_lt (cell_of task k + 1) task.cells) (move Closing false (Save task.cells)) (stops Done) refl refl)
 
 first_awaits : (task : Task) → awaits (in_preparing task Saved).state ≡ is_save (in_preparing task Saved).step.act
@@ -176,7 +176,7 @@ first_awaits task =
     if_awaits (nat_lt 0 (length task.plan)) (move (Starting None) false Start) (if nat_lt 0 task.cells then move Closing false (Save task.cells) else stops Done) refl
     (if_awaits (nat_lt 0 task.cells) (move Closing false (Save task.cells)) (stops Done) refl refl)
 
-pub move_awaits : (task : Task) (clock : Clock) (lost : Bool) (state : State) (event : Event) → is_saved event ≡ awaits state → awaits (moved task clock lost state event).state ≡ is_save (moved task clock lost state event).step.act
+pub move_awaits : (task : Task) (clock : Clock) (lost : Bool) (state : State) (event : Event) → is_saved event ≡ awaits state → awaits (next_move task clock lost state event).state ≡ is_save (next_move task clock lost state event).step.act
 move_awaits task clock lost Preparing event h = subst (λ (e : Event). awaits (in_preparing task e).state ≡ is_save (in_preparing task e).step.act) (sym (saved_is event h)) (first_awaits task)
 move_awaits task clock lost (Passing k) event h = subst (λ (e : Event). awaits (in_passing task clock k e).state ≡ is_save (in_passing task clock k e).step.act) (sym (saved_is event h)) (passed_awaits task clock k)
 move_awaits task clock lost Closing event h = subst (λ (e : Event). awaits (in_closing e).state ≡ is_save (in_closing e).step.act) (sym (saved_is event h)) refl
@@ -234,7 +234,7 @@ starting_reach task clock lost due Looked n le =
 starting_reach task clock lost due Lost n le = le
 starting_reach task clock lost due Broken n le = omega arith
 
-pub move_reach : (task : Task) (clock : Clock) (lost : Bool) (state : State) (event : Event) → is_saved event ≡ awaits state → reach state ≤ length task.plan → reach (moved task clock lost state event).state ≤ length task.plan
+pub move_reach : (task : Task) (clock : Clock) (lost : Bool) (state : State) (event : Event) → is_saved event ≡ awaits state → reach state ≤ length task.plan → reach (next_move task clock lost state event).state ≤ length task.plan
 move_reach task clock lost (Running r) event h le = running_reach task clock lost r.at r.fatal r.idle r.due r.interrupted event (length task.plan) le
 move_reach task clock lost (Passing k) event h le = subst (λ (e : Event). reach (in_passing task clock k e).state ≤ length task.plan) (sym (saved_is event h)) (passed_reach task clock k)
 move_reach task clock lost Preparing event h le = subst (λ (e : Event). reach (in_preparing task e).state ≤ length task.plan) (sym (saved_is event h)) (first_reach task)
@@ -244,7 +244,7 @@ move_reach task clock lost (Stopped failing) event h le = le
 move_reach task clock lost (Starting due) event h le = starting_reach task clock lost due event (length task.plan) le
 
 pub follows_by : (task : Task) (clock : Clock) (lost : Bool) (state : State) (to : Moved) (event : Event) (past : List Event) → IsAt task clock lost state (heard task past) → is_saved event ≡ awaits state → IsTimely task event past
-    → ForSome task.times.limit_ms (λ limit. 0 < limit) → to ≡ moved task clock lost state event → Follows task clock lost to event past
+    → ForSome task.times.limit_ms (λ limit. 0 < limit) → to ≡ next_move task clock lost state event → Follows task clock lost to event past
 follows_by task clock lost state to event past a h timely later e = subst (λ (m : Moved). Follows task clock lost m event past) (sym e) (follows task clock lost state event past a h timely later)
 
 -- the deadline

@@ -1,10 +1,9 @@
 -- Each move sends requests in the order of their cells.
-use Rattle.std.proofs.Common.{◌≡◌, ℕ, ◌+◌, ◌<◌, ◌≤◌, List, length, Bool, true, false, not, ◌&&◌, if◌then◌else◌, nat_lt, Option, Some, None, All, refl, sym, subst, ◌∙◌, true≢false, arith, inl, inr}
-use Rattle.std.proofs.lemmas.Bool.{cases_lt, lt-ltb, le-ltb, cases_Bool}
+use Rattle.std.proofs.Common.{◌≡◌, ℕ, ◌+◌, ◌<◌, ◌≤◌, length, Bool, true, false, not, ◌&&◌, if◌then◌else◌, nat_lt, Option, Some, None, All, refl, sym, subst, ◌∙◌, true≢false, arith, inl, inr}
+use Rattle.std.proofs.lemmas.Bool.{cases_lt, lt-ltb, le-ltb}
 use Rattle.cell_core.specs.declared.event.Event.{Event}
 use Rattle.cell_core.specs.declared.event.Event.TheVariants.{Saved, Ready, Io, Reply, Moment, Looked, Lost, Broken}
 use Rattle.cell_core.specs.declared.brief.Brief.TheVariants.{Idle, Else}
-use Rattle.cell_core.specs.declared.why.Why.{Why}
 use Rattle.cell_core.specs.declared.why.Why.TheVariants.{Done, NotReady, KernelLost, TimedOut}
 use Rattle.cell_core.specs.declared.act.Act.TheVariants.{Start, Interrupt, Save}
 use Rattle.cell_core.specs.declared.state.State.{State}
@@ -14,7 +13,7 @@ use Rattle.cell_core.specs.declared.clock.Clock.{Clock}
 use Rattle.cell_core.specs.Task.{Task, cell_of}
 use Rattle.cell_core.specs.Events.{is_saved}
 use Rattle.cell_core.specs.Holds.{running_state, awaits, is_save, now_of, is_past, read_again, reach}
-use Rattle.cell_core.specs.Moves.{move, stays, sent, ends, fails, stops, in_preparing, start_due, look_or, in_starting, late, in_running, on_passed, in_passing, in_closing, in_failing, moved}
+use Rattle.cell_core.specs.Moves.{move, stays, sends, ends, fails, stops, in_preparing, start_due, look_or, in_starting, late, in_running, on_passed, in_passing, in_closing, in_failing, next_move}
 use Rattle.cell_core.specs.Sending.{next_in, saves_in, IsInOrder, SendsOn}
 use Rattle.cell_core.proofs.RightClosing.{saved_is}
 
@@ -98,7 +97,7 @@ first_on task =
     (λ e. if_on task 0 (nat_lt 0 task.cells) (move Closing false (Save task.cells)) (stops Done) (λ p. (omega arith, omega arith, omega arith)) (λ p. omega arith))
 
 pub move_on : (task : Task) (clock : Clock) (lost : Bool) (state : State) (event : Event) → All (λ i. i < task.cells) task.plan → IsInOrder task → is_saved event ≡ awaits state → reach state ≤ length task.plan
-    → SendsOn task (next_in task state) (next_in task (moved task clock lost state event).state) (moved task clock lost state event).step.act
+    → SendsOn task (next_in task state) (next_in task (next_move task clock lost state event).state) (next_move task clock lost state event).step.act
 move_on task clock lost Preparing event b o h le = subst (λ (e : Event). On task 0 (in_preparing task e)) (sym (saved_is event h)) (first_on task)
 move_on task clock lost (Starting due) event b o h le = starting_on task (record { below = b; ordered = o }) clock lost due event (omega (arith, le))
 move_on task clock lost (Running r) event b o h le = running_on task (record { below = b; ordered = o }) clock lost r.at r.fatal r.idle r.due r.interrupted event (omega (arith, le))
@@ -115,14 +114,14 @@ if_fewer : (n : ℕ) (b : Bool) (x y : Moved) → saves_in x.state < n → saves
 if_fewer n true x y p q = p
 if_fewer n false x y p q = q
 
-pub fewer : (task : Task) (clock : Clock) (lost : Bool) (state : State) (event : Event) → is_saved event ≡ awaits state → is_saved event ≡ true → saves_in (moved task clock lost state event).state < saves_in state
+pub fewer : (task : Task) (clock : Clock) (lost : Bool) (state : State) (event : Event) → is_saved event ≡ awaits state → is_saved event ≡ true → saves_in (next_move task clock lost state event).state < saves_in state
 fewer task clock lost Preparing event h saved =
     subst (λ (e : Event). saves_in (in_preparing task e).state < 2) (sym (saved_is event h))
     (if_fewer 2 (nat_lt 0 (length task.plan)) (move (Starting None) false Start) (if nat_lt 0 task.cells then move Closing false (Save task.cells) else stops Done) (omega arith)
     (if_fewer 2 (nat_lt 0 task.cells) (move Closing false (Save task.cells)) (stops Done) (omega arith) (omega arith)))
 fewer task clock lost (Passing k) event h saved =
     subst (λ (e : Event). saves_in (in_passing task clock k e).state < 2) (sym (saved_is event h))
-    (if_fewer 2 (nat_lt (k + 1) (length task.plan)) (sent task clock (k + 1)) (if nat_lt (cell_of task k + 1) task.cells then move Closing false (Save task.cells) else stops Done) (omega arith)
+    (if_fewer 2 (nat_lt (k + 1) (length task.plan)) (sends task clock (k + 1)) (if nat_lt (cell_of task k + 1) task.cells then move Closing false (Save task.cells) else stops Done) (omega arith)
     (if_fewer 2 (nat_lt (cell_of task k + 1) task.cells) (move Closing false (Save task.cells)) (stops Done) (omega arith) (omega arith)))
 fewer task clock lost Closing event h saved = subst (λ (e : Event). saves_in (in_closing e).state < 1) (sym (saved_is event h)) (omega arith)
 fewer task clock lost (Failing k w) event h saved = subst (λ (e : Event). saves_in (in_failing k w e).state < 1) (sym (saved_is event h)) (omega arith)
@@ -131,7 +130,7 @@ fewer task clock lost (Running r) event h saved = absurd (true≢false (sym save
 fewer task clock lost (Stopped failing) event h saved = absurd (true≢false (sym saved ∙ h))
 
 -- a loss asks for no save
-pub lost_saves_none : (task : Task) (clock : Clock) (lost : Bool) (state : State) → is_save (moved task clock lost state Lost).step.act ≡ false
+pub lost_saves_none : (task : Task) (clock : Clock) (lost : Bool) (state : State) → is_save (next_move task clock lost state Lost).step.act ≡ false
 lost_saves_none task clock lost Preparing = refl
 lost_saves_none task clock lost (Starting due) = refl
 lost_saves_none task clock lost (Running r) = refl

@@ -1,6 +1,6 @@
 -- The order of last looks and clock entries: each look that was asked for is done before the clock is read again (nbclient reads what had
 -- arrived before it calls a cell timed out or a kernel dead).
-use Rattle.std.specs.Prelude.{ℕ, List, [], ◌∷◌, ◌++◌, true, false, ◌≡◌, ◌≢◌, ◌≤◌, ◌⊎◌}
+use Rattle.std.specs.Prelude.{List, [], ◌∷◌, ◌++◌, true, false, ◌≡◌, ◌≢◌, ◌≤◌, ◌⊎◌}
 use Rattle.cell_core.specs.declared.event.Event.{Event}
 use Rattle.cell_core.specs.declared.event.Event.TheVariants.{Moment}
 use Rattle.cell_core.specs.declared.act.Act.TheVariants.{Look}

@@ -28,8 +28,8 @@ abbrev pub limit_from : Task → ℕ → Option ℕ
 limit_from task now = option_map (λ limit. now + limit) task.times.limit_ms
 
 -- request k comes to stand, and is sent
-abbrev pub sent : Task → Clock → ℕ → Moved
-sent task clock k = move (running_state k None false (limit_from task (now_of clock)) false) false (Send (cell_of task k))
+abbrev pub sends : Task → Clock → ℕ → Moved
+sends task clock k = move (running_state k None false (limit_from task (now_of clock)) false) false (Send (cell_of task k))
 
 -- request k and its reply and idle are there
 abbrev pub after_end : ℕ → Bool → State
@@ -66,7 +66,7 @@ look_or state late = move state false (if late then Look else Nothing)
 
 -- while readiness is awaited
 abbrev pub in_starting : Task → Clock → Bool → Option ℕ → Event → Moved
-in_starting task clock lost due Ready = sent task clock 0
+in_starting task clock lost due Ready = sends task clock 0
 in_starting task clock lost due Broken = stops BadPeer
 in_starting task clock lost due Lost = move (Starting due) false Look
 in_starting task clock lost due Looked = if lost then stops KernelLost else if is_past clock due then stops NotReady else stays (Starting due)
@@ -109,7 +109,7 @@ in_running task clock lost k fatal idle due interrupted _ = stays (running_state
 -- the save after request k is acknowledged
 abbrev pub on_passed : Task → Clock → ℕ → Moved
 on_passed task clock k =
-    if nat_lt (k + 1) (length task.plan) then sent task clock (k + 1)
+    if nat_lt (k + 1) (length task.plan) then sends task clock (k + 1)
     else if nat_lt (cell_of task k + 1) task.cells then move Closing false (Save task.cells)
     else stops Done
 
@@ -129,11 +129,11 @@ in_failing k why Saved = move (Stopped (Some k)) false (Stop why)
 in_failing k why _ = stays (Failing k why)
 
 -- one event, in each state
-abbrev pub moved : Task → Clock → Bool → State → Event → Moved
-moved task clock lost Preparing event = in_preparing task event
-moved task clock lost (Starting due) event = in_starting task clock lost due event
-moved task clock lost (Running r) event = in_running task clock lost r.at r.fatal r.idle r.due r.interrupted event
-moved task clock lost (Passing k) event = in_passing task clock k event
-moved task clock lost Closing event = in_closing event
-moved task clock lost (Failing k why) event = in_failing k why event
-moved task clock lost (Stopped failing) event = stays (Stopped failing)
+abbrev pub next_move : Task → Clock → Bool → State → Event → Moved
+next_move task clock lost Preparing event = in_preparing task event
+next_move task clock lost (Starting due) event = in_starting task clock lost due event
+next_move task clock lost (Running r) event = in_running task clock lost r.at r.fatal r.idle r.due r.interrupted event
+next_move task clock lost (Passing k) event = in_passing task clock k event
+next_move task clock lost Closing event = in_closing event
+next_move task clock lost (Failing k why) event = in_failing k why event
+next_move task clock lost (Stopped failing) event = stays (Stopped failing)

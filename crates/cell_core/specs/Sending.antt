@@ -1,5 +1,5 @@
 -- In which order requests are sent, and how far a save reaches, by what the core holds.
-use Rattle.std.specs.Prelude.{◌≡◌, ℕ, ◌+◌, ◌<◌, ◌≤◌, List}
+use Rattle.std.specs.Prelude.{◌≡◌, ℕ, ◌+◌, ◌<◌, ◌≤◌}
 use Rattle.std.specs.List.{AllPairs}
 use Rattle.cell_core.specs.declared.act.Act.{Act}
 use Rattle.cell_core.specs.declared.act.Act.TheVariants.{Send, Save}

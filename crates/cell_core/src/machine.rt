@@ -39,7 +39,7 @@ impl Core {
     ghost use Rattle.cell_core.specs.declared.event.Event.{Event as TheEvent};
     ghost use Rattle.cell_core.specs.declared.event.Event.TheVariants as event;
     ghost use Rattle.cell_core.specs.declared.state.State.TheVariants.{Running as running};
-    ghost use Rattle.cell_core.specs.Moves.{moved as moved_by, in_preparing, in_starting, on_io, on_reply, after_end as after_end_by, sent as sent_by, fails as fails_by, limit_from as limit_by, start_due as start_by, late as late_by, ends as ends_by, in_passing, on_passed};
+    ghost use Rattle.cell_core.specs.Moves.{next_move as next_by, in_preparing, in_starting, on_io, on_reply, after_end as after_end_by, sends as sends_by, fails as fails_by, limit_from as limit_by, start_due as start_by, late as late_by, ends as ends_by, in_passing, on_passed};
     ghost use Rattle.cell_core.specs.Task.{cell_of};
     ghost use Rattle.cell_core.specs.Sending.{next_of, saves_ahead, IsInOrder, SendsOn};
     ghost use Rattle.cell_core.specs.StandsFor.{StandsFor, task_of, failing_in, awaits_saved_of};
@@ -98,7 +98,7 @@ impl Core {
         // The end of a connection or of the kernel alone asks for none.
         ensures lost { e ≡ event.Lost → is_save result.act ≡ false }
     {
-        let moved = self.moved(e);
+        let moved = self.next_move(e);
         self.clock = self.clock.after(e);
         self.lost = Core::lost_after(self.lost, e);
         self.state = moved.state;
@@ -179,9 +179,9 @@ impl Core {
         }
     }
 
-    fn moved(&self, e: Event) -> Moved
+    fn next_move(&self, e: Event) -> Moved
         requires { IsSmall e }
-        ensures { result ≡ moved_by (task_of self.now) self.now.clock self.now.lost self.now.state
+        ensures { result ≡ next_by (task_of self.now) self.now.clock self.now.lost self.now.state
             e }
     {
         match self.state {
@@ -233,7 +233,7 @@ impl Core {
         ensures { result ≡ in_starting (task_of self.now) self.now.clock self.now.lost due e }
     {
         match e {
-            Event::Ready => self.sent(0),
+            Event::Ready => self.sends(0),
             Event::Broken => Moved::stops(Why::BadPeer),
             Event::Lost => Moved::to(State::Starting { due }, false, Act::Look),
             Event::Looked => {
@@ -275,9 +275,9 @@ impl Core {
     }
 
     /// Request `at` comes to stand.
-    fn sent(&self, at: usize) -> Moved
+    fn sends(&self, at: usize) -> Moved
         requires { at < length self.now.plan }
-        ensures { result ≡ sent_by (task_of self.now) self.now.clock at }
+        ensures { result ≡ sends_by (task_of self.now) self.now.clock at }
     {
         let request = Request {
             at,
@@ -292,7 +292,7 @@ impl Core {
     fn in_running(&self, request: Request, e: Event) -> Moved
         requires planned { request.at < length self.now.plan }
         requires small { IsSmall e }
-        ensures { result ≡ moved_by (task_of self.now) self.now.clock self.now.lost
+        ensures { result ≡ next_by (task_of self.now) self.now.clock self.now.lost
             (running request) e }
     {
         let state = State::Running(request);
@@ -353,7 +353,7 @@ impl Core {
     /// A last look is done.
     fn on_look(&self, request: Request) -> Moved
         requires { request.at < length self.now.plan }
-        ensures { result ≡ moved_by (task_of self.now) self.now.clock self.now.lost
+        ensures { result ≡ next_by (task_of self.now) self.now.clock self.now.lost
             (running request) event.Looked }
     {
         if self.lost {
@@ -394,7 +394,7 @@ impl Core {
     }
 
     /// How many cells a save settles after request `at`.
-    fn settled(&self, at: usize) -> u32
+    fn settled_count(&self, at: usize) -> u32
         requires { at < length self.now.plan }
         ensures { result ≡ cell_of (task_of self.now) at + 1 }
     {
@@ -406,7 +406,7 @@ impl Core {
         requires { at < length self.now.plan }
         ensures { result ≡ ends_by (task_of self.now) at failed }
     {
-        let save = Act::Save(self.settled(at));
+        let save = Act::Save(self.settled_count(at));
         Moved::to(Core::after_end(at, failed), true, save)
     }
 
@@ -417,7 +417,7 @@ impl Core {
         Moved::to(
             State::Failing { at, why },
             false,
-            Act::Save(self.settled(at)),
+            Act::Save(self.settled_count(at)),
         )
     }
 
@@ -440,8 +440,8 @@ impl Core {
     {
         let len = self.plan.len();
         if at + 1 < len {
-            self.sent(at + 1)
-        } else if self.settled(at) < self.cells {
+            self.sends(at + 1)
+        } else if self.settled_count(at) < self.cells {
             Moved::to(State::Closing, false, Act::Save(self.cells))
         } else {
             Moved::stops(Why::Done)
