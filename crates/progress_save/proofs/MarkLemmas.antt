@@ -8,12 +8,9 @@ use Rattle.jtext.specs.declared.json.Json.{Json}
 use Rattle.jtext.specs.declared.json.Json.TheVariants as json
 use Rattle.jtext.specs.Find.{find, field, fields}
 use Rattle.jtext.specs.Edit.{set_pair, set_field, set_within}
-use Rattle.jtext.proofs.Edits.{set_pair-twice}
+use Rattle.jtext.proofs.Edits.{set_pair-twice, same_key}
 use Rattle.nb_model.proofs.PreparedLaws.{fields_Obj, field-set_other}
 use Rattle.progress_save.specs.Prefix.{with_status, with_mark}
-
-same_key : (key : List ℕ) → bytes_eq key key ≡ true
-same_key key = (bytes_eq-Decides key key).1 refl
 
 -- ---- pairs
 

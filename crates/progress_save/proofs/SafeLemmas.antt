@@ -1,12 +1,14 @@
 -- A save of the text that comes next is safe at each of its moments.
-use Rattle.std.proofs.Common.{◌≡◌, ◌⊎◌, inl, inr, ℕ, suc, ◌+◌, List, [], ◌∷◌, ◌++◌, Some, None, Result, Ok, Err, IsSomeAnd, refl, sym, ◌∙◌, ap, subst, add-one}
+use Rattle.std.proofs.Common.{◌≡◌, ◌⊎◌, inl, inr, ℕ, ◌+◌, List, [], ◌∷◌, ◌++◌, Some, Result, Ok, Err, IsSomeAnd, refl, sym, subst, add-one}
 use Rattle.std.specs.Prelude.{slice_get, OnOk}
+use Rattle.std.proofs.lemmas.Option.{same_Some}
 use Rattle.world.specs.declared.entry.Entry.{Entry}
 use Rattle.world.specs.declared.left.Left.{Left}
 use Rattle.world.specs.declared.left.Left.TheVariants.{Whole}
 use Rattle.world.specs.Disk.{Place, Among, place}
 use Rattle.world.specs.Moments.{Since, start, more as later}
 use Rattle.world.proofs.MomentsLemmas.{since_as}
+use Rattle.world.proofs.SaveLemmas.{among_one}
 use Rattle.save_disk.specs.Places.{acknowledged, durable_place, SaveMoment, as_before, renamed, unsure, durable}
 use Rattle.progress_save.specs.declared.progress_fault.ProgressFault.{ProgressFault}
 use Rattle.progress_save.specs.Saved.{SavesAs, EndsAs}
@@ -21,15 +23,8 @@ among_both o (x ∷ xs) ys (inr a) = elim (among_both o xs ys a) [ inl b ↦ inl
     inl_more : Among o xs → Among o (x ∷ xs)
     inl_more b = inr b
 
-among_one : (o x : Left) → Among o (x ∷ []) → o ≡ x
-among_one o x (inl e) = e
-among_one o x (inr never) = absurd never
-
 found : {A : Type 0} (P : A → Type 0) (o : Rattle.std.proofs.Common.Option A) (x : A) → o ≡ Some x → P x → IsSomeAnd o P
 found P o x e p = subst (λ v. IsSomeAnd v P) (sym e) p
-
-some_is : {A : Type 0} {x y : A} → Some x ≡ Some y → x ≡ y
-some_is e = cc
 
 module _ (output : List ℕ) (texts : List (List ℕ)) (text : List ℕ) (before : List Entry) (safe : IsSafe output texts before) (next : IsNext output texts text before) where
   abbrev count : ℕ
@@ -55,7 +50,7 @@ module _ (output : List ℕ) (texts : List (List ℕ)) (text : List ℕ) (before
   held_place : IsPlace (IsText texts (count + 1)) (durable_place text)
   held_place = record {
     options = λ o among. subst (IsText texts (count + 1)) (sym (among_one o (Whole text) among)) numbered;
-    here = λ o e. inl (subst (IsText texts (count + 1)) (some_is e) numbered);
+    here = λ o e. inl (subst (IsText texts (count + 1)) (same_Some (Whole text) o e) numbered);
   }
 
   pub held : (now : List Entry) → acknowledged output now ≡ count + 1 → place now output ≡ durable_place text → IsHeld output texts now
@@ -71,7 +66,7 @@ module _ (output : List ℕ) (texts : List (List ℕ)) (text : List ℕ) (before
   moment_safe now (as_before a e) = same_safe now (place before output) a e safe
   moment_safe now (renamed a e) = same_safe now _ a e (record {
     options = among_more;
-    here = λ o is. inl (inr (subst (IsText texts (count + 1)) (some_is is) numbered));
+    here = λ o is. inl (inr (subst (IsText texts (count + 1)) (same_Some (Whole text) o is) numbered));
   })
   moment_safe now (unsure a e) = same_safe now _ a e (record { options = among_more; here = λ o is. cc })
   moment_safe now (durable a e) = held_safe now (held now a e)
