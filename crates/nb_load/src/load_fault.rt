@@ -35,7 +35,7 @@ impl LoadFault {
                 Bytes::of(alloc, text.as_bytes())
             }
             LoadFault::NotNotebook(fault) => notebook_text(alloc, fault),
-            LoadFault::NoTranslator { language } => untranslated(alloc, language),
+            LoadFault::NoTranslator { language } => no_translator(alloc, language),
             LoadFault::NoMemory => Ok(Bytes::new(alloc)),
         }
     }
@@ -52,13 +52,13 @@ fn notebook_text(alloc: Global, fault: &NbFault) -> Result<Bytes, NoMemory>
 {
     match fault {
         NbFault::Version => Bytes::of(alloc, b"not nbformat 4.5: version"),
-        NbFault::Shape { pointer } => joined(alloc, "not nbformat 4.5: shape at ", pointer),
-        NbFault::SameId { id } => joined(alloc, "not nbformat 4.5: same id ", id),
+        NbFault::Shape { pointer } => join(alloc, "not nbformat 4.5: shape at ", pointer),
+        NbFault::SameId { id } => join(alloc, "not nbformat 4.5: same id ", id),
         NbFault::NoMemory => Ok(Bytes::new(alloc)),
     }
 }
 
-fn joined(alloc: Global, first: &str, second: &Text) -> Result<Bytes, NoMemory>
+fn join(alloc: Global, first: &str, second: &Text) -> Result<Bytes, NoMemory>
     ensures { IfOk result (λ b. b ≡ first.now ++ second.now) }
 {
     let mut text = Bytes::of(alloc, first.as_bytes())?;
@@ -66,7 +66,7 @@ fn joined(alloc: Global, first: &str, second: &Text) -> Result<Bytes, NoMemory>
     Ok(text)
 }
 
-fn untranslated(alloc: Global, language: &Text) -> Result<Bytes, NoMemory>
+fn no_translator(alloc: Global, language: &Text) -> Result<Bytes, NoMemory>
     ensures { IfOk result (λ b. b ≡ codes "no translator for " ++ quoted language.now) }
 {
     let name = Json::Str(Text::of(alloc, language.as_str())?);

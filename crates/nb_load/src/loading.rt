@@ -27,13 +27,13 @@ fn notebook_of(alloc: Global, bytes: &[u8], ask: &Ask) -> Result<Notebook, LoadF
     ensures ok { IfOk result (Accepts ask.now bytes.now) }
     ensures err { IfErr result (Refuses ask.now bytes.now) }
 {
-    let tree = parsed(alloc, bytes)?;
-    let notebook = accepted(alloc, tree)?;
-    injected(alloc, notebook, ask)
+    let tree = parse(alloc, bytes)?;
+    let notebook = accept(alloc, tree)?;
+    with_parameters(alloc, notebook, ask)
 }
 
 // The tree that the bytes spell.
-fn parsed(alloc: Global, bytes: &[u8]) -> Result<Json, LoadFault>
+fn parse(alloc: Global, bytes: &[u8]) -> Result<Json, LoadFault>
     ensures ok { IfOk result (Gives bytes.now) }
     ensures err { IfErr result (λ e. (ask : asks.Ask) → Refuses ask bytes.now e) }
 {
@@ -45,7 +45,7 @@ fn parsed(alloc: Global, bytes: &[u8]) -> Result<Json, LoadFault>
 }
 
 // The notebook that the tree of the bytes is.
-fn accepted(alloc: Global, tree: Json) -> Result<Notebook, LoadFault>
+fn accept(alloc: Global, tree: Json) -> Result<Notebook, LoadFault>
     ensures ok { IfOk result (λ n. (bytes : Plain ℕ) → Gives bytes tree → IsNotebook bytes n) }
     ensures err { IfErr result (λ e. (ask : asks.Ask) (bytes : Plain ℕ) →
         Gives bytes tree → Refuses ask bytes e) }
@@ -58,7 +58,7 @@ fn accepted(alloc: Global, tree: Json) -> Result<Notebook, LoadFault>
 }
 
 // The notebook with the parameters.
-fn injected(alloc: Global, notebook: Notebook, ask: &Ask) -> Result<Notebook, LoadFault>
+fn with_parameters(alloc: Global, notebook: Notebook, ask: &Ask) -> Result<Notebook, LoadFault>
     ensures ok { IfOk result (λ n. (bytes : Plain ℕ) →
         IsNotebook bytes notebook → Accepts ask.now bytes n) }
     ensures err { IfErr result (λ e. (bytes : Plain ℕ) →

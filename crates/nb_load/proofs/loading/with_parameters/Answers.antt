@@ -1,5 +1,5 @@
 use Rattle.nb_load.proofs.Loads.{no_translator}
-use Rattle.nb_load.proofs.loading.injected.Goals as goal
+use Rattle.nb_load.proofs.loading.with_parameters.Goals as goal
 
 pub returns-in-Err-NoTranslator-clause-err : goal.returns-in-Err-NoTranslator-clause-err
 returns-in-Err-NoTranslator-clause-err c =
