@@ -15,6 +15,7 @@ use Rattle.std.proofs.lemmas.List.Sums.{fold-append}
 use Rattle.std.proofs.lemmas.Map.Text.{is_eq-slice_cmp}
 use Rattle.std.proofs.lemmas.Map.Views.{Contains-from_any, list_any-from_Contains}
 use Rattle.std.proofs.lemmas.Slice.Eq.{bytes_eq-Decides}
+use Rattle.std.proofs.lemmas.Bool.{or_parts}
 use Rattle.circular_buffer.specs.Buffer.{Buffer, buffer, keep_last}
 use Rattle.jsign.specs.History.{recent, is_among, with_offered, fresh_of, IsFresh, StandsFor, AreDistinct, AreHeld}
 
@@ -79,14 +80,10 @@ at_end sig other sigs = list_any-append (bytes_eq sig) sigs (other ∷ []) ∙ l
 turned : (xs ys : List ℕ) → bytes_eq xs ys ≡ bytes_eq ys xs
 turned xs ys = nat_list_eq_equiv.symm xs ys
 
-apart : (a b : Bool) → (a || b) ≡ false → (a ≡ false) × (b ≡ false)
-apart true b h = absurd (cc)
-apart false b h = (refl, h)
-
 AreDistinct-push : (sigs : List (List ℕ)) (sig : List ℕ) → AreDistinct sigs → is_among sig sigs ≡ false → AreDistinct (sigs ++ sig ∷ [])
 AreDistinct-push [] sig d fresh = (refl, tt)
 AreDistinct-push (x ∷ xs) sig d fresh =
-    let parts = apart (bytes_eq sig x) (is_among sig xs) fresh in
+    let parts = or_parts (bytes_eq sig x) (is_among sig xs) fresh in
     let other : bytes_eq x sig ≡ false = turned x sig ∙ parts.0 in
     let new : (is_among x xs || bytes_eq x sig) ≡ false = ap (λ b. b || bytes_eq x sig) d.0 ∙ other in
     (at_end x sig xs ∙ new, AreDistinct-push xs sig d.1 parts.1)

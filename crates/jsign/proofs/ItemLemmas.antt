@@ -1,9 +1,9 @@
 -- Items with their signatures.
-use Rattle.std.proofs.Common.{◌≡◌, ℕ, Bool, true, false, cond, List, [], ◌∷◌, ◌++◌, map, refl, sym, ◌∙◌, ap, subst}
+use Rattle.std.proofs.Common.{◌≡◌, ℕ, Bool, true, false, cond, List, [], ◌∷◌, ◌++◌, refl, ◌∙◌, ap}
 use Rattle.std.specs.List.{Contains, fold}
 use Rattle.std.proofs.lemmas.List.Sums.{fold-append}
 use Rattle.jsign.specs.History.{recent, is_among, with_offered, fresh_of, IsFresh, signatures_of, with_item, fresh_items}
-use Rattle.jsign.proofs.HistoryLemmas.{contained, not_contained, next}
+use Rattle.jsign.proofs.HistoryLemmas.{contained, not_contained}
 
 next_item : {A : Type 0} (offered : List (List ℕ × A)) (item : List ℕ × A) → fresh_items (offered ++ item ∷ []) ≡ with_item (fresh_items offered) item
 unfolding fresh_items

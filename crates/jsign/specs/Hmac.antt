@@ -12,12 +12,12 @@ unfoldable pub block_key : List ℕ → List ℕ
 block_key key = short_key key ++ replicate (64 - length (short_key key)) 0
 
 -- the block with each octet combined with a pad octet
-unfoldable pub padded : ℕ → List ℕ → List ℕ
-padded pad key = map (λ b. bit_xor b pad) (block_key key)
+unfoldable pub pad_block : ℕ → List ℕ → List ℕ
+pad_block pad key = map (λ b. bit_xor b pad) (block_key key)
 
 -- H(key with 5C, H(key with 36, message))
 unfoldable pub hmac : List ℕ → List ℕ → List ℕ
-hmac key message = sha256 (padded 0x5c key ++ sha256 (padded 0x36 key ++ message))
+hmac key message = sha256 (pad_block 0x5c key ++ sha256 (pad_block 0x36 key ++ message))
 
 -- of header, parent header, metadata and content as they came: the lower-case hexadecimal digits of their code
 unfoldable pub signature : List ℕ → List ℕ → List ℕ → List ℕ → List ℕ → List ℕ

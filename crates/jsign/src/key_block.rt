@@ -12,9 +12,9 @@ pub(crate) const INNER: u8 = 0x36;
 pub(crate) const OUTER: u8 = 0x5c;
 
 /// The block combined with a pad octet.
-#[tactic(auto, unfolding(crate::specs::Hmac::padded))]
-pub(crate) fn padded(block: &[u8; 64], pad: u8) -> [u8; 64]
-    ensures { (key : List ℕ) → block.now ≡ hmac.block_key key → result ≡ hmac.padded pad key }
+#[tactic(auto, unfolding(crate::specs::Hmac::pad_block))]
+pub(crate) fn pad_block(block: &[u8; 64], pad: u8) -> [u8; 64]
+    ensures { (key : List ℕ) → block.now ≡ hmac.block_key key → result ≡ hmac.pad_block pad key }
 {
     let mut padded = *block;
     combine(&mut padded, pad);
@@ -27,14 +27,14 @@ pub(crate) fn block_key(key: &[u8]) -> [u8; 64]
     ensures { result ≡ hmac.block_key key.now }
 {
     if key.len() > 64 {
-        filled(&Sha256::digest(key))
+        fill_block(&Sha256::digest(key))
     } else {
-        filled(key)
+        fill_block(key)
     }
 }
 
 /// The bytes, filled up with zeros.
-fn filled(bytes: &[u8]) -> [u8; 64]
+fn fill_block(bytes: &[u8]) -> [u8; 64]
     requires { length bytes.now ≤ 64 }
     ensures { result ≡ bytes.now ++ replicate (64 - length bytes.now) 0 }
 {

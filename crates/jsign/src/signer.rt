@@ -2,7 +2,7 @@
 ghost use Rattle.std.specs.Prelude.{◌≡◌, ◌++◌, ◌↔◌, ℕ, List, IsTrue};
 ghost use Rattle.jsign.specs.Hmac as hmac;
 
-use crate::key_block::{INNER, OUTER, block_key, padded};
+use crate::key_block::{INNER, OUTER, block_key, pad_block};
 use sha2::{Digest, Sha256};
 
 /// Signs four frames under one key. The key's two blocks are hashed when it is made, and not again
@@ -22,9 +22,9 @@ impl Signer {
     {
         let block = block_key(key);
         let mut inner = Sha256::new();
-        inner.update(padded(&block, INNER));
+        inner.update(pad_block(&block, INNER));
         let mut outer = Sha256::new();
-        outer.update(padded(&block, OUTER));
+        outer.update(pad_block(&block, OUTER));
         Signer { inner, outer }
     }
 
