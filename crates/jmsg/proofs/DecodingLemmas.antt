@@ -1,9 +1,10 @@
 -- What parts are is a function of the key and the parts.
-use Rattle.std.proofs.Common.{◌≡◌, ℕ, ◌≤◌, ◌<◌, Bool, true, false, cond, ◌&&◌, List, [], ◌∷◌, ◌++◌, length, Option, Some, None, Result, Ok, Err, codes, IsTrue, refl, sym, ◌∙◌, ap, subst, arith, rules}
+use Rattle.std.proofs.Common.{◌≡◌, ℕ, ◌<◌, Bool, true, false, cond, ◌&&◌, List, [], ◌∷◌, length, Option, Some, None, Result, Ok, Err, codes, refl, sym, ◌∙◌, ap, subst, arith}
 use Rattle.std.specs.Prelude.{option_and_then}
 use Rattle.std.specs.Str.{bytes_eq, is_utf8}
 use Rattle.std.proofs.lemmas.Str.{IsUtf8-from_is_utf8, is_utf8-from_IsUtf8}
 use Rattle.std.proofs.lemmas.Slice.Eq.{bytes_eq-Decides}
+use Rattle.zmtp_wire.proofs.ShakenLemmas.{is_true, true_is}
 use Rattle.jsign.specs.Hmac as hmac
 use Rattle.jtext.specs.declared.json.Json.{Json}
 use Rattle.jtext.specs.Look.{is_object, string_at}
@@ -11,7 +12,7 @@ use Rattle.jtext.specs.Reading.{document_at}
 use Rattle.jtext.proofs.Documents.{document_complete, document_spells}
 use Rattle.jmsg.specs.Dictionary.{IsDictionary}
 use Rattle.jmsg.specs.Header.{header_of}
-use Rattle.jmsg.specs.Signed.{delimiter, AreRouting, Follow, Frames, Give, Signed, Decodes}
+use Rattle.jmsg.specs.Signed.{delimiter, AreRouting, Follow, Give, Signed, Decodes}
 use Rattle.jmsg.specs.Decoding.{object_read, dictionary_in, after_delimiter, message_of, message_given, json_verdict, frames_verdict, parts_verdict, verdict_on, message_in, decoded}
 use Rattle.jmsg.specs.declared.header.Header.{Header}
 use Rattle.jmsg.specs.declared.message.Message.{Message}
@@ -22,12 +23,6 @@ use Rattle.jmsg.proofs.MessageLemmas.{built, same_message, same_some, none_some}
 use Rattle.jmsg.proofs.VerdictLemmas.{framed, only_no_delimiter, only_short, only_unsigned, only_not_json, only_good}
 
 -- ---- dictionaries
-
-truth : (b : Bool) → IsTrue b → b ≡ true
-truth b h = search rules
-
-true_so : (b : Bool) → b ≡ true → IsTrue b
-true_so b h = search rules
 
 object_chosen : (b : Bool) (t u : Json) → cond b (Some t) None ≡ Some u → (b ≡ true) × (t ≡ u)
 object_chosen true t u e = (refl, same_some t u (Some t) refl e)
@@ -43,14 +38,14 @@ unfolding dictionary_in
 dictionary_sound b t h =
     let k = object_by (is_utf8 b) (document_at 100 b) t h in
     let s = document_spells 100 b b t refl (IsUtf8-from_is_utf8 b k.0) k.1 in
-    record { spelled = s.0; object = true_so (is_object t) k.2; nests = s.1 }
+    record { spelled = s.0; object = true_is (is_object t) k.2; nests = s.1 }
 
 pub dictionary_complete : (b : List ℕ) (t : Json) → IsDictionary t b → dictionary_in b ≡ Some t
 unfolding dictionary_in
 dictionary_complete b t d =
     ap (object_read (is_utf8 b)) (document_complete t b 100 d.spelled d.nests)
     ∙ ap (λ x. cond (x && is_object t) (Some t) None) (is_utf8-from_IsUtf8 b d.spelled.utf8)
-    ∙ ap (λ x. cond x (Some t) None) (truth (is_object t) d.object)
+    ∙ ap (λ x. cond x (Some t) None) (is_true (is_object t) d.object)
 
 -- ---- the message of frames
 

@@ -1,5 +1,5 @@
 -- Lemmas on the dictionary of a header.
-use Rattle.std.proofs.Common.{◌≡◌, ◌≢◌, ℕ, ◌≤◌, ◌<◌, zero, suc, nat_lt, get_or, lit<, Bool, ◌&&◌, true, false, List, [], ◌∷◌, codes, Option, Some, None, refl, ◌∙◌, ap, rules, arith}
+use Rattle.std.proofs.Common.{◌≡◌, ◌≢◌, ℕ, ◌≤◌, ◌<◌, zero, suc, nat_lt, get_or, lit<, true, false, List, [], ◌∷◌, codes, Option, Some, None, refl, ◌∙◌, ap, arith}
 use Rattle.std.specs.List.{AllByRecursion, list_all}
 use Rattle.std.specs.Option.{IfSome, unwrap_or}
 use Rattle.std.specs.Prelude.{option_and_then}
@@ -15,10 +15,10 @@ use Rattle.jtext.specs.Keyed as keyed
 use Rattle.jtext.specs.Keyed.{Keyed, PairsKeyed}
 use Rattle.jtext.specs.Sound as sound
 use Rattle.jtext.specs.Sound.{Sound, PairsSound}
-use Rattle.jtext.specs.declared.json.Json.{Json, out-Json, the_lemmas}
-use Rattle.jtext.specs.declared.json.Json.TheOpen.{Json-F}
+use Rattle.jtext.specs.declared.json.Json.{Json}
 use Rattle.jtext.specs.declared.json.Json.TheVariants as json
 use Rattle.jtext.specs.Look.{is_object_layer, string, string_at, string_layer}
+use Rattle.jtext.proofs.Trees.{open_Obj, open_Str}
 use Rattle.jmsg.specs.Header.{text_pair, pairs_of, tree_of, header_of, header_named, header_typed}
 use Rattle.jmsg.specs.Encoded.{AreTexts, IsSendableTree}
 use Rattle.jmsg.specs.declared.header.Header.{Header}
@@ -28,17 +28,11 @@ header i s u d t v = record { msg_id = i; session = s; username = u; date = d; m
 
 -- ---- what is read is what was written
 
-out-Obj : (ps : List (List ℕ × Json)) → out-Json (json.Obj ps) ≡ Json-F.Obj ps
-out-Obj ps = search (rules, the_lemmas)
-
-out-Str : (s : List ℕ) → out-Json (json.Str s) ≡ Json-F.Str s
-out-Str s = search (rules, the_lemmas)
-
 at : (ps : List (List ℕ × Json)) (key s : List ℕ) → find key ps ≡ Some (json.Str s) → string_at (json.Obj ps) key ≡ Some s
-at ps key s found = ap (λ r. (option_and_then string) (find key (fields_of r))) (out-Obj ps) ∙ ap (option_and_then string) found ∙ ap string_layer (out-Str s)
+at ps key s found = ap (λ r. (option_and_then string) (find key (fields_of r))) (open_Obj ps) ∙ ap (option_and_then string) found ∙ ap string_layer (open_Str s)
 
 none_at : (ps : List (List ℕ × Json)) (key : List ℕ) → find key ps ≡ None → string_at (json.Obj ps) key ≡ None
-none_at ps key found = ap (λ r. (option_and_then string) (find key (fields_of r))) (out-Obj ps) ∙ ap (option_and_then string) found
+none_at ps key found = ap (λ r. (option_and_then string) (find key (fields_of r))) (open_Obj ps) ∙ ap (option_and_then string) found
 
 abbrev with_texts : List ℕ → List ℕ → Option (List ℕ) → Option (List ℕ) → Option (List ℕ) → Option (List ℕ) → Option Header
 with_texts i t s u d v = Some (header i (unwrap_or s []) (unwrap_or u []) d t (unwrap_or v []))
@@ -77,7 +71,7 @@ pairs_flat i s u (Some d) t v = (at_most i, (at_most s, (at_most u, (at_most d, 
 
 -- ---- its keys are distinct
 
-apart : (a b : List ℕ) → bytes_eq a b ≡ false → a ≢ b
+pub apart : (a b : List ℕ) → bytes_eq a b ≡ false → a ≢ b
 apart a b h e = let same = (bytes_eq-Decides a b).1 e in cc
 
 distinct : (i s u : List ℕ) (d : Option (List ℕ)) (t v : List ℕ) → Distinct (pairs_of (header i s u d t v))
@@ -107,7 +101,7 @@ pairs_sound i s u (Some d) t v ui us uu ud ut uv = sound_text (codes "msg_id") i
 
 pub header_sendable : (h : Header) → AreTexts h → IsSendableTree (tree_of h)
 header_sendable h a = record {
-  object = ap is_object_layer (out-Obj (pairs_of h));
+  object = ap is_object_layer (open_Obj (pairs_of h));
   keyed = keyed.object (pairs_of h) (pairs_keyed h.msg_id h.session h.username h.date h.msg_type h.version) (distinct h.msg_id h.session h.username h.date h.msg_type h.version);
   nests = flat (pairs_of h) (pairs_flat h.msg_id h.session h.username h.date h.msg_type h.version);
   sound = sound.object (pairs_of h) (pairs_sound h.msg_id h.session h.username h.date h.msg_type h.version a.msg_id a.session a.username a.date a.msg_type a.version);

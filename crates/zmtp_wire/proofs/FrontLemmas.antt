@@ -2,7 +2,7 @@
 use Rattle.std.proofs.Common.{◌≡◌, ◌≢◌, ℕ, suc, ◌+◌, ◌≤◌, ◌<◌, ◌^◌, Bool, true, false, nat_lt}
 use Rattle.std.proofs.Common.{nat_eq, List, [], ◌∷◌, ◌++◌, length, take, drop, refl, ap, sym, ◌∙◌}
 use Rattle.std.proofs.Common.{arith, length-append, append_assoc, subst, ◌&&◌}
-use Rattle.std.proofs.lemmas.Bool.{and_parts}
+use Rattle.std.proofs.lemmas.Bool.{and_parts, ltb-true, ltb-false, eqb-true}
 use Rattle.std.proofs.lemmas.Bool.Decides.{nat_tests}
 use Rattle.zmtp_wire.specs.declared.role.Role.{Role}
 use Rattle.zmtp_wire.specs.declared.fault.WireFault.{WireFault}
@@ -16,7 +16,7 @@ use Rattle.zmtp_wire.specs.Stream.{Item, command, item_of, Heads, Spells, Come, 
 use Rattle.zmtp_wire.specs.Stream.{greeting, ready, unit, open_after, Wrong, IsPart, Passes, room_for, room_after}
 use Rattle.zmtp_wire.specs.Stream as W
 use Rattle.zmtp_wire.proofs.ListLemmas.{take_front, drop_front, take_drop, len_take, take_more_same, drop_more_same}
-use Rattle.zmtp_wire.proofs.ListLemmas.{one_more, is_less, is_not_less, same_number}
+use Rattle.zmtp_wire.proofs.ListLemmas.{one_more}
 use Rattle.zmtp_wire.proofs.ListLemmas.{some_of_len, len_of_some, nil_of_len}
 use Rattle.zmtp_wire.proofs.OutcomeLemmas.{begins}
 use Rattle.zmtp_wire.proofs.TurnLemmas.{Fills, fill_size, fill_body, Shape, item_command}
@@ -138,8 +138,8 @@ later_passes role g items f r h = λ k c w. later_passes_at role g items f r h (
 -- ---- unfinished units
 
 fills_on : (f : ℕ) (r : List ℕ) (b : Bool) → nat_lt (length r) (size_len f) ≡ b → Shape f r → Fills f r
-fills_on f r true e s = fill_size f r s.allowed (is_less _ _ e)
-fills_on f r false e s = let k = is_not_less _ _ e in fill_body f r s.allowed k (s.within k)
+fills_on f r true e s = fill_size f r s.allowed (ltb-true _ _ e)
+fills_on f r false e s = let k = ltb-false _ _ e in fill_body f r s.allowed k (s.within k)
 
 fills : (f : ℕ) (r : List ℕ) → Shape f r → Fills f r
 fills f r s = fills_on f r _ refl s
@@ -227,7 +227,7 @@ pub too_many_wrong : (role : Role) (g : List ℕ) (items : List Item) (f : ℕ) 
     → Wrong role (shaken g items) (f ∷ []) cause.TooMany
 too_many_wrong role g items f frames o e =
     let k = and_parts (is_more f) (nat_eq (length frames) 63) e in
-    let n : length (open_after [] items) ≡ 63 = ap length o ∙ same_number (length frames) 63 k.1 in
+    let n : length (open_after [] items) ≡ 63 = ap length o ∙ eqb-true (length frames) 63 k.1 in
     W.too_many g items f k.0 n
 
 -- ---- a size, and what follows it

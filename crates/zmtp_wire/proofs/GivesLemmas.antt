@@ -1,5 +1,6 @@
 -- What octets give is what the machine reads.
 use Rattle.std.proofs.Common.{◌≡◌, ℕ, ◌<◌, List, [], ◌++◌, length, Ok, Err, Bool, None, Some, refl, ap, sym, ◌∙◌, arith, append-nil, subst}
+use Rattle.std.proofs.lemmas.Bool.{cond-false, cond-true, le-ltb, lt-ltb}
 use Rattle.zmtp_wire.specs.declared.role.Role.{Role}
 use Rattle.zmtp_wire.specs.declared.fault.WireFault.{WireFault}
 use Rattle.zmtp_wire.specs.declared.decoder.Decoder.{Decoder}
@@ -7,7 +8,6 @@ use Rattle.zmtp_wire.specs.Greeting.{newer_of, speaks}
 use Rattle.zmtp_wire.specs.Stream.{Come, nothing, greeted, shaken, Gives, stream, broken}
 use Rattle.zmtp_wire.specs.Machine.{Took, ticks, run, reading, GrowsBy}
 use Rattle.zmtp_wire.specs.Decoder.{StandsFor, Answer, answer_in, Brings, BringsSome}
-use Rattle.zmtp_wire.proofs.ListLemmas.{less, not_less, pick_true, pick_false}
 use Rattle.zmtp_wire.proofs.StepLemmas.{state_of}
 use Rattle.zmtp_wire.proofs.FeedLemmas.{fed, run-refused}
 use Rattle.zmtp_wire.proofs.OutcomeLemmas.{reads, breaks, outcome, stream_reads, broken_reads}
@@ -97,7 +97,7 @@ refused-brings d b piece given old e h s =
 -- ---- the version
 
 pub newer_none : (at : ℕ) (b : List ℕ) → at ≡ ticks 0 (length b) → at < 12 → None ≡ newer_of b
-newer_none at b e h = sym (pick_true _ _ _ (less (length b) 12 (omega arith)))
+newer_none at b e h = sym (cond-true _ _ _ (lt-ltb (length b) 12 (omega arith)))
 
 pub newer_some : (at major minor : ℕ) (b : List ℕ) (r : Bool) → at ≡ ticks 0 (length b) → (at < 12 → ⊥) → r ≡ speaks b → Some r ≡ newer_of b
-newer_some at major minor b r e h s = ap Some s ∙ sym (pick_false _ _ _ (not_less (length b) 12 (omega arith)))
+newer_some at major minor b r e h s = ap Some s ∙ sym (cond-false _ _ _ (le-ltb (length b) 12 (omega arith)))

@@ -2,12 +2,13 @@
 use Rattle.std.proofs.Common.{◌≡◌, ℕ, zero, suc, ◌+◌, ◌≤◌, Bool, true, false, cond, nat_lt, nat_eq, List, [], ◌∷◌, ◌++◌, length, take, drop, Option, None, Some, refl, ap, sym, ◌∙◌, arith, length-append, subst}
 use Rattle.std.specs.List.{starts_with}
 use Rattle.std.specs.Int.{w32, from_be_bytes}
+use Rattle.std.proofs.lemmas.Bool.{cond-false, ltb-false}
 use Rattle.zmtp_wire.specs.declared.role.Role.{Role}
 use Rattle.zmtp_wire.specs.declared.cause.Cause.{Cause}
 use Rattle.zmtp_wire.specs.declared.cause.Cause.TheVariants as cause
 use Rattle.zmtp_wire.specs.Command.{Property, SpellsProperties, none, one, SpellsNone, WrongReady, refused, unnamed, malformed, stranger, error_name, ready_name, is_peer, socket_type}
 use Rattle.zmtp_wire.specs.Machine.{with_property, properties_in, properties, ready_cause, handshake_cause}
-use Rattle.zmtp_wire.proofs.ListLemmas.{take_front, drop_front, take_drop, len_take, len_drop, pick_false, is_not_less, same_start}
+use Rattle.zmtp_wire.proofs.ListLemmas.{take_front, drop_front, take_drop, len_take, len_drop, same_start}
 use Rattle.zmtp_wire.proofs.ReadyLemmas.{one_by_parts}
 
 -- ---- what properties spell is read
@@ -68,7 +69,7 @@ read_spells (suc steps) (n ∷ r) ps e =
     let k = read_on (nat_lt (length r) (n + 4)) (nat_lt (length (drop 4 (drop n r))) (from_be_bytes w32 (drop n r))) (take n r, take (from_be_bytes w32 (drop n r)) (drop 4 (drop n r)))
     (properties_in steps (drop (from_be_bytes w32 (drop n r)) (drop 4 (drop n r)))) ps e in
     let rest = read_spells steps (drop (from_be_bytes w32 (drop n r)) (drop 4 (drop n r))) k.2 k.3 in
-    subst (λ (x : List Property). SpellsProperties x (n ∷ r)) k.4 (one_property n r k.2 (is_not_less _ _ k.0) (is_not_less _ _ k.1) rest)
+    subst (λ (x : List Property). SpellsProperties x (n ∷ r)) k.4 (one_property n r k.2 (ltb-false _ _ k.0) (ltb-false _ _ k.1) rest)
 
 none_spelled : (octets : List ℕ) → properties octets ≡ None → SpellsNone octets
 none_spelled octets e = λ ps s. let k = sym e ∙ spelled_read ps octets s in absurd (cc)
@@ -108,6 +109,6 @@ cause_tells role body c h = tells_on role body c (starts_with nat_eq body error_
 -- where the grammar finds a cause, the machine does
 pub cause_told : (role : Role) (body : List ℕ) (c : Cause) → WrongReady role body c → handshake_cause role body ≡ Some c
 cause_told role _ _ (refused text) = refl
-cause_told role _ _ (unnamed body e f) = pick_false _ _ _ e ∙ pick_false _ _ _ f
+cause_told role _ _ (unnamed body e f) = cond-false _ _ _ e ∙ cond-false _ _ _ f
 cause_told role _ _ (malformed octets h) = ap (ready_cause role) (none_read octets h)
-cause_told role _ _ (stranger octets ps s h) = ap (ready_cause role) (spelled_read ps octets s) ∙ pick_false _ _ _ h
+cause_told role _ _ (stranger octets ps s h) = ap (ready_cause role) (spelled_read ps octets s) ∙ cond-false _ _ _ h

@@ -1,6 +1,6 @@
 -- Lists, lengths and tests.
-use Rattle.std.proofs.lemmas.Bool.{and_parts}
-use Rattle.std.proofs.Common.{◌≡◌, ◌≢◌, ℕ, zero, suc, ◌+◌, ◌≤◌, ◌<◌, Bool, true, false, cond, nat_lt, nat_eq, List, [], ◌∷◌, ◌++◌, length, take, drop, refl, ap, sym, ◌∙◌, arith, length-append, append-nil}
+use Rattle.std.proofs.lemmas.Bool.{and_parts, eqb-true}
+use Rattle.std.proofs.Common.{◌≡◌, ◌≢◌, ℕ, zero, suc, ◌+◌, ◌≤◌, ◌<◌, true, nat_eq, List, [], ◌∷◌, ◌++◌, length, take, drop, refl, ap, sym, ◌∙◌, arith, length-append, append-nil}
 use Rattle.std.proofs.lemmas.Bool.Decides.{nat_tests}
 use Rattle.std.specs.Prelude.{eqb}
 use lib.Pointwise.{pointwise}
@@ -37,20 +37,6 @@ pub nil_of_len : (m : List ℕ) → length m ≡ 0 → m ≡ []
 nil_of_len [] h = refl
 nil_of_len (x ∷ m) h = absurd (omega arith)
 
-pub not_less : (a b : ℕ) → b ≤ a → nat_lt a b ≡ false
-not_less a b h = grind (arith, nat_tests)
-
-pub less : (a b : ℕ) → a < b → nat_lt a b ≡ true
-less a b h = grind (arith, nat_tests)
-
-pub pick_false : {A : Type 0} (b : Bool) (x y : A) → b ≡ false → cond b x y ≡ y
-pick_false true x y p = absurd (cc)
-pick_false false x y p = refl
-
-pub pick_true : {A : Type 0} (b : Bool) (x y : A) → b ≡ true → cond b x y ≡ x
-pick_true true x y p = refl
-pick_true false x y p = absurd (cc)
-
 pub one_more : (r : List ℕ) (x : ℕ) → length (r ++ x ∷ []) ≡ length r + 1
 one_more r x = length-append r (x ∷ [])
 
@@ -59,20 +45,8 @@ drop_more_same zero r m h = refl
 drop_more_same (suc n) [] m h = absurd (omega arith)
 drop_more_same (suc n) (x ∷ r) m h = drop_more_same n r m (omega arith)
 
-pub is_less : (a b : ℕ) → nat_lt a b ≡ true → a < b
-is_less a b e = grind (arith, nat_tests)
-
-pub is_not_less : (a b : ℕ) → nat_lt a b ≡ false → b ≤ a
-is_not_less a b e = grind (arith, nat_tests)
-
-pub same_number : (a b : ℕ) → nat_eq a b ≡ true → a ≡ b
-same_number a b e = grind (arith, nat_tests)
-
 pub is_zero : (n : ℕ) → nat_eq n 0 ≡ true → n ≡ 0
 is_zero n e = grind (arith, nat_tests)
-
-pub not_zero : (n : ℕ) → nat_eq n 0 ≡ false → n ≢ 0
-not_zero n e = grind (arith, nat_tests)
 
 abbrev pub zeros : ℕ → List ℕ
 zeros zero = []
@@ -95,7 +69,7 @@ same_list [] (y ∷ b) e = absurd (cc)
 same_list (x ∷ a) [] e = absurd (cc)
 same_list (x ∷ a) (y ∷ b) e =
     let k = and_parts (eqb x y) (pointwise eqb a b) e in
-    let h : x ≡ y = same_number x y k.0 in
+    let h : x ≡ y = eqb-true x y k.0 in
     ap (λ z. z ∷ a) h ∙ ap (λ t. y ∷ t) (same_list a b k.1)
 
 pub full_take : (n : ℕ) (a : List ℕ) → length a ≡ n → take n a ≡ a

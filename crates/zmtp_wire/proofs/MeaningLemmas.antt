@@ -2,6 +2,7 @@
 use Rattle.std.proofs.Common.{◌≡◌, ℕ, ◌-◌, ◌≤◌, ◌<◌, Bool, true, false, cond, nat_lt, List, [], ◌∷◌, ◌++◌, length, drop, get_or}
 use Rattle.std.proofs.Common.{Option, None, Some, Ok, Err, refl, ap, sym, ◌∙◌, arith, length-append, append_assoc, append-nil, subst, ◌⊎◌, inl, inr, ◌↔◌}
 use Rattle.std.proofs.lemmas.List.{get_or_append_left}
+use Rattle.std.proofs.lemmas.Bool.{cond-false, le-ltb, ltb-false}
 use Rattle.zmtp_wire.specs.declared.role.Role.{Role}
 use Rattle.zmtp_wire.specs.declared.fault.WireFault.{WireFault}
 use Rattle.zmtp_wire.specs.declared.fault.WireFault.TheVariants as fault
@@ -14,7 +15,7 @@ use Rattle.zmtp_wire.specs.Stream.{Message, Context, Stream, Broken, IsShaken, G
 use Rattle.zmtp_wire.specs.Machine.{Took, run, reading, ticks}
 use Rattle.zmtp_wire.specs.Decoder.{Answer, StandsFor, Brings, answer_in, answer_of, rest_len}
 use Rattle.zmtp_wire.specs.Meaning.{messages_in, contexts_in, answer_to, is_shaken, rest_in, Place, fault_or, fault_after, fault_in, Begins, Adds}
-use Rattle.zmtp_wire.proofs.ListLemmas.{drop_front, is_not_less, not_less, pick_false}
+use Rattle.zmtp_wire.proofs.ListLemmas.{drop_front}
 use Rattle.zmtp_wire.proofs.FeedLemmas.{reading-append, run-refused}
 use Rattle.zmtp_wire.proofs.OutcomeLemmas.{reads, breaks, outcome, stream_reads, state_len}
 use Rattle.zmtp_wire.proofs.GivesLemmas.{gives_reading, gives_one}
@@ -102,13 +103,13 @@ speaks_kept b more h = ap (λ x. is_newer x (get_or (b ++ more) 11 0)) (version_
 
 newer_on : (short : Bool) (b : List ℕ) (newer : Bool) → nat_lt (length b) 12 ≡ short → cond short None (Some (speaks b)) ≡ Some newer → (12 ≤ length b) × (speaks b ≡ newer)
 newer_on true b newer e h = absurd (cc)
-newer_on false b newer e h = (is_not_less (length b) 12 e, cc)
+newer_on false b newer e h = (ltb-false (length b) 12 e, cc)
 
 pub newer_grows : (b more : List ℕ) (newer : Bool) → newer_of b ≡ Some newer → newer_of (b ++ more) ≡ Some newer
 newer_grows b more newer h =
     let k = newer_on (nat_lt (length b) 12) b newer refl h in
     let long : 12 ≤ length (b ++ more) = omega (arith, k.0, length-append b more) in
-    pick_false _ _ _ (not_less (length (b ++ more)) 12 long) ∙ ap Some (speaks_kept b more k.0 ∙ k.1)
+    cond-false _ _ _ (le-ltb (length (b ++ more)) 12 long) ∙ ap Some (speaks_kept b more k.0 ∙ k.1)
 
 -- ---- the first fault
 

@@ -1,5 +1,6 @@
 -- Each list of octets is a stream or broken, and in one way.
 use Rattle.std.proofs.Common.{◌≡◌, ℕ, zero, suc, ◌<◌, Bool, true, false, nat_lt, List, [], ◌∷◌, ◌++◌, length, take, refl, ap, sym, ◌∙◌, arith, length-append, append_assoc, append-nil, ◌⊎◌, inl, inr, subst}
+use Rattle.std.proofs.lemmas.Bool.{cond-false, cond-true, ltb-false}
 use Rattle.zmtp_wire.specs.declared.role.Role.{Role}
 use Rattle.zmtp_wire.specs.declared.fault.WireFault.{WireFault}
 use Rattle.zmtp_wire.specs.declared.cause.Cause.{Cause}
@@ -16,7 +17,7 @@ use Rattle.zmtp_wire.proofs.TurnLemmas.{wrong, whole, part, turn}
 use Rattle.zmtp_wire.proofs.WrongLemmas.{stops, no_snoc}
 use Rattle.zmtp_wire.proofs.FeedLemmas.{reading-append, run-failed, place_clips}
 use Rattle.zmtp_wire.proofs.StreamLemmas.{splits_as}
-use Rattle.zmtp_wire.proofs.ListLemmas.{len_drop, pick_false, pick_true, is_not_less, zeros, some_of_len}
+use Rattle.zmtp_wire.proofs.ListLemmas.{len_drop, zeros, some_of_len}
 
 -- no test fails where no octet stands
 no_octet : (role : Role) (come : Come) (q : List ℕ) (e : Cause) → Wrong role come q e → q ≡ [] → ⊥
@@ -196,8 +197,8 @@ one_fault b role e e' at at' ms ms' owed owed' k j =
     (cc, one_place at at' (not_later b role e e' at at' ms ms' owed owed' k j) (not_later b role e' e at' at ms' ms owed' owed j k), sym r.1 ∙ s.1, sym r.2 ∙ s.2)
 
 unit_len_on : (f : ℕ) (r : List ℕ) (b : Bool) → nat_lt (length r) (size_len f) ≡ b → open_len (unit_at (f ∷ r)) ≡ length (f ∷ r)
-unit_len_on f r true h = ap open_len (pick_true _ _ _ h) ∙ omega arith
-unit_len_on f r false h = let k = is_not_less (length r) (size_len f) h in ap open_len (pick_false _ _ _ h) ∙ omega (arith, len_drop (size_len f) r k)
+unit_len_on f r true h = ap open_len (cond-true _ _ _ h) ∙ omega arith
+unit_len_on f r false h = let k = ltb-false (length r) (size_len f) h in ap open_len (cond-false _ _ _ h) ∙ omega (arith, len_drop (size_len f) r k)
 
 unit_len : (p : List ℕ) → open_len (unit_at p) ≡ length p
 unit_len [] = refl

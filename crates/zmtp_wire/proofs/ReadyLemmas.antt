@@ -1,13 +1,13 @@
 -- The loop over the properties of READY.
 use Rattle.std.proofs.Common.{◌≡◌, ℕ, zero, suc, ◌+◌, ◌≤◌, ◌<◌, Bool, true, false, cond, nat_lt, nat_eq, List, [], ◌∷◌, length, take, drop, Option, None, Some, refl, ap, sym, ◌∙◌, arith, length-drop, get_or}
-use Rattle.std.proofs.lemmas.Bool.Decides.{nat_tests}
 use Rattle.std.specs.Int.{w32, from_be_bytes}
+use Rattle.std.proofs.lemmas.Bool.{cond-true, le-ltb, lt-ltb}
 use Rattle.zmtp_wire.specs.declared.role.Role.{Role}
 use Rattle.zmtp_wire.specs.declared.cause.Cause.{Cause}
 use Rattle.zmtp_wire.specs.declared.cause.Cause.TheVariants as cause
 use Rattle.zmtp_wire.specs.Command.{Property, is_type_name, is_peer, socket_type}
 use Rattle.zmtp_wire.specs.Machine.{properties, properties_in, with_property, ready_cause, after_one}
-use Rattle.zmtp_wire.proofs.ListLemmas.{not_less, less, pick_true}
+use Rattle.zmtp_wire.proofs.ListLemmas.{is_zero}
 
 abbrev pub found_or : Option Bool → Bool → Bool
 found_or None b = b
@@ -55,16 +55,16 @@ properties-one n r p q =
     let len = from_be_bytes w32 (drop n r) in
     let next : List ℕ = drop len (drop 4 (drop n r)) in
     let short : length next ≤ length r = omega (arith, length-drop len (drop 4 (drop n r)), length-drop 4 (drop n r), length-drop n r) in
-    pick_past _ None _ _ (not_less _ _ p) (pick_past _ None _ _ (not_less _ _ q)
+    pick_past _ None _ _ (le-ltb _ _ p) (pick_past _ None _ _ (le-ltb _ _ q)
     (ap (with_property (take n r, take len (drop 4 (drop n r)))) (steps_enough (length r) (length next) next short (omega arith))))
 
 pub properties-short : (n : ℕ) (r : List ℕ) → length r < n + 4 → properties (n ∷ r) ≡ None
 unfolding properties_in
-properties-short n r p = pick_true _ None _ (less _ _ p)
+properties-short n r p = cond-true _ None _ (lt-ltb _ _ p)
 
 pub properties-cut : (n : ℕ) (r : List ℕ) → n + 4 ≤ length r → length (drop 4 (drop n r)) < from_be_bytes w32 (drop n r) → properties (n ∷ r) ≡ None
 unfolding properties_in
-properties-cut n r p q = pick_past _ None _ None (not_less _ _ p) (pick_true _ None _ (less _ _ q))
+properties-cut n r p q = pick_past _ None _ None (le-ltb _ _ p) (cond-true _ None _ (lt-ltb _ _ q))
 
 pub one_by_parts : (octets first rr name after rest value next : List ℕ) (n len : ℕ) → octets ≡ n ∷ rr → n + 4 ≤ length rr → name ≡ take n rr → after ≡ drop n rr → rest ≡ drop 4 after
     → len ≡ from_be_bytes w32 after → len ≤ length rest → value ≡ take len rest → next ≡ drop len rest
@@ -87,14 +87,11 @@ cut_by_parts octets rr after rest n len e h af re le w =
     let w' : length (drop 4 (drop n rr)) < from_be_bytes w32 (drop n rr) = rw (← af, ← re, ← le) w in
     ap properties e ∙ properties-cut n rr h w'
 
-zero_len : (n : ℕ) → nat_eq n 0 ≡ true → n ≡ 0
-zero_len n e = grind (arith, nat_tests)
-
 at_end : (r : Role) (fits : Option Bool) (rest : List ℕ) (z : Option Cause) → nat_eq (length rest) 0 ≡ true → verdict r fits (properties rest) ≡ z
     → cond (found_or fits false) None (Some cause.WrongPeer) ≡ z
 unfolding properties_in
 at_end r fits [] z e v = v
-at_end r fits (x ∷ rest) z e v = let k = zero_len _ e in absurd (omega arith)
+at_end r fits (x ∷ rest) z e v = let k = is_zero _ e in absurd (omega arith)
 
 pub end_true : (r : Role) (fits : Option Bool) (rest : List ℕ) (z : Option Cause) (b : Bool) → nat_eq (length rest) 0 ≡ true → verdict r fits (properties rest) ≡ z → fits ≡ Some b → b ≡ true → None ≡ z
 end_true r fits rest z b e v f t = sym (ap (λ x. cond (found_or x false) None (Some cause.WrongPeer)) (f ∙ ap Some t)) ∙ at_end r fits rest z e v

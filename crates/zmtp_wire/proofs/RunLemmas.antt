@@ -9,6 +9,7 @@ use Rattle.zmtp_wire.specs.declared.state.Phase.TheVariants.{Handshake, Traffic}
 use Rattle.zmtp_wire.specs.declared.state.Open.TheVariants.{Body}
 use Rattle.zmtp_wire.specs.Frame.{is_command}
 use Rattle.zmtp_wire.specs.Machine.{GrowsBy, Took, before, quiet, tick, ticks, step, run, body_step, is_error}
+use Rattle.zmtp_wire.proofs.ListLemmas.{is_zero}
 
 tick_ticks : (at n : ℕ) → ticks (tick at) n ≡ ticks at (n + 1)
 tick_ticks at n = omega arith
@@ -124,11 +125,8 @@ goes_done all left s old out owed_old owed g e =
 pub goes_starved : (all left : Took) (old out out' : List (List (List ℕ))) (owed_old owed : List (List ℕ)) → Goes all left old out owed_old owed → out' ≡ out → GrowsBy old out' all.messages
 goes_starved all left old out out' owed_old owed g e = record { more = g.more; left = left.messages; grown = e ∙ g.grown; first = g.messages }
 
-zero_len : (n : ℕ) → nat_eq n 0 ≡ true → n ≡ 0
-zero_len n e = grind (arith, nat_tests)
-
 -- nothing is left
 pub run-done : (r : Role) (at : ℕ) (s : State) (rest : List ℕ) → nat_eq (length rest) 0 ≡ true → run r at s rest ≡ quiet s
 unfolding run
 run-done r at s [] e = refl
-run-done r at s (x ∷ rest) e = let k = zero_len _ e in absurd (omega arith)
+run-done r at s (x ∷ rest) e = let k = is_zero _ e in absurd (omega arith)

@@ -1,5 +1,6 @@
 -- The states of the machine as parts of units, and one step on them.
 use Rattle.std.proofs.Common.{◌≡◌, ℕ, ◌+◌, ◌≤◌, ◌<◌, Bool, true, false, cond, nat_lt, List, [], ◌∷◌, ◌++◌, length, take, drop, ap, sym, ◌∙◌, arith, append-nil}
+use Rattle.std.proofs.lemmas.Bool.{cond-false, cond-true, le-ltb, lt-ltb}
 use Rattle.zmtp_wire.specs.declared.role.Role.{Role}
 use Rattle.zmtp_wire.specs.declared.cause.Cause.{Cause}
 use Rattle.zmtp_wire.specs.Fault.{fault_at}
@@ -13,7 +14,7 @@ use Rattle.zmtp_wire.specs.Frame.{size_len, size_of}
 use Rattle.zmtp_wire.specs.Greeting.{speaks}
 use Rattle.zmtp_wire.specs.Machine.{quiet, unit_step, size_step, body_step}
 use Rattle.zmtp_wire.specs.Stream.{Come, nothing, greeted, shaken, open_after}
-use Rattle.zmtp_wire.proofs.ListLemmas.{take_front, drop_front, take_more_same, not_less, less, pick_false, pick_true, one_more, drop_more_same}
+use Rattle.zmtp_wire.proofs.ListLemmas.{take_front, drop_front, take_more_same, one_more, drop_more_same}
 
 abbrev pub unit_at : List ℕ → Open
 unit_at [] = Fresh
@@ -36,10 +37,10 @@ failure_after come at c = Failed (is_past come) (fault_at at c)
 
 -- what stands open, where the size isn't whole, and where it is
 pub at_size : (f : ℕ) (r : List ℕ) → length r < size_len f → unit_at (f ∷ r) ≡ Size f r
-at_size f r h = pick_true _ _ _ (less _ _ h)
+at_size f r h = cond-true _ _ _ (lt-ltb _ _ h)
 
 pub at_body : (f : ℕ) (r : List ℕ) → size_len f ≤ length r → unit_at (f ∷ r) ≡ Body f (size_of (take (size_len f) r)) (drop (size_len f) r)
-at_body f r h = pick_false _ _ _ (not_less _ _ h)
+at_body f r h = cond-false _ _ _ (le-ltb _ _ h)
 
 -- the octets of a size that is whole now
 pub at_whole_size : (f : ℕ) (r : List ℕ) → length r ≡ size_len f → unit_at (f ∷ r) ≡ Body f (size_of r) []
@@ -58,13 +59,13 @@ pub step_size : (role : Role) (at : ℕ) (phase : Phase) (f : ℕ) (r : List ℕ
     → unit_step role at phase (unit_at (f ∷ r)) x ≡ quiet (Units phase (unit_at (f ∷ (r ++ x ∷ []))))
 step_size role at phase f r x h =
     let longer : length (r ++ x ∷ []) < size_len f = omega (arith, one_more r x) in
-    ap (λ u. unit_step role at phase u x) (at_size f r (omega arith)) ∙ pick_true _ _ _ (less _ _ longer) ∙ ap (λ u. quiet (Units phase u)) (sym (at_size f (r ++ x ∷ []) longer))
+    ap (λ u. unit_step role at phase u x) (at_size f r (omega arith)) ∙ cond-true _ _ _ (lt-ltb _ _ longer) ∙ ap (λ u. quiet (Units phase u)) (sym (at_size f (r ++ x ∷ []) longer))
 
 pub step_size_end : (role : Role) (at : ℕ) (phase : Phase) (f : ℕ) (r : List ℕ) (x : ℕ) → length r + 1 ≡ size_len f
     → unit_step role at phase (unit_at (f ∷ r)) x ≡ size_step role at phase f (size_of (r ++ x ∷ []))
 step_size_end role at phase f r x h =
     let whole : size_len f ≤ length (r ++ x ∷ []) = omega (arith, one_more r x) in
-    ap (λ u. unit_step role at phase u x) (at_size f r (omega arith)) ∙ pick_false _ _ _ (not_less _ _ whole)
+    ap (λ u. unit_step role at phase u x) (at_size f r (omega arith)) ∙ cond-false _ _ _ (le-ltb _ _ whole)
 
 pub step_body : (role : Role) (at : ℕ) (phase : Phase) (f : ℕ) (r : List ℕ) (x : ℕ) → size_len f ≤ length r
     → unit_step role at phase (unit_at (f ∷ r)) x ≡ body_step role at phase f (size_of (take (size_len f) r)) (drop (size_len f) r ++ x ∷ [])

@@ -1,5 +1,5 @@
 -- One octet more: a test fails, or something is whole, or a part has grown.
-use Rattle.std.proofs.lemmas.Bool.{and_parts}
+use Rattle.std.proofs.lemmas.Bool.{and_parts, cond-false, cond-true, ltb-true, ltb-false, eqb-true, eqb-false}
 use Rattle.std.proofs.Common.{◌≡◌, ◌≢◌, ℕ, zero, suc, ◌+◌, ◌-◌, ◌≤◌, ◌<◌, Bool, true, false, cond, nat_lt, nat_eq, List, [], ◌∷◌, ◌++◌, length, take, drop, Option, None, Some, refl, ap, sym, ◌∙◌, arith, length-append, append_assoc, append-nil, ◌⊎◌, inl, inr, subst, ◌&&◌}
 use Rattle.std.proofs.lemmas.Bool.Decides.{nat_tests}
 use Rattle.std.specs.Prelude.{sum_by, fold}
@@ -19,7 +19,7 @@ use Rattle.zmtp_wire.specs.Stream as W
 use Rattle.zmtp_wire.proofs.UnitLemmas.{cells-of}
 use Rattle.zmtp_wire.proofs.HandshakeLemmas.{cause_tells}
 use Rattle.zmtp_wire.proofs.StepLemmas.{unit_at, state_of, failure_after, at_size, at_whole_size, at_longer_body, step_size, step_size_end, step_body}
-use Rattle.zmtp_wire.proofs.ListLemmas.{take_front, drop_front, take_drop, len_take, take_more_same, pick_false, pick_true, one_more, drop_more_same, is_less, is_not_less, same_number, is_zero, not_zero, zeros, len_zeros, some_of_len, len_of_some, same_list, full_take}
+use Rattle.zmtp_wire.proofs.ListLemmas.{take_front, drop_front, take_drop, len_take, take_more_same, one_more, drop_more_same, is_zero, zeros, len_zeros, some_of_len, len_of_some, same_list, full_take}
 
 pub data Turn (role : Role) (at : ℕ) (come : Come) (q : List ℕ) (t : Took) : Type 0 where
   wrong : (c : Cause) → Wrong role come q c → t ≡ quiet (failure_after come at c) → Turn role at come q t
@@ -106,7 +106,7 @@ pub command_of : (body : List ℕ) (f : ℕ) (r : List ℕ) → Spells (command 
 command_of body f r s = let c = cells-of (command body) f r s in not_frame (is_command f) (is_more f) body _ c.means
 
 pub item_command : (f : ℕ) (body : List ℕ) → is_command f ≡ true → item_of f body ≡ command body
-item_command f body e = pick_true _ _ _ e
+item_command f body e = cond-true _ _ _ e
 
 pub first_shape : (role : Role) (g : List ℕ) (f : ℕ) (r m : List ℕ) (next : Come) → m ≢ [] → Completes (greeted g) (f ∷ (r ++ m)) next → Shape f r × (is_command f ≡ true)
 first_shape role g f r m _ ne (ready _ _ body s) = (shape_of (command body) f r m ne s, command_of body f (r ++ m) s)
@@ -130,15 +130,15 @@ greeting_short p m _ ne (greeting _ e) = let k = len_of_some m ne in omega (arit
 
 greeting_on : (role : Role) (at : ℕ) (p : List ℕ) (x : ℕ) (a b : Bool) → length p < 64 → passes (length p) x ≡ a → nat_eq (length p) 63 ≡ b → Turn role at nothing (p ++ x ∷ []) (step role at (Greeting p) x)
 unfolding greeting_step
-greeting_on role at p x false b h e f = wrong (greeting_cause (length p)) (W.greeting p x h e) (ap quiet (pick_false _ _ _ e))
+greeting_on role at p x false b h e f = wrong (greeting_cause (length p)) (W.greeting p x h e) (ap quiet (cond-false _ _ _ e))
 greeting_on role at p x true true h e f =
     let k : length p ≡ 63 = grind (arith, nat_tests) in
-    whole (greeted (p ++ x ∷ [])) (greeting (p ++ x ∷ []) (omega (arith, one_more p x))) (pick_true _ _ _ e ∙ pick_true _ _ _ f) refl refl
+    whole (greeted (p ++ x ∷ [])) (greeting (p ++ x ∷ []) (omega (arith, one_more p x))) (cond-true _ _ _ e ∙ cond-true _ _ _ f) refl refl
 greeting_on role at p x true false h e f =
     let k : length p ≢ 63 = grind (arith, nat_tests) in
     let m = zeros (63 - length p) in
     let len : length m ≡ 63 - length p = len_zeros (63 - length p) in
-    part m (some_of_len m (omega arith)) (greeted ((p ++ x ∷ []) ++ m)) (greeting ((p ++ x ∷ []) ++ m) (omega (arith, one_more p x, length-append (p ++ x ∷ []) m))) (ap quiet (pick_true _ _ _ e ∙ pick_false _ _ _ f))
+    part m (some_of_len m (omega arith)) (greeted ((p ++ x ∷ []) ++ m)) (greeting ((p ++ x ∷ []) ++ m) (omega (arith, one_more p x, length-append (p ++ x ∷ []) m))) (ap quiet (cond-true _ _ _ e ∙ cond-false _ _ _ f))
 
 -- ---- whole units
 
@@ -182,16 +182,16 @@ finish_later_on : (role : Role) (at : ℕ) (g : List ℕ) (items : List Item) (q
     → Turn role at (shaken g items) q (finish role at (Traffic (speaks g) (open_after [] items)) f body)
 unfolding finish
 finish_later_on role at g items q body f true m s c e =
-    let i : item_of f body ≡ command body = pick_true _ _ _ c in
-    let t : finish role at (Traffic (speaks g) (open_after [] items)) f body ≡ record { state = Units (Traffic (speaks g) (open_after [] items)) Fresh; messages = command_messages role (speaks g) body; owed = command_contexts (speaks g) body } = pick_true (is_command f) _ _ c in
+    let i : item_of f body ≡ command body = cond-true _ _ _ c in
+    let t : finish role at (Traffic (speaks g) (open_after [] items)) f body ≡ record { state = Units (Traffic (speaks g) (open_after [] items)) Fresh; messages = command_messages role (speaks g) body; owed = command_contexts (speaks g) body } = cond-true (is_command f) _ _ c in
     finish_item role at g items q (command body) _ (subst (λ (x : Item). Spells x q) i s) (ap (λ (x : Took). x.state) t) (ap (λ (x : Took). x.messages) t ∙ sym (append-nil _)) (ap (λ (x : Took). x.owed) t ∙ sym (append-nil _))
 finish_later_on role at g items q body f false true s c e =
-    let i : item_of f body ≡ frame true body = pick_false _ _ _ c ∙ ap (λ m. frame m body) e in
-    let t = pick_false (is_command f) _ _ c ∙ pick_true _ _ _ e in
+    let i : item_of f body ≡ frame true body = cond-false _ _ _ c ∙ ap (λ m. frame m body) e in
+    let t = cond-false (is_command f) _ _ c ∙ cond-true _ _ _ e in
     finish_item role at g items q (frame true body) _ (subst (λ (x : Item). Spells x q) i s) (ap (λ (x : Took). x.state) t) (ap (λ (x : Took). x.messages) t) (ap (λ (x : Took). x.owed) t)
 finish_later_on role at g items q body f false false s c e =
-    let i : item_of f body ≡ frame false body = pick_false _ _ _ c ∙ ap (λ m. frame m body) e in
-    let t = pick_false (is_command f) _ _ c ∙ pick_false _ _ _ e in
+    let i : item_of f body ≡ frame false body = cond-false _ _ _ c ∙ ap (λ m. frame m body) e in
+    let t = cond-false (is_command f) _ _ c ∙ cond-false _ _ _ e in
     finish_item role at g items q (frame false body) _ (subst (λ (x : Item). Spells x q) i s) (ap (λ (x : Took). x.state) t) (ap (λ (x : Took). x.messages) t) (ap (λ (x : Took). x.owed) t)
 
 finish_later : (role : Role) (at : ℕ) (g : List ℕ) (items : List Item) (q body : List ℕ) (f : ℕ) → Spells (item_of f body) q → Turn role at (shaken g items) q (finish role at (Traffic (speaks g) (open_after [] items)) f body)
@@ -211,25 +211,25 @@ fresh f = at_size f [] (size_pos f)
 
 flag_first_on : (role : Role) (at : ℕ) (g : List ℕ) (x : ℕ) (a b : Bool) → is_allowed x ≡ a → is_command x ≡ b → Turn role at (greeted g) (x ∷ []) (quiet (flag_step at (Handshake (speaks g)) x))
 unfolding flag_step
-flag_first_on role at g x false b a c = wrong cause.Flags (W.flags_first g x a) (ap quiet (pick_false _ _ _ a))
-flag_first_on role at g x true false a c = wrong cause.Command (W.frame_first g x a c) (ap quiet (pick_true _ _ _ a ∙ pick_false _ _ _ c))
+flag_first_on role at g x false b a c = wrong cause.Flags (W.flags_first g x a) (ap quiet (cond-false _ _ _ a))
+flag_first_on role at g x true false a c = wrong cause.Command (W.frame_first g x a c) (ap quiet (cond-true _ _ _ a ∙ cond-false _ _ _ c))
 flag_first_on role at g x true true a c =
-    grown_first role at g x [] _ c (fill_size x [] a (size_pos x)) (ap quiet (pick_true _ _ _ a ∙ pick_true _ _ _ c ∙ ap (λ u. Units (Handshake (speaks g)) u) (sym (fresh x))))
+    grown_first role at g x [] _ c (fill_size x [] a (size_pos x)) (ap quiet (cond-true _ _ _ a ∙ cond-true _ _ _ c ∙ ap (λ u. Units (Handshake (speaks g)) u) (sym (fresh x))))
 
 flag_later_on : (role : Role) (at : ℕ) (g : List ℕ) (items : List Item) (x : ℕ) (a b c : Bool) → is_allowed x ≡ a → is_more x ≡ b → nat_eq (length (open_after [] items)) 63 ≡ c
     → Turn role at (shaken g items) (x ∷ []) (quiet (flag_step at (Traffic (speaks g) (open_after [] items)) x))
 unfolding flag_step
-flag_later_on role at g items x false b c a m l = wrong cause.Flags (W.flags g items x a) (ap quiet (pick_false _ _ _ a))
+flag_later_on role at g items x false b c a m l = wrong cause.Flags (W.flags g items x a) (ap quiet (cond-false _ _ _ a))
 flag_later_on role at g items x true true true a m l =
     let k : length (open_after [] items) ≡ 63 = grind (arith, nat_tests) in
     let both : (is_more x && nat_eq (length (open_after [] items)) 63) ≡ true = ap (λ b. b && nat_eq (length (open_after [] items)) 63) m ∙ l in
-    wrong cause.TooMany (W.too_many g items x m k) (ap quiet (pick_true _ _ _ a ∙ pick_true _ _ _ both))
+    wrong cause.TooMany (W.too_many g items x m k) (ap quiet (cond-true _ _ _ a ∙ cond-true _ _ _ both))
 flag_later_on role at g items x true true false a m l =
     let both : (is_more x && nat_eq (length (open_after [] items)) 63) ≡ false = ap (λ b. b && nat_eq (length (open_after [] items)) 63) m ∙ l in
-    grown_later role at g items x [] _ (fill_size x [] a (size_pos x)) (ap quiet (pick_true _ _ _ a ∙ pick_false _ _ _ both ∙ ap (λ u. Units (Traffic (speaks g) (open_after [] items)) u) (sym (fresh x))))
+    grown_later role at g items x [] _ (fill_size x [] a (size_pos x)) (ap quiet (cond-true _ _ _ a ∙ cond-false _ _ _ both ∙ ap (λ u. Units (Traffic (speaks g) (open_after [] items)) u) (sym (fresh x))))
 flag_later_on role at g items x true false c a m l =
     let both : (is_more x && nat_eq (length (open_after [] items)) 63) ≡ false = ap (λ b. b && nat_eq (length (open_after [] items)) 63) m in
-    grown_later role at g items x [] _ (fill_size x [] a (size_pos x)) (ap quiet (pick_true _ _ _ a ∙ pick_false _ _ _ both ∙ ap (λ u. Units (Traffic (speaks g) (open_after [] items)) u) (sym (fresh x))))
+    grown_later role at g items x [] _ (fill_size x [] a (size_pos x)) (ap quiet (cond-true _ _ _ a ∙ cond-false _ _ _ both ∙ ap (λ u. Units (Traffic (speaks g) (open_after [] items)) u) (sym (fresh x))))
 
 -- ---- sizes
 
@@ -268,7 +268,7 @@ empty_unit f o a h z =
 body_to_come : (f : ℕ) (o : List ℕ) → is_allowed f ≡ true → length o ≡ size_len f → nat_eq (size_of o) 0 ≡ false → Fills f o
 body_to_come f o a h z =
     let n = size_of o in
-    let ne : n ≢ 0 = not_zero n z in
+    let ne : n ≢ 0 = eqb-false n 0 z in
     let some : 0 < n = omega arith in
     let w : length (drop (size_len f) o) < size_of (take (size_len f) o) = rw (whole_len f o h, none_len f o h) some in
     fill_body f o a (omega arith) w
@@ -277,24 +277,24 @@ size_first_on : (role : Role) (at : ℕ) (g : List ℕ) (f : ℕ) (o : List ℕ)
     → nat_lt MOST (size_of o) ≡ a → nat_eq (size_of o) 0 ≡ b → Turn role at (greeted g) (f ∷ o) (size_step role at (Handshake (speaks g)) f (size_of o))
 unfolding size_step
 size_first_on role at g f o true b al c h e z =
-    wrong (cause.TooLong (size_of o)) (W.too_long_first g (f ∷ o) f o (record { spelled = refl; allowed = al; len = h }) (is_less MOST (size_of o) e)) (pick_true _ _ _ e)
+    wrong (cause.TooLong (size_of o)) (W.too_long_first g (f ∷ o) f o (record { spelled = refl; allowed = al; len = h }) (ltb-true MOST (size_of o) e)) (cond-true _ _ _ e)
 size_first_on role at g f o false true al c h e z =
     let zero_size : size_of o ≡ 0 = is_zero (size_of o) z in
     let s = subst (λ (i : Item). Spells i (f ∷ o)) (item_command f [] c) (empty_unit f o al h zero_size) in
-    subst (λ (t : Took). Turn role at (greeted g) (f ∷ o) t) (sym (pick_false _ _ _ e ∙ pick_true _ _ _ z)) (finish_first role at g (f ∷ o) [] f s)
+    subst (λ (t : Took). Turn role at (greeted g) (f ∷ o) t) (sym (cond-false _ _ _ e ∙ cond-true _ _ _ z)) (finish_first role at g (f ∷ o) [] f s)
 size_first_on role at g f o false false al c h e z =
-    grown_first role at g f o _ c (body_to_come f o al h z) (pick_false _ _ _ e ∙ pick_false _ _ _ z ∙ ap (λ u. quiet (Units (Handshake (speaks g)) u)) (sym (at_whole_size f o h)))
+    grown_first role at g f o _ c (body_to_come f o al h z) (cond-false _ _ _ e ∙ cond-false _ _ _ z ∙ ap (λ u. quiet (Units (Handshake (speaks g)) u)) (sym (at_whole_size f o h)))
 
 size_later_on : (role : Role) (at : ℕ) (g : List ℕ) (items : List Item) (f : ℕ) (o : List ℕ) (a b : Bool) → is_allowed f ≡ true → length o ≡ size_len f
     → nat_lt (room_in (Traffic (speaks g) (open_after [] items)) f) (size_of o) ≡ a → nat_eq (size_of o) 0 ≡ b → Turn role at (shaken g items) (f ∷ o) (size_step role at (Traffic (speaks g) (open_after [] items)) f (size_of o))
 unfolding size_step
 size_later_on role at g items f o true b al h e z =
-    let w : room_for (shaken g items) f < size_of o = subst (λ (n : ℕ). n < size_of o) (room_is g items f) (is_less _ (size_of o) e) in
-    wrong (cause.TooLong (size_of o)) (W.too_long g items (f ∷ o) f o (record { spelled = refl; allowed = al; len = h }) w) (pick_true _ _ _ e)
+    let w : room_for (shaken g items) f < size_of o = subst (λ (n : ℕ). n < size_of o) (room_is g items f) (ltb-true _ (size_of o) e) in
+    wrong (cause.TooLong (size_of o)) (W.too_long g items (f ∷ o) f o (record { spelled = refl; allowed = al; len = h }) w) (cond-true _ _ _ e)
 size_later_on role at g items f o false true al h e z =
-    subst (λ (t : Took). Turn role at (shaken g items) (f ∷ o) t) (sym (pick_false _ _ _ e ∙ pick_true _ _ _ z)) (finish_later role at g items (f ∷ o) [] f (empty_unit f o al h (is_zero (size_of o) z)))
+    subst (λ (t : Took). Turn role at (shaken g items) (f ∷ o) t) (sym (cond-false _ _ _ e ∙ cond-true _ _ _ z)) (finish_later role at g items (f ∷ o) [] f (empty_unit f o al h (is_zero (size_of o) z)))
 size_later_on role at g items f o false false al h e z =
-    grown_later role at g items f o _ (body_to_come f o al h z) (pick_false _ _ _ e ∙ pick_false _ _ _ z ∙ ap (λ u. quiet (Units (Traffic (speaks g) (open_after [] items)) u)) (sym (at_whole_size f o h)))
+    grown_later role at g items f o _ (body_to_come f o al h z) (cond-false _ _ _ e ∙ cond-false _ _ _ z ∙ ap (λ u. quiet (Units (Traffic (speaks g) (open_after [] items)) u)) (sym (at_whole_size f o h)))
 
 -- ---- bodies
 
@@ -322,19 +322,19 @@ body_first_on : (role : Role) (at : ℕ) (g : List ℕ) (f : ℕ) (r : List ℕ)
     → Turn role at (greeted g) (f ∷ (r ++ x ∷ [])) (body_step role at (Handshake (speaks g)) f (size_of (take (size_len f) r)) (drop (size_len f) r ++ x ∷ []))
 unfolding body_step
 body_first_on role at g f r x true s c h e =
-    grown_first role at g f (r ++ x ∷ []) _ c (more_body f r x s.allowed h (is_less _ _ e)) (pick_true _ _ _ e ∙ ap (λ u. quiet (Units (Handshake (speaks g)) u)) (sym (at_longer_body f r x h)))
+    grown_first role at g f (r ++ x ∷ []) _ c (more_body f r x s.allowed h (ltb-true _ _ e)) (cond-true _ _ _ e ∙ ap (λ u. quiet (Units (Handshake (speaks g)) u)) (sym (at_longer_body f r x h)))
 body_first_on role at g f r x false s c h e =
     let w = s.within h in
-    let k = is_not_less _ _ e in
+    let k = ltb-false _ _ e in
     let size : size_of (take (size_len f) r) ≡ length (drop (size_len f) r ++ x ∷ []) = omega (arith, one_more (drop (size_len f) r) x) in
     let spells = subst (λ (i : Item). Spells i (f ∷ (r ++ x ∷ []))) (item_command f (drop (size_len f) r ++ x ∷ []) c) (whole_body f r x s.allowed h size) in
-    subst (λ (t : Took). Turn role at (greeted g) (f ∷ (r ++ x ∷ [])) t) (sym (pick_false _ _ _ e)) (finish_first role at g (f ∷ (r ++ x ∷ [])) (drop (size_len f) r ++ x ∷ []) f spells)
+    subst (λ (t : Took). Turn role at (greeted g) (f ∷ (r ++ x ∷ [])) t) (sym (cond-false _ _ _ e)) (finish_first role at g (f ∷ (r ++ x ∷ [])) (drop (size_len f) r ++ x ∷ []) f spells)
 
 error_tells : (f : ℕ) (body : List ℕ) → (is_command f && nat_eq (length body) 6 && starts_with nat_eq body error_name) ≡ true → (is_command f ≡ true) × (body ≡ error_name)
 error_tells f body e =
     let k = and_parts (is_command f && nat_eq (length body) 6) (starts_with nat_eq body error_name) e in
     let j = and_parts (is_command f) (nat_eq (length body) 6) k.0 in
-    let six : length body ≡ 6 = same_number (length body) 6 j.1 in
+    let six : length body ≡ 6 = eqb-true (length body) 6 j.1 in
     (j.0, sym (same_list error_name (take 6 body) k.1 ∙ full_take 6 body six))
 
 body_later_on : (role : Role) (at : ℕ) (g : List ℕ) (items : List Item) (f : ℕ) (r : List ℕ) (x : ℕ) (b a : Bool) → Shape f r → size_len f ≤ length r
@@ -349,14 +349,14 @@ body_later_on role at g items f r x true a s h i e =
     let size : 6 ≤ size_of (take (size_len f) r) = omega (arith, one_more (drop (size_len f) r) x) in
     let text : (f ∷ (r ++ x ∷ [])) ≡ f ∷ (take (size_len f) r ++ error_name) =
     ap (λ t. f ∷ t) (ap (λ t. t ++ x ∷ []) (take_drop (size_len f) r) ∙ append_assoc (take (size_len f) r) (drop (size_len f) r) (x ∷ []) ∙ ap (λ t. take (size_len f) r ++ t) k.1) in
-    wrong cause.PeerError (W.peer_error g items (f ∷ (r ++ x ∷ [])) f (take (size_len f) r) (record { spelled = refl; allowed = s.allowed; len = len_take (size_len f) r h }) k.0 size text) (pick_true _ _ _ i)
+    wrong cause.PeerError (W.peer_error g items (f ∷ (r ++ x ∷ [])) f (take (size_len f) r) (record { spelled = refl; allowed = s.allowed; len = len_take (size_len f) r h }) k.0 size text) (cond-true _ _ _ i)
 body_later_on role at g items f r x false true s h i e =
-    grown_later role at g items f (r ++ x ∷ []) _ (more_body f r x s.allowed h (is_less _ _ e)) (pick_false _ _ _ i ∙ pick_true _ _ _ e ∙ ap (λ u. quiet (Units (Traffic (speaks g) (open_after [] items)) u)) (sym (at_longer_body f r x h)))
+    grown_later role at g items f (r ++ x ∷ []) _ (more_body f r x s.allowed h (ltb-true _ _ e)) (cond-false _ _ _ i ∙ cond-true _ _ _ e ∙ ap (λ u. quiet (Units (Traffic (speaks g) (open_after [] items)) u)) (sym (at_longer_body f r x h)))
 body_later_on role at g items f r x false false s h i e =
     let w = s.within h in
-    let k = is_not_less _ _ e in
+    let k = ltb-false _ _ e in
     let size : size_of (take (size_len f) r) ≡ length (drop (size_len f) r ++ x ∷ []) = omega (arith, one_more (drop (size_len f) r) x) in
-    subst (λ (t : Took). Turn role at (shaken g items) (f ∷ (r ++ x ∷ [])) t) (sym (pick_false _ _ _ i ∙ pick_false _ _ _ e))
+    subst (λ (t : Took). Turn role at (shaken g items) (f ∷ (r ++ x ∷ [])) t) (sym (cond-false _ _ _ i ∙ cond-false _ _ _ e))
     (finish_later role at g items (f ∷ (r ++ x ∷ [])) (drop (size_len f) r ++ x ∷ []) f (whole_body f r x s.allowed h size))
 
 -- ---- the turn

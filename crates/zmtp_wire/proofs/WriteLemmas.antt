@@ -21,11 +21,12 @@ use Rattle.zmtp_wire.proofs.StepLemmas.{is_past}
 use Rattle.std.proofs.lemmas.List.Sums.{sum_by-cons, sum_by_push}
 use Rattle.std.specs.Int.{w64, to_be_bytes}
 use Rattle.std.proofs.lemmas.Nat.{from_be_bytes-to_be_bytes_8}
+use Rattle.std.proofs.lemmas.Bool.{cond-false, cond-true, le-ltb, lt-ltb, eqb-true}
 use Rattle.zmtp_wire.specs.declared.role.Role.TheVariants as role
 use Rattle.zmtp_wire.proofs.OutcomeLemmas.{reads, breaks, outcome, stream_reads, broken_reads, state_len}
 use Rattle.zmtp_wire.proofs.TurnLemmas.{room_same, size_pos}
 use Rattle.zmtp_wire.proofs.FeedLemmas.{reading-append}
-use Rattle.zmtp_wire.proofs.ListLemmas.{nil_of_len, not_less, less, pick_false, pick_true, one_more, same_number, take_more_same}
+use Rattle.zmtp_wire.proofs.ListLemmas.{nil_of_len, one_more, take_more_same}
 
 -- reading b from s brings t, and goes on as the state of t
 abbrev Brings : Role → ℕ → State → List ℕ → List ℕ → Took → Type 0
@@ -36,12 +37,12 @@ run_body : (r : Role) (at : ℕ) (phase : Phase) (f size : ℕ) (had b : List �
 unfolding run body_step
 run_body r at phase f size had [] x c h w =
     let e = h (had ++ x ∷ []) [] (append-nil (had ++ x ∷ [])) in
-    let done : body_step r at phase f size (had ++ x ∷ []) ≡ finish r at phase f (had ++ x ∷ []) = pick_false _ _ _ e ∙ pick_false _ _ _ (not_less (length (had ++ x ∷ [])) size (omega (arith, one_more had x))) in
+    let done : body_step r at phase f size (had ++ x ∷ []) ≡ finish r at phase f (had ++ x ∷ []) = cond-false _ _ _ e ∙ cond-false _ _ _ (le-ltb (length (had ++ x ∷ [])) size (omega (arith, one_more had x))) in
     (at, (tick at, ap (λ t. before t (run r (tick at) t.state c)) done))
 run_body r at phase f size had (y ∷ b) x c h w =
     let same : (had ++ x ∷ []) ++ y ∷ b ≡ had ++ x ∷ y ∷ b = append_assoc had (x ∷ []) (y ∷ b) in
     let e = h (had ++ x ∷ []) (y ∷ b) same in
-    let grown : body_step r at phase f size (had ++ x ∷ []) ≡ quiet (Units phase (Body f size (had ++ x ∷ []))) = pick_false _ _ _ e ∙ pick_true _ _ _ (less (length (had ++ x ∷ [])) size (omega (arith, one_more had x))) in
+    let grown : body_step r at phase f size (had ++ x ∷ []) ≡ quiet (Units phase (Body f size (had ++ x ∷ []))) = cond-false _ _ _ e ∙ cond-true _ _ _ (lt-ltb (length (had ++ x ∷ [])) size (omega (arith, one_more had x))) in
     let k = run_body r (tick at) phase f size (had ++ x ∷ []) b y c (λ p q t. h p q (t ∙ same)) (omega (arith, one_more had x)) in
     (k.0, subst (λ (z : List ℕ). Brings r at (Units phase (Body f size had)) (x ∷ y ∷ b) c (finish r k.0 phase f z)) same (k.1.0, ap (λ t. before t (run r (tick at) t.state ((y ∷ b) ++ c))) grown ∙ k.1.1))
 
@@ -49,11 +50,11 @@ run_rest : (r : Role) (at : ℕ) (phase : Phase) (f : ℕ) (body c : List ℕ) �
     → (at' : ℕ) × (at'' : ℕ) × (before (size_step r at phase f (length body)) (run r (tick at) (size_step r at phase f (length body)).state (body ++ c)) ≡ before (finish r at' phase f body) (run r at'' (finish r at' phase f body).state c))
 unfolding size_step
 run_rest r at phase f [] c h w =
-    let done : size_step r at phase f 0 ≡ finish r at phase f [] = pick_false _ _ _ (not_less (room_in phase f) 0 (omega arith)) in
+    let done : size_step r at phase f 0 ≡ finish r at phase f [] = cond-false _ _ _ (le-ltb (room_in phase f) 0 (omega arith)) in
     (at, tick at, ap (λ t. before t (run r (tick at) t.state c)) done)
 run_rest r at phase f (x ∷ b) c h w =
     let z : nat_eq (length (x ∷ b)) 0 ≡ false = grind (arith, nat_tests) in
-    let open_body : size_step r at phase f (length (x ∷ b)) ≡ quiet (Units phase (Body f (length (x ∷ b)) [])) = pick_false _ _ _ (not_less (room_in phase f) (length (x ∷ b)) w) ∙ pick_false _ _ _ z in
+    let open_body : size_step r at phase f (length (x ∷ b)) ≡ quiet (Units phase (Body f (length (x ∷ b)) [])) = cond-false _ _ _ (le-ltb (room_in phase f) (length (x ∷ b)) w) ∙ cond-false _ _ _ z in
     let k = run_body r (tick at) phase f (length (x ∷ b)) [] b x c h (omega arith) in
     (k.0, k.1.0, ap (λ t. before t (run r (tick at) t.state ((x ∷ b) ++ c))) open_body ∙ k.1.1)
 
@@ -63,11 +64,11 @@ run_size : (r : Role) (at : ℕ) (phase : Phase) (f : ℕ) (had octets : List �
 unfolding run
 run_size r at phase f had [] x body c h w l s =
     let whole_size : unit_step r at phase (Size f had) x ≡ size_step r at phase f (length body) =
-    pick_false _ _ _ (not_less (length (had ++ x ∷ [])) (size_len f) (omega (arith, one_more had x))) ∙ ap (size_step r at phase f) s in
+    cond-false _ _ _ (le-ltb (length (had ++ x ∷ [])) (size_len f) (omega (arith, one_more had x))) ∙ ap (size_step r at phase f) s in
     let k = run_rest r at phase f body c h w in
     (k.0, k.1, ap (λ t. before t (run r (tick at) t.state (body ++ c))) whole_size ∙ k.2)
 run_size r at phase f had (y ∷ octets) x body c h w l s =
-    let grown : unit_step r at phase (Size f had) x ≡ quiet (Units phase (Size f (had ++ x ∷ []))) = pick_true _ _ _ (less (length (had ++ x ∷ [])) (size_len f) (omega (arith, one_more had x))) in
+    let grown : unit_step r at phase (Size f had) x ≡ quiet (Units phase (Size f (had ++ x ∷ []))) = cond-true _ _ _ (lt-ltb (length (had ++ x ∷ [])) (size_len f) (omega (arith, one_more had x))) in
     let k = run_size r (tick at) phase f (had ++ x ∷ []) octets y body c h w (omega (arith, one_more had x)) (ap size_of (append_assoc had (x ∷ []) (y ∷ octets)) ∙ s) in
     (k.0, k.1, ap (λ t. before t (run r (tick at) t.state ((y ∷ octets) ++ (body ++ c)))) grown ∙ k.2)
 
@@ -84,12 +85,12 @@ run_unit r at phase f x octets body c g h w l s =
 
 ready_fits : (r peer : Role) → is_peer r (Some (role_name peer)) ≡ true → handshake_cause r (ready_body peer) ≡ None
 unfolding properties_in
-ready_fits r role.Dealer h = pick_true _ _ _ h
-ready_fits r role.Sub h = pick_true _ _ _ h
-ready_fits r role.Req h = pick_true _ _ _ h
-ready_fits r role.Router h = pick_true _ _ _ h
-ready_fits r role.Pub h = pick_true _ _ _ h
-ready_fits r role.Rep h = pick_true _ _ _ h
+ready_fits r role.Dealer h = cond-true _ _ _ h
+ready_fits r role.Sub h = cond-true _ _ _ h
+ready_fits r role.Req h = cond-true _ _ _ h
+ready_fits r role.Router h = cond-true _ _ _ h
+ready_fits r role.Pub h = cond-true _ _ _ h
+ready_fits r role.Rep h = cond-true _ _ _ h
 
 short_body : (peer : Role) → length (ready_body peer) ≤ MOST
 short_body role.Dealer = omega arith
@@ -127,14 +128,14 @@ run_octets : (r : Role) (at : ℕ) (frames : List (List ℕ)) (f : ℕ) (o body 
     → (at' : ℕ) × (at'' : ℕ) × (run r at (Units (Traffic true frames) Fresh) ((f ∷ (o ++ body)) ++ c) ≡ before (finish r at' (Traffic true frames) f body) (run r at'' (finish r at' (Traffic true frames) f body).state c))
 run_octets r at frames f [] body c g n w l s = let k = size_pos f in absurd (omega arith)
 run_octets r at frames f (x ∷ octets) body c g n w l s =
-    let room : room_in (Traffic true frames) f ≡ room_left MOST frames = pick_false _ _ _ n in
+    let room : room_in (Traffic true frames) f ≡ room_left MOST frames = cond-false _ _ _ n in
     let fits : length body ≤ room_in (Traffic true frames) f = omega (arith, room) in
     let k = run_unit r at (Traffic true frames) f x octets body c g (λ p q e. ap (λ y. y && nat_eq (length p) 6 && starts_with nat_eq p error_name) n) fits (omega arith) s in
     (k.0, k.1, ap (λ t. run r at (Units (Traffic true frames) Fresh) (f ∷ x ∷ t)) (append_assoc octets body c) ∙ k.2)
 
 flag_free : (at : ℕ) (frames : List (List ℕ)) (f : ℕ) → is_allowed f ≡ true → (is_more f && nat_eq (length frames) 63) ≡ false → flag_step at (Traffic true frames) f ≡ Units (Traffic true frames) (Size f [])
 unfolding flag_step
-flag_free at frames f a m = pick_true _ _ _ a ∙ pick_false _ _ _ m
+flag_free at frames f a m = cond-true _ _ _ a ∙ cond-false _ _ _ m
 
 not_last : (n : ℕ) → n < 63 → nat_eq n 63 ≡ false
 not_last n h = grind (arith, nat_tests)
@@ -147,16 +148,16 @@ run_frame_on : (r : Role) (at : ℕ) (frames : List (List ℕ)) (more short : Bo
 unfolding unit_octets finish
 run_frame_on r at frames true true body c e h w l =
     let k = run_octets r at frames 1 (length body ∷ []) body c (flag_free at frames 1 refl (not_last (length frames) (h refl))) refl w refl refl in
-    (k.1, ap (λ t. run r at (Units (Traffic true frames) Fresh) (t ++ c)) (pick_true _ _ _ e) ∙ k.2)
+    (k.1, ap (λ t. run r at (Units (Traffic true frames) Fresh) (t ++ c)) (cond-true _ _ _ e) ∙ k.2)
 run_frame_on r at frames false true body c e h w l =
     let k = run_octets r at frames 0 (length body ∷ []) body c (flag_free at frames 0 refl refl) refl w refl refl in
-    (k.1, ap (λ t. run r at (Units (Traffic true frames) Fresh) (t ++ c)) (pick_true _ _ _ e) ∙ k.2)
+    (k.1, ap (λ t. run r at (Units (Traffic true frames) Fresh) (t ++ c)) (cond-true _ _ _ e) ∙ k.2)
 run_frame_on r at frames true false body c e h w l =
     let k = run_octets r at frames 3 (to_be_bytes w64 (length body)) body c (flag_free at frames 3 refl (not_last (length frames) (h refl))) refl w refl (long_size (length body) l) in
-    (k.1, ap (λ t. run r at (Units (Traffic true frames) Fresh) (t ++ c)) (pick_false _ _ _ e) ∙ k.2)
+    (k.1, ap (λ t. run r at (Units (Traffic true frames) Fresh) (t ++ c)) (cond-false _ _ _ e) ∙ k.2)
 run_frame_on r at frames false false body c e h w l =
     let k = run_octets r at frames 2 (to_be_bytes w64 (length body)) body c (flag_free at frames 2 refl refl) refl w refl (long_size (length body) l) in
-    (k.1, ap (λ t. run r at (Units (Traffic true frames) Fresh) (t ++ c)) (pick_false _ _ _ e) ∙ k.2)
+    (k.1, ap (λ t. run r at (Units (Traffic true frames) Fresh) (t ++ c)) (cond-false _ _ _ e) ∙ k.2)
 
 run_message : (r : Role) (at : ℕ) (frames : List (List ℕ)) (p : List ℕ) (ps : List (List ℕ)) (c : List ℕ) → length frames + length (p ∷ ps) ≤ 64 → sum_by length frames + sum_by length (p ∷ ps) ≤ MOST
     → (at' : ℕ) × (run r at (Units (Traffic true frames) Fresh) (message_octets (p ∷ ps) ++ c)
@@ -195,7 +196,7 @@ run_messages r at ((p ∷ ps) ∷ ms) h =
 no_error_of : (six : Bool) (body p q : List ℕ) → nat_eq (length p) 6 ≡ six → starts_with nat_eq body error_name ≡ false → p ++ q ≡ body → (six && starts_with nat_eq p error_name) ≡ false
 no_error_of false body p q e h t = refl
 no_error_of true body p q e h t =
-    let six : 6 ≤ length p = omega (arith, same_number (length p) 6 e) in
+    let six : 6 ≤ length p = omega (arith, eqb-true (length p) 6 e) in
     let front : take 6 body ≡ take 6 p = ap (take 6) (sym t) ∙ take_more_same 6 p q six in
     ap (pointwise nat_eq error_name) (sym front) ∙ h
 
@@ -205,7 +206,7 @@ run_command_octets : (r : Role) (at : ℕ) (frames : List (List ℕ)) (f : ℕ) 
     → (at' : ℕ) × (at'' : ℕ) × (run r at (Units (Traffic true frames) Fresh) ((f ∷ (o ++ body)) ++ c) ≡ before (finish r at' (Traffic true frames) f body) (run r at'' (finish r at' (Traffic true frames) f body).state c))
 run_command_octets r at frames f [] body c g n h w l s = let k = size_pos f in absurd (omega arith)
 run_command_octets r at frames f (x ∷ octets) body c g n h w l s =
-    let room : room_in (Traffic true frames) f ≡ MOST = pick_true _ _ _ n in
+    let room : room_in (Traffic true frames) f ≡ MOST = cond-true _ _ _ n in
     let fits : length body ≤ room_in (Traffic true frames) f = omega (arith, room) in
     let k = run_unit r at (Traffic true frames) f x octets body c g
     (λ p q e. ap (λ y. y && nat_eq (length p) 6 && starts_with nat_eq p error_name) n ∙ no_error_of _ body p q refl h e) fits (omega arith) s in
@@ -219,10 +220,10 @@ run_command_on : (r : Role) (at : ℕ) (frames : List (List ℕ)) (short : Bool)
 unfolding unit_octets finish
 run_command_on r at frames true body c e h w =
     let k = run_command_octets r at frames 4 (length body ∷ []) body c (flag_free at frames 4 refl refl) refl h w refl refl in
-    (k.1, ap (λ t. run r at (Units (Traffic true frames) Fresh) (t ++ c)) (pick_true _ _ _ e) ∙ k.2)
+    (k.1, ap (λ t. run r at (Units (Traffic true frames) Fresh) (t ++ c)) (cond-true _ _ _ e) ∙ k.2)
 run_command_on r at frames false body c e h w =
     let k = run_command_octets r at frames 6 (to_be_bytes w64 (length body)) body c (flag_free at frames 6 refl refl) refl h w refl (long_size (length body) (omega arith)) in
-    (k.1, ap (λ t. run r at (Units (Traffic true frames) Fresh) (t ++ c)) (pick_false _ _ _ e) ∙ k.2)
+    (k.1, ap (λ t. run r at (Units (Traffic true frames) Fresh) (t ++ c)) (cond-false _ _ _ e) ∙ k.2)
 
 run_writings : (r : Role) (at : ℕ) (ws : List Writing) → AreWritings ws
     → run r at (Units (Traffic true []) Fresh) (writing_octets ws) ≡ record { state = Units (Traffic true []) Fresh; messages = messages_heard r ws; owed = contexts_heard ws }

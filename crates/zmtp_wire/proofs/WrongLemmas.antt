@@ -1,6 +1,7 @@
 -- Where a test fails, the machine stops with its fault.
 use Rattle.std.proofs.Common.{◌≡◌, ℕ, ◌+◌, ◌≤◌, ◌<◌, Bool, true, false, cond, nat_lt, nat_eq, List, [], ◌∷◌, ◌++◌, length, take, drop, Some, refl, ap, sym, ◌∙◌, arith, length-append, append-nil, subst, ◌&&◌}
 use Rattle.std.proofs.lemmas.Bool.Decides.{nat_tests}
+use Rattle.std.proofs.lemmas.Bool.{cond-false, cond-true, le-ltb, lt-ltb}
 use Rattle.zmtp_wire.specs.declared.role.Role.{Role}
 use Rattle.zmtp_wire.specs.declared.cause.Cause.{Cause}
 use Rattle.zmtp_wire.specs.declared.cause.Cause.TheVariants as cause
@@ -19,7 +20,7 @@ use Rattle.zmtp_wire.specs.Command.{WrongReady}
 use Rattle.zmtp_wire.proofs.HandshakeLemmas.{cause_told}
 use Rattle.zmtp_wire.proofs.StepLemmas.{state_of, failure_after, step_size_end, step_body}
 use Rattle.zmtp_wire.proofs.TurnLemmas.{size_pos, room_is}
-use Rattle.zmtp_wire.proofs.ListLemmas.{take_front, drop_front, take_more_same, not_less, less, pick_false, pick_true, one_more, drop_more_same}
+use Rattle.zmtp_wire.proofs.ListLemmas.{take_front, drop_front, take_more_same, one_more, drop_more_same}
 
 abbrev Stops : Role → ℕ → Come → List ℕ → ℕ → Cause → Type 0
 Stops role at come p x e = step role at (state_of come p) x ≡ quiet (failure_after come at e)
@@ -92,13 +93,13 @@ finish_stops role at newer f body e h = ap (λ o. quiet (after_handshake at newe
 empty_stops : (role : Role) (at : ℕ) (newer : Bool) (f size : ℕ) (e : Cause) → size ≡ 0 → handshake_cause role [] ≡ Some e → size_step role at (Handshake newer) f size ≡ quiet (Failed false (fault_at at e))
 unfolding size_step
 empty_stops role at newer f size e z h =
-    let a : nat_lt MOST size ≡ false = not_less MOST size (omega arith) in
+    let a : nat_lt MOST size ≡ false = le-ltb MOST size (omega arith) in
     let b : nat_eq size 0 ≡ true = grind (arith, nat_tests) in
-    pick_false _ _ _ a ∙ pick_true _ _ _ b ∙ finish_stops role at newer f [] e h
+    cond-false _ _ _ a ∙ cond-true _ _ _ b ∙ finish_stops role at newer f [] e h
 
 body_stops : (role : Role) (at : ℕ) (newer : Bool) (f size : ℕ) (body : List ℕ) (e : Cause) → size ≡ length body → handshake_cause role body ≡ Some e → body_step role at (Handshake newer) f size body ≡ quiet (Failed false (fault_at at e))
 unfolding body_step
-body_stops role at newer f size body e z h = pick_false _ _ _ (not_less (length body) size (omega arith)) ∙ finish_stops role at newer f body e h
+body_stops role at newer f size body e z h = cond-false _ _ _ (le-ltb (length body) size (omega arith)) ∙ finish_stops role at newer f body e h
 
 handshake_stops : (role : Role) (at : ℕ) (g : List ℕ) (f : ℕ) (octets body p : List ℕ) (x : ℕ) (e : Cause) → length octets ≡ size_len f → size_of octets ≡ length body → handshake_cause role body ≡ Some e
     → f ∷ (octets ++ body) ≡ p ++ x ∷ [] → Stops role at (greeted g) p x e
@@ -114,19 +115,19 @@ handshake_stops role at g f octets (y ∷ body) p x e h z w q =
 
 error_stops : (role : Role) (at : ℕ) (newer : Bool) (frames : List (List ℕ)) (f size : ℕ) → is_command f ≡ true → body_step role at (Traffic newer frames) f size error_name ≡ quiet (failure (Traffic newer frames) at cause.PeerError)
 unfolding body_step
-error_stops role at newer frames f size c = pick_true _ _ _ (ap (λ b. b && true && true) c)
+error_stops role at newer frames f size c = cond-true _ _ _ (ap (λ b. b && true && true) c)
 
 greeting_stops : (role : Role) (at : ℕ) (p : List ℕ) (x : ℕ) → passes (length p) x ≡ false → Stops role at nothing p x (greeting_cause (length p))
 unfolding greeting_step
-greeting_stops role at p x e = ap quiet (pick_false _ _ _ e)
+greeting_stops role at p x e = ap quiet (cond-false _ _ _ e)
 
 flag_stops : (at : ℕ) (phase : Phase) (f : ℕ) → is_allowed f ≡ false → flag_step at phase f ≡ failure phase at cause.Flags
 unfolding flag_step
-flag_stops at phase f e = pick_false _ _ _ e
+flag_stops at phase f e = cond-false _ _ _ e
 
 frame_stops : (at : ℕ) (newer : Bool) (f : ℕ) → is_allowed f ≡ true → is_command f ≡ false → flag_step at (Handshake newer) f ≡ failure (Handshake newer) at cause.Command
 unfolding flag_step
-frame_stops at newer f a c = pick_true _ _ _ a ∙ pick_false _ _ _ c
+frame_stops at newer f a c = cond-true _ _ _ a ∙ cond-false _ _ _ c
 
 more_allowed : (f : ℕ) → is_more f ≡ true → is_allowed f ≡ true
 more_allowed f e = grind (arith, nat_tests)
@@ -135,11 +136,11 @@ many_stops : (at : ℕ) (newer : Bool) (frames : List (List ℕ)) (f : ℕ) → 
 unfolding flag_step
 many_stops at newer frames f m l =
     let k : nat_eq (length frames) 63 ≡ true = grind (arith, nat_tests) in
-    pick_true _ _ _ (more_allowed f m) ∙ pick_true _ _ _ (ap (λ b. b && nat_eq (length frames) 63) m ∙ k)
+    cond-true _ _ _ (more_allowed f m) ∙ cond-true _ _ _ (ap (λ b. b && nat_eq (length frames) 63) m ∙ k)
 
 long_stops : (role : Role) (at : ℕ) (phase : Phase) (f size : ℕ) → room_in phase f < size → size_step role at phase f size ≡ quiet (failure phase at (cause.TooLong size))
 unfolding size_step
-long_stops role at phase f size h = pick_true _ _ _ (less _ _ h)
+long_stops role at phase f size h = cond-true _ _ _ (lt-ltb _ _ h)
 
 pub body_of : (b more : Bool) (body body' : List ℕ) → command body ≡ cond b (command body') (frame more body') → body' ≡ body
 body_of true more body body' e = cc
