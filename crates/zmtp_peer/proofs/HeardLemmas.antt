@@ -1,5 +1,5 @@
 -- What is owed, as the other side reads it.
-use Rattle.std.proofs.Common.{◌≡◌, ℕ, ◌+◌, ◌≤◌, ◌<◌, Bool, true, false, cond, ◌&&◌, ◌||◌, not, List, [], ◌∷◌, ◌++◌, length, map, codes, Option, None, Some, refl, ap, sym, ◌∙◌, arith, length-append, append_assoc, append-nil, subst}
+use Rattle.std.proofs.Common.{◌≡◌, ℕ, ◌≤◌, Bool, true, false, cond, ◌&&◌, ◌||◌, not, List, [], ◌∷◌, ◌++◌, length, map, codes, Option, None, Some, refl, ap, ◌∙◌, arith, length-append, append-nil, subst}
 use Rattle.std.specs.List.{AllByRecursion}
 use Rattle.zmtp_wire.specs.declared.role.Role.{Role}
 use Rattle.zmtp_wire.specs.declared.role.Role.TheVariants as role
@@ -7,12 +7,12 @@ use Rattle.zmtp_wire.specs.Command.{is_peer, is_pub, is_subscribe, is_cancel}
 use Rattle.zmtp_wire.specs.Greeting.{newer_of}
 use Rattle.zmtp_wire.specs.Meaning.{contexts_in, is_shaken}
 use Rattle.zmtp_wire.specs.Stream.{Message, Context, Stream}
-use Rattle.zmtp_wire.specs.Writing.{greeting_octets, ready_octets, role_name, command_octets, message_octets, all_octets, IsMessage, AreMessages}
-use Rattle.zmtp_wire.specs.Writing.{Writing, message, command, IsCommand, AreWritings, writing_octets, messages_heard, contexts_heard}
+use Rattle.zmtp_wire.specs.Writing.{greeting_octets, ready_octets, role_name, command_octets, message_octets, all_octets, AreMessages}
+use Rattle.zmtp_wire.specs.Writing.{message, AreWritings, writing_octets, messages_heard, contexts_heard}
 use Rattle.zmtp_wire.proofs.ContextLemmas.{contexts_short}
 use Rattle.zmtp_wire.proofs.WriteLemmas.{writings_read}
 use Rattle.zmtp_wire.proofs.WritingLemmas.{octets_join, messages_join, contexts_join, writable_join, message_octets_of, messages_of, contexts_of, writable_of}
-use Rattle.zmtp_peer.specs.Reply.{is_sub, subscribe_body, subscribe_message, subscription_octets, subscription_for, subscription_writing, subscription_writings, pong_body, pong, pongs, pong_writing, owed_octets, owed_writings}
+use Rattle.zmtp_peer.specs.Reply.{is_sub, subscribe_body, subscribe_message, subscription_octets, subscription_for, subscription_writing, subscription_writings, pong, pongs, pong_writing, owed_octets, owed_writings}
 
 -- ---- the octets
 

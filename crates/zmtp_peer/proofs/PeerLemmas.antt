@@ -1,15 +1,13 @@
 -- Our side of a connection, over pieces and replies.
-use Rattle.std.proofs.Common.{◌≡◌, ℕ, ◌+◌, ◌≤◌, ◌<◌, Bool, true, false, cond, nat_lt, nat_eq, List, [], ◌∷◌, ◌++◌, length, Option, None, Some, Result, Ok, Err, get_or, refl, ap, sym, ◌∙◌, arith, length-append, append_assoc, append-nil, subst, ◌&&◌, ◌||◌, ◌⊎◌, inl, inr, IsTrue, ◌↔◌, rules}
-use Rattle.std.proofs.lemmas.Bool.Decides.{nat_tests}
+use Rattle.std.proofs.Common.{◌≡◌, ℕ, ◌≤◌, Bool, true, false, cond, List, [], ◌∷◌, ◌++◌, length, None, Some, Ok, Err, refl, ap, sym, ◌∙◌, arith, length-append, append_assoc, append-nil, subst, ◌⊎◌, inl, inr, IsTrue, ◌↔◌}
+use Rattle.std.proofs.lemmas.Bool.{cond-false, le-ltb}
 use Rattle.zmtp_wire.specs.declared.role.Role.{Role}
 use Rattle.zmtp_wire.specs.declared.fault.WireFault.TheVariants as fault
-use Rattle.zmtp_wire.specs.declared.decoder.Decoder.{Decoder}
-use Rattle.zmtp_wire.specs.Greeting.{is_newer, speaks, newer_of}
-use Rattle.zmtp_wire.specs.Stream.{Come, nothing, greeted, shaken, Completes, greeting, ready, unit, Reads, start, more, Gives, IsShaken}
+use Rattle.zmtp_wire.specs.Greeting.{speaks, newer_of}
+use Rattle.zmtp_wire.specs.Stream.{Come, nothing, greeted, shaken, greeting, ready, unit, Reads, start, more, Gives, IsShaken}
 use Rattle.zmtp_wire.specs.Machine.{run, GrowsBy}
 use Rattle.zmtp_wire.specs.Decoder as wire
 use Rattle.zmtp_wire.specs.Writing.{unit_octets}
-use Rattle.zmtp_wire.proofs.ListLemmas.{is_less, is_not_less, less, not_less, pick_true, pick_false}
 use Rattle.zmtp_wire.specs.Meaning.{contexts_in}
 use Rattle.zmtp_wire.proofs.GivesLemmas.{gives_reading, gives_one}
 use Rattle.zmtp_wire.proofs.MeaningLemmas.{meant_alone, newer_grows, stands_unstarved}
@@ -18,7 +16,7 @@ use Rattle.zmtp_peer.specs.declared.peer.Peer.{Peer}
 use Rattle.zmtp_peer.specs.Envelope.{bodies_of}
 use Rattle.zmtp_peer.specs.Subscription.{prefixes_after, in_force, prefixes_in, IsWanted}
 use Rattle.zmtp_peer.specs.Reply.{is_sub, subscription_octets, Subscribes, no_sub, not_yet, everything, pongs, Owes}
-use Rattle.zmtp_peer.specs.Peer.{StandsFor, Brings, BringsSome, IsDue, IsSettled, answer_of}
+use Rattle.zmtp_peer.specs.Peer.{StandsFor, BringsSome, IsDue, IsSettled, answer_of}
 use Rattle.zmtp_peer.proofs.BodyLemmas.{bodies-append}
 use Rattle.zmtp_peer.proofs.PrefixLemmas.{prefixes-append}
 use Rattle.zmtp_peer.proofs.ReplyLemmas.{pongs-append}
@@ -46,7 +44,7 @@ pub shaken_newer : (r : Role) (b : List ℕ) → IsShaken r b → newer_of b ≡
 shaken_newer r b s e =
     let l = begun_long r s.front (shaken s.greeting []) s.reads refl in
     let long : 12 ≤ length b = omega (arith, l, ap length s.spelled, length-append s.front s.rest) in
-    let k : Some (speaks b) ≡ None = sym (pick_false _ _ _ (not_less (length b) 12 long)) ∙ e in
+    let k : Some (speaks b) ≡ None = sym (cond-false _ _ _ (le-ltb (length b) 12 long)) ∙ e in
     absurd (cc)
 
 subscribes_longer : (r : Role) (b piece s : List ℕ) → is_sub r ≡ true → IsShaken r b → Subscribes r b s → Subscribes r (b ++ piece) s
@@ -138,9 +136,6 @@ some_came r b piece old new came w g =
 
 pub grows_none : (r : Role) (old came : List (List (List ℕ))) → came ≡ [] → GrowsBy old old (bodies_of r came)
 grows_none r old came e = record { more = []; left = []; grown = sym (append-nil old); first = ap (bodies_of r) e }
-
-pub grows_all : (old new all : List (List (List ℕ))) → new ≡ old ++ all → GrowsBy old new all
-grows_all old new all e = record { more = all; left = []; grown = e; first = sym (append-nil all) }
 
 -- ---- replies
 

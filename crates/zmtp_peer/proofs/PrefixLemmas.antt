@@ -1,5 +1,5 @@
 -- The prefixes of a PUB.
-use Rattle.std.proofs.Common.{◌≡◌, ℕ, zero, suc, ◌+◌, ◌≤◌, ◌<◌, Bool, true, false, cond, nat_eq, List, [], ◌∷◌, ◌++◌, length, take, drop, get_or, refl, ap, sym, ◌∙◌, arith, append_assoc, append-nil, ◌&&◌, subst, drop-cons, IsTrue, rules}
+use Rattle.std.proofs.Common.{◌≡◌, ℕ, suc, ◌+◌, ◌≤◌, ◌<◌, true, false, cond, nat_eq, List, [], ◌∷◌, ◌++◌, length, take, drop, get_or, refl, ap, sym, ◌∙◌, arith, ◌&&◌, subst, drop-cons, IsTrue, rules}
 use Rattle.std.specs.Prelude.{eqb}
 use Rattle.std.specs.List.{remove, starts_with}
 use Rattle.std.proofs.lemmas.List.{take-append-drop, at_drop_all}
@@ -7,7 +7,8 @@ use Rattle.std.proofs.lemmas.Bool.Decides.{nat_tests}
 use lib.Pointwise.{pointwise}
 use Rattle.zmtp_wire.proofs.ListLemmas.{take_front, same_start}
 use Rattle.zmtp_wire.specs.declared.role.Role.{Role}
-use Rattle.zmtp_peer.specs.Subscription.{without, after_message, prefixes_after_one, prefixes_after, in_force, IsWanted}
+use Rattle.zmtp_wire.proofs.ShakenLemmas.{is_true}
+use Rattle.zmtp_peer.specs.Subscription.{without, prefixes_after_one, prefixes_after, IsWanted}
 
 pub prefixes-append : (r : Role) (prefixes : List (List ℕ)) (a b : List (List (List ℕ))) → prefixes_after r prefixes (a ++ b) ≡ prefixes_after r (prefixes_after r prefixes a) b
 prefixes-append r prefixes [] b = refl
@@ -76,8 +77,5 @@ wanted_none prefixes topic i h w =
 pub yes : IsTrue true
 yes = search rules
 
-no_on : (b : Bool) → IsTrue b → b ≡ true
-no_on b h = search rules
-
 pub no : IsTrue false → ⊥
-no h = let k : false ≡ true = no_on false h in absurd (cc)
+no h = let k : false ≡ true = is_true false h in absurd (cc)

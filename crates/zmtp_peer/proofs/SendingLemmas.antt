@@ -1,10 +1,8 @@
 -- What one side sends, the other reads.
-use Rattle.std.proofs.Common.{◌≡◌, ℕ, ◌+◌, ◌≤◌, ◌<◌, Bool, true, false, cond, List, [], ◌∷◌, ◌++◌, length, Some, Ok, refl, ap, sym, ◌∙◌, arith}
-use Rattle.std.specs.Prelude.{sum_by}
+use Rattle.std.proofs.Common.{◌≡◌, ℕ, Bool, true, false, cond, List, [], ◌∷◌, ◌++◌, length, Some, Ok, refl, ap, ◌∙◌, arith}
 use Rattle.std.proofs.lemmas.List.Sums.{sum_by-cons}
 use Rattle.zmtp_wire.specs.declared.role.Role.{Role}
 use Rattle.zmtp_wire.specs.Command.{is_peer}
-use Rattle.zmtp_wire.specs.Frame.{MOST}
 use Rattle.zmtp_wire.specs.Stream.{Gives, stream}
 use Rattle.zmtp_wire.specs.Writing.{greeting_octets, ready_octets, role_name, all_octets, IsMessage, AreMessages}
 use Rattle.zmtp_wire.proofs.WriteLemmas.{written}

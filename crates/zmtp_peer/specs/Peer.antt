@@ -1,5 +1,5 @@
 -- What a peer's side of a connection stands for, and what a piece brings to it.
-use Rattle.std.specs.Prelude.{◌≡◌, ℕ, Bool, true, false, cond, List, [], ◌∷◌, ◌++◌, Err}
+use Rattle.std.specs.Prelude.{◌≡◌, ℕ, true, false, cond, List, [], ◌++◌, Err}
 use Rattle.zmtp_wire.specs.declared.role.Role.{Role}
 use Rattle.zmtp_wire.specs.declared.fault.WireFault.TheVariants as fault
 use Rattle.zmtp_wire.specs.Stream.{Gives, IsShaken}

@@ -6,7 +6,7 @@ use Rattle.zmtp_wire.specs.Greeting.{newer_of}
 use Rattle.zmtp_wire.specs.Stream.{Gives, IsShaken}
 use Rattle.zmtp_wire.specs.Decoder.{Answer}
 use Rattle.zmtp_wire.specs.Meaning.{contexts_in, is_shaken}
-use Rattle.zmtp_wire.specs.Writing.{command_octets, message_octets, Writing, message, command, writing_octets}
+use Rattle.zmtp_wire.specs.Writing.{command_octets, message_octets, Writing, message, command}
 
 -- whether the role subscribes
 abbrev pub is_sub : Role → Bool

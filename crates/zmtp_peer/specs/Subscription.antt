@@ -1,5 +1,5 @@
 -- Subscriptions, as PUB keeps them (RFC 29, "The PUB Socket Type"; RFC 23: 01 and a prefix subscribes, 00 and a prefix takes back).
-use Rattle.std.specs.Prelude.{◌≡◌, ℕ, Bool, cond, nat_eq, List, [], ◌∷◌, ◌++◌}
+use Rattle.std.specs.Prelude.{◌≡◌, ℕ, cond, nat_eq, List, [], ◌∷◌, ◌++◌}
 use lib.Pointwise.{pointwise}
 use Rattle.zmtp_wire.specs.declared.role.Role.{Role}
 use Rattle.zmtp_wire.specs.Command.{is_pub}

@@ -1,6 +1,5 @@
-use Rattle.std.proofs.Common.{◌≡◌, ◌<◌, ◌≤◌, length, drop, get_or, true, false, nat_eq, arith, sym, ap, ◌∙◌, subst, List, ℕ, IsTrue}
+use Rattle.std.proofs.Common.{◌≡◌, ◌<◌, ◌≤◌, length, get_or, true, false, nat_eq, arith, sym, ap, ◌∙◌}
 use Rattle.std.specs.List.{starts_with}
-use Rattle.zmtp_peer.specs.Subscription.{IsWanted}
 use Rattle.zmtp_peer.proofs.PrefixLemmas.{wanted_here, wanted_later, wanted_none, yes, no}
 use Rattle.zmtp_peer.proofs.subscription.is_wanted.Goals as goal
 

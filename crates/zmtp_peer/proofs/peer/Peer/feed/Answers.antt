@@ -1,7 +1,8 @@
-use Rattle.std.proofs.Common.{◌≡◌, ◌++◌, inl, inr, [], refl, sym, ap, ◌∙◌}
+use Rattle.std.proofs.Common.{inl, inr, refl, sym, ap, ◌∙◌}
+use Rattle.zmtp_wire.proofs.GivesLemmas.{grows_all}
 use Rattle.zmtp_peer.specs.declared.peer.Peer.{Peer}
 use Rattle.zmtp_peer.specs.Subscription.{prefixes_after}
-use Rattle.zmtp_peer.proofs.PeerLemmas.{fed_stands, Fed, brings_here, some_here, empty_list, either_way, all_came, some_came, grows_none, grows_all}
+use Rattle.zmtp_peer.proofs.PeerLemmas.{fed_stands, Fed, brings_here, some_here, empty_list, either_way, all_came, some_came, grows_none}
 use Rattle.zmtp_peer.proofs.peer.Peer.feed.Goals as goal
 
 pub returns-then-len-eq0-clause-stands : goal.returns-then-len-eq0-clause-stands

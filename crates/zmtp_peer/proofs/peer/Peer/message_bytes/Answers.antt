@@ -1,4 +1,4 @@
-use Rattle.std.proofs.Common.{◌≡◌, ◌++◌, ap, sym, ◌∙◌, OnOk, Ok, Err, Result}
+use Rattle.std.proofs.Common.{◌++◌, ap, sym, ◌∙◌}
 use Rattle.std.proofs.lemmas.Result.{on_ok_weaker}
 use Rattle.zmtp_wire.specs.Writing.{message_octets}
 use Rattle.zmtp_peer.proofs.ReplyLemmas.{envelope_octets}

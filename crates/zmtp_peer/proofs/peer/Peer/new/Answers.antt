@@ -1,4 +1,4 @@
-use Rattle.std.proofs.Common.{◌≡◌, [], Ok, false, true, refl, sym, ap, ◌∙◌}
+use Rattle.std.proofs.Common.{[], Ok, refl}
 use Rattle.zmtp_peer.proofs.PeerLemmas.{gives_nothing}
 use Rattle.zmtp_peer.proofs.peer.Peer.new.Goals as goal
 

@@ -1,4 +1,4 @@
-use Rattle.std.proofs.Common.{◌≡◌, true, refl, sym, subst}
+use Rattle.std.proofs.Common.{true, refl, sym, subst}
 use Rattle.std.proofs.lemmas.Result.{on_ok_weaker}
 use Rattle.zmtp_peer.specs.declared.peer.Peer.{Peer}
 use Rattle.zmtp_peer.proofs.PeerLemmas.{Taken, Replied, replied_due, replied_settled}

@@ -1,6 +1,6 @@
-use Rattle.std.proofs.Common.{◌≡◌, List, [], ℕ, IsTrue, true, false, sym, ap, ◌∙◌}
+use Rattle.std.proofs.Common.{◌≡◌, [], true, false, sym, ◌∙◌}
 use Rattle.zmtp_wire.proofs.ShakenLemmas.{is_true, true_is}
-use Rattle.zmtp_peer.specs.Reply.{Subscribes, no_sub, not_yet, everything, subscription_octets}
+use Rattle.zmtp_peer.specs.Reply.{no_sub, not_yet, everything, subscription_octets}
 use Rattle.zmtp_peer.proofs.PeerLemmas.{shaken_newer}
 use Rattle.zmtp_peer.proofs.OwedLemmas.{subscribes_one}
 use Rattle.zmtp_peer.proofs.peer.Peer.subscription.Goals as goal

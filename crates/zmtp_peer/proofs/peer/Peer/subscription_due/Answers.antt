@@ -1,4 +1,4 @@
-use Rattle.std.proofs.Common.{◌≡◌, List, ℕ, true, false, refl, sym, ap, ◌∙◌, subst}
+use Rattle.std.proofs.Common.{List, ℕ, sym, ◌∙◌, subst}
 use Rattle.zmtp_peer.specs.Reply.{Subscribes, no_sub, not_yet, everything}
 use Rattle.zmtp_peer.proofs.PeerLemmas.{shaken_here, not_shaken_here, shaken_newer}
 use Rattle.zmtp_peer.proofs.peer.Peer.subscription_due.Goals as goal
