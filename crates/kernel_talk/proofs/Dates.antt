@@ -1,5 +1,5 @@
 -- A date has ASCII alone, so it is UTF-8.
-use Rattle.std.proofs.Common.{ℕ, zero, suc, ◌<◌, ◌+◌, ◌/◌, ◌%◌, List, [], ◌∷◌, Result, Ok, Err, refl, arith}
+use Rattle.std.proofs.Common.{ℕ, zero, suc, ◌<◌, ◌/◌, List, [], ◌∷◌, Result, Ok, Err, refl, arith}
 use Rattle.std.specs.Result.{IsOk, MatchResult}
 use Rattle.std.specs.Str.{IsUtf8, IsAscii}
 use Rattle.std.proofs.lemmas.Nat.{mod_below}
