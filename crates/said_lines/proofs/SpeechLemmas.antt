@@ -1,8 +1,7 @@
 -- What is said changes no file, and what is heard of it.
-use Rattle.std.proofs.Common.{◌≡◌, ◌⊎◌, inl, inr, ℕ, ◌+◌, ◌<◌, List, [], ◌∷◌, ◌++◌, take, drop, length, true, refl, sym, ◌∙◌, ap, append_assoc, arith}
+use Rattle.std.proofs.Common.{◌≡◌, ◌⊎◌, inl, inr, ℕ, ◌<◌, List, [], ◌++◌, take, drop, refl, sym, ◌∙◌, ap, append_assoc, arith}
 use Rattle.std.proofs.lemmas.Grind.{common_steps}
-use Rattle.std.proofs.lemmas.List.{take-append-drop, append-nil, nil_from_length}
-use Rattle.std.specs.Prelude.{◌==◌}
+use Rattle.std.proofs.lemmas.List.{take-append-drop, append-nil}
 use Rattle.world.specs.Counts.{Rose}
 use Rattle.world.specs.declared.entry.Entry.{Entry}
 use Rattle.world.specs.Moments.{Since, start, more as later}
@@ -24,7 +23,7 @@ says_since (said.refused f speech) = later (speech_since speech) refl
 -- ---- what is heard
 
 -- what was said and what is left are the text
-speech_heard : {text : List ℕ} {before : List Entry} {rest : List ℕ} {after : List Entry} → Speech text before rest after → heard after ++ rest ≡ heard before ++ text
+pub speech_heard : {text : List ℕ} {before : List Entry} {rest : List ℕ} {after : List Entry} → Speech text before rest after → heard after ++ rest ≡ heard before ++ text
 speech_heard said.none = refl
 speech_heard (said.more {rest} {past} n before) = append_assoc (heard past) (take n rest) (drop n rest) ∙ ap (λ xs. heard past ++ xs) (take-append-drop n rest) ∙ speech_heard before
 
@@ -38,6 +37,3 @@ heard_text {text} silent (said.refused {rest} f speech) = inr (f, record { rest 
 -- a count that rose isn't 0
 pub rose_above : (a b : ℕ) → Rose a b → 0 < b
 rose_above a b rose = grind (arith, common_steps)
-
-pub no_rest : (xs : List ℕ) → true ≡ (length xs == 0) → xs ≡ []
-no_rest xs e = nil_from_length xs (grind (arith, common_steps))

@@ -2,11 +2,7 @@
 use Rattle.std.specs.Prelude.{◌≡◌, ◌<◌, List, [], Option}
 use Rattle.world.specs.declared.entry.Entry.{Entry}
 use Rattle.world.specs.Counts.{Counts, Rose}
-use Rattle.world.specs.Moments.{Told}
-
--- the journals at the start and the end are related so
-abbrev pub Between : {W : Type 0} → (W → Option (List Entry)) → W → W → (List Entry → List Entry → Type 0) → Type 0
-Between journal old new R = Told (journal old) (journal new) R
+pub use Rattle.world.specs.Told.{Between}
 
 -- the journal was empty at the start, and this holds of it at the end
 abbrev pub FromStart : {W : Type 0} → (W → Option (List Entry)) → W → W → (List Entry → Type 0) → Type 0

@@ -1,7 +1,8 @@
 //! What is said to the user, as long as nothing that was said failed.
 ghost use Rattle.std.specs.Prelude.{◌≡◌, ◌<◌, ◌≤◌, true, false};
 ghost use Rattle.world.specs.Counts.{SayCause, Rose};
-ghost use Rattle.said_lines.specs.Between.{Between, SayFailed};
+ghost use Rattle.said_lines.specs.Between.{SayFailed};
+ghost use Rattle.world.specs.Told.{Between};
 ghost use Rattle.said_lines.specs.Speech.{Says};
 
 use world::{Say, Wrote};

@@ -16,7 +16,7 @@ use Rattle.world.specs.Touched.{Spares}
 use Rattle.world.proofs.PlaceLemmas.{same_bytes, renamed_to_own, dir_synced_own}
 use Rattle.save_disk.specs.declared.save_fault.SaveFault.{SaveFault}
 use Rattle.save_disk.specs.declared.save_fault.SaveFault.TheVariants as fault
-use Rattle.save_disk.specs.Temporary.{temporary_of}
+use Rattle.world.specs.Save.{temporary_of}
 use Rattle.save_disk.specs.Entries.{Writes, none, more, SaveOf}
 use Rattle.save_disk.specs.Places.{acknowledged, SaveEnd, SaveMoment, as_before, renamed, unsure, durable}
 

@@ -2,9 +2,10 @@
 use Rattle.std.specs.Prelude.{◌≡◌, ◌⊎◌, ℕ, List, [], ◌∷◌, take, drop, Result, Ok, Err}
 use Rattle.world.specs.declared.entry.Entry.{Entry}
 use Rattle.world.specs.declared.entry.Entry.TheVariants.{Created, Wrote, Synced, Renamed, DirSynced}
+use Rattle.world.specs.declared.did.Did.{Did}
 use Rattle.world.specs.declared.did.Did.TheVariants.{Done, Failed}
 use Rattle.world.specs.Disk.{folder_of}
-use Rattle.save_disk.specs.Temporary.{temporary_of}
+use Rattle.world.specs.Save.{temporary_of}
 use Rattle.save_disk.specs.declared.save_fault.SaveFault.{SaveFault}
 use Rattle.save_disk.specs.declared.save_fault.SaveFault.TheVariants as fault
 
@@ -21,14 +22,10 @@ pub record WriteFails (path text : List ℕ) (before after : List Entry) : Type 
   pub writes : Writes path text before rest past
   pub fails : after ≡ Wrote path rest Failed ∷ past
 
--- the writes of the whole text, by their answer
-abbrev pub WritesOf : {U : Type 0} → List ℕ → List ℕ → Result U SaveFault → List Entry → List Entry → Type 0
-WritesOf path text (Ok u) before after = Writes path text before [] after
-WritesOf path text (Err fault.Write) before after = WriteFails path text before after
--- no other fault comes
-WritesOf path text (Err fault.Sync) before after = ⊥
-WritesOf path text (Err fault.Rename) before after = ⊥
-WritesOf path text (Err fault.DirSync) before after = ⊥
+-- the writes of a whole text, by how they ended
+abbrev pub WritesBy : List ℕ → List ℕ → Did → List Entry → List Entry → Type 0
+WritesBy path text Done before after = Writes path text before [] after
+WritesBy path text Failed before after = WriteFails path text before after
 
 -- the whole text was written to a new temporary file, and then these entries came
 pub record WroteAnd (output text : List ℕ) (before : List Entry) (ending : List Entry → List Entry) (after : List Entry) : Type 0 where

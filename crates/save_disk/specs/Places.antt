@@ -4,7 +4,7 @@ use Rattle.world.specs.declared.entry.Entry.{Entry}
 use Rattle.world.specs.declared.left.Left.TheVariants.{Whole}
 use Rattle.world.specs.Acked.{acked}
 use Rattle.world.specs.Disk.{Place, place}
-use Rattle.save_disk.specs.Temporary.{temporary_of}
+use Rattle.world.specs.Save.{temporary_of}
 use Rattle.save_disk.specs.declared.save_fault.SaveFault.{SaveFault}
 use Rattle.save_disk.specs.declared.save_fault.SaveFault.TheVariants as fault
 

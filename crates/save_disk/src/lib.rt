@@ -6,7 +6,9 @@
 mod replacement;
 mod save_fault;
 mod save_path;
+mod writing;
 
 pub use replacement::save;
 pub use save_fault::SaveFault;
 pub use save_path::SavePath;
+pub use writing::write_all;

@@ -5,13 +5,13 @@ ghost use Rattle.world.specs.Counts.{DiskCause};
 ghost use Rattle.world.specs.Moments.{Told, Since};
 ghost use Rattle.world.specs.Parts.{IsOf, OnDisk};
 ghost use Rattle.world.specs.Touched.{Spares};
-ghost use Rattle.save_disk.specs.Entries.{WritesOf, SaveOf};
+ghost use Rattle.save_disk.specs.Entries.{SaveOf};
 ghost use Rattle.save_disk.specs.Places.{SaveEnd, SaveMoment};
-ghost use Rattle.save_disk.specs.Temporary.{temporary_of};
+ghost use Rattle.world.specs.Save.{temporary_of};
 
-use crate::{SaveFault, SavePath};
+use crate::{SaveFault, SavePath, write_all};
 use jtext::Text;
-use world::{Did, Disk, Wrote};
+use world::{Did, Disk};
 
 /// Replaces the output by `text`: a temporary file is created, written, synced and renamed onto it,
 /// and the folder is synced. `Ok` acknowledges: from then on a crash leaves `text`. A fault names the
@@ -52,7 +52,9 @@ impl SavePath {
         if w.create(&self.temporary) == Did::Failed {
             return Err(SaveFault::Write);
         }
-        write_all(w, &self.temporary, text)?;
+        if write_all(w, &self.temporary, text) == Did::Failed {
+            return Err(SaveFault::Write);
+        }
         if w.sync(&self.temporary) == Did::Failed {
             return Err(SaveFault::Sync);
         }
@@ -64,19 +66,4 @@ impl SavePath {
         }
         Ok(())
     }
-}
-
-/// Writes the text, piece by piece.
-fn write_all<W: Disk>(w: &mut W, path: &Text, text: &[u8]) -> Result<(), SaveFault>
-    ensures entries { Told (W.journal w.old) (W.journal w.new) (WritesOf path.now text.now result) }
-    ensures cause { DiskCause (W.counts w.old) (W.counts w.new) (IsErr result) }
-{
-    let mut rest = text;
-    while !rest.is_empty() {
-        match w.write(path, rest) {
-            Wrote::Took(n) => rest = &rest[n as usize..],
-            Wrote::Failed => return Err(SaveFault::Write),
-        }
-    }
-    Ok(())
 }

@@ -1,11 +1,12 @@
 //! `SavePath`, where a save goes.
 ghost use Rattle.std.specs.Prelude.{◌≡◌, ◌++◌, IfOk, codes};
 ghost use Rattle.world.specs.Disk.{folder_of};
-ghost use Rattle.save_disk.specs.Temporary.{temporary_of};
+ghost use Rattle.world.specs.Save.{temporary_of};
 
 use jtext::{NoMemory, Text};
 use std::alloc::Global;
 use std::marker::Model;
+use world::folder;
 
 /// Where a save goes: the output, the temporary file beside it, and the folder of both. A contract
 /// sees the path of the output.
@@ -19,7 +20,7 @@ pub struct SavePath {
 impl Model for SavePath {
     ghost use Rattle.std.specs.Prelude.{◌≡◌, List, ℕ};
     ghost use Rattle.world.specs.Disk.{folder_of};
-    ghost use Rattle.save_disk.specs.Temporary.{temporary_of};
+    ghost use Rattle.world.specs.Save.{temporary_of};
 
     ghost Value = { List ℕ };
 
@@ -48,16 +49,4 @@ fn temporary_of(alloc: Global, output: &Text) -> Result<Text, NoMemory>
 {
     let output = output.as_str();
     Ok(Text::of_string(format!(in alloc; "{output}.nbrun-tmp")?))
-}
-
-/// The folder of a path: what stands before its last slash, `/` where that is nothing, and `.`
-/// without a slash.
-fn folder(path: &str) -> &str
-    ensures { result.now ≡ folder_of path.now }
-{
-    match path.rfind('/') {
-        None => ".",
-        Some(0) => "/",
-        Some(at) => &path[..at],
-    }
 }

@@ -2,8 +2,8 @@ use Rattle.std.proofs.Common.{refl, subst, arith}
 use Rattle.std.proofs.lemmas.Grind.{common_steps}
 use Rattle.world.proofs.MomentsLemmas.{told_start, told_one, told_as}
 use Rattle.said_lines.specs.Speech.{Speech, none, more, whole, cut, refused}
-use Rattle.said_lines.proofs.Rests.{whole_rest}
-use Rattle.said_lines.proofs.SpeechLemmas.{rose_above, no_rest}
+use Rattle.world.proofs.Rests.{whole_rest, no_rest}
+use Rattle.said_lines.proofs.SpeechLemmas.{rose_above}
 use Rattle.said_lines.proofs.voice.say_while_heard.Goals as goal
 
 pub loop-rest-init : goal.loop-rest-init

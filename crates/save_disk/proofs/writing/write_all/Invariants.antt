@@ -2,7 +2,7 @@ use Rattle.std.proofs.Common.{length}
 use Rattle.world.specs.Counts.{DiskCause}
 use Rattle.world.specs.Moments.{Told}
 use Rattle.save_disk.specs.Entries.{Writes}
-use Rattle.save_disk.proofs.replacement.write_all.Given as goal
+use Rattle.save_disk.proofs.writing.write_all.Given as goal
 
 abbrev pub invariant-loop-rest : goal.invariant-loop-rest
 invariant-loop-rest g l = record {
