@@ -1,7 +1,6 @@
 -- What the entries of the making of a file leave of it and of all else.
-use Rattle.std.proofs.Common.{◌≡◌, ℕ, ◌-◌, length, List, [], ◌∷◌, ◌++◌, take, drop, false, Some, Result, Ok, Err, IsOk, refl, sym, ◌∙◌, ap, subst, append_assoc}
-use Rattle.std.proofs.lemmas.List.{length-drop, take-append-drop, append-nil}
-use Rattle.std.proofs.Math.Seq.{take-length}
+use Rattle.std.proofs.Common.{◌≡◌, ℕ, List, [], ◌∷◌, ◌++◌, take, drop, false, Some, Result, Ok, Err, IsOk, refl, sym, ◌∙◌, ap, subst, append_assoc}
+use Rattle.std.proofs.lemmas.List.{take-append-drop, append-nil}
 use Rattle.std.specs.Str.{bytes_eq}
 use Rattle.world.specs.declared.entry.Entry.{Entry}
 use Rattle.world.specs.declared.entry.Entry.TheVariants.{Created, Wrote, Synced}
@@ -12,14 +11,10 @@ use Rattle.world.specs.Moments.{Since, start, more as later}
 use Rattle.world.specs.Parts.{IsOf, OnDisk}
 use Rattle.world.specs.Touched.{Spares}
 use Rattle.world.proofs.PlaceLemmas.{same_bytes}
-use Rattle.save_disk.specs.Entries.{Writes, WriteFails, none, more}
+use Rattle.save_disk.specs.Entries.{Writes, WritesBy, WriteFails, none, more}
 use Rattle.kernel_start.specs.declared.connection_fault.ConnectionFault.{ConnectionFault}
 use Rattle.kernel_start.specs.declared.connection_fault.ConnectionFault.TheVariants as fault
-use Rattle.kernel_start.specs.ConnectionFile.{WritesBy, WritesAndSyncs, MakesFile, not_created, not_written, not_synced, WritesFile, synced_text}
-
--- the whole of what is left
-pub whole_rest : (n : ℕ) (xs : List ℕ) → take (length xs - n) (drop n xs) ≡ drop n xs
-whole_rest n xs = ap (λ k. take k (drop n xs)) (sym (length-drop n xs)) ∙ take-length (drop n xs)
+use Rattle.kernel_start.specs.ConnectionFile.{WritesAndSyncs, MakesFile, not_created, not_written, not_synced, WritesFile, synced_text}
 
 -- ---- the file itself
 

@@ -16,11 +16,6 @@ use Rattle.kernel_start.specs.declared.connection_fault.ConnectionFault.TheVaria
 abbrev pub file_text : List ℕ → List ℕ → List ℕ
 file_text ports key = compact (connection ports key)
 
--- the writes of a whole text, by how they ended
-abbrev pub WritesBy : List ℕ → List ℕ → Did → List Entry → List Entry → Type 0
-WritesBy path text Done before after = Writes path text before [] after
-WritesBy path text Failed before after = WriteFails path text before after
-
 -- the file was created, the whole text written to it, and it was to be synced, which ended so
 pub record WritesAndSyncs (path text : List ℕ) (did : Did) (before after : List Entry) : Type 0 where
   pub past : List Entry

@@ -14,8 +14,9 @@ ghost use Rattle.kernel_start.specs.ConnectionFile as spec;
 use crate::ConnectionFault;
 use jtext::{NoMemory, Text};
 use kspec::connection_text;
+use save_disk::write_all;
 use std::alloc::Global;
-use world::{Did, Disk, Wrote};
+use world::{Did, Disk};
 
 /// The path of the connection file of this output, which has `.nbrun-kernel.json` behind it.
 pub fn connection_path(alloc: Global, output: &Text) -> Result<Text, NoMemory>
@@ -91,20 +92,4 @@ fn make_file<W: Disk>(w: &mut W, path: &Text, text: &[u8]) -> Did
         return Did::Failed;
     };
     w.sync(path)
-}
-
-/// Writes the text, piece by piece.
-fn write_all<W: Disk>(w: &mut W, path: &Text, text: &[u8]) -> Did
-    ensures entries { Told (W.journal w.old) (W.journal w.new)
-        (spec.WritesBy path.now text.now result) }
-    ensures cause { DiskCause (W.counts w.old) (W.counts w.new) (result ≡ did.Failed) }
-{
-    let mut rest = text;
-    while !rest.is_empty() {
-        match w.write(path, rest) {
-            Wrote::Took(n) => rest = &rest[n as usize..],
-            Wrote::Failed => return Did::Failed,
-        }
-    }
-    Did::Done
 }
