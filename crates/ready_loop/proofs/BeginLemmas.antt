@@ -1,8 +1,9 @@
 -- What a first connect and a close do to a loop.
-use Rattle.std.proofs.Common.{◌≡◌, ◌≢◌, inl, inr, ◌<◌, ◌||◌, ◌⊎◌, ℕ, Bool, true, false, List, [], ◌∷◌, length, set, Option, Some, None, Result, Ok, Err, IfErr, slice_get, arith, refl, sym, ◌∙◌, ap, subst}
+use Rattle.std.proofs.Common.{◌≡◌, ◌≢◌, inl, inr, ◌<◌, ◌||◌, ◌⊎◌, ℕ, Bool, true, false, List, [], ◌∷◌, length, set, Some, None, Result, Ok, Err, IfErr, slice_get, arith, refl, sym, ◌∙◌, ap, subst}
 use Rattle.world.specs.declared.chan.Chan.{Chan}
-use Rattle.std.proofs.lemmas.Bool.{cases_eq, false≢true}
+use Rattle.std.proofs.lemmas.Bool.{cases_eq, false≢true, or_parts, or_right}
 use Rattle.std.proofs.Math.ListN.{length-set}
+use Rattle.std.proofs.lemmas.Option.{same_Some}
 use Rattle.world.specs.declared.chan.Chan.TheVariants.{Shell, Control, Iopub, Heart}
 use Rattle.world.specs.declared.conn.Conn.{Conn}
 use Rattle.world.specs.declared.connected.Connected.{Connected}
@@ -10,25 +11,25 @@ use Rattle.world.specs.declared.entry.Entry.{Entry}
 use Rattle.world.specs.declared.entry.Entry.TheVariants as made
 use Rattle.world.specs.Moments.{start, more}
 use Rattle.world.specs.Places.{status, time, place_of, is_at}
-use Rattle.world.proofs.StatusLemmas.{at_own, connected_own, closed_own}
+use Rattle.world.proofs.StatusLemmas.{at_own, connected_own, closed_own, chan_below}
 use Rattle.ready_loop.specs.declared.fault.LoopFault.{LoopFault}
 use Rattle.ready_loop.specs.declared.fault.LoopFault.TheVariants.{NetFault, Spent}
 use Rattle.ready_loop.specs.declared.link.Link.{Link}
 use Rattle.ready_loop.specs.declared.readiness.Loop.{Loop}
 use Rattle.ready_loop.specs.declared.stage.Stage.{Stage}
 use Rattle.ready_loop.specs.declared.stage.Stage.TheVariants.{Fresh, Begun, Closed}
-use Rattle.ready_loop.specs.Link.{MayRead, MayWrite, connect_link, begun_link, closed_link, closed_stage, is_begun, is_known}
+use Rattle.ready_loop.specs.Link.{MayRead, MayWrite, connect_link, begun_link, closed_link, is_begun, is_known}
 use Rattle.ready_loop.specs.Begins.{BeginMoment, Begins, BeginsOne, port_of, CloseMoment, CloseCame, ClosesOne, closing, begun_in, failed_closed, is_of_job}
 use Rattle.ready_loop.specs.Queues.{held_in, rest_at}
 use Rattle.ready_loop.specs.Begins as begins
 use Rattle.ready_loop.specs.History.{History, same, with_begun, with_all_begun, conn_on, chans, after_begin}
 use Rattle.ready_loop.specs.Standing.{write_ended, StandsAt, Stand, StandsFor, Goes}
 use Rattle.ready_loop.specs.States.{OnlyAt, IsOffered, IsSound, Each, SameKnown, HoldsForKnown, failed_at, failed_in, failed_connect, known_in, known_at}
-use Rattle.ready_loop.proofs.CallLemmas.{stands_begun, stands_closed, stands_unbegun}
+use Rattle.ready_loop.proofs.CallLemmas.{stands_begun, stands_closed, stands_unbegun, known_closed}
 use Rattle.ready_loop.proofs.OfferLemmas.{ended_connect}
 use Rattle.ready_loop.proofs.StandLemmas.{stand_at, stands_as, same_but, begun_but, not_at, or_own}
-use Rattle.ready_loop.proofs.StateLemmas.{each_set, failed_set, kept_set, known_by, connect_failed, failed_connect_other, connect_stage}
-use Rattle.ready_loop.proofs.TableLemmas.{chan_low, within, some_at, some_is, slice_get-set_same, slice_get-set_other}
+use Rattle.ready_loop.proofs.StateLemmas.{each_set, failed_set, kept_set, known_by, connect_failed, failed_connect_other, connect_stage, sound_at}
+use Rattle.ready_loop.proofs.TableLemmas.{within, some_at, slice_get-set_same, slice_get-set_other}
 
 -- ---- a first connect
 
@@ -88,20 +89,11 @@ begin_known conn how last port links now link found is p = elim (cases_eq p (pla
       ∙ sym (ap (λ b. b || known_in (slice_get links p)) (not_at p conn ne))
 ]
 
--- what a job's connects leave of other jobs
-pub or_left : (a b : Bool) → a || b ≡ false → (a ≡ false) × (b ≡ false)
-or_left true b e = absurd (false≢true (sym e))
-or_left false b e = (refl, e)
-
-pub or_true : (a b : Bool) → b ≡ true → a || b ≡ true
-or_true true b e = refl
-or_true false b e = e
-
 -- nothing comes to be held for it
 pub begin_holds : (conn : Conn) (l new : Loop) → new.queues ≡ l.queues
     → ((p : ℕ) → known_at new p ≡ is_at p conn || known_at l p) → HoldsForKnown l → HoldsForKnown new
 begin_holds conn l new queues known h = record {
-  each = λ p fresh. ap (λ qs. rest_at qs p) queues ∙ h.each p (or_left (is_at p conn) (known_at l p) (sym (known p) ∙ fresh)).1;
+  each = λ p fresh. ap (λ qs. rest_at qs p) queues ∙ h.each p (or_parts (is_at p conn) (known_at l p) (sym (known p) ∙ fresh)).1;
 }
 
 -- and so nothing is to be offered to it
@@ -157,7 +149,7 @@ unbegun_goes conn l links link past found shut is = record {
         | inl e ↦
             let q = place_of conn in
             let at_q : slice_get (set l.links (place_of conn) (closed_link link)) (place_of conn) ≡ Some x = subst (λ (ls : List Link). slice_get ls (place_of conn) ≡ Some x) is (subst (λ i. slice_get links i ≡ Some x) e at) in
-            let x_is : closed_link link ≡ x = some_is (sym (slice_get-set_same l.links (place_of conn) (closed_link link) (within l.links (place_of conn) found)) ∙ at_q) in
+            let x_is : closed_link link ≡ x = same_Some _ _ (sym (slice_get-set_same l.links (place_of conn) (closed_link link) (within l.links (place_of conn) found)) ∙ at_q) in
             subst (λ i. StandsAt x (held_in (slice_get l.queues i)) (h.begun i) (h.queued i) (h.named i) (status i past) (write_ended i past)) (sym e)
             (subst (λ y. StandsAt y (held_in (slice_get l.queues (place_of conn))) (h.begun (place_of conn)) (h.queued (place_of conn)) (h.named (place_of conn)) (status (place_of conn) past) (write_ended (place_of conn) past)) x_is
             (stands_unbegun link _ _ _ _ _ _ (sym shut) (stand.each (place_of conn) link found)))
@@ -225,7 +217,7 @@ begun_other conn q l new ne only = ap begun_in (only.links (place_of conn) ne)
 pub begun_stands : (conn : Conn) (l : Loop) (h : History) (past : List Entry) → conn.job < 16 → StandsFor l h past
     → begun_in (slice_get l.links (place_of conn)) ≡ (status (place_of conn) past).begun
 begun_stands conn l h past low stand =
-    let (link, found) = some_at l.links (place_of conn) (omega (arith, stand.size, chan_low conn.chan)) in
+    let (link, found) = some_at l.links (place_of conn) (omega (arith, stand.size, chan_below conn.chan)) in
     ap begun_in found ∙ (stand.each (place_of conn) link found).stage
 
 -- one step and then another
@@ -258,12 +250,6 @@ module _ (job : ℕ) (low : job < 16) (a b c d e : Loop) (shell : OnlyAt (place_
         ∙ ap (λ j. closing (status (place_of (conn_on job Control)) v).begun (conn_on job Control) j) (one ∙ ap (λ t. closing t (conn_on job Shell) v) s1)));
   }
 
--- a close forgets no connection
-known_closed : (stage : Stage) → is_known (closed_stage stage) ≡ is_known stage
-known_closed Fresh = refl
-known_closed Begun = refl
-known_closed Closed = refl
-
 pub closed_known : (l new : Loop) (q : ℕ) (link : Link) → slice_get l.links q ≡ Some link
     → new.links ≡ set l.links q (closed_link link) → new.queues ≡ l.queues → SameKnown l new
 closed_known l new q link found is queues = known_by l new (kept_set known_in l.links new.links q (closed_link link) link found is (known_closed link.stage))
@@ -277,17 +263,9 @@ closed_sound false w e = e
 -- a place of a connection of a job is of that job
 own_job : (job p : ℕ) (chan : Chan) → is_at p (conn_on job chan) ≡ true → is_of_job job p ≡ true
 own_job job p Heart e = ap (λ b. b || (is_at p (conn_on job Iopub) || (is_at p (conn_on job Control) || is_at p (conn_on job Shell)))) e
-own_job job p Iopub e = or_true (is_at p (conn_on job Heart)) _ (ap (λ b. b || (is_at p (conn_on job Control) || is_at p (conn_on job Shell))) e)
-own_job job p Control e = or_true (is_at p (conn_on job Heart)) _ (or_true (is_at p (conn_on job Iopub)) _ (ap (λ b. b || is_at p (conn_on job Shell)) e))
-own_job job p Shell e = or_true (is_at p (conn_on job Heart)) _ (or_true (is_at p (conn_on job Iopub)) _ (or_true (is_at p (conn_on job Control)) _ e))
-
--- a connection of a loop of which none has failed
-not_failed : (l : Loop) → IsSound l → (p : ℕ) → p < 64 → failed_at l p ≡ false
-not_failed l sound p low = at (slice_get l.links p) refl
-  where
-    at : (found : Option Link) → slice_get l.links p ≡ found → failed_at l p ≡ false
-    at None e = ap failed_in e
-    at (Some link) e = ap failed_in e ∙ sound.each p link low e
+own_job job p Iopub e = or_right (is_at p (conn_on job Heart)) _ (ap (λ b. b || (is_at p (conn_on job Control) || is_at p (conn_on job Shell))) e)
+own_job job p Control e = or_right (is_at p (conn_on job Heart)) _ (or_right (is_at p (conn_on job Iopub)) _ (ap (λ b. b || is_at p (conn_on job Shell)) e))
+own_job job p Shell e = or_right (is_at p (conn_on job Heart)) _ (or_right (is_at p (conn_on job Iopub)) _ (or_right (is_at p (conn_on job Control)) _ e))
 
 -- the one that failed is of the job that was closed
 closed_whole : (conn : Conn) (p : ℕ) (b : Bool) → is_of_job conn.job p ≡ b → (was : Bool) → was ≡ false
@@ -309,5 +287,5 @@ pub mended : (conn : Conn) (old mid new : Loop) → IsSound old
 mended conn old mid new sound fails closes = record {
   each = λ p link low found.
       sym (ap failed_in found) ∙ closes p ∙ ap (λ b. failed_closed (is_of_job conn.job p) b) (fails p)
-      ∙ closed_whole conn p (is_of_job conn.job p) refl (failed_at old p) (not_failed old sound p low);
+      ∙ closed_whole conn p (is_of_job conn.job p) refl (failed_at old p) (sound_at old sound p low);
 }

@@ -20,7 +20,7 @@ use Rattle.ready_loop.specs.declared.stage.Stage.TheVariants.{Fresh, Begun, Clos
 use Rattle.ready_loop.specs.Link.{refused_clock, read_link, write_link, connect_link, begun_link, closed_link, wait_link, found_end, named_end, named_link, is_found, is_named, is_known, is_begun, closed_stage}
 use Rattle.ready_loop.specs.Queues.{Held, put_count}
 use Rattle.ready_loop.specs.Standing.{StandsAt, Sends, EndIs, put_by}
-use Rattle.ready_loop.proofs.BegunLemmas.{clock_begun}
+use Rattle.ready_loop.proofs.BegunLemmas.{clock_begun, known_begun}
 use Rattle.ready_loop.proofs.TableLemmas.{not_some}
 
 -- ---- small facts
@@ -37,11 +37,6 @@ never_ended false n = refl
 -- one that was begun is no fresh one
 not_fresh : {stage : Stage} {X : Type 0} → is_begun stage ≡ true → stage ≡ Fresh → X
 not_fresh h e = let f = sym h ∙ ap is_begun e in absurd (false≢true (sym f))
-
-known_of_begun : (stage : Stage) → is_begun stage ≡ true → is_known stage ≡ true
-known_of_begun Fresh e = cc
-known_of_begun Begun e = refl
-known_of_begun Closed e = cc
 
 pub stage_of_begun : (stage : Stage) → is_begun stage ≡ true → stage ≡ Begun
 stage_of_begun Fresh e = cc
@@ -67,7 +62,7 @@ ends_again {end} {b} {n} whole m = record { found = ap is_found whole ∙ never_
 -- one that is up was begun by this loop
 pub known_up : {link : Link} {held : Held} {b : Bool} {q : List ℕ} {n : Bool} {s : Status} {e : Bool}
     → StandsAt link held b q n s e → s.up ≡ true → b ≡ true
-known_up {link} m up = sym m.known ∙ known_of_begun link.stage (m.stage ∙ m.up_begun up)
+known_up {link} m up = sym m.known ∙ known_begun link.stage (m.stage ∙ m.up_begun up)
 
 -- ---- a connection that is lost
 
@@ -268,7 +263,7 @@ pub stands_write : (link : Link) (held : Held) (b : Bool) (q : List ℕ) (n : Bo
     → StandsAt (write_link answer last link) (held_write answer held) b q n (status_write answer held.rest clock s) (ended_write answer e)
 stands_write link held b q n s e (put.Took k) last clock t writable some unused m =
     let up : s.up ≡ true = m.open_up (sym m.writable ∙ writable) in
-    let known : b ≡ true = sym m.known ∙ known_of_begun link.stage (m.stage ∙ m.up_begun up) in
+    let known : b ≡ true = sym m.known ∙ known_begun link.stage (m.stage ∙ m.up_begun up) in
     record {
       awake = m.awake;
       writable = m.writable;
@@ -519,7 +514,7 @@ stands_begun link held b q n s e connected.Failed number last clock t fresh m =
 
 -- ---- a close
 
-known_closed : (stage : Stage) → is_known (closed_stage stage) ≡ is_known stage
+pub known_closed : (stage : Stage) → is_known (closed_stage stage) ≡ is_known stage
 known_closed Fresh = refl
 known_closed Begun = refl
 known_closed Closed = refl

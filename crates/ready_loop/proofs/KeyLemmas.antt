@@ -1,11 +1,12 @@
 -- How the table goes by places over keys.
 use Rattle.std.proofs.Common.{◌≡◌, ◌≢◌, inl, inr, ◌+◌, ◌<◌, ℕ, zero, suc, List, [], ◌∷◌, length, map, set, replicate, Option, Some, None, IsSome, slice_get, arith, refl, sym, ◌∙◌, ap, subst}
 use Rattle.std.proofs.lemmas.Bool.{cases_eq}
+use Rattle.std.proofs.lemmas.Option.{same_Some}
 use Rattle.slab.specs.Slab.{Slab, get, Updates}
 use Rattle.ready_loop.specs.declared.link.Link.{Link}
 use Rattle.ready_loop.specs.Link.{fresh_link}
 use Rattle.ready_loop.specs.Table.{link_or, link_in, links_of, AllHeld, AllApart}
-use Rattle.ready_loop.proofs.TableLemmas.{slice_get-set_same, slice_get-set_other, some_is, within}
+use Rattle.ready_loop.proofs.TableLemmas.{slice_get-set_same, slice_get-set_other, within}
 
 map_get : (f : ℕ → Link) (keys : List ℕ) (p key : ℕ) → slice_get keys p ≡ Some key
     → slice_get (map f keys) p ≡ Some (f key)
@@ -45,7 +46,7 @@ pub put_key : (old new : Slab Link) (keys : List ℕ) (place key : ℕ) (link : 
     → AllApart 64 keys → slice_get keys place ≡ Some key
     → Updates old new key (Some link) → links_of new keys ≡ set (links_of old keys) place link
 put_key old new keys place key link size low apart at up = map_set (link_in old) (link_in new) keys place link
-    (λ k e. let same : key ≡ k = some_is (sym at ∙ e) in subst (λ i. link_in new i ≡ link) same (ap link_or up.changed))
+    (λ k e. let same : key ≡ k = same_Some _ _ (sym at ∙ e) in subst (λ i. link_in new i ≡ link) same (ap link_or up.changed))
     (λ p k ne e. ap link_or (up.others k (λ same. ne (apart p place k (omega (arith, size, within keys p e)) low e (at ∙ ap Some (sym same))))))
 
 pub held_after : (old new : Slab Link) (keys : List ℕ) (key : ℕ) (link : Link) → Updates old new key (Some link)
@@ -66,7 +67,7 @@ pub fresh_more : (n : ℕ) (old new : Slab Link) (keys : List ℕ) (key : ℕ) �
 fresh_more n old new keys key lt up all p k low e = elim (cases_eq p n) [
   | inl same ↦
       let at : slice_get (set keys n key) n ≡ Some k = subst (λ i. slice_get (set keys n key) i ≡ Some k) same e in
-      let is : key ≡ k = some_is (sym (slice_get-set_same keys n key lt) ∙ at) in
+      let is : key ≡ k = same_Some _ _ (sym (slice_get-set_same keys n key lt) ∙ at) in
       subst (λ i. get new i ≡ Some fresh_link) is up.changed
   | inr ne ↦
       let at : slice_get keys p ≡ Some k = sym (slice_get-set_other keys n p key ne) ∙ e in
@@ -85,7 +86,7 @@ apart_more n old keys key lt none fresh apart p q k lowp lowq ep eq =
       | inl pn ↦ elim (cases_eq q n) [
         | inl qn ↦ pn ∙ sym qn
         | inr nq ↦
-            let is : key ≡ k = some_is (sym (slice_get-set_same keys n key lt) ∙ subst (λ i. slice_get (set keys n key) i ≡ Some k) pn ep) in
+            let is : key ≡ k = same_Some _ _ (sym (slice_get-set_same keys n key lt) ∙ subst (λ i. slice_get (set keys n key) i ≡ Some k) pn ep) in
             let at : slice_get keys q ≡ Some k = sym (slice_get-set_other keys n q key nq) ∙ eq in
             let some = fresh q k (omega arith) at in
             absurd (clash (ap (get old) is) none some)
@@ -94,7 +95,7 @@ apart_more n old keys key lt none fresh apart p q k lowp lowq ep eq =
           let at : slice_get keys p ≡ Some k = sym (slice_get-set_other keys n p key np) ∙ ep in
           elim (cases_eq q n) [
             | inl qn ↦
-                let is : key ≡ k = some_is (sym (slice_get-set_same keys n key lt) ∙ subst (λ i. slice_get (set keys n key) i ≡ Some k) qn eq) in
+                let is : key ≡ k = same_Some _ _ (sym (slice_get-set_same keys n key lt) ∙ subst (λ i. slice_get (set keys n key) i ≡ Some k) qn eq) in
                 let some = fresh p k (omega arith) at in
                 absurd (clash (ap (get old) is) none some)
             | inr nq ↦ apart p q k (omega arith) (omega arith) at (sym (slice_get-set_other keys n q key nq) ∙ eq)

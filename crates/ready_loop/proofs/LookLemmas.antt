@@ -1,6 +1,6 @@
 -- What a last look adds to the journal.
 use Rattle.ready_loop.proofs.StandLemmas.{not_at}
-use Rattle.world.proofs.StatusLemmas.{status_elsewhere}
+use Rattle.world.proofs.StatusLemmas.{status_elsewhere, chan_below}
 use Rattle.std.proofs.Common.{◌≡◌, inl, inr, ◌+◌, ◌/◌, ◌<◌, ℕ, Bool, true, false, List, [], ◌∷◌, Some, None, Ok, Err, slice_get, arith, refl, sym, ◌∙◌, ap, subst, ◌≢◌, ◌&&◌, ◌||◌, not}
 use Rattle.std.proofs.lemmas.Bool.{cases_eq, false≢true}
 use Rattle.world.specs.declared.conn.Conn.{Conn}
@@ -25,7 +25,7 @@ use Rattle.ready_loop.specs.Waits.{WaitCame, Looked, LooksThenWaits, LookCounts,
 use Rattle.ready_loop.proofs.OfferLemmas.{untimed_write, concerns_not}
 use Rattle.ready_loop.proofs.NameLemmas.{named_stands, names_are}
 use Rattle.ready_loop.proofs.StateLemmas.{sound_as}
-use Rattle.ready_loop.proofs.TableLemmas.{chan_low, some_at}
+use Rattle.ready_loop.proofs.TableLemmas.{some_at}
 use Rattle.ready_loop.proofs.WaitLemmas.{all_served, none_due}
 
 -- ---- connects
@@ -87,7 +87,7 @@ below_more {n = n} {jobs} {l} {mid} {x = x} {z = z} untouched b m k q = record {
 }
 
 job_at : (conn : Conn) (place : ℕ) → place_of conn ≡ place → place / 4 ≡ conn.job
-job_at conn place e = let low = chan_low conn.chan in omega arith
+job_at conn place e = let low = chan_below conn.chan in omega arith
 
 -- what is offered at a place of one of these jobs
 pub look_moment : (place : ℕ) (jobs : List Bool) → is_looked jobs (place / 4) ≡ true → (h : History) (now : List Entry)
@@ -190,8 +190,8 @@ may_then l mid may drained offered failed = record { drained = drained may.drain
 -- one place is of one job
 same_job : (a c : Conn) → place_of a ≡ place_of c → a.job ≡ c.job
 same_job a c e =
-    let low = chan_low a.chan in
-    let high = chan_low c.chan in
+    let low = chan_below a.chan in
+    let high = chan_below c.chan in
     omega arith
 
 offer_elsewhere : (p : ℕ) (forced : Bool) (h : History) (past : List Entry) (conn : Conn) (entry : Entry) → p ≢ place_of conn

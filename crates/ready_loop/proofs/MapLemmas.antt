@@ -2,10 +2,11 @@
 use Rattle.std.proofs.Common.{◌≡◌, inl, inr, ◌+◌, ◌<◌, ℕ, Bool, List, set, Option, Some, None, IsSomeAnd, slice_get, arith, refl, sym, ◌∙◌, ap, subst}
 use Rattle.std.proofs.lemmas.Bool.{cases_eq, cases_lt}
 use Rattle.std.proofs.Math.ListN.{length-set}
+use Rattle.std.proofs.lemmas.Option.{same_Some}
 use Rattle.ready_loop.specs.declared.link.Link.{Link}
 use Rattle.ready_loop.specs.States.{MapsTo, MapsBelow, failed_in, known_in}
 use Rattle.ready_loop.specs.Link.{is_known}
-use Rattle.ready_loop.proofs.TableLemmas.{slice_get-set_same, slice_get-set_other, some_is, within, none_at, beyond}
+use Rattle.ready_loop.proofs.TableLemmas.{slice_get-set_same, slice_get-set_other, within, none_at, beyond}
 
 pub some_and : (P : Link → Type 0) (o : Option Link) (x : Link) → o ≡ Some x → P x → IsSomeAnd o P
 some_and P o x e p = subst (λ v. IsSomeAnd v P) (sym e) p
@@ -34,7 +35,7 @@ maps_more n f old now here new found is r = record {
   each = λ p link at. elim (cases_eq p n) [
     | inl e ↦
         let at_n : slice_get (set now n new) n ≡ Some link = subst (λ i. slice_get (set now n new) i ≡ Some link) e at in
-        let link_is : link ≡ new = some_is (sym at_n ∙ slice_get-set_same now n new (within now n found)) in
+        let link_is : link ≡ new = same_Some _ _ (sym at_n ∙ slice_get-set_same now n new (within now n found)) in
         subst (λ i. IsSomeAnd (slice_get old i) (MapsTo (n + 1) f i link)) (sym e)
         (and_as (slice_get old n) (λ was s. record {
           below = λ low. link_is ∙ is ∙ ap (f n) (s.above (omega arith));

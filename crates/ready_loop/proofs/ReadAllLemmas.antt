@@ -1,6 +1,6 @@
 -- A wait comes only after all that was awake was read.
 use Rattle.std.proofs.Common.{◌≡◌, ◌⊎◌, inl, inr, ◌<◌, ◌≤◌, ◌||◌, ℕ, zero, suc, Bool, true, false, if◌then◌else◌, List, [], ◌∷◌, arith, refl, sym, ◌∙◌, ap}
-use Rattle.std.proofs.lemmas.Bool.{cases_eq, false≢true}
+use Rattle.std.proofs.lemmas.Bool.{cases_eq, false≢true, cases_Bool}
 use Rattle.world.specs.declared.connected.Connected.TheVariants as connected
 use Rattle.world.specs.declared.entry.Entry.{Entry}
 use Rattle.world.specs.declared.entry.Entry.TheVariants as made
@@ -77,13 +77,9 @@ data Search (n : ℕ) (f : ℕ → Bool) : Type 0 where
   found : (p : ℕ) → p < n → f p ≡ true → Search n f
   none : ((p : ℕ) → p < n → f p ≡ false) → Search n f
 
-either : (b : Bool) → (b ≡ true) ⊎ (b ≡ false)
-either true = inl refl
-either false = inr refl
-
 search_more : (n : ℕ) (f : ℕ → Bool) → Search n f → Search (suc n) f
 search_more n f (found p low e) = found p (omega arith) e
-search_more n f (none all) = elim (either (f n)) [
+search_more n f (none all) = elim (cases_Bool (f n)) [
   | inl e ↦ found n (omega arith) e
   | inr e ↦ none (λ p low. elim (cases_eq p n) [ inl same ↦ ap f same ∙ e | inr ne ↦ all p (omega arith) ])
 ]

@@ -2,6 +2,7 @@
 use Rattle.std.proofs.Common.{◌≡◌, ◌≢◌, inl, inr, ◌+◌, ◌<◌, ◌==◌, ◌||◌, ℕ, Bool, true, false, List, ◌∷◌, length, set, Some, slice_get, arith, refl, sym, ◌∙◌, ap, subst}
 use Rattle.std.proofs.lemmas.Bool.{cases_eq, eq-eqb, ne_eqb, cond-false}
 use Rattle.std.proofs.Math.ListN.{length-set}
+use Rattle.std.proofs.lemmas.Option.{same_Some}
 use Rattle.world.specs.declared.conn.Conn.{Conn}
 use Rattle.world.specs.declared.entry.Entry.{Entry}
 use Rattle.world.specs.declared.entry.Entry.TheVariants as made
@@ -18,7 +19,7 @@ use Rattle.ready_loop.specs.declared.readiness.Loop.{Loop}
 use Rattle.ready_loop.specs.History.{History, with_begun, with_queued, with_named}
 use Rattle.ready_loop.specs.Queues.{Held, held_in}
 use Rattle.ready_loop.specs.Standing.{write_ended, StandsAt, Stand, StandsFor, Goes}
-use Rattle.ready_loop.proofs.TableLemmas.{slice_get-set_same, slice_get-set_other, some_is}
+use Rattle.ready_loop.proofs.TableLemmas.{slice_get-set_same, slice_get-set_other}
 
 -- an entry of no concern to a place changes nothing of how it was ended
 pub ended_elsewhere : (p : ℕ) (entry : Entry) (past : List Entry) → concerns p entry ≡ false
@@ -88,7 +89,7 @@ stand_at {links} {queues} {now} {left} {h} {k} {past} entry q new within no_wait
   each = λ p link is. elim (cases_eq p q) [
     | inl e ↦
         let here : slice_get (set links q new) q ≡ Some link = subst (λ i. slice_get (set links q new) i ≡ Some link) e is in
-        let link_is : new ≡ link = some_is (sym (slice_get-set_same links q new within) ∙ here) in
+        let link_is : new ≡ link = same_Some _ _ (sym (slice_get-set_same links q new within) ∙ here) in
         subst (λ i. StandsAt link (held_in (slice_get now i)) (k.begun i) (k.queued i) (k.named i) (status i (entry ∷ past)) (write_ended i (entry ∷ past))) (sym e)
         (subst (λ l. StandsAt l (held_in (slice_get now q)) (k.begun q) (k.queued q) (k.named q) (status q (entry ∷ past)) (write_ended q (entry ∷ past))) link_is own)
     | inr ne ↦

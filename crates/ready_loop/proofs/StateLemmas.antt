@@ -1,7 +1,7 @@
 -- What one call does to what is to be done before the next wait.
 use Rattle.std.proofs.Common.{◌≡◌, ◌≢◌, inl, inr, ◌+◌, ◌-◌, ◌<◌, ◌||◌, ◌∷◌, drop, length-drop, sum_by, get_or, ℕ, Bool, true, false, List, [], length, set, Option, Some, None, IsSomeAnd, Result, Ok, Err, OnOk, slice_get, arith, refl, sym, ◌∙◌, ap, subst}
 use Rattle.std.proofs.lemmas.List.Sums.{sum_by-set}
-use Rattle.std.proofs.lemmas.Option.{get_or_from_slice_get}
+use Rattle.std.proofs.lemmas.Option.{get_or_from_slice_get, same_Some}
 use Rattle.std.proofs.lemmas.Bool.{cases_eq, cases_lt, eq-eqb, ne_eqb, false≢true}
 use Rattle.world.specs.declared.conn.Conn.{Conn}
 use Rattle.world.specs.declared.got.Got.{Got}
@@ -22,7 +22,7 @@ use Rattle.ready_loop.specs.declared.fault.LoopFault.{LoopFault}
 use Rattle.ready_loop.proofs.BegunLemmas.{clock_last}
 use Rattle.ready_loop.proofs.CallLemmas.{held_write}
 use Rattle.ready_loop.proofs.OfferLemmas.{held_set}
-use Rattle.ready_loop.proofs.TableLemmas.{slice_get-set_same, slice_get-set_other, some_is, within}
+use Rattle.ready_loop.proofs.TableLemmas.{slice_get-set_same, slice_get-set_other, within}
 
 -- ---- a table with one link replaced
 
@@ -31,7 +31,7 @@ pub each_set : {P : ℕ → Link → Type 0} (n q : ℕ) (links : List Link) (ne
 each_set {P} n q links new lt here all p link low is = elim (cases_eq p q) [
   | inl e ↦
       let at : slice_get (set links q new) q ≡ Some link = subst (λ i. slice_get (set links q new) i ≡ Some link) e is in
-      let link_is : new ≡ link = some_is (sym (slice_get-set_same links q new lt) ∙ at) in
+      let link_is : new ≡ link = same_Some _ _ (sym (slice_get-set_same links q new lt) ∙ at) in
       subst (λ i. P i link) (sym e) (subst (λ l. P q l) link_is here)
   | inr ne ↦ all p link low (sym (slice_get-set_other links q p new ne) ∙ is)
 ]
@@ -42,7 +42,7 @@ pub each_more : {P : ℕ → Link → Type 0} (q : ℕ) (links : List Link) (new
 each_more {P} q links new lt here all p link low is = elim (cases_eq p q) [
   | inl e ↦
       let at : slice_get (set links q new) q ≡ Some link = subst (λ i. slice_get (set links q new) i ≡ Some link) e is in
-      let link_is : new ≡ link = some_is (sym (slice_get-set_same links q new lt) ∙ at) in
+      let link_is : new ≡ link = same_Some _ _ (sym (slice_get-set_same links q new lt) ∙ at) in
       subst (λ i. P i link) (sym e) (subst (λ l. P q l) link_is here)
   | inr ne ↦ all p link (omega arith) (sym (slice_get-set_other links q p new ne) ∙ is)
 ]
@@ -53,7 +53,7 @@ pub each_next : {P : ℕ → Link → Type 0} (q : ℕ) (links : List Link) (lin
 each_next {P} q links link found here all p l low is = elim (cases_eq p q) [
   | inl e ↦
       let at : slice_get links q ≡ Some l = subst (λ i. slice_get links i ≡ Some l) e is in
-      let link_is : link ≡ l = some_is (sym found ∙ at) in
+      let link_is : link ≡ l = same_Some _ _ (sym found ∙ at) in
       subst (λ i. P i l) (sym e) (subst (λ x. P q x) link_is here)
   | inr ne ↦ all p l (omega arith) is
 ]
@@ -257,13 +257,10 @@ connect_fails how conn last q links now link place found is p =
     failed_set (λ i b. failed_connect how conn i b) links now (place_of conn) (connect_link how last link) link (subst (λ i. slice_get links i ≡ Some link) (sym place) found)
     (is ∙ ap (λ i. set links i (connect_link how last link)) (sym place)) (connect_failed how last link conn) (λ i b ne. failed_connect_other how conn i b ne) p
 
-some_at : {a b : ℕ} → Some a ≡ Some b → a ≡ b
-some_at e = cc
-
 connect_calm : (how : Connected) (last : ℕ) (link : Link) (at : ℕ) → (connect_link how last link).refused ≡ Some at
     → last < at + 200
 connect_calm connected.Begun last link at e = cc
-connect_calm connected.Refused last link at e = let k = some_at e in omega arith
+connect_calm connected.Refused last link at e = let k = same_Some _ _ e in omega arith
 connect_calm connected.Failed last link at e = cc
 
 pub calm_connected : (how : Connected) (last later q : ℕ) (l new : Loop) (link : Link) → slice_get l.links q ≡ Some link
@@ -271,7 +268,7 @@ pub calm_connected : (how : Connected) (last later q : ℕ) (l new : Loop) (link
 calm_connected how last later q l new link found is clock = record {
   at = λ x at_q at refused.
       let here : slice_get (set l.links q (connect_link how last link)) q ≡ Some x = subst (λ (ls : List Link). slice_get ls q ≡ Some x) is at_q in
-      let x_is : connect_link how last link ≡ x = some_is (sym (slice_get-set_same l.links q (connect_link how last link) (within l.links q found)) ∙ here) in
+      let x_is : connect_link how last link ≡ x = same_Some _ _ (sym (slice_get-set_same l.links q (connect_link how last link) (within l.links q found)) ∙ here) in
       subst (λ n. n < at + 200) clock (connect_calm how last link at (ap (λ y. y.refused) x_is ∙ refused));
 }
 
@@ -320,7 +317,7 @@ pub calm_written : (answer : Put) (last was later q : ℕ) (l new : Loop) (link 
 calm_written answer last was later q l new link found is clock same calm = record {
   at = λ x at_q at refused.
       let here : slice_get (set l.links q (write_link answer last link)) q ≡ Some x = subst (λ (ls : List Link). slice_get ls q ≡ Some x) is at_q in
-      let x_is : write_link answer last link ≡ x = some_is (sym (slice_get-set_same l.links q (write_link answer last link) (within l.links q found)) ∙ here) in
+      let x_is : write_link answer last link ≡ x = same_Some _ _ (sym (slice_get-set_same l.links q (write_link answer last link) (within l.links q found)) ∙ here) in
       subst (λ n. n < at + 200) clock (write_calm answer last was link (calm.at link found) (clock ∙ same) at (ap (λ y. y.refused) x_is ∙ refused));
 }
 
@@ -346,7 +343,7 @@ write_stage put.Failed last link = refl
 
 -- ---- soundness
 
-sound_at : (l : Loop) → IsSound l → (p : ℕ) → p < 64 → failed_at l p ≡ false
+pub sound_at : (l : Loop) → IsSound l → (p : ℕ) → p < 64 → failed_at l p ≡ false
 sound_at l sound p low = one (slice_get l.links p) refl
   where
     one : (o : Option Link) → slice_get l.links p ≡ o → failed_in (slice_get l.links p) ≡ false
@@ -407,7 +404,7 @@ pub calm_none : (place last : ℕ) (forced : Bool) (l : Loop) (link : Link) → 
     → (IsToBegin forced last link → ⊥) → IsCalmAt place last l
 calm_none place last forced l link found none = record {
   at = λ x at_x at refused.
-      let x_is : link ≡ x = some_is (sym found ∙ at_x) in
+      let x_is : link ≡ x = same_Some _ _ (sym found ∙ at_x) in
       elim (cases_lt last (at + 200)) [
         | inl lt ↦ lt
         | inr le ↦ absurd (none (record { at = at; refused = ap (λ y. y.refused) x_is ∙ refused; due = inr le }))

@@ -24,10 +24,7 @@ use Rattle.std.proofs.Common.{
   ap,
   subst,
 }
-use Rattle.world.specs.declared.chan.Chan.{Chan}
-use Rattle.world.specs.declared.chan.Chan.TheVariants.{Shell, Control, Iopub, Heart}
 use Rattle.world.specs.declared.entry.Entry.{Entry}
-use Rattle.world.specs.Places.{chan_number}
 use Rattle.world.specs.Moments.{Told, Tells}
 use Rattle.world.proofs.MomentsLemmas.{told_both, told_as}
 
@@ -117,10 +114,3 @@ module _ {X : Type 0} where
   beyond [] i e = omega arith
   beyond (x ∷ xs) zero e = cc
   beyond (x ∷ xs) (suc i) e = let le = beyond xs i e in omega arith
-
--- the number of a channel
-pub chan_low : (chan : Chan) → chan_number chan < 4
-chan_low Shell = omega arith
-chan_low Control = omega arith
-chan_low Iopub = omega arith
-chan_low Heart = omega arith

@@ -1,6 +1,7 @@
 -- On which port each connect is made.
 use Rattle.std.proofs.Common.{◌≡◌, inl, inr, ◌||◌, ℕ, zero, suc, Bool, true, false, List, [], ◌∷◌, map, set, replicate, Option, Some, None, slice_get, arith, refl, sym, ◌∙◌, ap, subst}
 use Rattle.std.proofs.lemmas.Bool.{cases_eq, eq-eqb, false≢true, or_parts}
+use Rattle.std.proofs.lemmas.Option.{same_Some}
 use Rattle.world.specs.declared.chan.Chan.{Chan}
 use Rattle.world.specs.declared.chan.Chan.TheVariants.{Shell, Control, Iopub, Heart}
 use Rattle.world.specs.declared.conn.Conn.{Conn}
@@ -20,15 +21,14 @@ use Rattle.world.specs.Told.{read_entry, write_entry}
 use Rattle.world.proofs.MomentsLemmas.{told_start, told_then, tells_as, since_then, since_as}
 use Rattle.ready_loop.specs.declared.link.Link.{Link}
 use Rattle.ready_loop.specs.declared.readiness.Loop.{Loop}
-use Rattle.ready_loop.specs.declared.stage.Stage.{Stage}
-use Rattle.ready_loop.specs.declared.stage.Stage.TheVariants.{Fresh, Begun, Closed}
 use Rattle.ready_loop.specs.Begins.{is_of_job, port_of, IsFresh, closing}
 use Rattle.ready_loop.specs.History.{conn_on}
-use Rattle.ready_loop.specs.Link.{is_known, fresh_link, begun_link, connect_link, read_link, write_link, wait_link, closed_stage, closed_link, named_link}
+use Rattle.ready_loop.specs.Link.{is_known, fresh_link, begun_link, connect_link, read_link, write_link, wait_link, closed_link, named_link}
 use Rattle.ready_loop.specs.States.{known_at, known_in}
 use Rattle.ready_loop.specs.Wires.{port_where, port_kept, ports_in, OnPort, IsWired, AddsPort, HasPorts}
 use Rattle.ready_loop.proofs.StandLemmas.{not_at}
-use Rattle.ready_loop.proofs.TableLemmas.{slice_get-set_same, slice_get-set_other, within, some_is}
+use Rattle.ready_loop.proofs.TableLemmas.{slice_get-set_same, slice_get-set_other, within}
+use Rattle.ready_loop.proofs.CallLemmas.{known_closed}
 
 -- ---- the ports that are kept
 
@@ -84,13 +84,8 @@ pub wait_port : (answer : Did) (ready : Bool) (link : Link) → port_kept (wait_
 wait_port did.Done ready link = refl
 wait_port did.Failed ready link = refl
 
-closed_is_known : (stage : Stage) → is_known (closed_stage stage) ≡ is_known stage
-closed_is_known Fresh = refl
-closed_is_known Begun = refl
-closed_is_known Closed = refl
-
 pub closed_port : (link : Link) → port_kept (closed_link link) ≡ port_kept link
-closed_port link = ap (λ b. port_where b link.port) (closed_is_known link.stage)
+closed_port link = ap (λ b. port_where b link.port) (known_closed link.stage)
 
 pub named_port : (link : Link) → port_kept (named_link link) ≡ port_kept link
 named_port link = refl
@@ -108,7 +103,7 @@ known_of_port l p port e = at (slice_get l.links p) (sym (ports_get l.links p) �
 
     at : (o : Option Link) → port_in o ≡ Some (Some port) → known_in o ≡ true
     at None e = cc
-    at (Some link) e = stage (is_known link.stage) link.port (some_is e)
+    at (Some link) e = stage (is_known link.stage) link.port (same_Some _ _ e)
 
 -- a new loop keeps none
 pub new_ports : (links : List Link) → links ≡ replicate 64 fresh_link → map port_kept links ≡ replicate 64 None

@@ -25,7 +25,8 @@ use Rattle.world.specs.declared.entry.Entry.{Entry}
 use Rattle.world.specs.declared.entry.Entry.TheVariants as made
 use Rattle.world.specs.declared.side.Side.TheVariants as side
 use Rattle.world.specs.Jobs.{conn_of}
-use Rattle.world.specs.Moments.{Since, Told}
+use Rattle.world.specs.Moments.{Since}
+use Rattle.world.specs.Told.{Between}
 use Rattle.world.specs.Parts.{OnWire, OnClock, part_of}
 use Rattle.world.specs.Places.{Status, status, is_at}
 use Rattle.world.specs.Waits.{is_wait, wait_count}
@@ -124,10 +125,6 @@ AllShut journal = (p : ℕ) → p < 64 → IsShut (status p journal)
 pub record Goes (rule : History → List Entry → Type 0) (step : History → History) (old new : Loop) (before after : List Entry) : Type 0 where
   pub so : (h : History) → StandsFor old h before → StandsFor new (step h) after × Since (rule h) before after
 
--- where a world tells its journal after a call, it told it before, and the two are related so
-abbrev pub Follows : {W : Type 0} → (W → Option (List Entry)) → W → W → (List Entry → List Entry → Type 0) → Type 0
-Follows journal old new R = Told (journal old) (journal new) R
-
 -- a call of a connection, a wait or a look at the clock
 abbrev pub IsLoopEntry : Entry → Type 0
 -- asking for a job's ports is no call of a connection
@@ -141,7 +138,7 @@ IsOfLoop (entry ∷ past) = IsLoopEntry entry
 
 -- no other calls were made
 abbrev pub CallsOfLoop : {W : Type 0} → (W → Option (List Entry)) → W → W → Type 0
-CallsOfLoop journal old new = Follows journal old new (Since IsOfLoop)
+CallsOfLoop journal old new = Between journal old new (Since IsOfLoop)
 
 -- an entry that is neither of a connection nor a wait
 pub record IsElsewhere (entry : Entry) : Type 0 where

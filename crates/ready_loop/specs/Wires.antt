@@ -11,7 +11,7 @@ use Rattle.ready_loop.specs.declared.readiness.Loop.{Loop}
 use Rattle.ready_loop.specs.Begins.{port_of}
 use Rattle.ready_loop.specs.History.{conn_on}
 use Rattle.ready_loop.specs.Link.{is_known}
-use Rattle.ready_loop.specs.Standing.{Follows}
+use Rattle.world.specs.Told.{Between}
 use Rattle.ready_loop.specs.States.{known_at}
 
 -- a port, where there is one
@@ -40,7 +40,7 @@ pub record IsWired (ports : List (Option ℕ)) (now : List Entry) : Type 0 where
 
 -- each connect was made on the port that is kept for its connection
 abbrev pub ConnectsOn : {W : Type 0} → (W → Option (List Entry)) → W → W → List (Option ℕ) → Type 0
-ConnectsOn journal old new ports = Follows journal old new (Since (IsWired ports))
+ConnectsOn journal old new ports = Between journal old new (Since (IsWired ports))
 
 -- a port is kept for one connection more, which had none
 pub record AddsPort (place port : ℕ) (old new : List (Option ℕ)) : Type 0 where

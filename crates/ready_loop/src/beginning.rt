@@ -2,14 +2,14 @@
 ghost use Rattle.std.specs.Prelude.{◌≡◌, ◌<◌, ◌||◌, ℕ, IsErr, IfErr, OnOk, Some, false, slice_get};
 ghost use Rattle.world.specs.Counts.{CountsBy, NetCause};
 ghost use Rattle.world.specs.Places.{place_of, is_at};
-ghost use Rattle.world.specs.Told.{Adds};
+ghost use Rattle.world.specs.Told.{Adds, Between};
 ghost use Rattle.world.specs.declared.entry.Entry.{Entry};
 ghost use Rattle.ready_loop.specs.Begins.{BeginMoment, Begins, BeginsOne, IsFresh, IsBegun};
 ghost use Rattle.ready_loop.specs.Begins.{CloseMoment, CloseCame, ClosesOne, closing, is_of_job};
 ghost use Rattle.ready_loop.specs.Begins.{failed_closed};
 ghost use Rattle.ready_loop.specs.History.{same, with_begun, after_begin, chans};
 ghost use Rattle.ready_loop.specs.Offers.{IsOfConn};
-ghost use Rattle.ready_loop.specs.Standing.{Goes, Follows, CallsOfLoop};
+ghost use Rattle.ready_loop.specs.Standing.{Goes, CallsOfLoop};
 ghost use Rattle.ready_loop.specs.States.{IsDrained, IsOffered, IsSound, FailsOnly, OnlyAt};
 ghost use Rattle.ready_loop.specs.States.{HoldsForKnown, SameKnown, failed_at, failed_connect, known_at, waits_left};
 ghost use Rattle.ready_loop.specs.Wires.{AddsPort, ConnectsOn, HasPorts, ports_in};
@@ -31,8 +31,8 @@ impl Loop {
         requires job { job < 16 }
         requires fresh { IsFresh job self.old }
         // One connect for each channel, on its port, up to one that fails: its connection is named.
-        ensures came { Follows W.journal w.old w.new (Begins job ports (chans heart) result) }
-        ensures goes { Follows W.journal w.old w.new
+        ensures came { Between W.journal w.old w.new (Begins job ports (chans heart) result) }
+        ensures goes { Between W.journal w.old w.new
             (Goes BeginMoment (after_begin job heart result) self.old self.new) }
         ensures fault { IfErr result IsOfConn }
 
@@ -89,9 +89,9 @@ impl Loop {
     fn begin_on<W: World>(&mut self, w: &mut W, conn: Conn, port: u16) -> Result<(), LoopFault>
         requires job { conn.job < 16 }
         requires fresh { known_at self.old (place_of conn) ≡ false }
-        ensures came { Follows W.journal w.old w.new (BeginsOne conn port result) }
+        ensures came { Between W.journal w.old w.new (BeginsOne conn port result) }
         ensures fault { IfErr result (λ fault. fault ≡ LoopFault.NetFault (Some conn)) }
-        ensures goes { Follows W.journal w.old w.new
+        ensures goes { Between W.journal w.old w.new
             (Goes BeginMoment (with_begun (place_of conn)) self.old self.new) }
         ensures only { OnlyAt (place_of conn) self.old self.new }
         ensures drained { IsDrained self.old → IsDrained self.new }
@@ -118,7 +118,7 @@ impl Loop {
         requires job { conn.job < 16 }
         requires fresh { known_at self.old (place_of conn) ≡ false }
         ensures tells { Adds W.journal w.old w.new (Entry.Connected conn port result) }
-        ensures goes { Follows W.journal w.old w.new
+        ensures goes { Between W.journal w.old w.new
             (Goes BeginMoment (with_begun (place_of conn)) self.old self.new) }
         ensures only { OnlyAt (place_of conn) self.old self.new }
         ensures drained { IsDrained self.old → IsDrained self.new }
@@ -147,8 +147,8 @@ impl Loop {
     /// once, and also where it has ended or was refused since.
     pub fn close<W: World>(&mut self, w: &mut W, job: u8)
         requires { job < 16 }
-        ensures came { Follows W.journal w.old w.new (CloseCame job self.old) }
-        ensures goes { Follows W.journal w.old w.new (Goes CloseMoment same self.old self.new) }
+        ensures came { Between W.journal w.old w.new (CloseCame job self.old) }
+        ensures goes { Between W.journal w.old w.new (Goes CloseMoment same self.old self.new) }
         ensures drained { IsDrained self.old → IsDrained self.new }
         ensures offered { IsOffered self.old → IsOffered self.new }
         ensures failed { (p : ℕ) → failed_at self.new p
@@ -174,8 +174,8 @@ impl Loop {
     /// Closes a connection, where connect was called for it.
     fn close_one<W: World>(&mut self, w: &mut W, conn: Conn)
         requires { conn.job < 16 }
-        ensures came { Follows W.journal w.old w.new (ClosesOne conn self.old) }
-        ensures goes { Follows W.journal w.old w.new (Goes CloseMoment same self.old self.new) }
+        ensures came { Between W.journal w.old w.new (ClosesOne conn self.old) }
+        ensures goes { Between W.journal w.old w.new (Goes CloseMoment same self.old self.new) }
         ensures only { OnlyAt (place_of conn) self.old self.new }
         ensures drained { IsDrained self.old → IsDrained self.new }
         ensures offered { IsOffered self.old → IsOffered self.new }
@@ -198,7 +198,7 @@ impl Loop {
 /// Closes a connection, where that is asked for.
 fn close_where<W: World>(w: &mut W, conn: Conn, begun: bool)
     requires { conn.job < 16 }
-    ensures came { Follows W.journal w.old w.new
+    ensures came { Between W.journal w.old w.new
         (λ before after. after ≡ closing begun conn before) }
     ensures calls { CallsOfLoop W.journal w.old w.new }
     ensures counts { W.counts w.new ≡ W.counts w.old }

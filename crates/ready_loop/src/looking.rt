@@ -4,7 +4,8 @@ ghost use Rattle.world.specs.Counts.{CountsBy, NetCause};
 ghost use Rattle.world.specs.declared.conn.Conn.{Conn};
 ghost use Rattle.ready_loop.specs.History.{same};
 ghost use Rattle.ready_loop.specs.Offers.{LookMoment, FaultCame, BeginsBelow, IsOfConn, Names};
-ghost use Rattle.ready_loop.specs.Standing.{Goes, Follows, CallsOfLoop};
+ghost use Rattle.ready_loop.specs.Standing.{Goes, CallsOfLoop};
+ghost use Rattle.world.specs.Told.{Between};
 ghost use Rattle.ready_loop.specs.States.{IsDrained, IsOffered, IsSound, MayWait, FailsOnly, SameKnown, IsCalm, waits_left};
 ghost use Rattle.ready_loop.specs.Waits.{Looked, LookCounts, left_after};
 ghost use Rattle.ready_loop.specs.Wires.{ConnectsOn, ports_in};
@@ -19,9 +20,9 @@ impl Loop {
     pub fn look<W: World>(&mut self, w: &mut W, jobs: [bool; 16]) -> Result<[bool; 64], LoopFault>
         requires { MayWait self.old }
         // Only connections of these jobs are begun or written to; then one wait that does not last.
-        ensures looked { Follows W.journal w.old w.new
+        ensures looked { Between W.journal w.old w.new
             (Looked jobs result (W.counts w.old).last self.old self.new) }
-        ensures names { Follows W.journal w.old w.new (Names result self.old) }
+        ensures names { Between W.journal w.old w.new (Names result self.old) }
 
         // `Spent` exactly where no wait is left, and then nothing changes.
         ensures spent { (result ≡ Err LoopFault.Spent) ↔ (waits_left self.old ≡ 0) }
@@ -55,11 +56,11 @@ impl Loop {
 
     /// Begins the refused connections of these jobs again, and offers what is queued on theirs.
     fn offer_jobs<W: World>(&mut self, w: &mut W, jobs: &[bool; 16]) -> Result<(), LoopFault>
-        ensures goes { Follows W.journal w.old w.new
+        ensures goes { Between W.journal w.old w.new
             (Goes (LookMoment jobs.now) same self.old self.new) }
-        ensures came { Follows W.journal w.old w.new (λ _ after. FaultCame result after) }
+        ensures came { Between W.journal w.old w.new (λ _ after. FaultCame result after) }
         ensures begins { OnOk result
-            (Follows W.journal w.old w.new (BeginsBelow 64 jobs.now self.old)) }
+            (Between W.journal w.old w.new (BeginsBelow 64 jobs.now self.old)) }
         ensures offered { OnOk result (IsOffered self.old → IsOffered self.new) }
         ensures calm { OnOk result (IsCalm (W.counts w.old).last self.old
             → IsCalm (W.counts w.new).last self.new) }

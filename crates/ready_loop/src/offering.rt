@@ -9,7 +9,8 @@ ghost use Rattle.ready_loop.specs.History.{same, after_names};
 ghost use Rattle.ready_loop.specs.Offers.{OfferMoment, OfferAt, FaultCame, ConnectCame, PutCame};
 ghost use Rattle.ready_loop.specs.Offers.{Names, BeginsAt, Connects, IsOfConn};
 ghost use Rattle.ready_loop.specs.Queues.{rest_at};
-ghost use Rattle.ready_loop.specs.Standing.{Goes, Follows, CallsOfLoop};
+ghost use Rattle.ready_loop.specs.Standing.{Goes, CallsOfLoop};
+ghost use Rattle.world.specs.Told.{Between};
 ghost use Rattle.ready_loop.specs.States.{IsDrained, IsOffered, IsCalm, IsCalmAt, FailsOnly};
 ghost use Rattle.ready_loop.specs.States.{IsOfferedAt, AllOfferedBelow, OnlyAt, load, failed_at};
 ghost use Rattle.ready_loop.specs.States.{failed_connect, failed_put, found_at, NamesAll, IsSound, SameKnown, waits_left};
@@ -25,11 +26,11 @@ impl Loop {
     /// that no earlier answer named. A fault names the connection of the failed call.
     pub fn offer<W: World>(&mut self, w: &mut W) -> Result<[bool; 64], LoopFault>
         // Each new entry begins a due connection again, or offers all that is queued on one.
-        ensures goes { Follows W.journal w.old w.new
+        ensures goes { Between W.journal w.old w.new
             (Goes (OfferMoment false) (after_names result) self.old self.new) }
-        ensures came { Follows W.journal w.old w.new (λ _ after. FaultCame result after) }
+        ensures came { Between W.journal w.old w.new (λ _ after. FaultCame result after) }
         ensures fault { IfErr result IsOfConn }
-        ensures names { Follows W.journal w.old w.new (Names result self.old) }
+        ensures names { Between W.journal w.old w.new (Names result self.old) }
 
         // Then nothing is left to be done.
         ensures offered { OnOk result (IsOffered self.new) }
@@ -53,9 +54,9 @@ impl Loop {
 
     /// Begins again what is due and offers what is queued, at each place.
     fn offer_all<W: World>(&mut self, w: &mut W) -> Result<(), LoopFault>
-        ensures goes { Follows W.journal w.old w.new
+        ensures goes { Between W.journal w.old w.new
             (Goes (OfferMoment false) same self.old self.new) }
-        ensures came { Follows W.journal w.old w.new (λ _ after. FaultCame result after) }
+        ensures came { Between W.journal w.old w.new (λ _ after. FaultCame result after) }
         ensures fault { IfErr result IsOfConn }
         ensures offered { OnOk result (AllOfferedBelow 64 (W.counts w.new).last self.new) }
         ensures drained { IsDrained self.old → IsDrained self.new }
@@ -81,11 +82,11 @@ impl Loop {
         forced: bool,
     ) -> Result<(), LoopFault>
         requires { place < 64 }
-        ensures goes { Follows W.journal w.old w.new
+        ensures goes { Between W.journal w.old w.new
             (Goes (OfferAt forced place) same self.old self.new) }
-        ensures came { Follows W.journal w.old w.new (λ _ after. FaultCame result after) }
+        ensures came { Between W.journal w.old w.new (λ _ after. FaultCame result after) }
         ensures fault { IfErr result IsOfConn }
-        ensures begins { Follows W.journal w.old w.new (BeginsAt forced place self.old) }
+        ensures begins { Between W.journal w.old w.new (BeginsAt forced place self.old) }
         ensures only { OnlyAt place self.old self.new }
         ensures offered { OnOk result (IsOfferedAt place (W.counts w.new).last self.new) }
         ensures drained { IsDrained self.old → IsDrained self.new }
@@ -112,11 +113,11 @@ impl Loop {
         requires place { place_of conn ≡ place }
         requires job { conn.job < 16 }
         requires within { place < 64 }
-        ensures goes { Follows W.journal w.old w.new
+        ensures goes { Between W.journal w.old w.new
             (Goes (OfferAt forced place) same self.old self.new) }
-        ensures came { Follows W.journal w.old w.new (λ _ after. FaultCame result after) }
+        ensures came { Between W.journal w.old w.new (λ _ after. FaultCame result after) }
         ensures fault { IfErr result IsOfConn }
-        ensures begins { Follows W.journal w.old w.new (BeginsAt forced place self.old) }
+        ensures begins { Between W.journal w.old w.new (BeginsAt forced place self.old) }
         ensures only { OnlyAt place self.old self.new }
         ensures calm { OnOk result (IsCalmAt place (W.counts w.new).last self.new) }
         ensures drained { IsDrained self.old → IsDrained self.new }
@@ -150,10 +151,10 @@ impl Loop {
         requires within { place < 64 }
         requires may { IsSomeAnd (slice_get self.old.links place)
             (IsToBegin forced (W.counts w.old).last) }
-        ensures goes { Follows W.journal w.old w.new
+        ensures goes { Between W.journal w.old w.new
             (Goes (OfferAt forced place) same self.old self.new) }
-        ensures came { Follows W.journal w.old w.new (λ _ after. ConnectCame conn result after) }
-        ensures connects { Follows W.journal w.old w.new (Connects place) }
+        ensures came { Between W.journal w.old w.new (λ _ after. ConnectCame conn result after) }
+        ensures connects { Between W.journal w.old w.new (Connects place) }
         ensures only { OnlyAt place self.old self.new }
         ensures calm { IsCalmAt place (W.counts w.new).last self.new }
         ensures drained { IsDrained self.old → IsDrained self.new }
@@ -178,9 +179,9 @@ impl Loop {
         requires job { conn.job < 16 }
         requires within { place < 64 }
         requires calm { IsCalmAt place (W.counts w.old).last self.old }
-        ensures goes { Follows W.journal w.old w.new
+        ensures goes { Between W.journal w.old w.new
             (Goes (OfferAt false place) same self.old self.new) }
-        ensures came { Follows W.journal w.old w.new (λ _ after. FaultCame result after) }
+        ensures came { Between W.journal w.old w.new (λ _ after. FaultCame result after) }
         ensures fault { IfErr result IsOfConn }
         ensures only { OnlyAt place self.old self.new }
         ensures offered { OnOk result (IsOfferedAt place (W.counts w.new).last self.new) }
@@ -217,9 +218,9 @@ impl Loop {
         requires within { place < 64 }
         requires may { IsSomeAnd (slice_get self.old.links place) MayWrite }
         requires some { 0 < length (rest_at self.old.queues place) }
-        ensures goes { Follows W.journal w.old w.new
+        ensures goes { Between W.journal w.old w.new
             (Goes (OfferAt false place) same self.old self.new) }
-        ensures came { Follows W.journal w.old w.new (λ _ after. PutCame conn result after) }
+        ensures came { Between W.journal w.old w.new (λ _ after. PutCame conn result after) }
         ensures only { OnlyAt place self.old self.new }
         ensures less { load place self.new < load place self.old }
         ensures calm { IsCalmAt place (W.counts w.old).last self.old

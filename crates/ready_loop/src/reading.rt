@@ -2,12 +2,12 @@
 ghost use Rattle.std.specs.Prelude.{◌≡◌, ◌<◌, ◌≤◌, ◌+◌, ℕ, length, slice_get, IfErr, IsErr, IsSomeAnd, OnOk, Ok};
 ghost use Rattle.world.specs.Counts.{CountsBy, NetCause};
 ghost use Rattle.world.specs.Places.{place_of};
-ghost use Rattle.world.specs.Told.{Adds, GotSome, read_entry};
+ghost use Rattle.world.specs.Told.{Adds, GotSome, read_entry, Between};
 ghost use Rattle.ready_loop.specs.Link.{MayRead};
 ghost use Rattle.ready_loop.specs.History.{after_next};
 ghost use Rattle.ready_loop.specs.Reads.{ReadMoment, NextCame, after_got, failed_got};
 ghost use Rattle.ready_loop.specs.Offers.{IsOfConn};
-ghost use Rattle.ready_loop.specs.Standing.{Goes, Follows, CallsOfLoop};
+ghost use Rattle.ready_loop.specs.Standing.{Goes, CallsOfLoop};
 ghost use Rattle.ready_loop.specs.States.{IsDrained, IsOffered, FailsOnly, EachBelow};
 ghost use Rattle.ready_loop.specs.States.{NotRead, IsSound, SameKnown, failed_at, reads_left, waits_left};
 ghost use Rattle.ready_loop.specs.Wires.{ConnectsOn, ports_in};
@@ -22,9 +22,9 @@ impl Loop {
     pub fn next<W: World>(&mut self, w: &mut W, buf: &mut [u8]) -> Result<Next, LoopFault>
         requires { 0 < length buf.old }
         // Only connections that are awake are read; the newest entry is that of the answer.
-        ensures goes { Follows W.journal w.old w.new
+        ensures goes { Between W.journal w.old w.new
             (Goes ReadMoment (after_next result) self.old self.new) }
-        ensures came { Follows W.journal w.old w.new (NextCame result (length buf.old) buf.new) }
+        ensures came { Between W.journal w.old w.new (NextCame result (length buf.old) buf.new) }
         ensures fault { IfErr result IsOfConn }
 
         // `Quiet` exactly where no connection is to be read.
@@ -71,7 +71,7 @@ impl Loop {
         ensures some { GotSome result (length buf.old) }
         ensures tells { Adds W.journal w.old w.new
             (read_entry conn (length buf.old) result buf.new) }
-        ensures goes { Follows W.journal w.old w.new
+        ensures goes { Between W.journal w.old w.new
             (Goes ReadMoment (after_got result conn) self.old self.new) }
         ensures below { result ≡ Got.Dry → EachBelow place self.old.links NotRead
             → EachBelow (place + 1) self.new.links NotRead }

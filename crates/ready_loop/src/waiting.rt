@@ -3,7 +3,8 @@ ghost use Rattle.std.specs.Prelude.{◌≡◌, ◌↔◌, ◌-◌, ◌<◌, ◌�
 ghost use Rattle.world.specs.Counts.{CountsBy, WaitCause};
 ghost use Rattle.world.specs.Places.{is_reported};
 ghost use Rattle.ready_loop.specs.Link.{wait_link};
-ghost use Rattle.ready_loop.specs.Standing.{Follows, CallsOfLoop};
+ghost use Rattle.ready_loop.specs.Standing.{CallsOfLoop};
+ghost use Rattle.world.specs.Told.{Between};
 ghost use Rattle.ready_loop.specs.States.{MayWait, FailsOnly, IsSound, MapsBelow, SameKnown, failed_at, waits_left};
 ghost use Rattle.ready_loop.specs.Waits.{WaitCame, Turned, TurnCounts};
 ghost use Rattle.ready_loop.specs.Wires.{ConnectsOn, ports_in};
@@ -17,7 +18,7 @@ impl Loop {
     pub fn turn<W: World>(&mut self, w: &mut W, due: Option<u64>) -> Result<u64, LoopFault>
         requires { MayWait self.old }
         // One wait, with exactly the limit of the timers, and the clock directly behind it.
-        ensures turned { Follows W.journal w.old w.new
+        ensures turned { Between W.journal w.old w.new
             (Turned due result (W.counts w.old).last self.old self.new) }
 
         // `Spent` exactly where no wait is left, and then nothing changes.
@@ -48,7 +49,7 @@ impl Loop {
     /// Waits at most so many milliseconds.
     pub(crate) fn wait<W: World>(&mut self, w: &mut W, ms: u32) -> Did
         requires { 0 < self.old.left }
-        ensures came { Follows W.journal w.old w.new (WaitCame ms result self.old self.new) }
+        ensures came { Between W.journal w.old w.new (WaitCame ms result self.old self.new) }
         ensures failed { (p : ℕ) → failed_at self.new p ≡ failed_at self.old p }
         ensures known { SameKnown self.old self.new }
         ensures same { self.new

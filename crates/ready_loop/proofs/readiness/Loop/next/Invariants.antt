@@ -3,7 +3,8 @@ use Rattle.world.specs.Moments.{Since}
 use Rattle.world.specs.Counts.{NetCause}
 use Rattle.ready_loop.specs.History.{same}
 use Rattle.ready_loop.specs.Reads.{ReadMoment, IsDry}
-use Rattle.ready_loop.specs.Standing.{Goes, Follows, CallsOfLoop}
+use Rattle.ready_loop.specs.Standing.{Goes, CallsOfLoop}
+use Rattle.world.specs.Told.{Between}
 use Rattle.ready_loop.specs.States.{IsDrained, IsOffered, EachBelow, NotRead, SameKnown, failed_at, reads_left}
 use Rattle.ready_loop.specs.Wires.{ConnectsOn, ports_in}
 use Rattle.ready_loop.proofs.readiness.Loop.next.Given as goal
@@ -15,8 +16,8 @@ invariant-loop-place g l = record {
   wires : ConnectsOn g.W.Journal.journal l.fn.w l.w (ports_in l.self);
   ports : ports_in l.self ≡ ports_in l.fn.self;
   calls : CallsOfLoop g.W.Journal.journal l.fn.w l.w;
-  goes : Follows g.W.Journal.journal l.fn.w l.w (Goes ReadMoment same l.fn.self l.self);
-  dry : Follows g.W.Journal.journal l.fn.w l.w (Since IsDry);
+  goes : Between g.W.Journal.journal l.fn.w l.w (Goes ReadMoment same l.fn.self l.self);
+  dry : Between g.W.Journal.journal l.fn.w l.w (Since IsDry);
   below : EachBelow l.place l.self.links NotRead;
   reads : reads_left l.self ≤ reads_left l.fn.self;
   none : IsDrained l.fn.self → l.self ≡ l.fn.self;

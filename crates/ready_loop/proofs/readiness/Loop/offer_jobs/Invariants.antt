@@ -2,7 +2,8 @@ use Rattle.std.proofs.Common.{◌≡◌, ◌≤◌, ℕ, slice_get}
 use Rattle.world.specs.Counts.{NetCause}
 use Rattle.ready_loop.specs.History.{same}
 use Rattle.ready_loop.specs.Offers.{LookMoment, BeginsBelow}
-use Rattle.ready_loop.specs.Standing.{Goes, Follows, CallsOfLoop}
+use Rattle.ready_loop.specs.Standing.{Goes, CallsOfLoop}
+use Rattle.world.specs.Told.{Between}
 use Rattle.ready_loop.specs.States.{IsCalm, IsDrained, IsOffered, SameKnown, failed_at}
 use Rattle.ready_loop.specs.Wires.{ConnectsOn, ports_in}
 use Rattle.ready_loop.proofs.readiness.Loop.offer_jobs.Given as goal
@@ -12,8 +13,8 @@ invariant-loop-place g l = record {
   wires : ConnectsOn g.W.Journal.journal l.fn.w l.w (ports_in l.self);
   ports : ports_in l.self ≡ ports_in l.fn.self;
   calls : CallsOfLoop g.W.Journal.journal l.fn.w l.w;
-  goes : Follows g.W.Journal.journal l.fn.w l.w (Goes (LookMoment l.jobs) same l.fn.self l.self);
-  begins : Follows g.W.Journal.journal l.fn.w l.w (BeginsBelow l.place l.jobs l.fn.self);
+  goes : Between g.W.Journal.journal l.fn.w l.w (Goes (LookMoment l.jobs) same l.fn.self l.self);
+  begins : Between g.W.Journal.journal l.fn.w l.w (BeginsBelow l.place l.jobs l.fn.self);
   untouched : (p : ℕ) → l.place ≤ p → slice_get l.self.links p ≡ slice_get l.fn.self.links p;
   offered : IsOffered l.fn.self → IsOffered l.self;
   calm : IsCalm (g.W.Journal.counts l.fn.w).last l.fn.self → IsCalm (g.W.Journal.counts l.w).last l.self;
