@@ -25,7 +25,7 @@ use Rattle.ready_loop.specs.Begins as begins
 use Rattle.ready_loop.specs.History.{History, same, with_begun, with_all_begun, conn_on, chans, after_begin}
 use Rattle.ready_loop.specs.Standing.{write_ended, StandsAt, Stand, StandsFor, Goes}
 use Rattle.ready_loop.specs.States.{OnlyAt, IsOffered, IsSound, Each, SameKnown, HoldsForKnown, failed_at, failed_in, failed_connect, known_in, known_at}
-use Rattle.ready_loop.proofs.CallLemmas.{stands_begun, stands_closed, stands_unbegun, known_closed}
+use Rattle.ready_loop.proofs.ConnectLemmas.{stands_begun, stands_closed, stands_unbegun, known_closed}
 use Rattle.ready_loop.proofs.OfferLemmas.{ended_connect}
 use Rattle.ready_loop.proofs.StandLemmas.{stand_at, stands_as, same_but, begun_but, not_at, or_own}
 use Rattle.ready_loop.proofs.StateLemmas.{each_set, failed_set, kept_set, known_by, connect_failed, failed_connect_other, connect_stage, sound_at}

@@ -1,6 +1,7 @@
 pub mod BeginLemmas
 pub mod BegunLemmas
 pub mod CallLemmas
+pub mod ConnectLemmas
 pub mod KeyLemmas
 pub mod LookLemmas
 pub mod MapLemmas
@@ -14,5 +15,6 @@ pub mod RunLemmas
 pub mod StandLemmas
 pub mod StateLemmas
 pub mod TableLemmas
+pub mod TurnLemmas
 pub mod WaitLemmas
 pub mod WireLemmas

@@ -13,7 +13,7 @@ use Rattle.ready_loop.specs.Offers.{Names, is_to_name}
 use Rattle.ready_loop.specs.Queues.{held_in, rest_at}
 use Rattle.ready_loop.specs.Standing.{StandsAt, StandsFor, Goes, write_ended}
 use Rattle.ready_loop.specs.States.{NamesAll, IsDrained, IsOffered, IsCalm, AllOfferedBelow, SameKnown, failed_at, found_in, found_at}
-use Rattle.ready_loop.proofs.CallLemmas.{stands_named}
+use Rattle.ready_loop.proofs.TurnLemmas.{stands_named}
 use Rattle.ready_loop.proofs.MapLemmas.{maps_at, maps_failed, maps_known}
 use Rattle.ready_loop.proofs.StandLemmas.{stands_as}
 use Rattle.ready_loop.proofs.StateLemmas.{known_by}

@@ -12,7 +12,7 @@ use Rattle.ready_loop.specs.History.{History, no_history, with_queued, after_que
 use Rattle.ready_loop.specs.Queues.{Held, held_in, rest_at, taken_at}
 use Rattle.ready_loop.specs.Standing.{StandsAt, Stand, StandsFor, IsShut, AllShut, put_at, write_ended}
 use Rattle.ready_loop.specs.States.{MayWait, HoldsForKnown, SameKnown, known_in, known_at}
-use Rattle.ready_loop.proofs.CallLemmas.{stands_queued}
+use Rattle.ready_loop.proofs.TurnLemmas.{stands_queued}
 use Rattle.ready_loop.proofs.StandLemmas.{stands_as, queued_but}
 use Rattle.ready_loop.proofs.TableLemmas.{some_at, slice_get-set_same, slice_get-set_other, not_some}
 

@@ -20,7 +20,8 @@ use Rattle.ready_loop.specs.History.{History, same}
 use Rattle.ready_loop.specs.Offers.{IsOfferedTo, Offers, again, writes, OfferMoment, OfferAt}
 use Rattle.ready_loop.specs.Queues.{Held, held_in, rest_at}
 use Rattle.ready_loop.specs.Standing.{write_ended, Stand, StandsFor, Goes}
-use Rattle.ready_loop.proofs.CallLemmas.{stands_again, stands_write, status_write, held_write, ended_write, put_known, known_up, stage_of_begun}
+use Rattle.ready_loop.proofs.CallLemmas.{stands_write, status_write, held_write, ended_write, put_known, known_up, stage_of_begun}
+use Rattle.ready_loop.proofs.ConnectLemmas.{stands_again}
 use Rattle.ready_loop.proofs.StandLemmas.{stand_at, stands_as, same_but, not_at}
 use Rattle.ready_loop.proofs.TableLemmas.{within, slice_get-set_same, slice_get-set_other}
 

@@ -16,7 +16,8 @@ use Rattle.ready_loop.specs.Queues.{held_in}
 use Rattle.ready_loop.specs.Standing.{StandsAt, StandsFor, put_by, write_ended}
 use Rattle.ready_loop.specs.States.{MapsBelow, MayWait, IsCalm, awake_in, refused_in}
 use Rattle.ready_loop.specs.Waits.{Timer, most, handed, connect, IsLeast, IsLimit, connect_wait, AllServed, NoneDue, IsTurnWait, WaitCame, Turned}
-use Rattle.ready_loop.proofs.CallLemmas.{stands_waited, put_known, known_up}
+use Rattle.ready_loop.proofs.CallLemmas.{put_known, known_up}
+use Rattle.ready_loop.proofs.TurnLemmas.{stands_waited}
 use Rattle.ready_loop.proofs.MapLemmas.{maps_at}
 use Rattle.ready_loop.proofs.StandLemmas.{stands_as}
 use Rattle.ready_loop.proofs.TableLemmas.{within, some_at}

@@ -28,7 +28,7 @@ use Rattle.ready_loop.specs.States.{known_at, known_in}
 use Rattle.ready_loop.specs.Wires.{port_where, port_kept, ports_in, OnPort, IsWired, AddsPort, HasPorts}
 use Rattle.ready_loop.proofs.StandLemmas.{not_at}
 use Rattle.ready_loop.proofs.TableLemmas.{slice_get-set_same, slice_get-set_other, within}
-use Rattle.ready_loop.proofs.CallLemmas.{known_closed}
+use Rattle.ready_loop.proofs.ConnectLemmas.{known_closed}
 
 -- ---- the ports that are kept
 
