@@ -56,7 +56,7 @@ fn measure_both(rt: &HostRuntime, messages: &Messages, cells: u32, each: u32) ->
 }
 
 fn measure_streams(rt: &HostRuntime, messages: &Messages, outputs: u32, count: u32) -> Result<()> {
-    match begun(rt.alloc(), messages, outputs) {
+    match fold_of_two(rt.alloc(), messages, outputs) {
         Ok(mut fold) => time_takes(rt, &mut fold, &messages.stream, count),
         Err(_) => Err(no_memory()),
     }
@@ -65,7 +65,7 @@ fn measure_streams(rt: &HostRuntime, messages: &Messages, outputs: u32, count: u
 fn measure_shown(rt: &HostRuntime, messages: &Messages, cells: u32, count: u32) -> Result<()>
     requires { 0 < cells }
 {
-    match folded(rt.alloc(), messages, cells, 0) {
+    match full_fold(rt.alloc(), messages, cells, 0) {
         Ok(mut fold) => time_takes(rt, &mut fold, &messages.update, count),
         Err(_) => Err(no_memory()),
     }
@@ -75,7 +75,7 @@ fn time_fold(rt: &HostRuntime, messages: &Messages, cells: u32, each: u32) -> Re
     ensures { IfOk result (λ f. cells_of f ≡ cells) }
 {
     let start = Instant::now(rt)?;
-    let Ok(fold) = folded(rt.alloc(), messages, cells, each) else {
+    let Ok(fold) = full_fold(rt.alloc(), messages, cells, each) else {
         bail!("no memory");
     };
     print_since(rt, "fold", start)?;
@@ -112,7 +112,7 @@ fn print_since(rt: &HostRuntime, name: &str, start: Instant) -> Result<()> {
 }
 
 // Each cell shows the display, and takes `each` streams and updates.
-fn folded(alloc: Global, messages: &Messages, cells: u32, each: u32) -> Result<Fold, NoMemory>
+fn full_fold(alloc: Global, messages: &Messages, cells: u32, each: u32) -> Result<Fold, NoMemory>
     ensures cells { IfOk result (λ f. cells_of f ≡ cells) }
     ensures next { IfOk result (λ f. next_of f ≡ cells) }
 {
@@ -124,7 +124,7 @@ fn folded(alloc: Global, messages: &Messages, cells: u32, each: u32) -> Result<F
 }
 
 // A fold of two cells, whose first has so many outputs and whose second begins.
-fn begun(alloc: Global, messages: &Messages, outputs: u32) -> Result<Fold, NoMemory>
+fn fold_of_two(alloc: Global, messages: &Messages, outputs: u32) -> Result<Fold, NoMemory>
     ensures { IfOk result (λ f. next_of f ≡ 2) }
 {
     let mut fold = empty(alloc, 2)?;
