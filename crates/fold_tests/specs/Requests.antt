@@ -5,8 +5,8 @@ use Rattle.out_fold.specs.declared.message.Message.{Message}
 use Rattle.out_fold.specs.declared.used.Used.{Used}
 
 -- the request of the cell, with these messages and no reply
-abbrev pub told : ℕ → List Message → Used
-told cell messages = record { cell = cell; own = messages; reply = None }
+abbrev pub request_of : ℕ → List Message → Used
+request_of cell messages = record { cell = cell; own = messages; reply = None }
 
 -- a message without a date that says that the kernel is ready
 abbrev pub ready : Message

@@ -67,7 +67,7 @@ fn give(alloc: Global, fold: &mut Fold, lines: &str) -> Result<(), NoMemory>
     Ok(())
 }
 
-fn said(alloc: Global, fold: &Fold, cell: u32) -> Result<Bytes, NoMemory>
+fn outputs_text(alloc: Global, fold: &Fold, cell: u32) -> Result<Bytes, NoMemory>
     requires { cell < cells_of fold.now }
 {
     write_compact(alloc, &Json::Arr(fold.outputs(cell)?))
@@ -78,7 +78,7 @@ fn outputs_of(alloc: Global, merge: bool, lines: &str) -> Result<Bytes, NoMemory
     let mut fold = Fold::new(alloc, 1, merge)?;
     fold.start(0);
     give(alloc, &mut fold, lines)?;
-    said(alloc, &fold, 0)
+    outputs_text(alloc, &fold, 0)
 }
 
 /// The first of the rows `MESSAGES -> OUTPUTS` that doesn't hold of one cell.
@@ -155,7 +155,7 @@ fn an_update_reaches_every_cell(rt: HostRuntime) -> Result<(), Fail> {
     give(alloc, &mut fold, "update x 9")?;
     let date = Text::of(alloc, "R")?;
     fold.reply(Some(&date))?;
-    let said = said(alloc, &fold, 0)?;
+    let said = outputs_text(alloc, &fold, 0)?;
     assert!(rt; said.bytes() == UPDATED.as_bytes());
     let count = fold.count(0);
     assert!(rt; count.is_some_and(|n| n.as_str() == "8"));
@@ -216,7 +216,7 @@ fn all_are(
 
 /// A fold of two cells: many outputs of one display in the first, and one in the second, which
 /// updates it.
-fn updated(alloc: Global, outputs: u32) -> Result<Fold, NoMemory>
+fn fold_with_updates(alloc: Global, outputs: u32) -> Result<Fold, NoMemory>
     ensures { IfOk result (λ f. cells_of f ≡ 2) }
 {
     let mut fold = Fold::new(alloc, 2, false)?;
@@ -234,7 +234,7 @@ const FOUR: &str = r#"{"data":{"text/plain":["4"]},"metadata":{},"output_type":"
 
 #[test]
 fn ten_thousand_outputs_of_one_display_show_its_last_update(rt: HostRuntime) -> Result<(), Fail> {
-    let fold = updated(rt.alloc(), 10_000)?;
+    let fold = fold_with_updates(rt.alloc(), 10_000)?;
     let first = all_are(rt.alloc(), &fold, 0, 10_000, FOUR)?;
     assert!(rt; first);
     let second = all_are(rt.alloc(), &fold, 1, 1, FOUR)?;

@@ -2,7 +2,7 @@
 //! records.
 ghost use Rattle.std.specs.Prelude.{◌≡◌, ◌<◌, ◌∷◌, [], IfOk};
 ghost use Rattle.out_fold.specs.Stands.{StandsFor};
-ghost use Rattle.fold_tests.specs.Requests.{told, ready, count_of};
+ghost use Rattle.fold_tests.specs.Requests.{request_of, ready, count_of};
 
 use jcontent::Content;
 use jtext::NoMemory;
@@ -13,8 +13,8 @@ use std::test::Fail;
 /// A fold whose first cell was begun and told one message.
 fn fold_of_one(alloc: Global, cells: u32) -> Result<Fold, NoMemory>
     requires { 0 < cells }
-    ensures stands { IfOk result (λ f. StandsFor f (told 0 (ready ∷ []) ∷ [])) }
-    ensures counts { count_of (told 0 (ready ∷ [])) ≡ 1 }
+    ensures stands { IfOk result (λ f. StandsFor f (request_of 0 (ready ∷ []) ∷ [])) }
+    ensures counts { count_of (request_of 0 (ready ∷ [])) ≡ 1 }
 {
     let mut fold = Fold::new(alloc, cells, false)?;
     fold.start(0);
