@@ -3,7 +3,7 @@ use Rattle.std.proofs.Common.{◌≡◌, ℕ, ◌+◌, ◌<◌, ◌^◌, Bool, t
 use Rattle.std.proofs.Math.Seq.{drop-append_seam}
 use Rattle.zmtp_wire.specs.declared.role.Role.{Role}
 use Rattle.zmtp_wire.specs.Fault.{clip}
-use Rattle.zmtp_wire.specs.Meaning.{is_shaken, Begins}
+use Rattle.zmtp_wire.specs.Meaning.{is_shaken}
 use Rattle.zmtp_wire.specs.Stream.{IsShaken}
 use Rattle.zmtp_wire.proofs.MeaningLemmas.{shaken_meant}
 use Rattle.zmtp_wire.proofs.ShakenLemmas.{is_true, true_is}
@@ -13,20 +13,21 @@ use Rattle.zmtp_peer.specs.Peer as side
 use Rattle.zmtp_peer.specs.Reply.{Owes, owed_octets, subscription_to}
 use Rattle.zmtp_peer.proofs.OwedLemmas.{owes_only, owed_none}
 use Rattle.kernel_lines.specs.declared.line.Line.{Line}
-use Rattle.kernel_lines.specs.Happened.{Happened, Came, Given, History, came_in}
+use Rattle.kernel_lines.specs.Happened.{Came, Given, History, came_in}
 use Rattle.kernel_lines.specs.Due.{due_in, waiting_in, subscription_end, sent_octets, newly_owed, end_of, first_of}
 use Rattle.kernel_lines.specs.Ends.{end_with}
 use Rattle.kernel_lines.specs.Line.{StandsFor, StandsAs, IsBehind, IsPut, role_of, clip_place, IsReleased, NotesEnd, Replies, IsBehindAs}
 
-same : (a b : Bool) → (a ≡ true → b ≡ true) → (b ≡ true → a ≡ true) → a ≡ b
-same true b f g = sym (f refl)
-same false true f g = g refl
-same false false f g = refl
+-- two tests of which each gives the other
+pub same_tests : (a b : Bool) → (a ≡ true → b ≡ true) → (b ≡ true → a ≡ true) → a ≡ b
+same_tests true b f g = sym (f refl)
+same_tests false true f g = g refl
+same_tests false false f g = refl
 
 -- whether READY was read is whether the octets say so
 pub shaken_is : (r : Role) (b : List ℕ) (x : Bool) → IsTrue x ↔ IsShaken r b → x ≡ is_shaken r b
 shaken_is r b x h =
-    same x (is_shaken r b) (λ t. (shaken_meant r b).1 (h.0 (true_is x t))) (λ t. is_true x (h.1 ((shaken_meant r b).0 t)))
+    same_tests x (is_shaken r b) (λ t. (shaken_meant r b).1 (h.0 (true_is x t))) (λ t. is_true x (h.1 ((shaken_meant r b).0 t)))
 
 -- ---- messages
 

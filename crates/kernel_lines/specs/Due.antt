@@ -1,12 +1,12 @@
 -- Which octets are due on a connection, in order (RFC 23 and RFC 37): greeting and READY at once; the subscription and PONGs
 -- where they are owed; and messages, which wait for the end of the handshake.
-use Rattle.std.specs.Prelude.{◌≡◌, ℕ, ◌+◌, Bool, cond, List, [], ◌∷◌, ◌++◌, length, drop, Option, None, Some}
+use Rattle.std.specs.Prelude.{ℕ, ◌+◌, cond, List, [], ◌∷◌, ◌++◌, length, drop, Option, None, Some}
 use Rattle.zmtp_wire.specs.declared.role.Role.{Role}
 use Rattle.zmtp_wire.specs.Meaning.{is_shaken}
 use Rattle.zmtp_wire.specs.Writing.{greeting_octets, ready_octets, message_octets}
 use Rattle.zmtp_peer.specs.Envelope.{enveloped}
 use Rattle.zmtp_peer.specs.Reply.{owed_octets, subscription_to}
-use Rattle.kernel_lines.specs.Happened.{Happened, Came, Given, History, came_in}
+use Rattle.kernel_lines.specs.Happened.{Came, Given, History, came_in}
 
 -- a message as the role sends it
 abbrev pub sent_octets : Role → List (List ℕ) → List ℕ

@@ -1,8 +1,6 @@
 -- What our side of a connection stands for.
-use Rattle.std.specs.Prelude.{◌≡◌, ℕ, ◌+◌, Bool, false, nat_le, List, [], ◌∷◌, ◌++◌, length, Option, None, Some, Result, Ok, Err}
+use Rattle.std.specs.Prelude.{◌≡◌, ℕ, ◌+◌, Bool, false, nat_le, List, [], ◌∷◌, ◌++◌, length, Option, None, Some}
 use Rattle.zmtp_wire.specs.declared.role.Role.{Role}
-use Rattle.zmtp_wire.specs.declared.fault.WireFault.{WireFault}
-use Rattle.zmtp_wire.specs.Decoder.{Answer}
 use Rattle.zmtp_wire.specs.Fault.{clip}
 use Rattle.zmtp_peer.specs.Peer as side
 use Rattle.zmtp_peer.specs.Reply.{Owes, owed_octets, subscription_to}

@@ -130,7 +130,7 @@ impl Line {
             IsBehind self.old h out piece → StandsFor self.new (Came piece ∷ h) out) }
     {
         self.note_subscription();
-        let owed = self.owed()?;
+        let owed = self.take_owed()?;
         self.put(owed.bytes())?;
         if self.peer.shaken() {
             self.release()
@@ -140,7 +140,7 @@ impl Line {
     }
 
     /// What is owed and wasn't given.
-    fn owed(&mut self) -> Result<Bytes, NoMemory>
+    fn take_owed(&mut self) -> Result<Bytes, NoMemory>
         ensures is { IfOk result (λ more. Replies self.old self.new more) }
         ensures role { role_of self.new ≡ role_of self.old }
         ensures taken { taken_of self.new ≡ taken_of self.old }

@@ -1,9 +1,8 @@
-use Rattle.std.proofs.Common.{◌≡◌, List, [], sym, ap, ◌∙◌, subst}
+use Rattle.std.proofs.Common.{List, [], subst}
 use Rattle.zmtp_wire.specs.Stream.{Message}
 use Rattle.zmtp_peer.specs.Peer.{Brings}
 use Rattle.zmtp_peer.specs.Reply.{owed_octets}
 use Rattle.kernel_lines.specs.Happened.{came_in}
-use Rattle.kernel_lines.specs.Ends.{answer_by}
 use Rattle.kernel_lines.specs.Line.{role_of}
 use Rattle.kernel_lines.proofs.LineLemmas.{behind}
 use Rattle.kernel_lines.proofs.line.Line.feed.Goals as goal

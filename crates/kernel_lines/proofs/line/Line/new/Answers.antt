@@ -1,4 +1,4 @@
-use Rattle.std.proofs.Common.{◌≡◌, List, ℕ, ◌++◌, refl, sym, ap, ◌∙◌, subst}
+use Rattle.std.proofs.Common.{List, ℕ, ◌++◌, refl, ap, ◌∙◌}
 use Rattle.zmtp_wire.specs.Writing.{greeting_octets, ready_octets}
 use Rattle.zmtp_peer.specs.Peer.{role_of}
 use Rattle.kernel_lines.proofs.LineLemmas.{new_line}

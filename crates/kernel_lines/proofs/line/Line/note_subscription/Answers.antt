@@ -1,4 +1,4 @@
-use Rattle.std.proofs.Common.{◌≡◌, refl, ap, ◌∙◌}
+use Rattle.std.proofs.Common.{refl, ap, ◌∙◌}
 use Rattle.kernel_lines.specs.Ends.{end_with}
 use Rattle.kernel_lines.proofs.line.Line.note_subscription.Goals as goal
 

@@ -1,9 +1,7 @@
-use Rattle.std.proofs.Common.{◌≡◌, ℕ, List, [], ◌∷◌, ◌++◌, Result, subst, sym}
-use Rattle.std.proofs.lemmas.Result.{on_ok_weaker}
-use Rattle.std.specs.Result.{OnOk}
+use Rattle.std.proofs.Common.{ℕ, List}
 use Rattle.world.specs.declared.chan.Chan.TheVariants as channel
-use Rattle.kernel_lines.specs.Happened.{History, Came, Given}
-use Rattle.kernel_lines.specs.Line.{StandsFor, queue_of}
+use Rattle.kernel_lines.specs.Happened.{History}
+use Rattle.kernel_lines.specs.Line.{StandsFor}
 use Rattle.kernel_lines.proofs.ChannelLemmas.{on_channel}
 use Rattle.kernel_lines.proofs.lines.Lines.on_taken.Goals as goal
 

@@ -1,8 +1,8 @@
-use Rattle.std.proofs.Common.{◌≡◌, ◌++◌, refl, sym, ap, ◌∙◌, subst}
+use Rattle.std.proofs.Common.{◌++◌, refl, sym, ap, ◌∙◌, subst}
 use Rattle.zmtp_peer.specs.Peer.{StandsFor}
 use Rattle.zmtp_peer.specs.Reply.{Owes}
 use Rattle.kernel_lines.specs.Line.{role_of}
-use Rattle.kernel_lines.proofs.line.Line.owed.Goals as goal
+use Rattle.kernel_lines.proofs.line.Line.take_owed.Goals as goal
 
 pub returns-clause-is : goal.returns-clause-is
 returns-clause-is c =
