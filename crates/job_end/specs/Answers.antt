@@ -1,5 +1,5 @@
 -- How a job that ended answers.
-use Rattle.std.specs.Prelude.{◌≡◌, ℕ, List, []}
+use Rattle.std.specs.Prelude.{ℕ, List, []}
 use Rattle.job_end.specs.declared.answer.Answer.{Answer}
 use Rattle.job_end.specs.declared.end.End.{End}
 use Rattle.job_end.specs.Statuses.{status_of}

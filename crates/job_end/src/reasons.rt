@@ -15,7 +15,7 @@ use world::Chan;
 use zmtp_wire::WireFault;
 
 /// One text after another.
-fn joined(alloc: Global, first: &[u8], second: &[u8]) -> Result<Bytes, NoMemory>
+fn join(alloc: Global, first: &[u8], second: &[u8]) -> Result<Bytes, NoMemory>
     ensures { IfOk result (λ b. b ≡ first.now ++ second.now) }
 {
     let mut text = Bytes::of(alloc, first)?;
@@ -29,7 +29,7 @@ pub(crate) fn error_of(alloc: Global, name: &Text) -> Result<Bytes, NoMemory>
 {
     let name = Json::Str(Text::of(alloc, name.as_str())?);
     let name = write_compact(alloc, &name)?;
-    joined(alloc, b"error ", name.bytes())
+    join(alloc, b"error ", name.bytes())
 }
 
 /// Something of a cell.
@@ -37,7 +37,7 @@ pub(crate) fn of_cell(alloc: Global, cell: u32, what: &[u8]) -> Result<Bytes, No
     ensures { IfOk result (λ b. b ≡ reason_of_cell cell what.now) }
 {
     let front = cell_front(alloc, cell)?;
-    joined(alloc, front.as_bytes(), what)
+    join(alloc, front.as_bytes(), what)
 }
 
 fn cell_front(alloc: Global, cell: u32) -> Result<String, NoMemory>
@@ -50,7 +50,7 @@ fn cell_front(alloc: Global, cell: u32) -> Result<String, NoMemory>
 pub(crate) fn of_path(alloc: Global, path: &Text) -> Result<Bytes, NoMemory>
     ensures { IfOk result (λ b. b ≡ codes "cannot read " ++ path.now) }
 {
-    joined(alloc, b"cannot read ", path.bytes())
+    join(alloc, b"cannot read ", path.bytes())
 }
 
 /// A kernel spec that is refused.
@@ -75,7 +75,7 @@ pub(crate) fn of_peer(alloc: Global, chan: Chan, fault: WireFault) -> Result<Byt
 {
     let front = peer_front(alloc, channel(chan))?;
     let place = numbered_place(alloc, fault.number(), fault.place())?;
-    joined(alloc, front.as_bytes(), place.as_bytes())
+    join(alloc, front.as_bytes(), place.as_bytes())
 }
 
 fn peer_front(alloc: Global, name: &str) -> Result<String, NoMemory>

@@ -1,5 +1,4 @@
-use Rattle.std.proofs.Common.{◌≡◌, sym, ap, ◌∙◌, subst}
-use Rattle.job_end.specs.declared.answer.Answer.{Answer}
+use Rattle.std.proofs.Common.{sym, ap, ◌∙◌, subst}
 use Rattle.job_end.specs.Statuses.{status_of}
 use Rattle.job_end.specs.Reasons.{line_of}
 use Rattle.job_end.specs.Answers.{Answers, said, starved}
