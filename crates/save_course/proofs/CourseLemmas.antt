@@ -2,6 +2,7 @@
 use Rattle.std.proofs.Common.{◌≡◌, ◌≢◌, inl, ℕ, ◌+◌, ◌≤◌, Bool, true, false, List, [], ◌∷◌, ◌++◌, length, Result, Ok, Err, Some, refl, sym, ◌∙◌, ap, subst, length-append}
 use Rattle.std.specs.Prelude.{slice_get, map}
 use Rattle.std.specs.List.{AllByRecursion}
+use Rattle.std.proofs.lemmas.List.{map_push}
 use Rattle.world.specs.declared.entry.Entry.{Entry}
 use Rattle.world.specs.declared.entry.Entry.TheVariants as made
 use Rattle.world.specs.Disk.{place, untouched_place}
@@ -13,7 +14,7 @@ use Rattle.world.proofs.PartsLemmas.{acked_other, is_not_of}
 use Rattle.save_disk.specs.declared.save_fault.SaveFault.{SaveFault}
 use Rattle.save_disk.specs.Entries.{SaveOf}
 use Rattle.save_disk.specs.Places.{acknowledged}
-use Rattle.save_disk.specs.Temporary.{temporary_of}
+use Rattle.world.specs.Save.{temporary_of}
 use Rattle.said_lines.specs.Speech.{Says, whole, none}
 use Rattle.said_lines.proofs.SpeechLemmas.{says_since}
 use Rattle.progress_save.specs.declared.progress_fault.ProgressFault.{ProgressFault}
@@ -32,10 +33,6 @@ use Rattle.save_course.specs.Course.{PrefixSave, prefix_text, Course, begins, pa
 all_with : {A : Type 0} (P : A → Type 0) (xs : List A) (x : A) → AllByRecursion P xs → P x → AllByRecursion P (xs ++ x ∷ [])
 all_with P [] x h p = (p, tt)
 all_with P (y ∷ ys) x h p = (h.0, all_with P ys x h.1 p)
-
-map_with : {A B : Type 0} (f : A → B) (xs : List A) (x : A) → map f (xs ++ x ∷ []) ≡ map f xs ++ f x ∷ []
-map_with f [] x = refl
-map_with f (y ∷ ys) x = ap (λ zs. f y ∷ zs) (map_with f ys x)
 
 -- how many cells the last of these saves settles
 abbrev last_settled : ℕ → List PrefixSave → ℕ
@@ -144,7 +141,7 @@ module _ (output : List ℕ) (merge : Bool) (first : Notebook) (from : ℕ) (bef
           saves = f.saved.saves ++ s ∷ [];
           rising = rises_with from f.saved.saves s f.saved.rising (subst (λ n. n ≤ s.settled) (sym f.last) more);
           read = all_with (λ (t : PrefixSave). AreRead t.us) f.saved.saves s f.saved.read read;
-          so = subst (λ ts. IsSavedAs output ts is_open before after) (sym (map_with (prefix_text merge first) f.saved.saves s)) so;
+          so = subst (λ ts. IsSavedAs output ts is_open before after) (sym (map_push (prefix_text merge first) f.saved.saves s)) so;
         };
         last = last_with from f.saved.saves s;
       }
@@ -177,7 +174,8 @@ module _ (output : List ℕ) (merge : Bool) (first : Notebook) (from : ℕ) (bef
 
 -- ---- what goes on with a course
 
-spared_other : (path : List ℕ) (entry : Entry) → part_of entry ≢ OnDisk → touches path entry ≡ false
+-- what asks no disk touches no path
+pub spared_other : (path : List ℕ) (entry : Entry) → part_of entry ≢ OnDisk → touches path entry ≡ false
 spared_other path (made.Created p d) h = absurd (h refl)
 spared_other path (made.Wrote p bytes d) h = absurd (h refl)
 spared_other path (made.Synced p d) h = absurd (h refl)

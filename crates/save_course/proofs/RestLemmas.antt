@@ -1,6 +1,7 @@
 -- Courses that go on while nothing waits for the sync of the output's folder.
 use Rattle.std.proofs.Common.{◌≡◌, ◌≢◌, inl, inr, ℕ, ◌+◌, ◌&&◌, ◌||◌, Bool, true, false, List, ◌∷◌, Result, Ok, Err, refl, sym, subst, if◌then◌else◌}
 use Rattle.std.specs.Str.{bytes_eq}
+use Rattle.std.proofs.lemmas.Bool.{false_from_ne_true}
 use Rattle.nb_model.specs.declared.notebook.Notebook.{Notebook}
 use Rattle.world.specs.declared.entry.Entry.{Entry}
 use Rattle.world.specs.declared.entry.Entry.TheVariants as made
@@ -16,7 +17,7 @@ use Rattle.world.proofs.SaveLemmas.{renames_is}
 use Rattle.save_disk.specs.declared.save_fault.SaveFault.{SaveFault}
 use Rattle.save_disk.specs.declared.save_fault.SaveFault.TheVariants as failed_at
 use Rattle.save_disk.specs.Entries.{SaveOf}
-use Rattle.save_disk.specs.Temporary.{temporary_of}
+use Rattle.world.specs.Save.{temporary_of}
 use Rattle.said_lines.specs.Speech.{Says}
 use Rattle.said_lines.proofs.SpeechLemmas.{says_since}
 use Rattle.progress_save.specs.declared.progress_fault.ProgressFault.{ProgressFault}
@@ -24,24 +25,21 @@ use Rattle.progress_save.specs.declared.progress_fault.ProgressFault.TheVariants
 use Rattle.progress_save.specs.Saved.{SavesAs, done, failure}
 use Rattle.save_course.specs.Course.{Course, passes, IsRested}
 
-is_false : (b : Bool) → (b ≡ true → ⊥) → b ≡ false
-is_false true h = absurd (h refl)
-is_false false h = refl
-
-neither : (b : Bool) (x y : ℕ) → (if b && false then x else y) ≡ y
+-- a test that also asks for what is false
+pub neither : (b : Bool) (x y : ℕ) → (if b && false then x else y) ≡ y
 neither true x y = refl
 neither false x y = refl
 
 -- what doesn't touch a path doesn't rename onto it
 spared_name : (from to : List ℕ) (entry : Entry) → touches to entry ≡ false → renames from to entry ≡ false
 spared_name from to entry spared =
-    is_false (renames from to entry) (λ e.
+    false_from_ne_true (renames from to entry) (λ e.
     let named : touches to (made.Renamed from to did.Done) ≡ false = subst (λ x. touches to x ≡ false) (renames_is from to entry e) spared in
     let differs : (true || bytes_eq from to) ≡ false = subst (λ b. (b || bytes_eq from to) ≡ false) (same_bytes to) named in
     absurd (cc))
 
 -- an entry acknowledges nothing where no rename comes before it
-none_waits : (from to : List ℕ) (entry : Entry) (past : List Entry) → is_renamed from to past ≡ false → acked from to (entry ∷ past) ≡ acked from to past
+pub none_waits : (from to : List ℕ) (entry : Entry) (past : List Entry) → is_renamed from to past ≡ false → acked from to (entry ∷ past) ≡ acked from to past
 none_waits from to entry past rested =
     subst (λ b. (if syncs_folder to entry && b then acked from to past + 1 else acked from to past) ≡ acked from to past) (sym rested)
     (neither (syncs_folder to entry) (acked from to past + 1) (acked from to past))
