@@ -1,6 +1,6 @@
 -- Texts that are no longer kept.
-use Rattle.std.proofs.Common.{◌≡◌, ◌≢◌, ◌⊎◌, inl, inr, ℕ, ◌<◌, ◌≤◌, ◌+◌, ◌==◌, ◌||◌, ◌∷◌, List, Bool, true, false, None, refl, sym, ◌∙◌, ap, arith}
-use Rattle.std.proofs.lemmas.Bool.{cases_eq, cases_lt, eqb-true}
+use Rattle.std.proofs.Common.{◌≡◌, ◌≢◌, ◌⊎◌, inl, inr, ℕ, ◌<◌, ◌≤◌, ◌+◌, ◌==◌, ◌∷◌, List, true, None, refl, sym, ◌∙◌, ap, arith}
+use Rattle.std.proofs.lemmas.Bool.{cases_eq, cases_lt, eqb-true, or_cases}
 use Rattle.out_fold.specs.Plans.{is_in}
 use Rattle.progress_save.specs.declared.progress.Progress.{Progress}
 use Rattle.progress_save.specs.State.{kept_text}
@@ -48,7 +48,3 @@ module _ (p q : Progress) (cell : ℕ) (gone : kept_text q cell ≡ None) (other
           | inr later ↦ inr later
         ]
       ]
-    where
-      or_cases : (a b : Bool) → (a || b) ≡ true → (a ≡ true) ⊎ (b ≡ true)
-      or_cases true b e = inl refl
-      or_cases false b e = inr e

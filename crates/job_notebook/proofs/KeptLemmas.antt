@@ -1,7 +1,8 @@
 -- What is kept, as a cell begins and messages are used.
-use Rattle.std.proofs.Common.{◌≡◌, ℕ, ◌<◌, List, [], ◌∷◌, ◌++◌, Bool, true, false, Option, Some, None, Result, Ok, Err, refl, sym, ◌∙◌, ap, subst, arith}
+use Rattle.std.proofs.Common.{◌≡◌, ℕ, ◌<◌, List, [], ◌∷◌, ◌++◌, Bool, false, Option, Some, None, Result, Ok, Err, refl, sym, ◌∙◌, ap, subst, arith}
 use Rattle.std.specs.Prelude.{slice_get, map, IfSome, IsOk, OnOk, OnErr}
 use Rattle.std.specs.Coded.{Coded-set, coded_ℕ, coded_list, coded_option, Π_prop, Unit-prop}
+use Rattle.std.proofs.lemmas.Bool.{false≢true}
 use Rattle.nb_model.specs.declared.cell.Cell.{Cell}
 use Rattle.nb_model.specs.declared.notebook.Notebook.{Notebook}
 use Rattle.nb_text.specs.Cells.{cell_text}
@@ -60,10 +61,7 @@ none_fits p cs none i = subst (λ o. IfSome o (λ t. slice_get (map cell_text cs
 -- those that a save made are kept
 pub fits_after : {U : Type 0} (r : Result U ProgressFault) (p q : Progress) (cs : List Cell) → (KeepsAll q cs → Fits q cs) → KeepsAfter r cs p q → IsOk r → Fits q cs
 fits_after (Ok u) p q cs fits kept ok = fits kept
-fits_after (Err e) p q cs fits kept ok = absurd (never ok)
-  where
-    never : false ≡ true → ⊥
-    never e = cc
+fits_after (Err e) p q cs fits kept ok = absurd (false≢true ok)
 
 pub on_ok_then : {U : Type 0} {K : Type 0} (r : Result U ProgressFault) → (IsOk r → K) → OnOk r K
 on_ok_then (Ok u) so = so refl

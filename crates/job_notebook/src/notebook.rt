@@ -42,7 +42,7 @@ impl JobNotebook {
     ghost use Rattle.progress_save.specs.Saved.{text_of, line_of, SavesAs, SavesSilently, EndsAs, IsOfSave, OnRefusal, IsSaveFault, SaveCause};
     ghost use Rattle.progress_save.specs.State.{has_failed};
     ghost use Rattle.said_lines.specs.Between.{SayFailed};
-    ghost use Rattle.save_disk.specs.Temporary.{temporary_of};
+    ghost use Rattle.world.specs.Save.{temporary_of};
     ghost use Rattle.world.specs.Moments.{Told, Since};
     ghost use Rattle.world.specs.Touched.{Spares};
     ghost use Rattle.job_notebook.specs.State.{notebook_of, settled_of, begun_of, merge_of, output_of, is_closed, Keeps, KeepsParts, KeepsRead, IsReady, OnCall, closed_after};
