@@ -11,6 +11,7 @@ use Rattle.world.specs.declared.did.Did.{Did}
 use Rattle.world.specs.declared.did.Did.TheVariants as did
 use Rattle.world.specs.declared.entry.Entry.TheVariants as made
 use Rattle.world.specs.Moments.{upto}
+use Rattle.world.proofs.SaveLemmas.{same_path}
 use Rattle.world.specs.Disk.{
   Place,
   place,
@@ -29,9 +30,9 @@ use Rattle.world.specs.Disk.{
   folder_of,
 }
 use Rattle.world_mem.specs.Folder.{Content, file_at}
-use Rattle.world_mem.specs.Image.{choices_of, expanded, pick, file_of, choices_at, picked, IsPicked, Stands, IsAllowed}
+use Rattle.world_mem.specs.Image.{choices_of, all_choices, pick, file_of, choices_at, pick_files, IsPicked, Stands, IsAllowed}
 use Rattle.world_mem.specs.Known.{is_among, is_below, are_ascending}
-use Rattle.world_mem.proofs.FolderLemmas.{same_path, is_same_path}
+use Rattle.world_mem.proofs.FolderLemmas.{is_same_path}
 use Rattle.world_mem.proofs.ImageLemmas.{below_apart, expanded_some}
 
 -- ---- one path
@@ -59,10 +60,10 @@ split (y ∷ xs) ys (suc i) x e =
     ]
 
 pub choice_allowed : (old : Option (List ℕ)) (options : List Left) (i : ℕ) (x : Option (List ℕ))
-    → slice_get (expanded old options) i ≡ Some x → IsAllowed old x options
+    → slice_get (all_choices old options) i ≡ Some x → IsAllowed old x options
 choice_allowed old [] i x e = cc
 choice_allowed old (option ∷ options) i x e =
-    elim (split (choices_of old option) (expanded old options) i x e) [
+    elim (split (choices_of old option) (all_choices old options) i x e) [
       | inl a ↦ inl (choice_stands old option a.0 x a.1)
       | inr b ↦ inr (choice_allowed old options b.0 x b.1)
     ]
@@ -148,7 +149,7 @@ skipped path other None rest e = refl
 skipped path other (Some bytes) rest e = cond-false (bytes_eq other path) (Some bytes) (file_at path rest) e
 
 picked_none : (start : Content) (past : List Entry) (paths : List (List ℕ)) (number : ℕ) (path : List ℕ)
-    → is_among path paths ≡ false → file_at path (picked start past paths number) ≡ None
+    → is_among path paths ≡ false → file_at path (pick_files start past paths number) ≡ None
 picked_none start past [] number path none = refl
 picked_none start past (other ∷ paths) number path none =
     let parts = or_parts (bytes_eq other path) (is_among path paths) none in
@@ -165,16 +166,16 @@ pick_allowed start past path number =
 
 picked_at : (start : Content) (past : List Entry) (paths : List (List ℕ)) (number : ℕ) (path : List ℕ)
     → are_ascending paths ≡ true → is_among path paths ≡ true
-    → IsAllowed (file_at path start) (file_at path (picked start past paths number)) (leaves past path)
+    → IsAllowed (file_at path start) (file_at path (pick_files start past paths number)) (leaves past path)
 picked_at start past [] number path order there = absurd (false≢true there)
 picked_at start past (other ∷ paths) number path order there =
     let parts = and_parts (is_below other paths) (are_ascending paths) order in
-    let rest = picked start past paths (number / length (choices_at start past other)) in
+    let rest = pick_files start past paths (number / length (choices_at start past other)) in
     elim (cases_Bool (bytes_eq other path)) [
       | inl t ↦
           let none : file_at other rest ≡ None = picked_none start past paths _ other (below_apart other paths parts.0 parts.1) in
           let is = kept_at other (pick (choices_at start past other) number) rest none in
-          subst (λ name. IsAllowed (file_at name start) (file_at name (picked start past (other ∷ paths) number)) (leaves past name)) (same_path other path t)
+          subst (λ name. IsAllowed (file_at name start) (file_at name (pick_files start past (other ∷ paths) number)) (leaves past name)) (same_path other path t)
           (subst (λ x. IsAllowed (file_at other start) x (leaves past other)) (sym is) (pick_allowed start past other number))
       | inr n ↦
           let skips = skipped path other (pick (choices_at start past other) number) rest n in
@@ -191,7 +192,7 @@ picked_allowed start past number files so path =
       | inl there ↦ picked_at start past so.paths number path so.order there
       | inr none ↦
           let others = so.others path none in
-          subst (λ os. IsAllowed (file_at path start) (file_at path (picked start past so.paths number)) os) (sym others.0)
+          subst (λ os. IsAllowed (file_at path start) (file_at path (pick_files start past so.paths number)) os) (sym others.0)
           (inl (picked_none start past so.paths number path none ∙ sym others.1))
     ])
 

@@ -29,7 +29,7 @@ use Rattle.std.proofs.Common.{
 use Rattle.std.specs.Prelude.{slice_get, slice_set, unwrap_or}
 use Rattle.std.proofs.lemmas.Bool.{cases_eq, cases_lt}
 use Rattle.std.proofs.lemmas.List.{length-set}
-use Rattle.std.proofs.lemmas.Option.{slice_get_past, slice_get_within}
+use Rattle.std.proofs.lemmas.Option.{slice_get_past, slice_get_within, same_Some}
 use Rattle.world.specs.Calls.{Call}
 use Rattle.world_mem.specs.Far.{Changes, Serves, TickedIf, Ticks, is_started}
 use Rattle.world_mem.proofs.ListLemmas.{get_set_same, get_set_other}
@@ -49,9 +49,6 @@ ticks_start stands started now old = record {
   rest = λ job above. refl;
 }
 
-some_is : {K : Type 0} {a b : K} → Some a ≡ Some b → a ≡ b
-some_is e = cc
-
 -- one more kernel, which is there
 ticks_one : {K : Type 0} (stands : K → List Call → Type 0) (started : List Bool) (now n : ℕ) (old mid new : List K) (was is : K)
     → TicksTo stands started now n old mid → slice_get mid n ≡ Some was → new ≡ slice_set mid n is
@@ -67,9 +64,9 @@ ticks_one {K} stands started now n old mid new was is so here set ticked =
           elim (cases_eq n job) [
             | inl same ↦
                 let at_n : slice_get old n ≡ Some before = subst (λ j. slice_get old j ≡ Some before) (sym same) e in
-                let b : was ≡ before = some_is (sym here ∙ so.rest n (omega arith) ∙ at_n) in
+                let b : was ≡ before = same_Some _ _ (sym here ∙ so.rest n (omega arith) ∙ at_n) in
                 let g : slice_get new n ≡ Some after = subst (λ j. slice_get new j ≡ Some after) (sym same) f in
-                let a : is ≡ after = some_is (sym own ∙ g) in
+                let a : is ≡ after = same_Some _ _ (sym own ∙ g) in
                 let one : TickedIf stands (is_started started n) now before is = subst (λ k. TickedIf stands (is_started started n) now k is) b ticked in
                 let two : TickedIf stands (is_started started n) now before after = subst (λ k. TickedIf stands (is_started started n) now before k) a one in
                 subst (λ j. TickedIf stands (is_started started j) now before after) same two
@@ -113,7 +110,7 @@ ticks_more {K} {stands} {started} {now} {n} {old} {mid} {new} so served =
 set_again : {K : Type 0} (kernels : List K) (job : ℕ) (k : K) → slice_get kernels job ≡ Some k
     → kernels ≡ slice_set kernels job k
 set_again [] job k e = refl
-set_again (x ∷ xs) zero k e = ap (λ h. h ∷ xs) (some_is e)
+set_again (x ∷ xs) zero k e = ap (λ h. h ∷ xs) (same_Some _ _ e)
 set_again (x ∷ xs) (suc job) k e = ap (λ rest. x ∷ rest) (set_again xs job k e)
 
 changes_same : {K : Type 0} (here : Option K) (kernels : List K) (job : ℕ) (R : K → K → Type 0)
@@ -136,6 +133,6 @@ ticks_all {K} {stands} {started} {now} {n} {old} {new} so size = record {
         | inl below ↦ so.each job before after below e f
         | inr above ↦
             let none : is_started started job ≡ false = ap (λ o. unwrap_or o false) (slice_get_past started job (omega arith)) in
-            subst (λ b. TickedIf stands b now before after) (sym none) (some_is (sym f ∙ so.rest job above ∙ e))
+            subst (λ b. TickedIf stands b now before after) (sym none) (same_Some _ _ (sym f ∙ so.rest job above ∙ e))
       ];
 }

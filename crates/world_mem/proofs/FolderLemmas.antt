@@ -30,38 +30,24 @@ use Rattle.std.proofs.Common.{
 use Rattle.std.specs.Prelude.{if◌then◌else◌}
 use Rattle.std.specs.List.{remove}
 use Rattle.std.specs.Str.{bytes_eq}
-use Rattle.std.proofs.lemmas.Bool.{false≢true}
+use Rattle.std.proofs.lemmas.Bool.{false≢true, false_from_ne_true, cond-true, cond-false}
 use Rattle.std.proofs.lemmas.Slice.Eq.{bytes_eq-Decides}
+use Rattle.world.proofs.SaveLemmas.{same_path}
 use Rattle.world_mem.specs.Folder.{Content, file_at, has_file, Sets, Moves, Passed, IsFirst}
 
 -- ---- tests of paths
 
-pub if_true : {A : Type 0} (b : Bool) (x y : A) → b ≡ true → (if b then x else y) ≡ x
-if_true true x y e = refl
-if_true false x y e = absurd (false≢true e)
-
-if_false : {A : Type 0} (b : Bool) (x y : A) → b ≡ false → (if b then x else y) ≡ y
-if_false true x y e = absurd (false≢true (sym e))
-if_false false x y e = refl
-
-not_true : (b : Bool) → ¬ (b ≡ true) → b ≡ false
-not_true true never = absurd (never refl)
-not_true false never = refl
-
 not_both : (b : Bool) → b ≡ true → b ≡ false → ⊥
 not_both b e f = false≢true (sym f ∙ e)
-
-pub same_path : (a b : List ℕ) → bytes_eq a b ≡ true → a ≡ b
-same_path a b e = (bytes_eq-Decides a b).0 e
 
 pub is_same_path : (a b : List ℕ) → a ≡ b → bytes_eq a b ≡ true
 is_same_path a b e = (bytes_eq-Decides a b).1 e
 
-other_way : (a b : List ℕ) → bytes_eq a b ≡ false → bytes_eq b a ≡ false
-other_way a b e = not_true (bytes_eq b a) (λ t. not_both (bytes_eq a b) (is_same_path a b (sym (same_path b a t))) e)
+pub other_way : (a b : List ℕ) → bytes_eq a b ≡ false → bytes_eq b a ≡ false
+other_way a b e = false_from_ne_true (bytes_eq b a) (λ t. not_both (bytes_eq a b) (is_same_path a b (sym (same_path b a t))) e)
 
 apart : (a path other : List ℕ) → bytes_eq a path ≡ false → bytes_eq a other ≡ true → bytes_eq path other ≡ false
-apart a path other miss hit = not_true (bytes_eq path other) (λ t. not_both (bytes_eq a path) (is_same_path a path (same_path a other hit ∙ sym (same_path path other t))) miss)
+apart a path other miss hit = false_from_ne_true (bytes_eq path other) (λ t. not_both (bytes_eq a path) (is_same_path a path (same_path a other hit ∙ sym (same_path path other t))) miss)
 
 swap : {A : Type 0} (a b : Bool) (x y z : A) → (a ≡ true → b ≡ false)
     → (if a then x else (if b then y else z)) ≡ (if b then y else (if a then x else z))
@@ -83,7 +69,7 @@ passed_more path (f ∷ fs) (suc i) x below is miss p = (p.0, passed_more path f
 
 pub passed_all : (path : List ℕ) (files : Content) → Passed path files (length files) → file_at path files ≡ None
 passed_all path [] p = refl
-passed_all path (f ∷ fs) p = if_false (bytes_eq f.0 path) _ _ p.0 ∙ passed_all path fs p.1
+passed_all path (f ∷ fs) p = cond-false (bytes_eq f.0 path) _ _ p.0 ∙ passed_all path fs p.1
 
 pub first_found : (path : List ℕ) (files : Content) (i : ℕ) (x : List ℕ × List ℕ) → i < length files
     → x ≡ get_or files i x → bytes_eq x.0 path ≡ true → Passed path files i → IsFirst path files i
@@ -99,13 +85,13 @@ first_below path (f ∷ fs) (suc i) first = let h : i < length fs = first_below 
 pub first_at : (path : List ℕ) (files : Content) (i : ℕ) (x : List ℕ × List ℕ) → IsFirst path files i
     → x ≡ get_or files i x → file_at path files ≡ Some x.1
 first_at path [] i x first is = absurd first
-first_at path (f ∷ fs) zero x first is = if_true (bytes_eq f.0 path) _ _ first ∙ ap (λ (y : List ℕ × List ℕ). Some y.1) (sym is)
-first_at path (f ∷ fs) (suc i) x first is = if_false (bytes_eq f.0 path) _ _ first.0 ∙ first_at path fs i x first.1 is
+first_at path (f ∷ fs) zero x first is = cond-true (bytes_eq f.0 path) _ _ first ∙ ap (λ (y : List ℕ × List ℕ). Some y.1) (sym is)
+first_at path (f ∷ fs) (suc i) x first is = cond-false (bytes_eq f.0 path) _ _ first.0 ∙ first_at path fs i x first.1 is
 
 pub has_first : (path : List ℕ) (files : Content) (i : ℕ) → IsFirst path files i → has_file path files ≡ true
 has_first path [] i first = absurd first
-has_first path (f ∷ fs) zero first = ap is_some (if_true (bytes_eq f.0 path) _ _ first)
-has_first path (f ∷ fs) (suc i) first = ap is_some (if_false (bytes_eq f.0 path) _ _ first.0) ∙ has_first path fs i first.1
+has_first path (f ∷ fs) zero first = ap is_some (cond-true (bytes_eq f.0 path) _ _ first)
+has_first path (f ∷ fs) (suc i) first = ap is_some (cond-false (bytes_eq f.0 path) _ _ first.0) ∙ has_first path fs i first.1
 
 -- a file that gets its own bytes
 pub set_same : (files : Content) (i : ℕ) (x : List ℕ × List ℕ) (bytes : List ℕ) → x ≡ get_or files i x → bytes ≡ x.1
@@ -154,7 +140,7 @@ pub spared_without : (path other : List ℕ) (files : Content) (i : ℕ) → IsF
     → bytes_eq path other ≡ false → file_at other (remove files i) ≡ file_at other files
 spared_without path other [] i first miss = absurd first
 spared_without path other (f ∷ fs) zero first miss =
-    sym (if_false (bytes_eq f.0 other) _ _ (subst (λ name. bytes_eq name other ≡ false) (sym (same_path f.0 path first)) miss))
+    sym (cond-false (bytes_eq f.0 other) _ _ (subst (λ name. bytes_eq name other ≡ false) (sym (same_path f.0 path first)) miss))
 spared_without path other (f ∷ fs) (suc i) first miss =
     ap (λ rest. if bytes_eq f.0 other then Some f.1 else rest) (spared_without path other fs i first.1 miss)
 
@@ -175,7 +161,7 @@ pub named_first : (from to : List ℕ) (files : Content) (i : ℕ) (x : List ℕ
     → file_at other (slice_set files i (to, x.1)) ≡ (if bytes_eq to other then Some x.1 else file_at other files)
 named_first from to [] i x first is none other miss = absurd first
 named_first from to (f ∷ fs) zero x first is none other miss =
-    ap (λ rest. if bytes_eq to other then Some x.1 else rest) (sym (if_false (bytes_eq f.0 other) _ _ (subst (λ name. bytes_eq name other ≡ false) (sym (same_path f.0 from first)) miss)))
+    ap (λ rest. if bytes_eq to other then Some x.1 else rest) (sym (cond-false (bytes_eq f.0 other) _ _ (subst (λ name. bytes_eq name other ≡ false) (sym (same_path f.0 from first)) miss)))
 named_first from to (f ∷ fs) (suc i) x first is none other miss =
     let both : (bytes_eq f.0 to ≡ false) × (file_at to fs ≡ None) = some_is_not (bytes_eq f.0 to) f.1 (file_at to fs) none in
     ap (λ rest. if bytes_eq f.0 other then Some f.1 else rest) (named_first from to fs i x first.1 is both.1 other miss)
@@ -196,8 +182,8 @@ pub moved : (from to : List ℕ) (old cleared named new : Content) (i : ℕ) (x 
     → bytes_eq from to ≡ false → Sets old cleared to None → IsFirst from cleared i → x ≡ get_or cleared i x
     → named ≡ slice_set cleared i (to, x.1) → Sets named new from None → Moves old new from to
 moved from to old cleared named new i x differ clears first is names ends other =
-    let none : file_at to cleared ≡ None = clears to ∙ if_true (bytes_eq to to) _ _ (is_same_path to to refl) in
-    let found : Some x.1 ≡ file_at from old = sym (first_at from cleared i x first is) ∙ clears from ∙ if_false (bytes_eq to from) _ _ (other_way from to differ) in
+    let none : file_at to cleared ≡ None = clears to ∙ cond-true (bytes_eq to to) _ _ (is_same_path to to refl) in
+    let found : Some x.1 ≡ file_at from old = sym (first_at from cleared i x first is) ∙ clears from ∙ cond-false (bytes_eq to from) _ _ (other_way from to differ) in
     moved_cases (bytes_eq from other) (bytes_eq to other) _ _ _ _ _ x.1 (ends other)
     (λ miss. ap (file_at other) names ∙ named_first from to cleared i x first is none other miss)
     (clears other) found (λ hit. apart from to other differ hit)
@@ -207,7 +193,7 @@ pub moved_to_itself : (from to : List ℕ) (files : Content) → bytes_eq from t
 moved_to_itself from to files same other =
     by_test (bytes_eq to other) (file_at other files) _ _
     (λ hit. ap (λ name. file_at name files) (sym (same_path from to same ∙ same_path to other hit)))
-    (λ miss. sym (if_false (bytes_eq from other) None (file_at other files) (subst (λ name. bytes_eq name other ≡ false) (sym (same_path from to same)) miss)))
+    (λ miss. sym (cond-false (bytes_eq from other) None (file_at other files) (subst (λ name. bytes_eq name other ≡ false) (sym (same_path from to same)) miss)))
 
 -- more bytes for the first file at a path
 pub appended : (path : List ℕ) (files : Content) (i : ℕ) (x : List ℕ × List ℕ) (piece bytes : List ℕ)

@@ -18,11 +18,12 @@ use Rattle.world.specs.declared.left.Left.{Left}
 use Rattle.world.specs.declared.left.Left.TheVariants as left
 use Rattle.world.specs.Moments.{upto}
 use Rattle.world.specs.Disk.{Place, leaves, untouched_place}
+use Rattle.world.proofs.SaveLemmas.{same_path}
 use Rattle.world_mem.specs.Folder.{Content, file_at, has_file}
-use Rattle.world_mem.specs.Image.{choices_of, expanded, pick, file_of, picked, IsPicked}
+use Rattle.world_mem.specs.Image.{choices_of, all_choices, pick, file_of, pick_files, IsPicked}
 use Rattle.world_mem.specs.Journals.{told_of}
 use Rattle.world_mem.specs.Known.{Known, place_in, paths_of, is_among, is_below, are_ascending, StandsFor}
-use Rattle.world_mem.proofs.FolderLemmas.{same_path, is_same_path}
+use Rattle.world_mem.proofs.FolderLemmas.{is_same_path, other_way}
 
 -- ---- options
 
@@ -33,22 +34,22 @@ choices_some old (left.Whole bytes) = omega arith
 choices_some old left.Any = omega arith
 
 -- where there is an option there is a choice
-pub expanded_some : (old : Option (List ℕ)) (options : List Left) → 0 < length options → 0 < length (expanded old options)
+pub expanded_some : (old : Option (List ℕ)) (options : List Left) → 0 < length options → 0 < length (all_choices old options)
 expanded_some old [] some = absurd (omega arith)
 expanded_some old (option ∷ options) some =
-    omega (arith, choices_some old option, length-append (choices_of old option) (expanded old options))
+    omega (arith, choices_some old option, length-append (choices_of old option) (all_choices old options))
 
 -- a number picks the choice at its digit
 pub pick_is : (items : List (Option (List ℕ))) (old : Option (List ℕ)) (options these : List Left) (number count : ℕ)
-    (x : Option (List ℕ)) → items ≡ expanded old options → options ≡ these → count ≡ length items → 0 < count
-    → x ≡ get_or items (number % count) x → x ≡ pick (expanded old these) number
+    (x : Option (List ℕ)) → items ≡ all_choices old options → options ≡ these → count ≡ length items → 0 < count
+    → x ≡ get_or items (number % count) x → x ≡ pick (all_choices old these) number
 pick_is items old options these number count x same is_these size some is =
     let within : number % count < length items = omega (arith, size) in
     let found : slice_get items (number % count) ≡ Some x = slice_get_read items (length items) (number % count) x refl within is in
     sym (ap (λ o. unwrap_or o None) found)
     ∙ ap (λ n. unwrap_or (slice_get items (number % n)) None) size
     ∙ ap (λ xs. pick xs number) same
-    ∙ ap (λ os. pick (expanded old os) number) is_these
+    ∙ ap (λ os. pick (all_choices old os) number) is_these
 
 -- ---- paths in their order
 
@@ -59,13 +60,6 @@ lt_is Greater e = absurd (false≢true e)
 
 less_differs : (a b : List ℕ) → slice_cmp nat_cmp a b ≡ Less → bytes_eq a b ≡ false
 less_differs a b e = sym (is_eq-slice_cmp a b) ∙ ap is_eq e
-
-differs_back : (a b : List ℕ) → bytes_eq a b ≡ false → bytes_eq b a ≡ false
-differs_back a b e =
-    elim (cases_Bool (bytes_eq b a)) [
-      | inl t ↦ absurd (false≢true (sym e ∙ is_same_path a b (sym (same_path b a t))))
-      | inr n ↦ n
-    ]
 
 below_then : (path other : List ℕ) (paths : List (List ℕ)) → slice_cmp nat_cmp path other ≡ Less
     → is_below other paths ≡ true → is_below path paths ≡ true
@@ -80,7 +74,7 @@ below_apart path [] below order = refl
 below_apart path (other ∷ paths) below order =
     let less : slice_cmp nat_cmp path other ≡ Less = lt_is (slice_cmp nat_cmp path other) below in
     let parts = and_parts (is_below other paths) (are_ascending paths) order in
-    or_from (bytes_eq other path) (is_among path paths) (differs_back path other (less_differs path other less))
+    or_from (bytes_eq other path) (is_among path paths) (other_way path other (less_differs path other less))
     (below_apart path paths (below_then path other paths less parts.0) parts.1)
 
 among_item : (known : Known) (i : ℕ) (x : List ℕ × Place) → i < length known → x ≡ get_or known i x
@@ -123,42 +117,42 @@ none_is (Some x) e = absurd (false≢true (sym e))
 -- one path more
 pub picked_more : (start : Content) (past : List Entry) (known : Known) (i number : ℕ) (x : List ℕ × Place) (all now : Content)
     → StandsFor start past known → i < length known → x ≡ get_or known i x
-    → all ≡ now ++ picked start past (paths_of (drop i known)) number
+    → all ≡ now ++ pick_files start past (paths_of (drop i known)) number
     → all
-    ≡ (now ++ file_of x.0 (pick (expanded (file_at x.0 start) x.1.options) number))
-    ++ picked start past (paths_of (drop (i + 1) known)) (number / length (expanded (file_at x.0 start) x.1.options))
+    ≡ (now ++ file_of x.0 (pick (all_choices (file_at x.0 start) x.1.options) number))
+    ++ pick_files start past (paths_of (drop (i + 1) known)) (number / length (all_choices (file_at x.0 start) x.1.options))
 picked_more start past known i number x all now so below is behind =
     let rest = drop (suc i) known in
     let cut : drop i known ≡ x ∷ rest = drop-cons known i x below ∙ ap (λ y. y ∷ rest) (sym is) in
     let options : leaves past x.0 ≡ x.1.options = ap (λ (p : Place). p.options) (sym (so.places x.0) ∙ own_place known i x so.order below is) in
-    let choices : List (Option (List ℕ)) = expanded (file_at x.0 start) x.1.options in
+    let choices : List (Option (List ℕ)) = all_choices (file_at x.0 start) x.1.options in
     let file = file_of x.0 (pick choices number) in
-    let one : picked start past (paths_of (x ∷ rest)) number ≡ file ++ picked start past (paths_of rest) (number / length choices) =
-    ap (λ (os : List Left). file_of x.0 (pick (expanded (file_at x.0 start) os) number) ++ picked start past (paths_of rest) (number / length (expanded (file_at x.0 start) os))) options in
+    let one : pick_files start past (paths_of (x ∷ rest)) number ≡ file ++ pick_files start past (paths_of rest) (number / length choices) =
+    ap (λ (os : List Left). file_of x.0 (pick (all_choices (file_at x.0 start) os) number) ++ pick_files start past (paths_of rest) (number / length (all_choices (file_at x.0 start) os))) options in
     behind
-    ∙ ap (λ ks. now ++ picked start past (paths_of ks) number) cut
+    ∙ ap (λ ks. now ++ pick_files start past (paths_of ks) number) cut
     ∙ ap (λ fs. now ++ fs) one
-    ∙ sym (append_assoc now file (picked start past (paths_of rest) (number / length choices)))
-    ∙ ap (λ j. (now ++ file) ++ picked start past (paths_of (drop j known)) (number / length choices)) (sym (add-one i))
+    ∙ sym (append_assoc now file (pick_files start past (paths_of rest) (number / length choices)))
+    ∙ ap (λ j. (now ++ file) ++ pick_files start past (paths_of (drop j known)) (number / length choices)) (sym (add-one i))
 
 -- one path more, by equations
 pub picked_step : {start : Content} {past : List Entry} {known : Known} {i rest : ℕ} {x : List ℕ × Place}
     {old bytes : Option (List ℕ)} {all next : Content} (number : ℕ) (now : Content)
     → StandsFor start past known → i < length known → x ≡ get_or known i x → old ≡ file_at x.0 start
-    → bytes ≡ pick (expanded old x.1.options) number → rest ≡ number / length (expanded old x.1.options)
-    → next ≡ now ++ file_of x.0 bytes → all ≡ now ++ picked start past (paths_of (drop i known)) number
-    → all ≡ next ++ picked start past (paths_of (drop (i + 1) known)) rest
+    → bytes ≡ pick (all_choices old x.1.options) number → rest ≡ number / length (all_choices old x.1.options)
+    → next ≡ now ++ file_of x.0 bytes → all ≡ now ++ pick_files start past (paths_of (drop i known)) number
+    → all ≡ next ++ pick_files start past (paths_of (drop (i + 1) known)) rest
 picked_step {start} {past} {known} {i} {rest} {x} {old} {bytes} {all} {next} number now so below is there picks leaves_rest keeps behind =
-    let choices : Option (List ℕ) → List (Option (List ℕ)) = λ o. expanded o x.1.options in
+    let choices : Option (List ℕ) → List (Option (List ℕ)) = λ o. all_choices o x.1.options in
     let file : bytes ≡ pick (choices (file_at x.0 start)) number = picks ∙ ap (λ o. pick (choices o) number) there in
     let number_left : rest ≡ number / length (choices (file_at x.0 start)) = leaves_rest ∙ ap (λ o. number / length (choices o)) there in
     picked_more start past known i number x all now so below is behind
-    ∙ ap (λ fs. fs ++ picked start past (paths_of (drop (i + 1) known)) (number / length (choices (file_at x.0 start)))) (ap (λ b. now ++ file_of x.0 b) (sym file) ∙ sym keeps)
-    ∙ ap (λ n. next ++ picked start past (paths_of (drop (i + 1) known)) n) (sym number_left)
+    ∙ ap (λ fs. fs ++ pick_files start past (paths_of (drop (i + 1) known)) (number / length (choices (file_at x.0 start)))) (ap (λ b. now ++ file_of x.0 b) (sym file) ∙ sym keeps)
+    ∙ ap (λ n. next ++ pick_files start past (paths_of (drop (i + 1) known)) n) (sym number_left)
 
 -- all of them
 pub picked_all : (start : Content) (past : List Entry) (known : Known) (number : ℕ) (files : Content)
-    → StandsFor start past known → files ≡ picked start past (paths_of known) number → IsPicked start past number files
+    → StandsFor start past known → files ≡ pick_files start past (paths_of known) number → IsPicked start past number files
 picked_all start past known number files so digits = record {
   paths = paths_of known;
   order = so.order;
@@ -174,9 +168,9 @@ picked_all start past known number files so digits = record {
 
 -- no path is left
 pub none_behind : (start : Content) (past : List Entry) (known : Known) (i number : ℕ) (all now : Content) → length known ≤ i
-    → all ≡ now ++ picked start past (paths_of (drop i known)) number → now ≡ all
+    → all ≡ now ++ pick_files start past (paths_of (drop i known)) number → now ≡ all
 none_behind start past known i number all now above behind =
-    sym (behind ∙ ap (λ ks. now ++ picked start past (paths_of ks) number) (drop_all i known above) ∙ append-nil now)
+    sym (behind ∙ ap (λ ks. now ++ pick_files start past (paths_of ks) number) (drop_all i known above) ∙ append-nil now)
 
 drop_front : {X : Type 0} (xs ys : List X) (n : ℕ) → n ≡ length xs → drop n (xs ++ ys) ≡ ys
 drop_front [] ys zero e = refl

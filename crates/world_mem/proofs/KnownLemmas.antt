@@ -6,7 +6,7 @@ use Rattle.std.proofs.lemmas.Cmp.{nat_list_cmp_total}
 use Rattle.std.proofs.Math.Seq.{drop-cons}
 use Rattle.std.proofs.lemmas.List.{take_more, reverse-append}
 use Rattle.std.proofs.lemmas.Map.Text.{is_eq-slice_cmp}
-use Rattle.std.proofs.lemmas.Option.{slice_get_read}
+use Rattle.std.proofs.lemmas.Option.{slice_get_read, same_Some}
 use Rattle.std.specs.Cmp.{IsTotalOrder}
 use Rattle.std.specs.Cmp.Lexicographic.{slice_cmp}
 use Rattle.std.specs.Ordering.{nat_cmp, is_lt, is_eq, ordering_reverse}
@@ -17,6 +17,7 @@ use Rattle.world.specs.declared.did.Did.{Did}
 use Rattle.world.specs.declared.did.Did.TheVariants as did
 use Rattle.world.specs.declared.entry.Entry.{Entry}
 use Rattle.world.specs.declared.entry.Entry.TheVariants as made
+use Rattle.world.proofs.SaveLemmas.{either_way, same_path}
 use Rattle.world.specs.Disk.{
   Place,
   place,
@@ -44,7 +45,7 @@ use Rattle.world_mem.specs.Known.{
   Learns,
   StandsFor,
 }
-use Rattle.world_mem.proofs.FolderLemmas.{same_path, is_same_path}
+use Rattle.world_mem.proofs.FolderLemmas.{is_same_path}
 use Rattle.world_mem.proofs.ListLemmas.{set_split}
 
 -- ---- answers and tests
@@ -71,9 +72,6 @@ equal_is a b e = sym (is_eq-slice_cmp a b) ∙ ap is_eq e
 
 greater_is : (a b : List ℕ) → slice_cmp nat_cmp a b ≡ Greater → bytes_eq a b ≡ false
 greater_is a b e = sym (is_eq-slice_cmp a b) ∙ ap is_eq e
-
-less_is : (a b : List ℕ) → slice_cmp nat_cmp a b ≡ Less → bytes_eq a b ≡ false
-less_is a b e = sym (is_eq-slice_cmp a b) ∙ ap is_eq e
 
 -- one path is at most one of two that differ
 swap : (a b q : List ℕ) (x y z : Place) → bytes_eq a b ≡ false
@@ -299,10 +297,6 @@ has_more q (x ∷ xs) f e =
           ]
     ]
 
-both_same : (b : Bool) (p : Place) → (if b then p else p) ≡ p
-both_same true p = refl
-both_same false p = refl
-
 -- before any entry, one file more
 pub stands_more : (start : Content) (i : ℕ) (file : List ℕ × List ℕ) (known : Known) → i < length start
     → file ≡ get_or start i file → StandsFor (take i start) [] known
@@ -314,7 +308,7 @@ stands_more start i file known below is so =
       places = λ q.
           put_places file.0 untouched_place known q
           ∙ ap (λ p. if bytes_eq file.0 q then untouched_place else p) (so.places q)
-          ∙ both_same (bytes_eq file.0 q) untouched_place;
+          ∙ either_way (bytes_eq file.0 q) untouched_place;
       order = put_order file.0 untouched_place known so.order;
       all = λ q e.
           elim (has_more q (take i start) file (ap (has_file q) (sym longer) ∙ e)) [
@@ -366,11 +360,8 @@ put_here path v xs i x below is equal behind =
     ap (put_in path v) cut ∙ ap (λ o. put_by o path v x rest (put_in path v rest)) equal in
     set_split xs i (x.0, v) below ∙ ap (λ ys. take i xs ++ ys) (sym put) ∙ sym behind
 
-some_is : {X : Type 0} {a b : X} → Some a ≡ Some b → a ≡ b
-some_is e = cc
-
 -- an item that was read twice is one
 pub same_item : (xs : Known) (i : ℕ) (x y : List ℕ × Place) → i < length xs → x ≡ get_or xs i x → y ≡ get_or xs i y
     → x ≡ y
 same_item xs i x y below e f =
-    some_is (sym (slice_get_read xs (length xs) i x refl below e) ∙ slice_get_read xs (length xs) i y refl below f)
+    same_Some _ _ (sym (slice_get_read xs (length xs) i x refl below e) ∙ slice_get_read xs (length xs) i y refl below f)

@@ -5,6 +5,5 @@ mod ImageLemmas
 mod KnownLemmas
 mod LinkLemmas
 mod ListLemmas
-mod ParentLemmas
 mod ReportLemmas
 mod StatusLemmas

@@ -7,6 +7,7 @@ use Rattle.world.specs.declared.chan.Chan.{Chan}
 use Rattle.world.specs.declared.chan.Chan.TheVariants.{Shell, Control, Iopub, Heart}
 use Rattle.world.specs.declared.conn.Conn.{Conn}
 use Rattle.world.specs.Places.{place_of, chan_number, is_reported}
+use Rattle.world.proofs.StatusLemmas.{chan_below}
 use Rattle.world_mem.specs.Links.{chan_at, conn_of}
 use Rattle.world_mem.proofs.ListLemmas.{get_set_same, get_set_other}
 
@@ -39,22 +40,16 @@ chan_of_number Heart = refl
 quarter : (j c : ℕ) → c < 4 → ((4 * j + c) / 4 ≡ j) × ((4 * j + c) % 4 ≡ c)
 quarter j c below = (omega arith, omega arith)
 
-number_below : (chan : Chan) → chan_number chan < 4
-number_below Shell = omega arith
-number_below Control = omega arith
-number_below Iopub = omega arith
-number_below Heart = omega arith
-
 -- a connection is the one at its place
 pub conn_at_place : (conn : Conn) → conn_of (place_of conn) ≡ conn
 conn_at_place conn =
-    let parts = quarter conn.job (chan_number conn.chan) (number_below conn.chan) in
+    let parts = quarter conn.job (chan_number conn.chan) (chan_below conn.chan) in
     let chan : chan_at (place_of conn % 4) ≡ conn.chan = ap chan_at parts.1 ∙ chan_of_number conn.chan in
     let made : ℕ → Chan → Conn = λ j ch. record { job = j; chan = ch } in
     ap (λ j. made j (chan_at (place_of conn % 4))) parts.0 ∙ ap (made conn.job) chan
 
 pub place_below : (conn : Conn) → conn.job < 16 → place_of conn < 64
-place_below conn below = omega (arith, number_below conn.chan)
+place_below conn below = omega (arith, chan_below conn.chan)
 
 -- what is marked at each place is marked at that of each connection
 pub conn_marked : (ready : List Bool) (f : ℕ → Bool) (g : Conn → Bool)

@@ -33,9 +33,9 @@ choices_of old (left.Whole bytes) = Some bytes ∷ []
 choices_of old left.Any = None ∷ Some [] ∷ Some (88 ∷ []) ∷ []
 
 -- what these options stand for, in their order
-abbrev pub expanded : Option (List ℕ) → List Left → List (Option (List ℕ))
-expanded old [] = []
-expanded old (option ∷ options) = choices_of old option ++ expanded old options
+abbrev pub all_choices : Option (List ℕ) → List Left → List (Option (List ℕ))
+all_choices old [] = []
+all_choices old (option ∷ options) = choices_of old option ++ all_choices old options
 
 -- the choice that a number picks
 abbrev pub pick : List (Option (List ℕ)) → ℕ → Option (List ℕ)
@@ -48,14 +48,14 @@ file_of path (Some bytes) = (path, bytes) ∷ []
 
 -- the choices at a path after these entries
 abbrev pub choices_at : Content → List Entry → List ℕ → List (Option (List ℕ))
-choices_at start past path = expanded (file_at path start) (leaves past path)
+choices_at start past path = all_choices (file_at path start) (leaves past path)
 
 -- the files at these paths: each takes one digit of the number, and what is left of it goes to the next
-abbrev pub picked : Content → List Entry → List (List ℕ) → ℕ → Content
-picked start past [] number = []
-picked start past (path ∷ paths) number =
+abbrev pub pick_files : Content → List Entry → List (List ℕ) → ℕ → Content
+pick_files start past [] number = []
+pick_files start past (path ∷ paths) number =
     file_of path (pick (choices_at start past path) number)
-    ++ picked start past paths (number / length (choices_at start past path))
+    ++ pick_files start past paths (number / length (choices_at start past path))
 
 -- the files are picked at paths in the order of their bytes, and every other path was never named and has no file
 pub record IsPicked (start : Content) (past : List Entry) (number : ℕ) (files : Content) : Type 0 where
@@ -63,7 +63,7 @@ pub record IsPicked (start : Content) (past : List Entry) (number : ℕ) (files 
   pub order : are_ascending paths ≡ true
   pub others : (path : List ℕ) → is_among path paths ≡ false
       → (leaves past path ≡ left.Old ∷ []) × (file_at path start ≡ None)
-  pub digits : files ≡ picked start past paths number
+  pub digits : files ≡ pick_files start past paths number
 
 -- a file or none is what an option allows, where the path had this file or none at the start
 abbrev pub Stands : Option (List ℕ) → Option (List ℕ) → Left → Type 0

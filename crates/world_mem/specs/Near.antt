@@ -31,8 +31,8 @@ counts_of near = record {
 }
 
 -- a store of which one more call was counted
-abbrev pub called : Store → Store
-called store = record store { calls = one_more store.calls }
+abbrev pub count_call : Store → Store
+count_call store = record store { calls = one_more store.calls }
 
 -- only the journal and the store have changed, and the same connections are up
 pub record AfterStored (old new : Near) : Type 0 where
@@ -41,14 +41,14 @@ pub record AfterStored (old new : Near) : Type 0 where
 
 -- a call that can't fail was counted, and only the journal has changed besides; the same connections are up
 pub record AfterSure (old new : Near) : Type 0 where
-  pub rest : new ≡ record old { journal = new.journal; store = called old.store }
+  pub rest : new ≡ record old { journal = new.journal; store = count_call old.store }
   pub ups : new.journal.ups ≡ old.journal.ups
 
 -- a start of a child was counted, and only the journal has changed besides; the same connections are up
 pub record AfterStart (old new : Near) (result : Did) : Type 0 where
   pub rest : new ≡ record old {
     journal = new.journal;
-    store = called old.store;
+    store = count_call old.store;
     child_faults = faults_after result old.child_faults;
   }
   pub ups : new.journal.ups ≡ old.journal.ups
@@ -67,7 +67,7 @@ words_after false words = one_more words
 pub record AfterWord (old new : Near) : Type 0 where
   pub rest : new ≡ record old {
     journal = new.journal;
-    store = called old.store;
+    store = count_call old.store;
     rand_faults = faults_after (did_unless (is_to_fail old.store)) old.rand_faults;
     words = words_after (is_to_fail old.store) old.words;
   }
@@ -77,7 +77,7 @@ pub record AfterWord (old new : Near) : Type 0 where
 abbrev pub AfterNet : Near → Near → Type 0
 AfterNet old new = new ≡ record old {
   journal = new.journal;
-  store = called old.store;
+  store = count_call old.store;
   net_faults = faults_after (did_unless (is_to_fail old.store)) old.net_faults;
 }
 
@@ -85,7 +85,7 @@ AfterNet old new = new ≡ record old {
 abbrev pub AfterConnect : Near → Near → Type 0
 AfterConnect old new = new ≡ record old {
   journal = new.journal;
-  store = called old.store;
+  store = count_call old.store;
   refusals = old.refusals - 1;
   net_faults = faults_after (did_unless (is_to_fail old.store)) old.net_faults;
 }
@@ -94,7 +94,7 @@ AfterConnect old new = new ≡ record old {
 abbrev pub AfterRead : Near → Near → Type 0
 AfterRead old new = new ≡ record old {
   journal = new.journal;
-  store = called old.store;
+  store = count_call old.store;
   turn = turn_after old.pieces old.turn;
   net_faults = faults_after (did_unless (is_to_fail old.store)) old.net_faults;
 }
@@ -103,7 +103,7 @@ AfterRead old new = new ≡ record old {
 abbrev pub AfterPut : Near → Near → Did → Type 0
 AfterPut old new result = new ≡ record old {
   journal = new.journal;
-  store = record (called old.store) { starved = new.store.starved };
+  store = record (count_call old.store) { starved = new.store.starved };
   net_faults = faults_after result old.net_faults;
 }
 
@@ -111,7 +111,7 @@ AfterPut old new result = new ≡ record old {
 abbrev pub AfterWait : Near → Near → Did → Type 0
 AfterWait old new result = new ≡ record old {
   journal = new.journal;
-  store = record (called old.store) { starved = new.store.starved };
+  store = record (count_call old.store) { starved = new.store.starved };
   net_faults = faults_after result old.net_faults;
   waits = one_more old.waits;
 }

@@ -1,7 +1,7 @@
 //! The files that a crash may leave.
 ghost use Rattle.std.specs.Prelude.{◌≡◌, ◌/◌, ◌++◌, ◌∷◌, [], None, length, reverse};
 ghost use Rattle.std.specs.Prelude.{option_map, IfOk};
-ghost use Rattle.world_mem.specs.Image.{choices_of, expanded, file_of, pick, IsPicked};
+ghost use Rattle.world_mem.specs.Image.{choices_of, all_choices, file_of, pick, IsPicked};
 
 use crate::Files;
 use crate::folder::Folder;
@@ -62,9 +62,9 @@ fn pick(
     number: u64,
 ) -> Result<Picked, NoMemory>
     ensures bytes { IfOk result (λ picked. picked.bytes
-        ≡ pick (expanded (option_map (λ b. b.now) old.entry) state.now.options) number) }
+        ≡ pick (all_choices (option_map (λ b. b.now) old.entry) state.now.options) number) }
     ensures rest { IfOk result (λ picked. picked.rest
-        ≡ number / length (expanded (option_map (λ b. b.now) old.entry) state.now.options)) }
+        ≡ number / length (all_choices (option_map (λ b. b.now) old.entry) state.now.options)) }
 {
     let mut choices = expand(alloc, old, state.options())?;
     let count = choices.len() as u64;
@@ -82,7 +82,7 @@ fn expand(
     options: &[Left],
 ) -> Result<Vec<Option<Bytes>>, NoMemory>
     ensures { IfOk result (λ v.
-        v.items ≡ expanded (option_map (λ b. b.now) old.entry) options.now) }
+        v.items ≡ all_choices (option_map (λ b. b.now) old.entry) options.now) }
 {
     let mut choices = Vec::new(alloc);
     for option in options {

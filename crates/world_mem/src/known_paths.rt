@@ -13,7 +13,7 @@ use crate::path_state::PathState;
 use jtext::{NoMemory, Text};
 use std::alloc::Global;
 use std::cmp::Ordering;
-use world::{Did, Entry};
+use world::{Did, Entry, folder};
 
 /// Paths with what is known of each, in the order of their bytes. A path that isn't there is as
 /// before the run.
@@ -55,7 +55,7 @@ impl KnownPaths {
             items: Vec::new(alloc),
         };
         for (path, _) in start.files() {
-            let state = PathState::untouched(alloc)?;
+            let state = PathState::before_run(alloc)?;
             known = known.put(alloc, path, state)?;
         }
         Ok(known)
@@ -67,21 +67,21 @@ impl KnownPaths {
     {
         match entry {
             Entry::Created { path, did } => {
-                let state = PathState::created(alloc, *did)?;
+                let state = PathState::of_create(alloc, *did)?;
                 self.put(alloc, path, state)
             }
             Entry::Wrote { path, bytes, did } => {
-                let state = self.state(alloc, path)?.written(alloc, bytes, *did)?;
+                let state = self.state(alloc, path)?.write(alloc, bytes, *did)?;
                 self.put(alloc, path, state)
             }
             Entry::Synced { path, did } => {
-                let state = self.state(alloc, path)?.synced(alloc, *did)?;
+                let state = self.state(alloc, path)?.sync(alloc, *did)?;
                 self.put(alloc, path, state)
             }
             Entry::Renamed { from, to, did } => self.rename(alloc, from, to, *did),
             Entry::DirSynced { dir, did } => self.settle(alloc, dir, *did),
             Entry::Removed { path, did } => {
-                let state = self.state(alloc, path)?.removed(*did)?;
+                let state = self.state(alloc, path)?.remove(*did)?;
                 self.put(alloc, path, state)
             }
             _ => Ok(self),
@@ -96,7 +96,7 @@ impl KnownPaths {
         let target = self
             .state(alloc, to)?
             .target(self.state(alloc, from)?, did)?;
-        let removed = self.state(alloc, from)?.removed(did)?;
+        let removed = self.state(alloc, from)?.remove(did)?;
         self.put(alloc, from, removed)?.put(alloc, to, target)
     }
 
@@ -124,7 +124,7 @@ impl KnownPaths {
                 return state.copy(alloc);
             }
         }
-        PathState::untouched(alloc)
+        PathState::before_run(alloc)
     }
 
     // The same with another state of a path.
@@ -185,20 +185,8 @@ fn settle(
         then place_in_synced_dir state did else state)) }
 {
     if dir.as_str() == folder(path.as_str()) {
-        state.settled(alloc, did)
+        state.settle(alloc, did)
     } else {
         Ok(state)
-    }
-}
-
-// The folder of a path: what stands before its last slash, `/` where that is nothing, and `.`
-// without a slash.
-fn folder(path: &str) -> &str
-    ensures { result.now ≡ folder_of path.now }
-{
-    match path.rfind('/') {
-        None => ".",
-        Some(0) => "/",
-        Some(at) => &path[..at],
     }
 }

@@ -1,7 +1,7 @@
 //! The near end of a world in memory.
 ghost use Rattle.std.specs.Prelude.{◌≡◌, ◌<◌, ◌≤◌, ◌-◌, ◌↔◌, true, Err, IfOk, None};
 ghost use Rattle.world.specs.Counts.{HasCause};
-ghost use Rattle.world_mem.specs.Near.{called, journal_of, word_unless, words_after};
+ghost use Rattle.world_mem.specs.Near.{count_call, journal_of, word_unless, words_after};
 ghost use Rattle.world_mem.specs.Near.{IsImageAt, IsNew, IsPast};
 ghost use Rattle.world_mem.specs.Store.{did_unless, faults_after, is_to_fail, one_more};
 ghost use Rattle.world_mem.specs.Wire.{is_refusing, room_of, turn_after};
@@ -69,7 +69,7 @@ impl Near {
         ensures is { result ≡ is_to_fail self.old.store }
         ensures cause { HasCause self.old.net_faults self.new.net_faults (result ≡ true) }
         ensures after { self.new ≡ record self.old {
-          store = called self.old.store;
+          store = count_call self.old.store;
           net_faults = faults_after (did_unless (is_to_fail self.old.store)) self.old.net_faults;
         } }
     {
@@ -121,7 +121,7 @@ impl Near {
         ensures is { result ≡ word_unless (is_to_fail self.old.store) self.old.words }
         ensures cause { HasCause self.old.rand_faults self.new.rand_faults (result ≡ None) }
         ensures after { self.new ≡ record self.old {
-          store = called self.old.store;
+          store = count_call self.old.store;
           rand_faults = faults_after (did_unless (is_to_fail self.old.store)) self.old.rand_faults;
           words = words_after (is_to_fail self.old.store) self.old.words;
         } }

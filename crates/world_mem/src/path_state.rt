@@ -31,14 +31,14 @@ impl Model for PathState {
 
 impl PathState {
     /// A path before the run.
-    pub(crate) fn untouched(alloc: Global) -> Result<PathState, NoMemory>
+    pub(crate) fn before_run(alloc: Global) -> Result<PathState, NoMemory>
         ensures { IfOk result (λ s. s ≡ untouched_place) }
     {
         PathState::of(alloc, Left::Old, Left::Old, None)
     }
 
     /// A path at which a file was created.
-    pub(crate) fn created(alloc: Global, did: Did) -> Result<PathState, NoMemory>
+    pub(crate) fn of_create(alloc: Global, did: Did) -> Result<PathState, NoMemory>
         ensures { IfOk result (λ s. s ≡ created_place did) }
     {
         let fresh = match did {
@@ -76,12 +76,7 @@ impl PathState {
     }
 
     /// It was written to.
-    pub(crate) fn written(
-        self,
-        alloc: Global,
-        piece: &Bytes,
-        did: Did,
-    ) -> Result<PathState, NoMemory>
+    pub(crate) fn write(self, alloc: Global, piece: &Bytes, did: Did) -> Result<PathState, NoMemory>
         ensures { IfOk result (λ s. s ≡ written_place self piece.now did) }
     {
         let fresh = match (self.fresh, did) {
@@ -95,7 +90,7 @@ impl PathState {
     }
 
     /// It was synced.
-    pub(crate) fn synced(self, alloc: Global, did: Did) -> Result<PathState, NoMemory>
+    pub(crate) fn sync(self, alloc: Global, did: Did) -> Result<PathState, NoMemory>
         ensures { IfOk result (λ s. s ≡ synced_place self did) }
     {
         match (&self.fresh, did) {
@@ -134,7 +129,7 @@ impl PathState {
     }
 
     /// Its name was taken away, by a rename or a remove.
-    pub(crate) fn removed(self, did: Did) -> Result<PathState, NoMemory>
+    pub(crate) fn remove(self, did: Did) -> Result<PathState, NoMemory>
         ensures { IfOk result (λ s. s ≡ removed_place self did) }
     {
         let mut options = self.options;
@@ -153,7 +148,7 @@ impl PathState {
     }
 
     /// Its folder was synced.
-    pub(crate) fn settled(self, alloc: Global, did: Did) -> Result<PathState, NoMemory>
+    pub(crate) fn settle(self, alloc: Global, did: Did) -> Result<PathState, NoMemory>
         ensures { IfOk result (λ s. s ≡ place_in_synced_dir self did) }
     {
         let option = match (&self.here, did) {

@@ -5,7 +5,7 @@ ghost use Rattle.world.specs.Counts.{HasCause};
 ghost use Rattle.world.specs.Places.{is_reported, place_of};
 ghost use Rattle.world_mem.specs.Far.{is_ready, Ticks};
 ghost use Rattle.world_mem.specs.Links.{is_up};
-ghost use Rattle.world_mem.specs.Near.{called, AfterWait};
+ghost use Rattle.world_mem.specs.Near.{count_call, AfterWait};
 ghost use Rattle.world_mem.specs.Store.{is_to_fail, FailsOrStarves};
 ghost use Rattle.world_mem.specs.Wire.{clock_after, clock_by, is_any};
 
@@ -78,7 +78,7 @@ impl<K: KernelSide> MemWorld<K> {
         ensures started { self.new.far.started ≡ self.old.far.started }
         ensures clock { self.new.far.clock ≡ self.old.far.clock }
         ensures near { self.new.near ≡ record self.old.near {
-          store = record (called self.old.near.store) { starved = self.new.near.store.starved };
+          store = record (count_call self.old.near.store) { starved = self.new.near.store.starved };
         } }
     {
         let ticked = self.far.tick(self.near.alloc);

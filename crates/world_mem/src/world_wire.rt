@@ -11,7 +11,7 @@ ghost use Rattle.world.specs.Places.{is_reported, place_of, status, IsUnused, On
 ghost use Rattle.world.specs.Told.{Adds, AreDifferent, read_entry, GotSome, write_entry, PutSome};
 ghost use Rattle.world_mem.specs.Far.{at_job, is_ready, ServesUnless, Ticks, TookIf};
 ghost use Rattle.world_mem.specs.Links.{is_up, ups_after};
-ghost use Rattle.world_mem.specs.Near.{called, journal_of, counts_of, AfterNet, AfterConnect};
+ghost use Rattle.world_mem.specs.Near.{count_call, journal_of, counts_of, AfterNet, AfterConnect};
 ghost use Rattle.world_mem.specs.Near.{AfterPut, AfterRead, AfterWait};
 ghost use Rattle.world_mem.specs.Store.{is_to_fail, FailsOrStarves};
 ghost use Rattle.world_mem.specs.Wire.{clock_by, connected_by, did_put, is_refusing, ports_of};
@@ -147,7 +147,7 @@ impl<K: KernelSide> Wire for MemWorld<K> {
         ensures same { counts_of self.new.near ≡ counts_of self.old.near }
         ensures near { self.new.near ≡ record self.old.near {
           journal = self.new.near.journal;
-          store = called self.old.near.store;
+          store = count_call self.old.near.store;
         } }
         ensures ups { self.new.near.journal.ups
             ≡ ups_after (Entry.Closed conn) self.old.near.journal.ups }
@@ -289,7 +289,7 @@ impl<K: KernelSide> MemWorld<K> {
         ensures started { self.new.far.started ≡ self.old.far.started }
         ensures clock { self.new.far.clock ≡ self.old.far.clock }
         ensures near { self.new.near ≡ record self.old.near {
-          store = record (called self.old.near.store) { starved = self.new.near.store.starved };
+          store = record (count_call self.old.near.store) { starved = self.new.near.store.starved };
         } }
     {
         if self.near.store.fails_now() {

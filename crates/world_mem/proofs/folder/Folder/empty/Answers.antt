@@ -1,6 +1,7 @@
 use Rattle.std.proofs.Common.{◌<◌, length, arith, ◌∙◌, ◌≡◌, ◌++◌, ◌∷◌, [], true}
 use Rattle.std.specs.Result.{is_ok}
-use Rattle.world_mem.proofs.FolderLemmas.{if_true, first_below, sets_first, sets_new}
+use Rattle.std.proofs.lemmas.Bool.{cond-true}
+use Rattle.world_mem.proofs.FolderLemmas.{first_below, sets_first, sets_new}
 use Rattle.world_mem.proofs.folder.Folder.empty.Goals as goal
 
 pub index_mut-requires : goal.index_mut-requires
@@ -15,6 +16,6 @@ pub returns-clause-ok : goal.returns-clause-ok
 returns-clause-ok c =
     let items = c.args.self.now.files.items in
     let ok : is_ok c.push.result ≡ true = c.if-is_err.ensures.negation in
-    let pushed : c.push.new.self.items ≡ items ++ (c.in-Ok.path, c.new-2.result) ∷ [] = c.push.ensures.items ∙ if_true _ _ _ ok in
+    let pushed : c.push.new.self.items ≡ items ++ (c.in-Ok.path, c.new-2.result) ∷ [] = c.push.ensures.items ∙ cond-true _ _ _ ok in
     let named : c.in-Ok.path ≡ c.args.path.now = c.in-Ok.ensures ∙ c.as_str.ensures in
     rw (pushed, named, c.new-2.ensures) (sets_new _ _ _ c.in_default.ensures)
