@@ -9,7 +9,7 @@ use Rattle.toy_core.specs.declared.lane.Lane.{Lane}
 use Rattle.toy_core.specs.declared.lanes.Lanes.{Lanes}
 use Rattle.toy_core.specs.declared.outbox.Outbox.{Outbox}
 use Rattle.toy_core.specs.Acts.{octets_of, octets_on}
-use Rattle.toy_core.specs.Outboxes.{front, ready, left, trimmed, with_octets, posted}
+use Rattle.toy_core.specs.Outboxes.{front, ready, rest_due, trim_box, with_octets, post_octets}
 use Rattle.toy_core.specs.Toy.{lane}
 use Rattle.toy_core.specs.Dues.{Sends, SendsAll, Keeps}
 use Rattle.toy_core.proofs.Pourings.{drop-both, octets_more}
@@ -33,19 +33,19 @@ front_then xs ys zs e k =
 -- ---- what is left of a box
 
 -- what is left stands before what comes
-pub left_front : (box : Outbox) (xs ys : List ℕ) → StartsWith (left box (xs ++ ys)) (left box xs)
+pub left_front : (box : Outbox) (xs ys : List ℕ) → StartsWith (rest_due box (xs ++ ys)) (rest_due box xs)
 left_front box xs ys =
-    let e : left box (xs ++ ys) ≡ left box xs ++ drop (box.given - length (ready box ++ xs)) ys =
+    let e : rest_due box (xs ++ ys) ≡ rest_due box xs ++ drop (box.given - length (ready box ++ xs)) ys =
     ap (drop box.given) (sym (append_assoc (ready box) xs ys)) ∙ drop-both box.given (ready box ++ xs) ys in
-    ap (take (length (left box xs))) e ∙ front_self (left box xs) (drop (box.given - length (ready box ++ xs)) ys)
+    ap (take (length (rest_due box xs))) e ∙ front_self (rest_due box xs) (drop (box.given - length (ready box ++ xs)) ys)
 
-with_left : (octets coming : List ℕ) (box : Outbox) → left (with_octets octets box) coming ≡ left box (octets ++ coming)
+with_left : (octets coming : List ℕ) (box : Outbox) → rest_due (with_octets octets box) coming ≡ rest_due box (octets ++ coming)
 with_left octets coming box =
     ap (λ x. drop box.given (x ++ coming)) (sym (append_assoc (front box) box.octets octets))
     ∙ ap (drop box.given) (append_assoc (ready box) octets coming)
 
-posted_left : (octets coming : List ℕ) (box : Outbox) → left (posted octets box) coming ≡ left box (octets ++ coming)
-posted_left octets coming box = with_left octets coming (trimmed box) ∙ trimmed_left box (octets ++ coming)
+posted_left : (octets coming : List ℕ) (box : Outbox) → rest_due (post_octets octets box) coming ≡ rest_due box (octets ++ coming)
+posted_left octets coming box = with_left octets coming (trim_box box) ∙ trimmed_left box (octets ++ coming)
 
 -- ---- octets that are sent on a connection
 
@@ -68,26 +68,26 @@ unheard_so false xs ys e = refl
 unheard_so true xs ys e = absurd (cc)
 
 pub sends_none : (l : Lane) → Sends [] l l
-sends_none l = record { hears = refl; left = λ coming. ap (left l.outbox) (sym (nothing_heard l.hears coming)) }
+sends_none l = record { hears = refl; left = λ coming. ap (rest_due l.outbox) (sym (nothing_heard l.hears coming)) }
 
 pub sends_unheard : (octets : List ℕ) (l : Lane) → l.hears ≡ false → Sends octets l l
-sends_unheard octets l e = record { hears = refl; left = λ coming. ap (left l.outbox) (unheard_so l.hears octets coming e) }
+sends_unheard octets l e = record { hears = refl; left = λ coming. ap (rest_due l.outbox) (unheard_so l.hears octets coming e) }
 
-pub sends_posted : (octets : List ℕ) (old new : Lane) → old.hears ≡ true → new.hears ≡ old.hears → new.outbox ≡ posted octets old.outbox
+pub sends_posted : (octets : List ℕ) (old new : Lane) → old.hears ≡ true → new.hears ≡ old.hears → new.outbox ≡ post_octets octets old.outbox
     → Sends octets old new
 sends_posted octets old new h e k = record {
   hears = e;
   left = λ coming.
-      ap (λ b. left b coming) k ∙ posted_left octets coming old.outbox
-      ∙ ap (left old.outbox) (heard_so old.hears octets coming h);
+      ap (λ b. rest_due b coming) k ∙ posted_left octets coming old.outbox
+      ∙ ap (rest_due old.outbox) (heard_so old.hears octets coming h);
 }
 
-pub sends_trimmed : (old new : Lane) → new.hears ≡ old.hears → new.outbox ≡ trimmed old.outbox → Sends [] old new
+pub sends_trimmed : (old new : Lane) → new.hears ≡ old.hears → new.outbox ≡ trim_box old.outbox → Sends [] old new
 sends_trimmed old new e k = record {
   hears = e;
   left = λ coming.
-      ap (λ b. left b coming) k ∙ trimmed_left old.outbox coming
-      ∙ ap (left old.outbox) (sym (nothing_heard old.hears coming));
+      ap (λ b. rest_due b coming) k ∙ trimmed_left old.outbox coming
+      ∙ ap (rest_due old.outbox) (sym (nothing_heard old.hears coming));
 }
 
 pub sends_then : (xs ys : List ℕ) (a b c : Lane) → Sends xs a b → Sends ys b c → Sends (xs ++ ys) a c
@@ -95,7 +95,7 @@ sends_then xs ys a b c s t = record {
   hears = t.hears ∙ s.hears;
   left = λ coming.
       t.left coming ∙ s.left (cond b.hears ys [] ++ coming)
-      ∙ ap (left a.outbox) (both_heard a.hears b.hears xs ys coming s.hears);
+      ∙ ap (rest_due a.outbox) (both_heard a.hears b.hears xs ys coming s.hears);
 }
 
 -- ---- octets that are sent on the four connections
@@ -141,13 +141,13 @@ keeps_self ls = record { left = λ c coming. left_front (lane c ls).outbox [] co
 pub keeps_then : (x y z : Lanes) → Keeps x y → Keeps y z → Keeps x z
 keeps_then x y z k l = record {
   left = λ c coming.
-      front_then (left (lane c x).outbox []) (left (lane c y).outbox []) (left (lane c z).outbox coming) (k.left c []) (l.left c coming);
+      front_then (rest_due (lane c x).outbox []) (rest_due (lane c y).outbox []) (rest_due (lane c z).outbox coming) (k.left c []) (l.left c coming);
 }
 
 pub keeps_sent : (octets : Chan → List ℕ) (x y : Lanes) → SendsAll octets x y → Keeps x y
 keeps_sent octets x y s = record {
   left = λ c coming.
-      subst (λ (xs : List ℕ). StartsWith xs (left (lane c x).outbox [])) (sym ((s.on c).left coming))
+      subst (λ (xs : List ℕ). StartsWith xs (rest_due (lane c x).outbox [])) (sym ((s.on c).left coming))
       (left_front (lane c x).outbox [] (cond (lane c x).hears (octets c) [] ++ coming));
 }
 
@@ -163,6 +163,6 @@ pub keeps_boxes : (x y : Lanes) → y.shell.outbox ≡ x.shell.outbox → y.cont
     → y.heart.outbox ≡ x.heart.outbox → Keeps x y
 keeps_boxes x y s t u v = record {
   left = λ c coming.
-      subst (λ (b : Outbox). StartsWith (left b coming) (left (lane c x).outbox [])) (sym (boxes_by_chan x y s t u v c))
+      subst (λ (b : Outbox). StartsWith (rest_due b coming) (rest_due (lane c x).outbox [])) (sym (boxes_by_chan x y s t u v c))
       (left_front (lane c x).outbox [] coming);
 }

@@ -1,4 +1,3 @@
-pub mod Decimals
 pub mod Reaching
 pub mod Dictionaries
 pub mod Happening

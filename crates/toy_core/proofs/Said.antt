@@ -6,7 +6,7 @@ use Rattle.toy_lang.specs.ToyOut as out
 use Rattle.toy_lang.specs.ToyOut.{Message, messages_of, close, published}
 use Rattle.toy_core.specs.declared.note.Note.{Note}
 use Rattle.toy_core.specs.declared.note.Note.TheVariants.{Say, Rest, Stop}
-use Rattle.toy_core.specs.Notes.{publish, note_of, delivered, cell_notes, messages_in}
+use Rattle.toy_core.specs.Notes.{publish, note_of, reply_notes, cell_notes, messages_in}
 
 both : (xs ys : List Note) → messages_in (xs ++ ys) ≡ messages_in xs ++ messages_in ys
 both [] ys = refl
@@ -28,13 +28,13 @@ published_said : (ms : List Message) → messages_in (map publish ms) ≡ ms
 published_said [] = refl
 published_said (m ∷ ms) = ap (λ l. m ∷ l) (published_said ms)
 
-delivered_said : (ms : List Message) → messages_in (delivered ms) ≡ ms
+delivered_said : (ms : List Message) → messages_in (reply_notes ms) ≡ ms
 delivered_said [] = refl
 delivered_said (m ∷ ms) = ap (λ l. m ∷ l) (published_said ms)
 
 pub cell_said : (code : List ℕ) (count : ℕ) (es : List Effect) → messages_in (cell_notes code count es) ≡ published code count es
 cell_said code count es =
-    let rest = both (map (note_of count) es) (delivered (close count es))
-    ∙ ap (λ l. l ++ messages_in (delivered (close count es))) (effects_said count es)
+    let rest = both (map (note_of count) es) (reply_notes (close count es))
+    ∙ ap (λ l. l ++ messages_in (reply_notes (close count es))) (effects_said count es)
     ∙ ap (λ l. flat_map (messages_of count) es ++ l) (delivered_said (close count es)) in
     ap (λ l. out.status (codes "busy") ∷ out.input code count ∷ l) rest

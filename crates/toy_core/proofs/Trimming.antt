@@ -1,13 +1,10 @@
 -- What was all handed out may be let go.
-use Rattle.std.proofs.Common.{◌≡◌, ℕ, ◌+◌, ◌-◌, ◌≤◌, Bool, true, false, cond, nat_le, List, [], ◌++◌, length, drop, refl, sym, ap, ◌∙◌, arith}
-use Rattle.std.proofs.lemmas.Bool.Decides.{nat_tests}
+use Rattle.std.proofs.Common.{◌≡◌, ℕ, ◌+◌, ◌-◌, ◌≤◌, Bool, true, false, cond, List, [], ◌++◌, length, drop, refl, sym, ap, ◌∙◌, arith}
 use Rattle.std.proofs.lemmas.List.{length-append, drop_all, append-nil}
+use Rattle.std.proofs.lemmas.Bool.{leb-true}
 use Rattle.toy_core.specs.declared.outbox.Outbox.{Outbox}
-use Rattle.toy_core.specs.Outboxes.{front, left, is_handed_out, trimmed}
+use Rattle.toy_core.specs.Outboxes.{front, rest_due, is_handed_out, trim_box}
 use Rattle.toy_core.proofs.Pourings.{drop-both}
-
-le_so : (a b : ℕ) → nat_le a b ≡ true → a ≤ b
-le_so a b e = grind (arith, nat_tests)
 
 -- all of a front is passed over
 passed : (given : ℕ) (all coming : List ℕ) → length all ≤ given → drop given (all ++ coming) ≡ drop (given - length all) coming
@@ -23,9 +20,9 @@ let_go given f octets coming h =
     ∙ ap (λ i. drop i coming) k ∙ sym (passed given (f ++ octets) coming m)
 
 trimmed_by : (b : Bool) (box : Outbox) (coming : List ℕ) → is_handed_out box ≡ b
-    → left (cond b (record { start = box.start; is_open = box.is_open; octets = []; given = box.given - length box.octets }) box) coming ≡ left box coming
-trimmed_by true box coming e = let_go box.given (front box) box.octets coming (le_so _ _ e)
+    → rest_due (cond b (record { start = box.start; is_open = box.is_open; octets = []; given = box.given - length box.octets }) box) coming ≡ rest_due box coming
+trimmed_by true box coming e = let_go box.given (front box) box.octets coming (leb-true _ _ e)
 trimmed_by false box coming e = refl
 
-pub trimmed_left : (box : Outbox) (coming : List ℕ) → left (trimmed box) coming ≡ left box coming
+pub trimmed_left : (box : Outbox) (coming : List ℕ) → rest_due (trim_box box) coming ≡ rest_due box coming
 trimmed_left box coming = trimmed_by (is_handed_out box) box coming refl

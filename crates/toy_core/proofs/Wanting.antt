@@ -1,21 +1,12 @@
 -- Whether what is sent on IOPub is wanted, as a test.
-use Rattle.std.proofs.Common.{◌≡◌, ℕ, Bool, true, false, cond, ◌||◌, nat_eq, List, [], ◌∷◌, IsTrue, ◌↔◌, refl, sym, ap, ◌∙◌, rules, arith}
+use Rattle.std.proofs.Common.{◌≡◌, ℕ, Bool, true, false, cond, ◌||◌, nat_eq, List, [], ◌∷◌, IsTrue, ◌↔◌, refl, sym, ap, ◌∙◌, arith}
 use Rattle.std.specs.List.{starts_with}
 use Rattle.world.specs.declared.chan.Chan.TheVariants as chan
 use Rattle.zmtp_wire.specs.declared.role.Role.TheVariants as role
 use Rattle.zmtp_peer.specs.Subscription.{prefixes_in, IsWanted}
-use Rattle.zmtp_peer.proofs.PrefixLemmas.{wanted_here, wanted_later, wanted_none}
+use Rattle.zmtp_peer.proofs.PrefixLemmas.{wanted_here, wanted_later, wanted_none, yes, no}
 use Rattle.toy_core.specs.Sending.{topic}
 use Rattle.toy_core.specs.Standing.{is_wanted, is_broken, hears}
-
-truth : IsTrue true
-truth = search rules
-
-is_so : (b : Bool) → IsTrue b → b ≡ true
-is_so b h = search rules
-
-no_truth : IsTrue false → ⊥
-no_truth h = let k : false ≡ true = is_so false h in absurd (cc)
 
 not_so : (b : Bool) → (b ≡ true → ⊥) → false ≡ b
 not_so true h = absurd (h refl)
@@ -44,8 +35,8 @@ from [] w = absurd (wanted_none [] topic 0 (omega arith) w)
 from (q ∷ qs) w = from_by q qs (starts_with nat_eq topic q) refl w (from qs)
 
 same : (b : Bool) (qs : List (List ℕ)) → (IsTrue b ↔ IsWanted qs topic) → b ≡ is_wanted qs
-same true qs h = sym (from qs (h.0 truth))
-same false qs h = not_so (is_wanted qs) (λ e. no_truth (h.1 (to qs e)))
+same true qs h = sym (from qs (h.0 yes))
+same false qs h = not_so (is_wanted qs) (λ e. no (h.1 (to qs e)))
 
 -- what is sent on IOPub goes out, where it isn't broken and is wanted
 pub hears_iopub : (b : Bool) (heard : List ℕ) → is_broken chan.Iopub heard ≡ false → (IsTrue b ↔ IsWanted (prefixes_in role.Pub heard) topic)

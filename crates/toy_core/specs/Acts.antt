@@ -7,16 +7,16 @@ use Rattle.toy_core.specs.declared.act.Act.{Act}
 use Rattle.toy_core.specs.declared.act.Act.TheVariants.{Send, Pause, End, Close}
 
 -- the acts that have happened by a moment, where the first begins at `since`
-abbrev pub reached : ℕ → ℕ → List Act → List Act
-reached now since [] = []
-reached now since (Send c octets ∷ acts) = Send c octets ∷ reached now since acts
-reached now since (Pause ms ∷ acts) = cond (nat_le (since + ms) now) (Pause ms ∷ reached now (since + ms) acts) []
-reached now since (End status ∷ acts) = End status ∷ []
-reached now since (Close parent count ∷ acts) = Close parent count ∷ reached now since acts
+abbrev pub acts_by : ℕ → ℕ → List Act → List Act
+acts_by now since [] = []
+acts_by now since (Send c octets ∷ acts) = Send c octets ∷ acts_by now since acts
+acts_by now since (Pause ms ∷ acts) = cond (nat_le (since + ms) now) (Pause ms ∷ acts_by now (since + ms) acts) []
+acts_by now since (End status ∷ acts) = End status ∷ []
+acts_by now since (Close parent count ∷ acts) = Close parent count ∷ acts_by now since acts
 
 -- the acts that haven't
-abbrev pub unreached : ℕ → ℕ → List Act → List Act
-unreached now since acts = drop (length (reached now since acts)) acts
+abbrev pub acts_left : ℕ → ℕ → List Act → List Act
+acts_left now since acts = drop (length (acts_by now since acts)) acts
 
 -- the moment at which the first act that hasn't happened begins
 abbrev pub begun_at : ℕ → ℕ → List Act → ℕ

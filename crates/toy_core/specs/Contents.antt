@@ -1,12 +1,9 @@
 -- Contents of the replies that aren't a cell's (Jupyter messaging 5.3, "Kernel info", "Kernel interrupt", "Kernel shutdown").
-use Rattle.std.specs.Prelude.{ℕ, Bool, List, [], ◌∷◌, codes}
+use Rattle.std.specs.Prelude.{Bool, [], ◌∷◌, codes}
 use Rattle.jtext.specs.declared.json.Json.{Json}
 use Rattle.jtext.specs.declared.json.Json.TheVariants as json
+use Rattle.jmsg.specs.Header.{text_pair}
 use Rattle.toy_lang.specs.ToyOut.{Message}
-
--- a pair with a string
-abbrev pub text_pair : List ℕ → List ℕ → List ℕ × Json
-text_pair key text = (key, json.Str text)
 
 -- `language_info`
 abbrev pub language_info : Json

@@ -7,15 +7,15 @@ use Rattle.toy_core.specs.declared.lane.Lane.{Lane}
 use Rattle.toy_core.specs.declared.lanes.Lanes.{Lanes}
 use Rattle.toy_core.specs.declared.machine.Machine.{Machine}
 use Rattle.toy_core.specs.declared.toy.Toy.{Toy}
-use Rattle.toy_core.specs.Acts.{reached}
-use Rattle.toy_core.specs.Outboxes.{left}
+use Rattle.toy_core.specs.Acts.{acts_by}
+use Rattle.toy_core.specs.Outboxes.{rest_due}
 use Rattle.toy_core.specs.Standing.{end_by}
 use Rattle.toy_core.specs.Toy.{lane, due_at}
 
 -- these octets have become due on a connection, where it hears
 pub record Sends (octets : List ℕ) (old new : Lane) : Type 0 where
   pub hears : new.hears ≡ old.hears
-  pub left : (coming : List ℕ) → left new.outbox coming ≡ left old.outbox (cond old.hears octets [] ++ coming)
+  pub left : (coming : List ℕ) → rest_due new.outbox coming ≡ rest_due old.outbox (cond old.hears octets [] ++ coming)
 
 -- these octets have become due on each connection, where it hears
 pub record SendsAll (octets : Chan → List ℕ) (old new : Lanes) : Type 0 where
@@ -23,11 +23,11 @@ pub record SendsAll (octets : Chan → List ℕ) (old new : Lanes) : Type 0 wher
 
 -- what was due on each connection is due before all else, whatever comes
 pub record Keeps (old new : Lanes) : Type 0 where
-  pub left : (c : Chan) (coming : List ℕ) → StartsWith (left (lane c new).outbox coming) (left (lane c old).outbox [])
+  pub left : (c : Chan) (coming : List ℕ) → StartsWith (rest_due (lane c new).outbox coming) (rest_due (lane c old).outbox [])
 
 -- all that is due by a moment has happened
 pub record IsSettled (now : ℕ) (a : Agenda) : Type 0 where
-  pub nothing : reached now a.since a.acts ≡ []
+  pub nothing : acts_by now a.since a.acts ≡ []
 
 -- just the same is due by a moment
 pub record IsAsDue (now : ℕ) (old new : Machine) : Type 0 where

@@ -36,14 +36,14 @@ note_of count (effect.Sleep ms) = Rest ms
 note_of count effect.Die = Stop (pos 1)
 
 -- the reply, which goes to shell, and what is published after it
-abbrev pub delivered : List Message → List Note
-delivered [] = []
-delivered (m ∷ ms) = reply m ∷ map publish ms
+abbrev pub reply_notes : List Message → List Note
+reply_notes [] = []
+reply_notes (m ∷ ms) = reply m ∷ map publish ms
 
 -- a cell: busy, the input, its effects, the reply and idle
 abbrev pub cell_notes : List ℕ → ℕ → List Effect → List Note
 cell_notes code count es =
-    busy ∷ publish (out.input code count) ∷ (map (note_of count) es ++ delivered (close count es))
+    busy ∷ publish (out.input code count) ∷ (map (note_of count) es ++ reply_notes (close count es))
 
 -- what a request for information on the kernel brings
 abbrev pub info_notes : List Note
@@ -55,7 +55,7 @@ interruption = effect.Raise (codes "KeyboardInterrupt") []
 
 -- what ends an interrupted cell
 abbrev pub interrupted_notes : ℕ → List Note
-interrupted_notes count = note_of count interruption ∷ delivered (close count (interruption ∷ []))
+interrupted_notes count = note_of count interruption ∷ reply_notes (close count (interruption ∷ []))
 
 -- one message on control
 abbrev pub control_notes : Message → List Note

@@ -16,16 +16,16 @@ abbrev pub ready : Outbox → List ℕ
 ready box = front box ++ box.octets
 
 -- what is due and wasn't handed out, where these octets have become due besides
-abbrev pub left : Outbox → List ℕ → List ℕ
-left box coming = drop box.given (ready box ++ coming)
+abbrev pub rest_due : Outbox → List ℕ → List ℕ
+rest_due box coming = drop box.given (ready box ++ coming)
 
 -- all of it was handed out
 abbrev pub is_handed_out : Outbox → Bool
 is_handed_out box = nat_le (length (front box) + length box.octets) box.given
 
 -- the same, with what was handed out let go once it is all
-abbrev pub trimmed : Outbox → Outbox
-trimmed box =
+abbrev pub trim_box : Outbox → Outbox
+trim_box box =
     cond (is_handed_out box)
     (record { start = box.start; is_open = box.is_open; octets = []; given = box.given - length box.octets }) box
 
@@ -34,16 +34,16 @@ abbrev pub with_octets : List ℕ → Outbox → Outbox
 with_octets octets box = record { start = box.start; is_open = box.is_open; octets = box.octets ++ octets; given = box.given }
 
 -- these octets have become due, and what was all handed out is let go
-abbrev pub posted : List ℕ → Outbox → Outbox
-posted octets box = with_octets octets (trimmed box)
+abbrev pub post_octets : List ℕ → Outbox → Outbox
+post_octets octets box = with_octets octets (trim_box box)
 
 -- so many octets were handed out; the count stands still at the last number of its type
-abbrev pub handed : ℕ → Outbox → Outbox
-handed n box = record { start = box.start; is_open = box.is_open; octets = box.octets; given = min (box.given + n) (2 ^ 64 - 1) }
+abbrev pub hand_out : ℕ → Outbox → Outbox
+hand_out n box = record { start = box.start; is_open = box.is_open; octets = box.octets; given = min (box.given + n) (2 ^ 64 - 1) }
 
 -- a connection is taken up: only the greeting and READY are due
-abbrev pub opened : Outbox → Outbox
-opened box = record { start = box.start; is_open = true; octets = []; given = 0 }
+abbrev pub open_box : Outbox → Outbox
+open_box box = record { start = box.start; is_open = true; octets = []; given = 0 }
 
 -- what is handed out of this into a buffer of that length
 abbrev pub handing : ℕ → List ℕ → Bool → Given

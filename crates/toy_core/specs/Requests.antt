@@ -2,9 +2,8 @@
 use Rattle.std.specs.Prelude.{ℕ, ◌+◌, Bool, false, cond, List, Option, Some, None, codes, drop, slice_get, position, option_and_then}
 use Rattle.std.specs.Str.{bytes_eq}
 use Rattle.jtext.specs.declared.json.Json.{Json, out-Json}
-use Rattle.jtext.specs.declared.json.Json.TheOpen.{Json-F}
 use Rattle.jtext.specs.Find.{field}
-use Rattle.jtext.specs.Look.{string_at}
+use Rattle.jtext.specs.Look.{is_true_layer, string_at}
 use Rattle.jmsg.specs.declared.message.Message as message
 use Rattle.jmsg.specs.Decoding.{decoded, dictionary_in}
 use Rattle.jmsg.specs.Signed.{delimiter}
@@ -21,15 +20,6 @@ header_frame parts = option_and_then (λ i. slice_get (drop (i + 1) parts) 1) (p
 -- the header as it came
 abbrev pub header_tree : List (List ℕ) → Option Json
 header_tree parts = option_and_then dictionary_in (header_frame parts)
-
--- the value is `true`, seen at one level
-abbrev pub is_true_layer : Json-F Json → Bool
-is_true_layer Json-F.Null = false
-is_true_layer (Json-F.Bool b) = b
-is_true_layer (Json-F.Num s) = false
-is_true_layer (Json-F.Str s) = false
-is_true_layer (Json-F.Arr xs) = false
-is_true_layer (Json-F.Obj ps) = false
 
 -- there is a value, and it is `true`
 abbrev pub is_true : Option Json → Bool
@@ -58,16 +48,16 @@ asked_on_control kind content =
     (cond (bytes_eq kind (codes "shutdown_request")) (Some (Shutdown (is_true_at content (codes "restart")))) None)
 
 -- what a message on a channel asks for
-abbrev pub asked : Chan → List ℕ → Json → Option Asked
-asked chan.Shell kind content = asked_on_shell kind content
-asked chan.Control kind content = asked_on_control kind content
-asked chan.Iopub kind content = None
-asked chan.Heart kind content = None
+abbrev pub ask_of : Chan → List ℕ → Json → Option Asked
+ask_of chan.Shell kind content = asked_on_shell kind content
+ask_of chan.Control kind content = asked_on_control kind content
+ask_of chan.Iopub kind content = None
+ask_of chan.Heart kind content = None
 
 -- what a signed message on a channel asks for
 abbrev pub asked_by : Chan → Option message.Message → Option Asked
 asked_by c None = None
-asked_by c (Some m) = asked c m.header.msg_type m.content
+asked_by c (Some m) = ask_of c m.header.msg_type m.content
 
 -- a request with the header to which it is answered
 abbrev pub request_with : Option Json → Option Asked → Option Request

@@ -25,10 +25,10 @@ use Rattle.toy_core.specs.declared.reach.Reach.{Reach}
 use Rattle.toy_core.specs.declared.request.Asked.{Asked}
 use Rattle.toy_core.specs.declared.request.Asked.TheVariants.{Execute, Info, Interrupt, Shutdown}
 use Rattle.toy_core.specs.declared.request.Request.{Request}
-use Rattle.toy_core.specs.Acts.{reached, unreached, begun_at, ending, first_close, after_close}
+use Rattle.toy_core.specs.Acts.{acts_by, acts_left, begun_at, ending, first_close, after_close}
 use Rattle.toy_core.specs.Contents.{interrupt_reply, shutdown_reply}
 use Rattle.toy_core.specs.Notes.{cell_notes, info_notes, interrupted_notes, control_notes}
-use Rattle.toy_core.specs.Outboxes.{new_box, posted, handed, opened}
+use Rattle.toy_core.specs.Outboxes.{new_box, post_octets, hand_out, open_box}
 use Rattle.toy_core.specs.Requests.{request_in}
 use Rattle.toy_core.specs.Sending.{next, role_on, topic, body_octets, acts_of, number_after_all}
 
@@ -75,22 +75,22 @@ hears c heard =
 
 -- octets are sent on a connection, where they are sent
 abbrev pub sent_on : Chan → List ℕ → Line → Line
-sent_on c octets l = cond (hears c l.heard) (record { heard = l.heard; outbox = posted octets l.outbox }) l
+sent_on c octets l = cond (hears c l.heard) (record { heard = l.heard; outbox = post_octets octets l.outbox }) l
 
 -- octets are sent on a channel
-abbrev pub sent : Chan → List ℕ → Lines → Lines
-sent c octets ls = with_line c (sent_on c octets (line c ls)) ls
+abbrev pub send_on : Chan → List ℕ → Lines → Lines
+send_on c octets ls = with_line c (sent_on c octets (line c ls)) ls
 
 -- an act happens
 abbrev pub performed_one : Act → Lines → Lines
-performed_one (Send c octets) ls = sent c octets ls
+performed_one (Send c octets) ls = send_on c octets ls
 performed_one (Pause ms) ls = ls
 performed_one (End status) ls = ls
 performed_one (Close parent count) ls = ls
 
 -- acts happen, in order
-abbrev pub performed : List Act → Lines → Lines
-performed acts ls = fold (λ s a. performed_one a s) ls acts
+abbrev pub perform_all : List Act → Lines → Lines
+perform_all acts ls = fold (λ s a. performed_one a s) ls acts
 
 -- octets come on a connection
 abbrev pub heard_on : List ℕ → Line → Line
@@ -110,7 +110,7 @@ either (Some status) later = Some status
 
 -- the status with which the kernel has ended by a moment
 abbrev pub end_by : ℕ → Agenda → Option ℤ
-end_by now a = either a.end (ending (reached now a.since a.acts))
+end_by now a = either a.end (ending (acts_by now a.since a.acts))
 
 -- nothing is to happen
 abbrev pub no_agenda : Agenda
@@ -118,10 +118,10 @@ no_agenda = record { acts = []; since = 0; end = None }
 
 -- how far an agenda has come by a moment
 pub record IsReach (now : ℕ) (a : Agenda) (r : Reach) : Type 0 where
-  pub len : r.len ≡ length (reached now a.since a.acts)
+  pub len : r.len ≡ length (acts_by now a.since a.acts)
   pub within : r.len ≤ length a.acts
   pub moment : r.moment ≡ begun_at now a.since a.acts
-  pub end : r.end ≡ ending (reached now a.since a.acts)
+  pub end : r.end ≡ ending (acts_by now a.since a.acts)
 
 -- nothing is to happen after the end
 abbrev pub unless_ended : Option ℤ → List Act → List Act
@@ -131,22 +131,22 @@ unless_ended (Some status) acts = []
 -- what is to happen once all that is due by a moment has happened
 abbrev pub settled_agenda : ℕ → Agenda → Agenda
 settled_agenda now a = record {
-  acts = unless_ended (end_by now a) (unreached now a.since a.acts);
+  acts = unless_ended (end_by now a) (acts_left now a.since a.acts);
   since = begun_at now a.since a.acts;
   end = end_by now a;
 }
 
 -- these acts are to happen after all others, not before now
-abbrev pub queued : ℕ → List Act → Agenda → Agenda
-queued now acts a = record { acts = a.acts ++ acts; since = cond (nat_eq (length a.acts) 0) now a.since; end = a.end }
+abbrev pub queue_acts : ℕ → List Act → Agenda → Agenda
+queue_acts now acts a = record { acts = a.acts ++ acts; since = cond (nat_eq (length a.acts) 0) now a.since; end = a.end }
 
 -- the cell that is running is over now
 abbrev pub cut : ℕ → Agenda → Agenda
 cut now a = record { acts = after_close a.acts; since = now; end = a.end }
 
 -- the kernel ends now
-abbrev pub stopped : ℤ → Agenda → Agenda
-stopped status a = record { acts = []; since = a.since; end = Some status }
+abbrev pub stop_agenda : ℤ → Agenda → Agenda
+stop_agenda status a = record { acts = []; since = a.since; end = Some status }
 
 -- ---- the kernel
 
@@ -168,10 +168,10 @@ abbrev pub has_ended : Kernel → Bool
 has_ended k = is_some k.agenda.end
 
 -- all that is due by a moment has happened
-abbrev pub settled : ℕ → Standing → Standing
-settled now s = record {
+abbrev pub settle_all : ℕ → Standing → Standing
+settle_all now s = record {
   kernel = with_agenda (settled_agenda now s.kernel.agenda) s.kernel;
-  lines = performed (reached now s.kernel.agenda.since s.kernel.agenda.acts) s.lines;
+  lines = perform_all (acts_by now s.kernel.agenda.since s.kernel.agenda.acts) s.lines;
 }
 
 -- what is done for notes to the request with this header
@@ -179,20 +179,20 @@ abbrev pub acts_for : List ℕ → Json → List Note → Kernel → List Act
 acts_for key parent notes k = acts_of key parent k.number notes
 
 -- the messages of notes have got their numbers
-abbrev pub numbered : List Note → Kernel → Kernel
-numbered notes k = with_number (number_after_all k.number notes) k
+abbrev pub number_notes : List Note → Kernel → Kernel
+number_notes notes k = with_number (number_after_all k.number notes) k
 
 -- notes are done at once
 abbrev pub done_at_once : List ℕ → Json → List Note → Standing → Standing
 done_at_once key parent notes s = record {
-  kernel = numbered notes s.kernel;
-  lines = performed (acts_for key parent notes s.kernel) s.lines;
+  kernel = number_notes notes s.kernel;
+  lines = perform_all (acts_for key parent notes s.kernel) s.lines;
 }
 
 -- notes are to be done after all that is to happen, with these acts at their end
 abbrev pub queued_notes : ℕ → List ℕ → Json → List Note → List Act → Kernel → Kernel
 queued_notes now key parent notes last k =
-    with_agenda (queued now (acts_for key parent notes k ++ last) k.agenda) (numbered notes k)
+    with_agenda (queue_acts now (acts_for key parent notes k ++ last) k.agenda) (number_notes notes k)
 
 -- a cell was run: its variables stand, and the next cell has the next count
 abbrev pub with_run : List ℕ → Kernel → Kernel
@@ -223,16 +223,16 @@ interrupted_by now key None s = s
 interrupted_by now key (Some cell) s = done_at_once key cell.0 (interrupted_notes cell.1) (cut_short now s)
 
 -- the cell that is running, if one is, ends with an error
-abbrev pub interrupted : ℕ → List ℕ → Standing → Standing
-interrupted now key s = interrupted_by now key (first_close s.kernel.agenda.acts) s
+abbrev pub interrupt_cell : ℕ → List ℕ → Standing → Standing
+interrupt_cell now key s = interrupted_by now key (first_close s.kernel.agenda.acts) s
 
 -- the kernel ends now
 abbrev pub shut : Standing → Standing
-shut s = record { kernel = with_agenda (stopped (pos 0) s.kernel.agenda) s.kernel; lines = s.lines }
+shut s = record { kernel = with_agenda (stop_agenda (pos 0) s.kernel.agenda) s.kernel; lines = s.lines }
 
 -- the cell that is running ends, and the request is answered
 abbrev pub interrupted_answered : ℕ → List ℕ → Json → Standing → Standing
-interrupted_answered now key parent s = done_at_once key parent (control_notes interrupt_reply) (interrupted now key s)
+interrupted_answered now key parent s = done_at_once key parent (control_notes interrupt_reply) (interrupt_cell now key s)
 
 -- the request is answered, and the kernel ends
 abbrev pub shut_answered : List ℕ → Json → Bool → Standing → Standing
@@ -255,12 +255,12 @@ abbrev pub is_body : List (List ℕ) → Bool
 is_body parts = nat_lt 0 (length parts) && nat_le (length parts) 63 && nat_le (sum_by length parts) MOST
 
 -- a body that came on the heartbeat goes back
-abbrev pub echoed : List (List ℕ) → Lines → Lines
-echoed body ls = cond (is_body body) (sent chan.Heart (body_octets chan.Heart body) ls) ls
+abbrev pub echo_body : List (List ℕ) → Lines → Lines
+echo_body body ls = cond (is_body body) (send_on chan.Heart (body_octets chan.Heart body) ls) ls
 
 -- the same, of the whole kernel
 abbrev pub with_echo : List (List ℕ) → Standing → Standing
-with_echo body s = record { kernel = s.kernel; lines = echoed body s.lines }
+with_echo body s = record { kernel = s.kernel; lines = echo_body body s.lines }
 
 -- what a body that came on a channel brings
 abbrev pub served_on : ℕ → List ℕ → Chan → List (List ℕ) → Standing → Standing
@@ -270,12 +270,12 @@ served_on now key chan.Iopub body s = s
 served_on now key chan.Heart body s = with_echo body s
 
 -- a body that came is served, with all that is due then; nothing is once the kernel has ended
-abbrev pub served : ℕ → List ℕ → Chan → List (List ℕ) → Standing → Standing
-served now key c body s = cond (has_ended s.kernel) s (settled now (served_on now key c body s))
+abbrev pub serve_body : ℕ → List ℕ → Chan → List (List ℕ) → Standing → Standing
+serve_body now key c body s = cond (has_ended s.kernel) s (settle_all now (served_on now key c body s))
 
 -- bodies are served in order
 abbrev pub served_all : ℕ → List ℕ → Chan → List (List (List ℕ)) → Standing → Standing
-served_all now key c bodies s = fold (λ t b. served now key c b t) s bodies
+served_all now key c bodies s = fold (λ t b. serve_body now key c b t) s bodies
 
 -- octets come on a channel
 abbrev pub heard : Chan → List ℕ → Standing → Standing
@@ -288,7 +288,7 @@ took_settled now key c piece s =
 
 -- a piece that comes on a channel is taken
 abbrev pub took : ℕ → List ℕ → Chan → List ℕ → Standing → Standing
-took now key c piece s = took_settled now key c piece (settled now s)
+took now key c piece s = took_settled now key c piece (settle_all now s)
 
 -- ---- calls
 
@@ -318,15 +318,15 @@ start = record { kernel = new_kernel; lines = no_lines }
 
 -- a connection is taken up: what came and what was due on the one before it counts no more
 abbrev pub opened_line : Line → Line
-opened_line l = record { heard = []; outbox = opened l.outbox }
+opened_line l = record { heard = []; outbox = open_box l.outbox }
 
 -- octets are handed out on a connection
 abbrev pub handed_line : ℕ → Line → Line
-handed_line n l = record { heard = l.heard; outbox = handed n l.outbox }
+handed_line n l = record { heard = l.heard; outbox = hand_out n l.outbox }
 
 -- a connection to a channel is taken up, unless the kernel has ended by then
-abbrev pub accepted : Chan → ℕ → Standing → Standing
-accepted c now s =
+abbrev pub accept_line : Chan → ℕ → Standing → Standing
+accept_line c now s =
     cond (is_some (end_by now s.kernel.agenda)) s
     (record { kernel = s.kernel; lines = with_line c (opened_line (line c s.lines)) s.lines })
 
@@ -343,7 +343,7 @@ handed_to c Over s = s
 -- a call is made
 abbrev pub after : List ℕ → Call → Standing → Standing
 after key (Ticked now) s = s
-after key (Accepted c now answer) s = accepted c now s
+after key (Accepted c now answer) s = accept_line c now s
 after key (Took c now piece) s = took now key c piece s
 after key (Gave c now room given) s = handed_to c given s
 

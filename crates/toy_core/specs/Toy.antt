@@ -12,8 +12,8 @@ use Rattle.toy_core.specs.declared.lane.Lane.{Lane}
 use Rattle.toy_core.specs.declared.lanes.Lanes.{Lanes}
 use Rattle.toy_core.specs.declared.machine.Machine.{Machine}
 use Rattle.toy_core.specs.declared.toy.Toy.{Toy}
-use Rattle.toy_core.specs.Acts.{reached, octets_on}
-use Rattle.toy_core.specs.Outboxes.{left, handing}
+use Rattle.toy_core.specs.Acts.{acts_by, octets_on}
+use Rattle.toy_core.specs.Outboxes.{rest_due, handing}
 use Rattle.toy_core.specs.Sending.{role_on}
 use Rattle.toy_core.specs.Standing.{Line, Lines, is_broken, hears, end_by, Standing, handed_on, standing}
 
@@ -26,11 +26,11 @@ lane chan.Heart ls = ls.heart
 
 -- the octets that become due on a channel by a moment, where they are sent
 abbrev pub coming : Chan → ℕ → Agenda → Bool → List ℕ
-coming c now a sends = cond sends (octets_on c (reached now a.since a.acts)) []
+coming c now a sends = cond sends (octets_on c (acts_by now a.since a.acts)) []
 
 -- what is due on a connection by a moment and wasn't handed out
 abbrev pub due_on : Chan → ℕ → Agenda → Lane → List ℕ
-due_on c now a l = left l.outbox (coming c now a l.hears)
+due_on c now a l = rest_due l.outbox (coming c now a l.hears)
 
 -- nothing more will be due: the kernel has ended, or what came breaks the grammar
 abbrev pub is_over : ℕ → Agenda → Lane → Bool

@@ -1,6 +1,6 @@
 //! `Agenda`, what is still to happen, and when.
 ghost use Rattle.std.specs.Prelude.{◌≡◌, ◌<◌, ◌≤◌, ◌^◌, ◌++◌, [], ℕ, length, take, drop, OnOk, option_map};
-ghost use Rattle.toy_core.specs.Acts.{reached, first_close, after_close};
+ghost use Rattle.toy_core.specs.Acts.{acts_by, first_close, after_close};
 ghost use Rattle.toy_core.specs.Standing as spec;
 
 use crate::act::{Act, Acts};
@@ -41,9 +41,9 @@ impl Agenda {
     }
 
     /// The acts that have happened by a moment.
-    pub(crate) fn reached(&self, now: u64) -> &[Act]
+    pub(crate) fn acts_by(&self, now: u64) -> &[Act]
         requires { now < 2 ^ 47 }
-        ensures { result.now ≡ reached now self.now.since self.now.acts }
+        ensures { result.now ≡ acts_by now self.now.since self.now.acts }
     {
         let reach = self.reach(now);
         &self.acts.as_slice()[..reach.len]
@@ -79,9 +79,9 @@ impl Agenda {
     pub(crate) fn pass(&mut self, alloc: Global, now: u64, done: usize)
         requires { now < 2 ^ 47 }
         // Nothing is put off: by each later moment just the same has happened.
-        ensures rest { done < length (reached now self.old.since self.old.acts) → (t : ℕ) →
-            now ≤ t → reached t self.old.since self.old.acts
-            ≡ take done self.old.acts ++ reached t self.new.since self.new.acts }
+        ensures rest { done < length (acts_by now self.old.since self.old.acts) → (t : ℕ) →
+            now ≤ t → acts_by t self.old.since self.old.acts
+            ≡ take done self.old.acts ++ acts_by t self.new.since self.new.acts }
         ensures end { self.new.end ≡ self.old.end }
     {
         let done = done.min(self.acts.len());
@@ -93,7 +93,7 @@ impl Agenda {
 
     /// Acts are to happen after all others, and not before now.
     pub(crate) fn queue(&mut self, now: u64, acts: Acts) -> Result<(), NoMemory>
-        ensures { OnOk result (self.new ≡ spec.queued now acts self.old) }
+        ensures { OnOk result (self.new ≡ spec.queue_acts now acts self.old) }
     {
         if self.acts.is_empty() {
             self.since = now;
@@ -125,7 +125,7 @@ impl Agenda {
 
     /// The kernel ends now.
     pub(crate) fn stop(&mut self, alloc: Global, status: i32)
-        ensures { self.new ≡ spec.stopped status self.old }
+        ensures { self.new ≡ spec.stop_agenda status self.old }
     {
         self.acts = Acts::new(alloc);
         self.end = Some(status);

@@ -43,7 +43,7 @@ pub(crate) fn info(alloc: Global) -> Result<Notes, NoMemory>
 }
 
 /// What ends an interrupted cell.
-pub(crate) fn interrupted(alloc: Global, count: u64) -> Result<Notes, NoMemory>
+pub(crate) fn interrupt_notes(alloc: Global, count: u64) -> Result<Notes, NoMemory>
     ensures { IfOk result (λ ns. ns ≡ notes.interrupted_notes count) }
 {
     let ename = Text::of(alloc, "KeyboardInterrupt")?;
@@ -80,22 +80,22 @@ fn note_of(alloc: Global, count: u64, effect: Effect) -> Result<Note, NoMemory>
 
 /// The reply of the cell and what follows it; neither where the kernel ends in the cell.
 fn closing(alloc: Global, count: u64, effects: &[Effect]) -> Result<Notes, NoMemory>
-    ensures { IfOk result (λ ns. ns ≡ notes.delivered (close count effects.now)) }
+    ensures { IfOk result (λ ns. ns ≡ notes.reply_notes (close count effects.now)) }
 {
     for effect in effects {
         match effect {
             Effect::Raise { ename, evalue } => {
-                return finished(alloc, error_reply(alloc, count, ename, evalue)?);
+                return reply_and_idle(alloc, error_reply(alloc, count, ename, evalue)?);
             }
             Effect::Die => return Ok(Notes::new(alloc)),
             _ => {}
         }
     }
-    finished(alloc, fine_reply(alloc, count)?)
+    reply_and_idle(alloc, fine_reply(alloc, count)?)
 }
 
 /// This reply, and idle.
-fn finished(alloc: Global, saying: Saying) -> Result<Notes, NoMemory>
+fn reply_and_idle(alloc: Global, saying: Saying) -> Result<Notes, NoMemory>
     ensures { IfOk result (λ ns. ns ≡ notes.reply saying ∷ notes.idle ∷ []) }
 {
     let reply = reply(saying);

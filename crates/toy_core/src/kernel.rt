@@ -46,7 +46,7 @@ impl Kernel {
     ) -> Result<Acts, NoMemory>
         ensures acts { IfOk result (λ acts.
             acts ≡ spec.acts_for key.now parent.now notes self.old) }
-        ensures numbered { OnOk result (self.new ≡ spec.numbered notes self.old) }
+        ensures numbered { OnOk result (self.new ≡ spec.number_notes notes self.old) }
     {
         let mut acts = Acts::new(alloc);
         write(alloc, key, parent, notes, &mut self.number, &mut acts)?;

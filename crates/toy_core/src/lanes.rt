@@ -84,7 +84,7 @@ impl Lanes {
     /// Acts happen, in order. Without memory an `Err` says how many have happened.
     pub(crate) fn perform(&mut self, alloc: Global, acts: &[Act]) -> Result<(), usize>
         ensures lines { OnOk result ((ls : spec.Lines) →
-            AreLines self.old ls → AreLines self.new (spec.performed acts.now ls)) }
+            AreLines self.old ls → AreLines self.new (spec.perform_all acts.now ls)) }
         ensures sends { OnOk result (SendsAll (λ c. octets_on c acts.now) self.old self.new) }
         ensures fewer { IfErr result (λ done. done < length acts.now) }
         ensures part { IfErr result (λ done.
@@ -116,7 +116,7 @@ impl Lanes {
     /// Octets are sent on a channel.
     pub(crate) fn send(&mut self, alloc: Global, chan: Chan, octets: &[u8]) -> Result<(), NoMemory>
         ensures lines { OnOk result ((ls : spec.Lines) →
-            AreLines self.old ls → AreLines self.new (spec.sent chan octets.now ls)) }
+            AreLines self.old ls → AreLines self.new (spec.send_on chan octets.now ls)) }
         ensures sends { OnOk result
             (SendsAll (λ c. octets_of c (act.Send chan octets.now)) self.old self.new) }
         ensures err { OnErr result (SendsAll (λ _. []) self.old self.new) }

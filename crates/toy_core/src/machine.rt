@@ -43,7 +43,7 @@ impl Machine {
         requires { now < 2 ^ 47 }
         ensures answer { result ≡ toy.accepts_by now self.old.kernel.agenda }
         ensures stands { (s : spec.Standing) →
-            toy.Is self.old s → toy.Is self.new (spec.accepted chan now s) }
+            toy.Is self.old s → toy.Is self.new (spec.accept_line chan now s) }
         ensures kernel { self.new.kernel ≡ self.old.kernel }
     {
         if self.kernel.agenda.end_by(now).is_some() {
@@ -125,7 +125,7 @@ impl Machine {
     ) -> Result<(), NoMemory>
         requires { now < 2 ^ 47 }
         ensures stands { OnOk result ((s : spec.Standing) →
-            toy.Is self.old s → toy.Is self.new (spec.served now key.now chan body.now s)) }
+            toy.Is self.old s → toy.Is self.new (spec.serve_body now key.now chan body.now s)) }
         ensures keeps { Keeps self.old.lanes self.new.lanes }
     {
         if self.kernel.has_ended() {
@@ -231,14 +231,14 @@ impl Machine {
 
     fn interrupt_cell(&mut self, alloc: Global, now: u64, key: &Text) -> Result<(), NoMemory>
         ensures stands { OnOk result ((s : spec.Standing) →
-            toy.Is self.old s → toy.Is self.new (spec.interrupted now key.now s)) }
+            toy.Is self.old s → toy.Is self.new (spec.interrupt_cell now key.now s)) }
         ensures keeps { Keeps self.old.lanes self.new.lanes }
     {
         let Some((parent, count)) = self.kernel.agenda.running() else {
             return Ok(());
         };
         let parent = copy(alloc, parent)?;
-        let notes = course::interrupted(alloc, count)?;
+        let notes = course::interrupt_notes(alloc, count)?;
         self.kernel.agenda.cut(alloc, now);
         self.do_at_once(alloc, key, &parent, notes)?;
         Ok(())
@@ -285,12 +285,12 @@ impl Machine {
     fn settle(&mut self, alloc: Global, now: u64) -> Result<(), NoMemory>
         requires { now < 2 ^ 47 }
         ensures stands { OnOk result ((s : spec.Standing) →
-            toy.Is self.old s → toy.Is self.new (spec.settled now s)) }
+            toy.Is self.old s → toy.Is self.new (spec.settle_all now s)) }
         ensures keeps { Keeps self.old.lanes self.new.lanes }
         ensures due { IsAsDue now self.old self.new }
         ensures settled { OnOk result (IsSettled now self.new.kernel.agenda) }
     {
-        let acts = self.kernel.agenda.reached(now);
+        let acts = self.kernel.agenda.acts_by(now);
         if let Err(done) = self.lanes.perform(alloc, acts) {
             // What has happened is due, and must not become due again.
             self.kernel.agenda.pass(alloc, now, done);
@@ -341,7 +341,7 @@ impl Machine {
     {
         let lane = self.lanes.lane(chan);
         if lane.hears {
-            pour_left(&lane.outbox, self.kernel.agenda.reached(now), chan, buf)
+            pour_left(&lane.outbox, self.kernel.agenda.acts_by(now), chan, buf)
         } else {
             pour_left(&lane.outbox, &[], chan, buf)
         }

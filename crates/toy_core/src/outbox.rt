@@ -33,7 +33,7 @@ impl Outbox {
 
     /// The connection is taken up: only the greeting and READY are due.
     pub(crate) fn open(&mut self, alloc: Global)
-        ensures { self.new ≡ boxes.opened self.old }
+        ensures { self.new ≡ boxes.open_box self.old }
     {
         self.is_open = true;
         self.octets = Bytes::new(alloc);
@@ -53,8 +53,8 @@ impl Outbox {
 
     /// These octets have become due. What was all handed out is let go, without memory too.
     pub(crate) fn post(&mut self, alloc: Global, octets: &[u8]) -> Result<(), NoMemory>
-        ensures ok { OnOk result (self.new ≡ boxes.posted octets.now self.old) }
-        ensures err { OnErr result (self.new ≡ boxes.trimmed self.old) }
+        ensures ok { OnOk result (self.new ≡ boxes.post_octets octets.now self.old) }
+        ensures err { OnErr result (self.new ≡ boxes.trim_box self.old) }
     {
         self.trim(alloc);
         self.octets.add(octets)
@@ -62,7 +62,7 @@ impl Outbox {
 
     /// Lets go of what was handed out, where that is all.
     fn trim(&mut self, alloc: Global)
-        ensures { self.new ≡ boxes.trimmed self.old }
+        ensures { self.new ≡ boxes.trim_box self.old }
     {
         let front = self.front().len();
         if self.is_handed_out(front) {
@@ -80,7 +80,7 @@ impl Outbox {
 
     /// So many octets were handed out.
     pub(crate) fn hand(&mut self, count: usize)
-        ensures { self.new ≡ boxes.handed count self.old }
+        ensures { self.new ≡ boxes.hand_out count self.old }
     {
         self.given = self.given.saturating_add(count);
     }

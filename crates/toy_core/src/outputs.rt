@@ -27,12 +27,12 @@ pub(crate) fn input(alloc: Global, code: &Text, count: u64) -> Result<Saying, No
     ensures { IfOk result (λ m. m ≡ out.input code.now count) }
 {
     let code = text_pair(alloc, "code", code.as_str())?;
-    let count = counted(alloc, count)?;
+    let count = count_pair(alloc, count)?;
     pair(alloc, "execute_input", object(alloc, [code, count])?)
 }
 
 /// `execution_count` and its value.
-pub(crate) fn counted(alloc: Global, count: u64) -> Result<(Text, Json), NoMemory>
+pub(crate) fn count_pair(alloc: Global, count: u64) -> Result<(Text, Json), NoMemory>
     ensures { IfOk result (λ p. p ≡ out.counted count) }
 {
     let digits = format!(in alloc; "{count}")?;
@@ -111,7 +111,7 @@ pub(crate) fn clear(alloc: Global, later: bool) -> Result<Saying, NoMemory>
 pub(crate) fn outcome(alloc: Global, count: u64, text: Text) -> Result<Saying, NoMemory>
     ensures { IfOk result (λ m. m ≡ out.outcome count text) }
 {
-    let count = counted(alloc, count)?;
+    let count = count_pair(alloc, count)?;
     let data = data_of(alloc, text)?;
     let metadata = metadata(alloc)?;
     pair(

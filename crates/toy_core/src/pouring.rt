@@ -57,7 +57,7 @@ pub(crate) fn pour_left(outbox: &Outbox, acts: &[Act], chan: Chan, buf: &mut [u8
     ensures within { result ≤ length buf.new }
     ensures len { length buf.new ≡ length buf.old }
     ensures octets { take result buf.new ≡
-        take (length buf.old) (boxes.left outbox.now (octets_on chan acts.now)) }
+        take (length buf.old) (boxes.rest_due outbox.now (octets_on chan acts.now)) }
 {
     let mut pouring = Pouring {
         skip: outbox.given,

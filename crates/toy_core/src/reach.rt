@@ -1,6 +1,6 @@
 //! How far acts have come by a moment.
 ghost use Rattle.std.specs.Prelude.{◌≡◌, ◌<◌, ◌≤◌, ◌^◌, length, None, Some};
-ghost use Rattle.toy_core.specs.Acts.{reached, begun_at, ending};
+ghost use Rattle.toy_core.specs.Acts.{acts_by, begun_at, ending};
 
 use crate::act::Act;
 
@@ -18,10 +18,10 @@ pub(crate) struct Reach {
 /// How far acts have come by a moment, where the first begins at `since`.
 pub(crate) fn reach_of(acts: &[Act], since: u64, now: u64) -> Reach
     requires { now < 2 ^ 47 }
-    ensures len { result.len ≡ length (reached now since acts.now) }
+    ensures len { result.len ≡ length (acts_by now since acts.now) }
     ensures within { result.len ≤ length acts.now }
     ensures moment { result.moment ≡ begun_at now since acts.now }
-    ensures end { result.end ≡ ending (reached now since acts.now) }
+    ensures end { result.end ≡ ending (acts_by now since acts.now) }
 {
     let mut moment = since;
     for (i, act) in acts.iter().enumerate() {

@@ -5,7 +5,7 @@ ghost use Rattle.toy_lang.specs.ToyOut as out;
 ghost use Rattle.toy_core.specs.Contents as contents;
 
 use crate::note::Saying;
-use crate::outputs::{counted, put_error};
+use crate::outputs::{count_pair, put_error};
 use jtext::{Fields, Json, NoMemory, Text, object, pair, text_pair};
 use std::alloc::Global;
 
@@ -14,7 +14,7 @@ pub(crate) fn fine_reply(alloc: Global, count: u64) -> Result<Saying, NoMemory>
     ensures { IfOk result (λ m. m ≡ out.fine_reply count) }
 {
     let status = text_pair(alloc, "status", "ok")?;
-    let count = counted(alloc, count)?;
+    let count = count_pair(alloc, count)?;
     pair(alloc, "execute_reply", object(alloc, [status, count])?)
 }
 
@@ -29,7 +29,7 @@ pub(crate) fn error_reply(
 {
     let mut fields = Fields::new(alloc);
     fields.push(text_pair(alloc, "status", "error")?)?;
-    fields.push(counted(alloc, count)?)?;
+    fields.push(count_pair(alloc, count)?)?;
     put_error(alloc, &mut fields, ename, evalue)?;
     pair(alloc, "execute_reply", Json::Obj(fields))
 }

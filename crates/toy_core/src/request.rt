@@ -78,7 +78,7 @@ fn asked_on(
     kind: &Text,
     content: &Json,
 ) -> Result<Option<Asked>, NoMemory>
-    ensures { IfOk result (λ a. a ≡ requests.asked chan kind.now content.now) }
+    ensures { IfOk result (λ a. a ≡ requests.ask_of chan kind.now content.now) }
 {
     match chan {
         Chan::Shell => asked_on_shell(alloc, kind.as_str(), content),

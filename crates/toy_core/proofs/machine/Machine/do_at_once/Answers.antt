@@ -1,7 +1,7 @@
 use Rattle.std.proofs.Common.{◌∙◌, ap, subst}
 use Rattle.std.specs.Prelude.{List}
 use Rattle.toy_core.specs.declared.act.Act.{Act}
-use Rattle.toy_core.specs.Standing.{performed, numbered, acts_for}
+use Rattle.toy_core.specs.Standing.{perform_all, number_notes, acts_for}
 use Rattle.toy_core.specs.Toy.{AreLines}
 use Rattle.toy_core.proofs.Keeping.{keeps_self, keeps_sent}
 use Rattle.toy_core.proofs.machine.Machine.do_at_once.Goals as goal
@@ -10,8 +10,8 @@ pub returns-in-Ok-clause-stands : goal.returns-in-Ok-clause-stands
 returns-in-Ok-clause-stands c = λ s a.
     let acts = c.as_slice.ensures ∙ c.in_ok-acts.ensures.acts ∙ ap (acts_for c.args.key.now c.args.parent.now c.args.notes) a.kernel in
     record {
-      kernel = c.in_ok-acts.ensures.numbered ∙ ap (numbered c.args.notes) a.kernel;
-      lines = subst (λ (x : List Act). AreLines c.perform.new.self (performed x s.lines)) acts (c.in-Ok.ensures.lines s.lines a.lines);
+      kernel = c.in_ok-acts.ensures.numbered ∙ ap (number_notes c.args.notes) a.kernel;
+      lines = subst (λ (x : List Act). AreLines c.perform.new.self (perform_all x s.lines)) acts (c.in-Ok.ensures.lines s.lines a.lines);
     }
 
 pub returns-in-Ok-clause-keeps : goal.returns-in-Ok-clause-keeps

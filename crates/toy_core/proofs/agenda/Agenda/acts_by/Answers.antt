@@ -1,5 +1,5 @@
 use Rattle.toy_core.proofs.Reaching.{reached_front}
-use Rattle.toy_core.proofs.agenda.Agenda.reached.Goals as goal
+use Rattle.toy_core.proofs.agenda.Agenda.acts_by.Goals as goal
 
 pub returns : goal.returns
 returns c =

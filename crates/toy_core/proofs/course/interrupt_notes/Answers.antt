@@ -1,5 +1,5 @@
 use Rattle.std.proofs.Common.{refl}
-use Rattle.toy_core.proofs.course.interrupted.Goals as goal
+use Rattle.toy_core.proofs.course.interrupt_notes.Goals as goal
 
 pub returns : goal.returns
 returns c =
