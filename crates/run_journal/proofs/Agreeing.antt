@@ -2,9 +2,10 @@
 use Rattle.std.proofs.Common.{◌≡◌, inl, inr, ℕ, zero, suc, ◌+◌, ◌<◌, ◌≤◌, List, [], ◌∷◌, ◌++◌, length, map, Bool, true, false, ◌&&◌, ◌||◌, not, cond, Option, Some, None, refl, sym, ◌∙◌, ap, subst, arith}
 use Rattle.std.specs.Prelude.{is_some, option_map, slice_get, IsSomeAnd, ◌==◌, nat_lt, filter}
 use Rattle.std.specs.List.{list_any}
-use Rattle.std.proofs.lemmas.List.{append-nil, length-map}
+use Rattle.std.proofs.lemmas.List.{append-nil, length-map, length_push}
 use Rattle.std.proofs.Math.Bool.{or-false}
 use Rattle.std.proofs.lemmas.Bool.{and_parts, and_left, and_right, cond-true, cond-false, cases_Bool, cases_lt, eqb-true, eq-eqb, ltb-true, lt-ltb, false_from_ne_true}
+use Rattle.std.proofs.lemmas.Option.{same_Some}
 use Rattle.world.specs.declared.chan.Chan.{Chan}
 use Rattle.world.specs.declared.chan.Chan.TheVariants.{Shell, Iopub}
 use Rattle.world.specs.declared.entry.Entry.{Entry}
@@ -22,7 +23,7 @@ use Rattle.run_journal.specs.Requests.{Request, has_idle, first, reply, is_passe
 use Rattle.run_journal.specs.Agreement.{AgreesOn, Agrees, IsOther, moment, looked, lost, broken}
 use Rattle.run_journal.proofs.AlikeLooks.{arrive_nothing}
 use Rattle.run_journal.proofs.Isolation.{no_next}
-use Rattle.run_journal.proofs.Truths.{not_both, inside, and_true, one_longer}
+use Rattle.run_journal.proofs.Truths.{not_both, and_true}
 
 -- ---- the core's tests
 
@@ -88,7 +89,7 @@ get_below (x ∷ rs) (suc i) r e = let h = get_below rs i r e in omega (arith, h
 -- a request after a map is one before it
 pub get_mapped : (f : Request → Request) (rs : List Request) (i : ℕ) (r : Request) → slice_get (map f rs) i ≡ Some r → (q : Request) × (slice_get rs i ≡ Some q) × (r ≡ f q)
 get_mapped f [] i r e = cc
-get_mapped f (x ∷ rs) zero r e = (x, refl, sym (inside e))
+get_mapped f (x ∷ rs) zero r e = (x, refl, sym (same_Some _ _ e))
 get_mapped f (x ∷ rs) (suc i) r e = get_mapped f rs i r e
 
 -- a request of a list with one more is one of the list, or the one more
@@ -101,7 +102,7 @@ in_more x rs q i r (before e) = before e
 in_more x rs q i r (last e f) = last (ap suc e) f
 
 pub get_pushed : (rs : List Request) (q : Request) (i : ℕ) (r : Request) → slice_get (rs ++ q ∷ []) i ≡ Some r → IsIn rs q i r
-get_pushed [] q zero r e = last refl (sym (inside e))
+get_pushed [] q zero r e = last refl (sym (same_Some _ _ e))
 get_pushed [] q (suc i) r e = cc
 get_pushed (x ∷ rs) q zero r e = before e
 get_pushed (x ∷ rs) q (suc i) r e = in_more x rs q i r (get_pushed rs q i r e)
@@ -232,7 +233,7 @@ passed_agrees j k later r a =
 -- the last of a list is the one with the last number
 pub last_at : (j : Job) (k m : ℕ) (rs : List Request) (r : Request) → slice_get rs m ≡ Some r → length rs ≡ suc m → is_last_passed j k rs ≡ is_passed j (k + m) r
 last_at j k m [] r e l = cc
-last_at j k zero (x ∷ []) r e l = let n : k ≡ k + 0 = omega arith in ap (λ i. is_passed j i x) n ∙ ap (is_passed j (k + 0)) (inside e)
+last_at j k zero (x ∷ []) r e l = let n : k ≡ k + 0 = omega arith in ap (λ i. is_passed j i x) n ∙ ap (is_passed j (k + 0)) (same_Some _ _ e)
 last_at j k (suc m) (x ∷ []) r e l = cc
 last_at j k zero (x ∷ y ∷ rs) r e l = absurd (omega (arith, l))
 last_at j k (suc m) (x ∷ y ∷ rs) r e l =
@@ -387,7 +388,7 @@ module _ (j : Job) (entry : Entry) (told : List Event) (past : List Entry) where
     all_none : (k : ℕ) → k < length j.task.plan → length (requests j (entry ∷ past)) ≤ k → core.after j.task k (event.Saved ∷ told) ≡ None
     all_none k p h = elim (cases_Bool next) [
       | inl e ↦
-          let l : length (requests j (entry ∷ past)) ≡ length (requests j past) + 1 = ap length (cond-true next (gone ++ fresh_one ∷ []) gone e) ∙ one_longer gone fresh_one ∙ ap (λ n. n + 1) gone_length in
+          let l : length (requests j (entry ∷ past)) ≡ length (requests j past) + 1 = ap length (cond-true next (gone ++ fresh_one ∷ []) gone e) ∙ length_push gone fresh_one ∙ ap (λ n. n + 1) gone_length in
           none_by k p (omega (arith, l, h)) (none_beyond k p (omega (arith, l, h)) a)
       | inr e ↦
           let l : length (requests j (entry ∷ past)) ≡ length (requests j past) = ap length (cond-false next (gone ++ fresh_one ∷ []) gone e) ∙ gone_length in

@@ -4,7 +4,6 @@ use Rattle.std.specs.Prelude.{slice_get, unwrap_or, ◌==◌}
 use Rattle.std.specs.Str.{bytes_eq}
 use Rattle.std.proofs.lemmas.Bool.{and_right, or_left, or_right, cond-true, cond-false, cases_Bool, eq-eqb, eqb-true, false_from_ne_true}
 use Rattle.world.specs.declared.chan.Chan.{Chan}
-use Rattle.world.specs.declared.chan.Chan.TheVariants.{Shell, Control, Iopub, Heart}
 use Rattle.world.specs.declared.conn.Conn.{Conn}
 use Rattle.world.specs.declared.did.Did.{Did}
 use Rattle.world.specs.declared.did.Did.TheVariants.{Done, Failed}
@@ -14,6 +13,7 @@ use Rattle.world.specs.Acked.{renames, syncs_folder, is_renamed}
 use Rattle.world.specs.Jobs.{closes}
 use Rattle.world.specs.Places.{Status, chan_number, is_at, is_reported, waited_after, status_after, time_after}
 use Rattle.world.specs.Waits.{is_wait, moment_of}
+use Rattle.world.proofs.StatusLemmas.{chan_below}
 use Rattle.words.specs.Paths.{temporary_of}
 use Rattle.run_journal.specs.Job.{Job}
 use Rattle.run_journal.specs.Parts.{place, begins, is_acknowledging}
@@ -112,12 +112,6 @@ alike_self j (entry ∷ p) = ours (same_self j entry) refl (alike_self j p)
 
 -- ---- an entry of another job is quiet
 
-pub chan_small : (c : Chan) → chan_number c < 4
-chan_small Shell = omega arith
-chan_small Control = omega arith
-chan_small Iopub = omega arith
-chan_small Heart = omega arith
-
 one_job : (a b x y : ℕ) → x < 4 → y < 4 → 4 * a + x ≡ 4 * b + y → b ≡ a
 one_job a b x y k l e = omega (arith, k, l, e)
 
@@ -126,7 +120,7 @@ pub away : (j : Job) (c : Chan) (conn : Conn) → (conn.job == j.number) ≡ fal
 away j c conn e =
     false_from_ne_true (is_at (place j c) conn) (λ same.
     not_both (conn.job == j.number)
-    (eq-eqb conn.job j.number (one_job j.number conn.job (chan_number c) (chan_number conn.chan) (chan_small c) (chan_small conn.chan) (eqb-true (place j c) _ same))) e)
+    (eq-eqb conn.job j.number (one_job j.number conn.job (chan_number c) (chan_number conn.chan) (chan_below c) (chan_below conn.chan) (eqb-true (place j c) _ same))) e)
 
 ends_away : (j : Job) (job : ℕ) (status : _) → (job == j.number) ≡ false → ends j (made.Looked job status) ≡ false
 ends_away j job (Some status) e = e
@@ -182,7 +176,7 @@ of_number : (n k : ℕ) → k < 4 → (0 + (4 * n + k)) / 4 ≡ n
 of_number n k h = omega arith
 
 own_report : (j : Job) (c : Chan) (ready : List Bool) → is_reported (place j c) (own_places j.number 0 ready) ≡ is_reported (place j c) ready
-own_report j c ready = ap (λ o. unwrap_or o false) (own_place j.number 0 ready (place j c) (eq-eqb _ _ (of_number j.number (chan_number c) (chan_small c))))
+own_report j c ready = ap (λ o. unwrap_or o false) (own_place j.number 0 ready (place j c) (eq-eqb _ _ (of_number j.number (chan_number c) (chan_below c))))
 
 own_wait : (j : Job) (c : Chan) (ready : List Bool) (did : Did) (s : Status) → waited_after (place j c) (own_places j.number 0 ready) did s ≡ waited_after (place j c) ready did s
 own_wait j c ready Done s = ap (λ b. record s { awake = b || s.awake; writable = b || s.writable; count = 0 }) (own_report j c ready)

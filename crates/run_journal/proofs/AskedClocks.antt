@@ -3,7 +3,7 @@ use Rattle.std.proofs.Common.{◌≡◌, ◌⊎◌, inl, inr, ℕ, ◌+◌, List
 use Rattle.std.specs.Prelude.{is_some}
 use Rattle.std.specs.List.{list_any}
 use Rattle.std.proofs.Math.Bool.{or-false}
-use Rattle.std.proofs.lemmas.Bool.{and_parts, or_left, or_right, cases_Bool, cond-true, cond-false, le-leb}
+use Rattle.std.proofs.lemmas.Bool.{and_parts, or_left, or_right, cases_Bool, cond-true, cond-false, le-leb, or_cases}
 use Rattle.world.specs.declared.chan.Chan.TheVariants.{Shell, Iopub}
 use Rattle.world.specs.declared.entry.Entry.{Entry}
 use Rattle.world.specs.Waits.{has_wait, moment_of}
@@ -21,7 +21,6 @@ use Rattle.run_journal.specs.Awake.{in_order}
 use Rattle.run_journal.specs.Course.{came_for}
 use Rattle.run_journal.specs.Agreement.{IsAmong, brings}
 use Rattle.run_journal.proofs.Hearing.{none_unready}
-use Rattle.run_journal.proofs.Sighting.{or_either}
 use Rattle.run_journal.proofs.Lapse.{first_ever}
 use Rattle.run_journal.proofs.Clocking.{no_bytes}
 use Rattle.run_journal.proofs.Truths.{not_both}
@@ -120,7 +119,7 @@ module _ (jobs : List Job) (j : Job) (m : IsAmong j jobs) (d : IsDecoding j.code
 
   -- so before anything comes for a request
   pub brings_late : (entry : Entry) (past : List Entry) → all_along (in_order jobs) past ≡ true → brings j entry past ≡ true → is_some (first_clock 0 past) ≡ true
-  brings_late entry past o b = elim (or_either (not (is_empty_list (came_for j (last_request 0 (requests j past)) entry past))) _ b) [
+  brings_late entry past o b = elim (or_cases (not (is_empty_list (came_for j (last_request 0 (requests j past)) entry past))) _ b) [
     | inl e ↦ ready_clock past o (was_ready (cases_Bool (is_ready j past)) e)
     | inr e ↦ ids_clock past o (elim (told_by j entry past (and_parts (asked j (entry ∷ past)).told (asked j (entry ∷ past)).heard (and_parts (is_ready j (entry ∷ past)) (not (is_ready j past)) e).0).0) [
       | inl f ↦ told_ids j past f

@@ -4,6 +4,7 @@ use Rattle.std.specs.Prelude.{is_some, option_map, slice_get, slice_index, IsSom
 use Rattle.std.proofs.lemmas.List.{append-nil, map-append}
 use Rattle.std.proofs.lemmas.Bool.{and_parts, cond-true, cond-false, cases_Bool, eqb-true, eq-eqb, lt-ltb, false_from_ne_true}
 use Rattle.std.proofs.Math.Bool.{and-true}
+use Rattle.std.proofs.lemmas.Option.{same_Some}
 use Rattle.world.specs.declared.entry.Entry.{Entry}
 use Rattle.cell_core.specs.declared.event.Event.{Event}
 use Rattle.cell_core.specs.declared.why.Why.{Why}
@@ -16,7 +17,7 @@ use Rattle.out_fold.specs.declared.used.Used.{Used}
 use Rattle.run_journal.specs.Codec.{Arrival}
 use Rattle.run_journal.specs.Job.{Job}
 use Rattle.run_journal.specs.Parts.{acked}
-use Rattle.run_journal.specs.Requests.{Request, has_idle, reply, used, used_of, is_over, is_fatal, is_passed, is_last_passed, requests, last_request}
+use Rattle.run_journal.specs.Requests.{Request, has_idle, reply, use_of, used_of, is_over, is_fatal, is_passed, is_last_passed, requests, last_request}
 use Rattle.run_journal.specs.Why.{are_acked, plain_count, plan_end, is_done, is_error, why}
 use Rattle.run_journal.specs.Saves.{Save, save, passes, last_cell, stop_save, stopping, is_complete, closing, run_saves, settled_by}
 use Rattle.run_journal.specs.Grow.{ArePassed}
@@ -24,7 +25,7 @@ use Rattle.run_journal.specs.Agreement.{AgreesOn, Agrees}
 use Rattle.run_journal.proofs.Growth.{no_stop}
 use Rattle.run_journal.proofs.Safety.{all_but_last, few_requests}
 use Rattle.run_journal.proofs.Agreeing.{passed_agrees, known, get_some, last_at}
-use Rattle.run_journal.proofs.Truths.{not_both, inside, or_rest}
+use Rattle.run_journal.proofs.Truths.{not_both, or_rest}
 
 -- ---- the last request
 
@@ -140,10 +141,10 @@ passes_agree j told past a front k (c ∷ plan) (r ∷ rs) f o = elim (cases_Boo
 ]
   where
     first_save : Save
-    first_save = save j (front ++ used c r ∷ []) (c + 1) None
+    first_save = save j (front ++ use_of c r ∷ []) (c + 1) None
 
     front_on : List Used
-    front_on = front ++ used c r ∷ []
+    front_on = front ++ use_of c r ∷ []
 
     one_more : k + 1 ≡ suc k
     one_more = omega arith
@@ -167,7 +168,7 @@ passes_agree j told past a front k (c ∷ plan) (r ∷ rs) f o = elim (cases_Boo
 
 index_is : (xs : List ℕ) (i x : ℕ) → slice_get xs i ≡ Some x → slice_index xs i ≡ x
 index_is [] i x e = cc
-index_is (y ∷ xs) zero x e = inside e
+index_is (y ∷ xs) zero x e = same_Some _ _ e
 index_is (y ∷ xs) (suc i) x e = index_is xs i x e
 
 from_start : (j : Job) (past : List Entry) → From j past 0 j.task.plan (requests j past)
@@ -249,11 +250,11 @@ all_settle j front k [] [] l o h = refl
 all_settle j front k [] (r ∷ rs) l o h = cc
 all_settle j front k (c ∷ plan) [] l o h = cc
 all_settle j front k (c ∷ plan) (r ∷ []) l o h =
-    ap settled_by (cond-true (is_passed j k r) (save j (front ++ used c r ∷ []) (c + 1) None ∷ passes j (front ++ used c r ∷ []) (k + 1) plan []) [] (h r [] refl))
-    ∙ ap (λ v. (c + 1) ∷ v) (all_settle j (front ++ used c r ∷ []) (k + 1) plan [] (omega (arith, l)) tt (λ x xs e. cc))
+    ap settled_by (cond-true (is_passed j k r) (save j (front ++ use_of c r ∷ []) (c + 1) None ∷ passes j (front ++ use_of c r ∷ []) (k + 1) plan []) [] (h r [] refl))
+    ∙ ap (λ v. (c + 1) ∷ v) (all_settle j (front ++ use_of c r ∷ []) (k + 1) plan [] (omega (arith, l)) tt (λ x xs e. cc))
 all_settle j front k (c ∷ plan) (r ∷ s ∷ rs) l o h =
-    ap settled_by (cond-true (is_passed j k r) (save j (front ++ used c r ∷ []) (c + 1) None ∷ passes j (front ++ used c r ∷ []) (k + 1) plan (s ∷ rs)) [] o.0)
-    ∙ ap (λ v. (c + 1) ∷ v) (all_settle j (front ++ used c r ∷ []) (k + 1) plan (s ∷ rs) (omega (arith, l)) o.1 (λ x xs e. h r (s ∷ rs) refl))
+    ap settled_by (cond-true (is_passed j k r) (save j (front ++ use_of c r ∷ []) (c + 1) None ∷ passes j (front ++ use_of c r ∷ []) (k + 1) plan (s ∷ rs)) [] o.0)
+    ∙ ap (λ v. (c + 1) ∷ v) (all_settle j (front ++ use_of c r ∷ []) (k + 1) plan (s ∷ rs) (omega (arith, l)) o.1 (λ x xs e. h r (s ∷ rs) refl))
 
 complete_settles : (j : Job) (past : List Entry) → is_complete j (requests j past) ≡ true → settled_by (passes j [] 0 j.task.plan (requests j past)) ≡ map (λ i. i + 1) j.task.plan
 complete_settles j past e =
@@ -341,7 +342,7 @@ saves_agree j told past a w =
 -- the last request of the journal with its number
 pub last_numbered : (k m : ℕ) (rs : List Request) (q : Request) → length rs ≡ suc m → slice_get rs m ≡ Some q → last_request k rs ≡ Some (k + m, q)
 last_numbered k m [] q l e = cc
-last_numbered k zero (x ∷ []) q l e = let n : k ≡ k + 0 = omega arith in ap (λ i. Some (i, x)) n ∙ ap (λ y. Some (k + 0, y)) (inside e)
+last_numbered k zero (x ∷ []) q l e = let n : k ≡ k + 0 = omega arith in ap (λ i. Some (i, x)) n ∙ ap (λ y. Some (k + 0, y)) (same_Some _ _ e)
 last_numbered k (suc m) (x ∷ []) q l e = cc
 last_numbered k zero (x ∷ y ∷ rs) q l e = absurd (omega (arith, l))
 last_numbered k (suc m) (x ∷ y ∷ rs) q l e =

@@ -2,7 +2,7 @@
 use Rattle.std.proofs.Common.{◌≡◌, inl, inr, ℕ, ◌<◌, List, [], ◌∷◌, ◌++◌, length, Bool, true, false, ◌&&◌, ◌||◌, not, cond, Option, Some, None, refl, sym, ◌∙◌, ap, arith}
 use Rattle.std.specs.Prelude.{is_some, if◌then◌else◌, nat_lt, ◌==◌}
 use Rattle.std.proofs.lemmas.Bool.{and_parts, or_parts, cases_Bool, cond-true, cond-false, cond_both, eqb-true, false_from_ne_true, not-true}
-use Rattle.std.proofs.Math.Bool.{and-not_self}
+use Rattle.std.proofs.Math.Bool.{and-not_self, and-false}
 use Rattle.world.specs.declared.chan.Chan.{Chan}
 use Rattle.world.specs.declared.connected.Connected.{Connected}
 use Rattle.world.specs.declared.connected.Connected.TheVariants as connected
@@ -109,11 +109,7 @@ module _ (jobs : List Job) (j : Job) (m : IsAmong j jobs) where
       not_done : (n : ℕ) → is_done j n [] ≡ false
       not_done n =
           let some : (length j.task.plan == 0) ≡ false = false_from_ne_true (length j.task.plan == 0) (λ f. let z = eqb-true (length j.task.plan) 0 f in absurd (omega (arith, z, plan))) in
-          cond-false (length j.task.plan == 0) _ _ some ∙ none (0 == length j.task.plan)
-        where
-          none : (b : Bool) → (b && false) ≡ false
-          none true = refl
-          none false = refl
+          cond-false (length j.task.plan == 0) _ _ some ∙ and-false (0 == length j.task.plan)
 
 -- a wait brings nothing
 pub wait_brings : (j : Job) (entry : Entry) (past : List Entry) → is_wait entry ≡ true → BringsNothing j entry past

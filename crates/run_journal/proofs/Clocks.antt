@@ -2,8 +2,9 @@
 use Rattle.std.proofs.Common.{◌≡◌, ◌⊎◌, inl, inr, ℕ, ◌+◌, ◌<◌, List, [], ◌∷◌, ◌++◌, length, map, drop, Bool, true, false, ◌&&◌, ◌||◌, not, cond, Option, Some, None, refl, sym, ◌∙◌, ap, subst, arith, append_assoc}
 use Rattle.std.specs.Prelude.{is_some, option_map, slice_get, IsSomeAnd, ◌==◌}
 use Rattle.std.proofs.Math.Bool.{or-false}
-use Rattle.std.proofs.lemmas.List.{length-map}
+use Rattle.std.proofs.lemmas.List.{length-map, length_push}
 use Rattle.std.proofs.lemmas.Bool.{and_parts, and_from, lt-ltb, or_left, or_right, cond-true, cond-false, cases_Bool, eqb-true}
+use Rattle.std.proofs.lemmas.Option.{same_Some}
 use Rattle.world.specs.declared.entry.Entry.{Entry}
 use Rattle.world.specs.Places.{time}
 use Rattle.cell_core.specs.declared.event.Event.{Event}
@@ -28,13 +29,13 @@ use Rattle.run_journal.proofs.Hearing.{coming_for, after_on, none_unready}
 use Rattle.run_journal.proofs.Flowing.{AreOther, held_other, rest_other, late_other, core_nothing, sync_brings_nothing, Tells, front, tell_front, rest_at, core_at, events_are, told_parts, course_agrees}
 use Rattle.run_journal.proofs.Telling.{came_append}
 use Rattle.run_journal.proofs.Moments.{none_some, stood_on, kept_on, is_reply, at_reply, new_on, reply_came, reply_front, reply_behind, no_reply_in, reply_coming, is_mark, at_mark, AreFew, none_through, mark_time, mark_front, mark_behind, no_mark_in, few_none, few_behind, front_none, few_front}
-use Rattle.run_journal.proofs.Truths.{not_both, inside, one_longer}
+use Rattle.run_journal.proofs.Truths.{not_both}
 
 -- ---- one entry
 
 pub first_new : (xs : List (Arrival × ℕ)) (clock : ℕ) (ns : List Arrival) (m : Arrival × ℕ) → first xs ≡ None → first (xs ++ map (λ a. (a, clock)) ns) ≡ Some m → clock ≡ m.1
 first_new [] clock [] m e h = cc
-first_new [] clock (n ∷ ns) m e h = ap (λ (x : Arrival × ℕ). x.1) (inside h)
+first_new [] clock (n ∷ ns) m e h = ap (λ (x : Arrival × ℕ). x.1) (same_Some _ _ h)
 first_new (x ∷ xs) clock ns m e h = cc
 
 pub is_some_and : {P : List Event → Type 0} (o : Option (List Event)) → IsSomeAnd o P → (later : List Event) × (o ≡ Some later) × P later
@@ -61,7 +62,7 @@ module _ (j : Job) (entry : Entry) (past : List Entry) (told held late : List Ev
   next_anew n =
       lt-ltb (length (requests j past)) (length (requests j (entry ∷ past)))
       (let a : length (requests j (entry ∷ past)) ≡ length (map (goes_on j entry past) (requests j past)) + 1
-      = ap (λ (rs : List Request). length rs) (cond-true next _ (map (goes_on j entry past) (requests j past)) n) ∙ one_longer (map (goes_on j entry past) (requests j past)) _ in
+      = ap (λ (rs : List Request). length rs) (cond-true next _ (map (goes_on j entry past) (requests j past)) n) ∙ length_push (map (goes_on j entry past) (requests j past)) _ in
       let l : length (map (goes_on j entry past) (requests j past)) ≡ length (requests j past) = length-map (requests j past) (goes_on j entry past) in
       omega (arith, a, l))
 
@@ -162,7 +163,7 @@ module _ (j : Job) (entry : Entry) (past : List Entry) (told held late : List Ev
           let three = is_some_and (core.after j.task k told_now) (b.standing k (goes_on j entry past q) g) in
           let after_is : core.after j.task k told_now ≡ Some (told_on ys one.0) = ap (core.after j.task k) same ∙ after_on j.task k ys told one.0 one.1 in
           some_and (λ later. ClocksOn k told_now later (goes_on j entry past q)) (told_on ys one.0) after_is
-          (by one.0 one.2 (subst (λ v. ClocksOn k told v q) (inside (sym two.1 ∙ one.1)) two.2) (subst (λ v. AgreesOn j k v (goes_on j entry past q)) (inside (sym three.1 ∙ after_is)) three.2))
+          (by one.0 one.2 (subst (λ v. ClocksOn k told v q) (same_Some _ _ (sym two.1 ∙ one.1)) two.2) (subst (λ v. AgreesOn j k v (goes_on j entry past q)) (same_Some _ _ (sym three.1 ∙ after_is)) three.2))
         where
           by : (later : List Event) → AgreesOn j k later q → ClocksOn k told later q → AgreesOn j k (told_on ys later) (goes_on j entry past q) → ClocksOn k told_now (told_on ys later) (goes_on j entry past q)
           by later x y z = record {

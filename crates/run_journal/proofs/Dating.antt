@@ -12,7 +12,7 @@ use Rattle.cell_core.specs.Deadlines.{is_first_look, is_unanswered, queued}
 use Rattle.cell_core.specs.Events as events
 use Rattle.cell_core.specs.Requests as core
 use Rattle.run_journal.specs.Job.{Job}
-use Rattle.run_journal.specs.Requests.{or_later, is_broken}
+use Rattle.run_journal.specs.Requests.{or_later}
 use Rattle.run_journal.specs.Course.{begins_at, when_so, ends_look, is_late, events_at, late_then, course}
 use Rattle.run_journal.specs.Agreement.{told_on, is_dated}
 use Rattle.run_journal.proofs.Agreeing.{after_more, stands_at}

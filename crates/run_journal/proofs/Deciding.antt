@@ -2,6 +2,8 @@
 use Rattle.std.proofs.Common.{◌≡◌, inl, inr, ℕ, suc, ◌+◌, ◌<◌, List, [], length, Bool, true, false, ◌&&◌, not, cond, Option, Some, None, refl, sym, ◌∙◌, ap, subst}
 use Rattle.std.specs.Prelude.{is_some, is_none, option_map, slice_get}
 use Rattle.std.proofs.lemmas.Bool.{cases_Bool}
+use Rattle.std.proofs.lemmas.Option.{same_Some}
+use Rattle.kernel_lines.proofs.LineLemmas.{same_tests}
 use Rattle.world.specs.declared.entry.Entry.{Entry}
 use Rattle.cell_core.specs.declared.event.Event.{Event}
 use Rattle.cell_core.specs.declared.why.Why.TheVariants as cause
@@ -14,7 +16,7 @@ use Rattle.run_journal.specs.Job.{Job}
 use Rattle.run_journal.specs.Parts.{acked}
 use Rattle.run_journal.specs.Looks.{is_lost}
 use Rattle.run_journal.specs.Requests.{Request, reply, or_later, deadline, is_broken, requests, last_request}
-use Rattle.run_journal.specs.Why.{bad_stream, is_done, is_error, is_not_ready, is_no_idle, is_out, is_timed_out, last_deadline, when, why}
+use Rattle.run_journal.specs.Why.{bad_stream, is_done, is_error, is_not_ready, is_no_idle, is_out, is_timed_out, last_deadline, cause_if, why}
 use Rattle.run_journal.specs.Decoding.{IsDecoding}
 use Rattle.run_journal.specs.Course.{course}
 use Rattle.run_journal.specs.Agreement.{AgreesOn, BeginsUnread, EndsLooks, Flows, KeepsTime, is_dated, at_once, Hears, KeepsRules}
@@ -27,13 +29,12 @@ use Rattle.run_journal.proofs.Lasting.{hears_kept, unanswered_open}
 use Rattle.run_journal.proofs.Stopping.{from_at_once}
 use Rattle.run_journal.proofs.Running.{RanAtWait}
 use Rattle.run_journal.proofs.Interrupting.{ever_lost}
-use Rattle.run_journal.proofs.Rowing.{both, not_ready_same, no_idle_last, last_is, none_last, on, out_same, interrupt_same, standing_after, plus_more}
-use Rattle.run_journal.proofs.Truths.{inside}
+use Rattle.run_journal.proofs.Rowing.{not_ready_same, no_idle_last, last_is, none_last, on, out_same, interrupt_same, standing_after, plus_more}
 
 -- the first row that holds, by what holds of a time limit where no stream is broken and the kernel isn't lost
 same_rows : (d e b l n i t u : Bool) → (b ≡ false → l ≡ false → t ≡ u)
     → cond d (Some cause.Done) (cond e (Some cause.CellError) (cond b (Some cause.BadPeer) (cond l (Some cause.KernelLost) (cond n (Some cause.NotReady) (cond i (Some cause.NoIdle) (cond t (Some cause.TimedOut) None))))))
-    ≡ or_later (when d cause.Done) (or_later (when e cause.CellError) (or_later (when b cause.BadPeer) (or_later (when l cause.KernelLost) (or_later (when n cause.NotReady) (or_later (when i cause.NoIdle) (when u cause.TimedOut))))))
+    ≡ or_later (cause_if d cause.Done) (or_later (cause_if e cause.CellError) (or_later (cause_if b cause.BadPeer) (or_later (cause_if l cause.KernelLost) (or_later (cause_if n cause.NotReady) (or_later (cause_if i cause.NoIdle) (cause_if u cause.TimedOut))))))
 same_rows true e b l n i t u f = refl
 same_rows false true b l n i t u f = refl
 same_rows false false true l n i t u f = refl
@@ -42,7 +43,7 @@ same_rows false false false false true i t u f = refl
 same_rows false false false false false true t u f = refl
 same_rows false false false false false false t u f = ap (λ v. cond v (Some cause.TimedOut) None) (f refl refl) ∙ by u
   where
-    by : (v : Bool) → cond v (Some cause.TimedOut) None ≡ when v cause.TimedOut
+    by : (v : Bool) → cond v (Some cause.TimedOut) None ≡ cause_if v cause.TimedOut
     by true = refl
     by false = refl
 
@@ -56,7 +57,7 @@ module _ (jobs : List Job) (j : Job) (past : List Entry) (dec : IsDecoding j.cod
 
   lost_same : events.looked events.is_lost told ≡ is_lost j past
   lost_same =
-      both (events.looked events.is_lost told) (is_lost j past)
+      same_tests (events.looked events.is_lost told) (is_lost j past)
       (λ e. ever_lost jobs j past k h (lost_found j past e))
       (λ e. lost_seen j past (undated_unlooked (dropped j past) un) s none (h (lost_waited j past (lost_parts j past e).1)) e)
 
@@ -142,12 +143,12 @@ module _ (jobs : List Job) (j : Job) (past : List Entry) (dec : IsDecoding j.cod
         where
           no_some : None ≡ Some c → ⊥
           no_some x = cc
-      under (Some n) g d = subst (λ v. q.clock < v) (inside (sym (ap (option_map (λ limit. q.clock + limit)) g) ∙ d)) (plus_more q.clock n (limits n g))
+      under (Some n) g d = subst (λ v. q.clock < v) (same_Some _ _ (sym (ap (option_map (λ limit. q.clock + limit)) g) ∙ d)) (plus_more q.clock n (limits n g))
 
       by : (o : Option core.Standing) → core.standing j.task told ≡ o → Stands j told past o → queued j.task m c told ≡ q.interrupted
       by None g (nothing l) = absurd (no_last (sym (none_last jobs j past k h f t plan l) ∙ e))
       by (Some _) g (last n p later l x a) =
-          let same : ◌≡◌ {A = ℕ × Request} (n, p) (m, q) = inside {x = (n, p)} {y = (m, q)} (sym (last_is jobs j past k h f t plan n p l x) ∙ e) in
+          let same : ◌≡◌ {A = ℕ × Request} (n, p) (m, q) = same_Some (n, p) (m, q) (sym (last_is jobs j past k h f t plan n p l x) ∙ e) in
           let p_is : p ≡ q = ap (λ (v : ℕ × Request). v.1) same in
           ap (λ (v : ℕ × Request). queued j.task v.0 c told) (sym same)
           ∙ interrupt_same jobs j past k h f t plan none un n p later l x a (standing_after j.task (length j.task.plan) told (record { request = n; later = later }) g) dec u b lost (broken_core b lost) (lost_core b lost) (ap reply p_is ∙ r) c

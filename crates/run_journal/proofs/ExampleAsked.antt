@@ -1,10 +1,11 @@
 -- What is asked of a notebook: which replies stop the run, who speaks to the kernel, and an input that isn't read.
-use Rattle.std.proofs.Common.{◌≡◌, ◌≢◌, ℕ, ◌≤◌, List, [], ◌∷◌, Bool, true, false, Some, None, codes, refl, sym, ◌∙◌, ap, reverse, ◌+◌, arith}
+use Rattle.std.proofs.Common.{◌≡◌, ℕ, ◌≤◌, List, [], ◌∷◌, Bool, true, false, Some, None, codes, refl, ◌∙◌, ap, reverse, ◌+◌, arith}
 use Rattle.std.specs.Str.{bytes_eq, IsUtf8}
 use Rattle.jtext.proofs.Utf8s.{utf8_ascii}
 use Rattle.std.proofs.lemmas.Bool.{and_parts, and_right, and_from, cond-false, ltb-true}
 use Rattle.std.specs.List.{AllByRecursion, list_all}
 use Rattle.std.specs.Prelude.{is_some, nat_lt, ◌<◌, ◌&&◌, ◌||◌}
+use Rattle.jmsg.proofs.HeaderLemmas.{apart}
 use Rattle.jtext.specs.declared.json.Json.{Json}
 use Rattle.jtext.specs.declared.json.Json.TheVariants as json
 use Rattle.jtext.specs.Depth.{depth}
@@ -43,9 +44,7 @@ use Rattle.run_journal.specs.Why.{bad_stream}
 use Rattle.run_journal.specs.Saves.{saves}
 use Rattle.run_journal.specs.Ends.{NotRead, status_of}
 use Rattle.run_journal.specs.Lines.{Last, lines}
-use Rattle.out_fold.proofs.ShownLemmas.{same_text}
 use Rattle.run_journal.specs.Asked.{Setting, SpeaksBy, IsJobOf, not_read, accepted, read_of, job_with, task_of, running_job, stops_run}
-use Rattle.run_journal.proofs.Truths.{not_both}
 
 -- a notebook without cells
 abbrev notebook : Notebook
@@ -136,9 +135,6 @@ tree = json.Obj (
     (codes "cells", json.Arr (cell ∷ [])) ∷ (codes "metadata", json.Obj []) ∷ (codes "nbformat", json.Num (codes "4"))
     ∷ (codes "nbformat_minor", json.Num (codes "5")) ∷ [])
 
-differ : (a b : List ℕ) → bytes_eq a b ≡ false → a ≢ b
-differ a b e f = not_both (bytes_eq a b) (ap (bytes_eq a) (sym f) ∙ same_text a) e
-
 all_ascii : (b : List ℕ) → list_all (λ c. nat_lt c 128) b ≡ true → AllByRecursion (λ c. c < 128) b
 all_ascii [] e = tt
 all_ascii (c ∷ b) e = let p = and_parts (nat_lt c 128) (list_all (λ c. nat_lt c 128) b) e in (ltb-true c 128 p.0, all_ascii b p.1)
@@ -176,7 +172,7 @@ keyed_cell =
     (keyed.pair (codes "metadata") _ _ (keyed.object [] keyed.no_pairs tt)
     (keyed.pair (codes "outputs") _ _ (keyed.array [] keyed.none)
     (keyed.pair (codes "source") _ _ (keyed.text (codes "1")) keyed.no_pairs))))))
-    ((differ (codes "execution_count") (codes "cell_type") refl, (differ (codes "id") (codes "cell_type") refl, (differ (codes "metadata") (codes "cell_type") refl, (differ (codes "outputs") (codes "cell_type") refl, (differ (codes "source") (codes "cell_type") refl, tt))))), ((differ (codes "id") (codes "execution_count") refl, (differ (codes "metadata") (codes "execution_count") refl, (differ (codes "outputs") (codes "execution_count") refl, (differ (codes "source") (codes "execution_count") refl, tt)))), ((differ (codes "metadata") (codes "id") refl, (differ (codes "outputs") (codes "id") refl, (differ (codes "source") (codes "id") refl, tt))), ((differ (codes "outputs") (codes "metadata") refl, (differ (codes "source") (codes "metadata") refl, tt)), ((differ (codes "source") (codes "outputs") refl, tt), (tt, tt))))))
+    ((apart (codes "execution_count") (codes "cell_type") refl, (apart (codes "id") (codes "cell_type") refl, (apart (codes "metadata") (codes "cell_type") refl, (apart (codes "outputs") (codes "cell_type") refl, (apart (codes "source") (codes "cell_type") refl, tt))))), ((apart (codes "id") (codes "execution_count") refl, (apart (codes "metadata") (codes "execution_count") refl, (apart (codes "outputs") (codes "execution_count") refl, (apart (codes "source") (codes "execution_count") refl, tt)))), ((apart (codes "metadata") (codes "id") refl, (apart (codes "outputs") (codes "id") refl, (apart (codes "source") (codes "id") refl, tt))), ((apart (codes "outputs") (codes "metadata") refl, (apart (codes "source") (codes "metadata") refl, tt)), ((apart (codes "source") (codes "outputs") refl, tt), (tt, tt))))))
 
 keyed_tree : Keyed tree
 keyed_tree =
@@ -185,7 +181,7 @@ keyed_tree =
     (keyed.pair (codes "metadata") _ _ (keyed.object [] keyed.no_pairs tt)
     (keyed.pair (codes "nbformat") _ _ (keyed.number (codes "4"))
     (keyed.pair (codes "nbformat_minor") _ _ (keyed.number (codes "5")) keyed.no_pairs))))
-    ((differ (codes "metadata") (codes "cells") refl, (differ (codes "nbformat") (codes "cells") refl, (differ (codes "nbformat_minor") (codes "cells") refl, tt))), ((differ (codes "nbformat") (codes "metadata") refl, (differ (codes "nbformat_minor") (codes "metadata") refl, tt)), ((differ (codes "nbformat_minor") (codes "nbformat") refl, tt), (tt, tt))))
+    ((apart (codes "metadata") (codes "cells") refl, (apart (codes "nbformat") (codes "cells") refl, (apart (codes "nbformat_minor") (codes "cells") refl, tt))), ((apart (codes "nbformat") (codes "metadata") refl, (apart (codes "nbformat_minor") (codes "metadata") refl, tt)), ((apart (codes "nbformat_minor") (codes "nbformat") refl, tt), (tt, tt))))
 
 -- it is nested four deep
 object_deep : (n : ℕ) (ps : List (List ℕ × Json)) → AllByRecursion (λ p. depth p.1 ≤ n) ps → depth (json.Obj ps) ≤ n + 1

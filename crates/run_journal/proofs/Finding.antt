@@ -1,7 +1,7 @@
 -- A kernel that the core calls lost is lost by the journal.
 use Rattle.std.proofs.Common.{◌≡◌, ◌⊎◌, inl, inr, List, [], ◌∷◌, ◌++◌, Bool, true, false, ◌&&◌, ◌||◌, not, cond, refl, sym, ◌∙◌, ap}
 use Rattle.std.proofs.Math.Bool.{or-false}
-use Rattle.std.proofs.lemmas.Bool.{and_parts, or_parts, and_from, or_left, or_right, cond-true, cond-false, cases_Bool, not-true, not_from_false}
+use Rattle.std.proofs.lemmas.Bool.{and_parts, or_parts, and_from, or_left, or_right, cond-true, cond-false, cases_Bool, not-true, not_from_false, or_cases}
 use Rattle.world.specs.declared.entry.Entry.{Entry}
 use Rattle.world.specs.declared.entry.Entry.TheVariants as made
 use Rattle.world.specs.Waits.{is_wait, has_wait, before_wait}
@@ -19,7 +19,7 @@ use Rattle.run_journal.specs.Awake.{is_called_for}
 use Rattle.run_journal.proofs.Flowing.{tell_by, rest_at, core_at, events_are, look_at}
 use Rattle.run_journal.proofs.Telling.{empty_is, among_next, among_lost, came_append, is_loss, lost_when, gives_lost}
 use Rattle.run_journal.proofs.Dropping.{stops, dropped, stop_saved, stop_stays, dropped_stops, tell_mute, all_heard, looks_kept}
-use Rattle.run_journal.proofs.Sighting.{or_either, looked_stays, found_in, front_at, gives_found, knows, finds, late_unlooked, knows_next, finds_next, finds_back}
+use Rattle.run_journal.proofs.Sighting.{looked_stays, found_in, front_at, gives_found, knows, finds, late_unlooked, knows_next, finds_next, finds_back}
 use Rattle.run_journal.proofs.Truths.{not_both}
 
 -- ---- what holds along a journal
@@ -69,7 +69,7 @@ module _ (j : Job) (entry : Entry) (past : List Entry) (i : Along j past) where
   -- a loss that is known of in a look, before its end, was shown before its wait
   settled : in_look j (entry ∷ past) ≡ true → (is_wait entry ≡ true) ⊎ (looked j past ≡ false)
       → ((shows_lost j (entry ∷ past) && not (is_late j entry past)) || knows (course j past)) ≡ true → ever (shows_lost j) (before_wait (entry ∷ past)) ≡ true
-  settled e open_ h = by (cases_Bool (is_wait entry)) (or_either (shows_lost j (entry ∷ past) && not (is_late j entry past)) (knows (course j past)) h)
+  settled e open_ h = by (cases_Bool (is_wait entry)) (or_cases (shows_lost j (entry ∷ past) && not (is_late j entry past)) (knows (course j past)) h)
     where
       in_past : is_wait entry ≡ false → in_look j past ≡ true
       in_past w =
@@ -92,7 +92,7 @@ module _ (j : Job) (entry : Entry) (past : List Entry) (i : Along j past) where
 
   -- one that waited for a look, or does so now, was shown
   shown_late : (events.came is_loss (course j past).late || is_late j entry past) ≡ true → ever (shows_lost j) (entry ∷ past) ≡ true
-  shown_late h = by (or_either (events.came is_loss (course j past).late) (is_late j entry past) h)
+  shown_late h = by (or_cases (events.came is_loss (course j past).late) (is_late j entry past) h)
     where
       by : (events.came is_loss (course j past).late ≡ true) ⊎ (is_late j entry past ≡ true) → ever (shows_lost j) (entry ∷ past) ≡ true
       by (inl k) = or_right (shows_lost j (entry ∷ past)) (ever (shows_lost j) past) (i.late k)
@@ -103,7 +103,7 @@ module _ (j : Job) (entry : Entry) (past : List Entry) (i : Along j past) where
   -- one that the entry gives: now, or at the end of a look
   given : events.came is_loss (events_at j entry past (course j past).late) ≡ true
       → ((shows_lost j (entry ∷ past) && not (is_late j entry past)) ≡ true) ⊎ ((ends_look j entry past ≡ true) × ((events.came is_loss (course j past).late || is_late j entry past) ≡ true))
-  given h = by (or_either (shows_lost j (entry ∷ past) && not (is_late j entry past)) _ (sym (gives_lost j entry past (course j past).late) ∙ h))
+  given h = by (or_cases (shows_lost j (entry ∷ past) && not (is_late j entry past)) _ (sym (gives_lost j entry past (course j past).late) ∙ h))
     where
       by : ((shows_lost j (entry ∷ past) && not (is_late j entry past)) ≡ true) ⊎ (cond (ends_look j entry past) (events.came is_loss (course j past).late || is_late j entry past) false ≡ true)
           → ((shows_lost j (entry ∷ past) && not (is_late j entry past)) ≡ true) ⊎ ((ends_look j entry past ≡ true) × ((events.came is_loss (course j past).late || is_late j entry past) ≡ true))
@@ -115,14 +115,14 @@ module _ (j : Job) (entry : Entry) (past : List Entry) (i : Along j past) where
   ends_parts h =
       let p = and_parts (in_look j (entry ∷ past) && looked j (entry ∷ past)) (is_wait entry || not (looked j past)) h in
       let q = and_parts (in_look j (entry ∷ past)) (looked j (entry ∷ past)) p.0 in
-      (q.0, q.1, by (or_either (is_wait entry) (not (looked j past)) p.1))
+      (q.0, q.1, by (or_cases (is_wait entry) (not (looked j past)) p.1))
     where
       by : (is_wait entry ≡ true) ⊎ (not (looked j past) ≡ true) → (is_wait entry ≡ true) ⊎ (looked j past ≡ false)
       by (inl w) = inl w
       by (inr k) = inr (not-true (looked j past) k)
 
   next_known : knows (course j (entry ∷ past)) ≡ true → ever (shows_lost j) (entry ∷ past) ≡ true
-  next_known e = by (or_either (knows (course j past)) _ (knows_next j entry past e))
+  next_known e = by (or_cases (knows (course j past)) _ (knows_next j entry past e))
     where
       by_given : ((shows_lost j (entry ∷ past) && not (is_late j entry past)) ≡ true) ⊎ ((ends_look j entry past ≡ true) × ((events.came is_loss (course j past).late || is_late j entry past) ≡ true))
           → ever (shows_lost j) (entry ∷ past) ≡ true
@@ -134,7 +134,7 @@ module _ (j : Job) (entry : Entry) (past : List Entry) (i : Along j past) where
       by (inr k) = by_given (given k)
 
   next_before : in_look j (entry ∷ past) ≡ true → looked j (entry ∷ past) ≡ false → knows (course j (entry ∷ past)) ≡ true → ever (shows_lost j) (before_wait (entry ∷ past)) ≡ true
-  next_before e unlooked h = settled e (by (cases_Bool (is_wait entry)) (cases_Bool (looked j past))) (known (or_either (knows (course j past)) _ (knows_next j entry past h)))
+  next_before e unlooked h = settled e (by (cases_Bool (is_wait entry)) (cases_Bool (looked j past))) (known (or_cases (knows (course j past)) _ (knows_next j entry past h)))
     where
       by : (is_wait entry ≡ true) ⊎ (is_wait entry ≡ false) → (looked j past ≡ true) ⊎ (looked j past ≡ false) → (is_wait entry ≡ true) ⊎ (looked j past ≡ false)
       by (inl w) k = inl w
@@ -152,7 +152,7 @@ module _ (j : Job) (entry : Entry) (past : List Entry) (i : Along j past) where
       known (inr k) = by_given (given k)
 
   next_found : finds (course j (entry ∷ past)) ≡ true → ever (is_lost j) (entry ∷ past) ≡ true
-  next_found e = by (or_either (finds (course j past)) _ (finds_next j entry past e))
+  next_found e = by (or_cases (finds (course j past)) _ (finds_next j entry past e))
     where
       by : (finds (course j past) ≡ true) ⊎ (found_in (knows (course j past)) (events_at j entry past (course j past).late) ≡ true) → ever (is_lost j) (entry ∷ past) ≡ true
       by (inl k) = or_right (is_lost j (entry ∷ past)) (ever (is_lost j) past) (i.found k)
@@ -250,7 +250,7 @@ module _ (j : Job) (entry : Entry) (past : List Entry) (u : events.came events.i
 
   -- at a wait nothing waits for a look
   on_time : is_wait entry ≡ true → (course j past).late ≡ []
-  on_time w = by (or_either (not (is_wait entry)) (is_empty_list (course j past).late) (and_parts (ends_looks j (entry ∷ past)) (all_along (ends_looks j) past) s).0)
+  on_time w = by (or_cases (not (is_wait entry)) (is_empty_list (course j past).late) (and_parts (ends_looks j (entry ∷ past)) (all_along (ends_looks j) past) s).0)
     where
       by : (not (is_wait entry) ≡ true) ⊎ (is_empty_list (course j past).late ≡ true) → (course j past).late ≡ []
       by (inl k) = absurd (not_both (is_wait entry) w (not-true (is_wait entry) k))

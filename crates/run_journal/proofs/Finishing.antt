@@ -12,6 +12,7 @@ use Rattle.world.specs.declared.entry.Entry.TheVariants as made
 use Rattle.world.specs.Places.{chan_number}
 use Rattle.world.specs.Waits.{is_wait, has_wait, before_wait, to_wait, since_wait}
 use Rattle.world.specs.Jobs.{closes}
+use Rattle.world.proofs.StatusLemmas.{chan_below}
 use Rattle.cell_core.specs.declared.event.Event.{Event}
 use Rattle.cell_core.specs.declared.event.Event.TheVariants as event
 use Rattle.cell_core.specs.Acts.{is_empty_list}
@@ -27,7 +28,6 @@ use Rattle.run_journal.proofs.Finding.{wait_shows_none}
 use Rattle.run_journal.proofs.Running.{or_off, any_of, rules_before, running_parts, RanAtWait, ran_before, runs_at_wait}
 use Rattle.run_journal.proofs.Rereading.{each_one}
 use Rattle.run_journal.proofs.Truths.{not_both}
-use Rattle.run_journal.proofs.Alike.{chan_small}
 
 -- ---- a wait of a look that another wait follows
 
@@ -48,8 +48,8 @@ short_wait jobs j (entry ∷ past) m e w d c = short_wait jobs j past m (and_par
 -- a close of one of its connections is one of the job's
 closes_job : (j : Job) (c : Chan) (entry : Entry) → is_closed j c entry ≡ true → closes j.number entry ≡ true
 closes_job j c (made.Closed conn) e =
-    let n = chan_small c in
-    let m = chan_small conn.chan in
+    let n = chan_below c in
+    let m = chan_below conn.chan in
     let g = eqb-true (4 * j.number + chan_number c) (4 * conn.job + chan_number conn.chan) e in
     eq-eqb conn.job j.number (omega (arith, n, m, g))
 closes_job j c _ e = cc

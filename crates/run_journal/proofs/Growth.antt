@@ -18,8 +18,8 @@ use Rattle.run_journal.specs.Codec.{Arrival}
 use Rattle.run_journal.specs.Job.{Job, Given, Refuses, Prepares, Runs}
 use Rattle.run_journal.specs.Parts.{acked, is_acknowledging, is_shut, before_shut}
 use Rattle.run_journal.specs.Arrivals.{ask_on, asked, is_ready, is_asked, can_ask}
-use Rattle.run_journal.specs.Requests.{Request, through_idle, has_idle, own, first, reply, reply_date, as_used, used, is_over, is_fatal, is_passed, is_last_passed, with_interrupt, goes_on, is_next, count_queued, fresh, and_next, requests, or_later}
-use Rattle.run_journal.specs.Why.{when, is_done, plan_end, why}
+use Rattle.run_journal.specs.Requests.{Request, through_idle, has_idle, own, first, reply, reply_date, as_used, use_of, is_over, is_fatal, is_passed, is_last_passed, with_interrupt, goes_on, is_next, count_queued, fresh, and_next, requests, or_later}
+use Rattle.run_journal.specs.Why.{cause_if, is_done, plan_end, why}
 use Rattle.run_journal.specs.Saves.{Save, save, passes, is_marked, last_cell, stop_save, stopping, is_complete, closing, run_saves, saves_for, saves_by, saves}
 use Rattle.run_journal.specs.Grow.{GoesOn, GoOn, no_more, one_more}
 use Rattle.run_journal.proofs.Truths.{or_rest}
@@ -103,7 +103,7 @@ module _ (r s : Request) (g : GoesOn r s) where
       and_from (has_idle s.io) (is_some (reply s)) (idle_stays p.0) (ap is_some (reply_stays p.1) ∙ p.1)
 
   -- what is used for it stays
-  pub used_stays : (cell : ℕ) → is_over r ≡ true → used cell s ≡ used cell r
+  pub used_stays : (cell : ℕ) → is_over r ≡ true → use_of cell s ≡ use_of cell r
   used_stays cell e =
       let p = and_parts (has_idle r.io) (is_some (reply r)) e in
       ap (λ (ms : List Arrival). record { cell = cell; own = map as_used ms; reply = reply_date (reply s) }) (own_stays p.0)
@@ -185,9 +185,9 @@ passes_grow j front k (i ∷ plan) (one_more {r} {s} {rs} {ss} g gs) =
       | inl e ↦
           let a = passed_stays r s g j k e in
           let u = used_stays r s g i (and_parts (is_over r) (not (is_fatal j k (reply r))) e).0 in
-          let more : Begins (with_pass (used i r) rs) (with_pass (used i s) ss)
-          = subst (λ v. Begins (with_pass (used i r) rs) (with_pass v ss)) (sym u)
-          (begins_front (save j (front ++ used i r ∷ []) (i + 1) None) (passes_grow j (front ++ used i r ∷ []) (k + 1) plan gs)) in
+          let more : Begins (with_pass (use_of i r) rs) (with_pass (use_of i s) ss)
+          = subst (λ v. Begins (with_pass (use_of i r) rs) (with_pass v ss)) (sym u)
+          (begins_front (save j (front ++ use_of i r ∷ []) (i + 1) None) (passes_grow j (front ++ use_of i r ∷ []) (k + 1) plan gs)) in
           grown (is_passed j k r) (is_passed j k s) _ _ e a more
       | inr e ↦ nothing (is_passed j k r) _ _ e
     ]
@@ -207,7 +207,7 @@ passes_grow j front k (i ∷ plan) (one_more {r} {s} {rs} {ss} g gs) =
 -- ---- the saves of a run
 
 -- a first row that doesn't hold
-no_row : (b : Bool) (w : Why) (later : Option Why) → or_later (when b w) later ≡ None → b ≡ false
+no_row : (b : Bool) (w : Why) (later : Option Why) → or_later (cause_if b w) later ≡ None → b ≡ false
 no_row true w later e = cc
 no_row false w later e = refl
 

@@ -3,8 +3,9 @@ use Rattle.std.proofs.Common.{◌≡◌, inl, inr, ℕ, zero, suc, ◌+◌, ◌<
 use Rattle.std.specs.Prelude.{is_some, option_map, slice_get, IsSomeAnd, nat_lt, if◌then◌else◌, filter, take}
 use Rattle.std.proofs.lemmas.List.{length-map}
 use Rattle.std.proofs.lemmas.List.Folds.{list_any-append}
-use Rattle.std.proofs.Math.Bool.{or-false}
+use Rattle.std.proofs.Math.Bool.{or-false, or_assoc}
 use Rattle.std.proofs.lemmas.Bool.{and_parts, and_left, cond-true, cond-false, cond_both, cases_Bool, ltb-true, lt-ltb}
+use Rattle.std.proofs.lemmas.Option.{same_Some}
 use Rattle.world.specs.declared.chan.Chan.TheVariants.{Shell, Iopub}
 use Rattle.world.specs.declared.entry.Entry.{Entry}
 use Rattle.world.specs.Places.{time}
@@ -28,7 +29,7 @@ use Rattle.run_journal.proofs.Growth.{goes, idle_stays, reply_stays, ready_stays
 use Rattle.run_journal.proofs.Isolation.{no_next}
 use Rattle.run_journal.proofs.Safety.{all_but_last}
 use Rattle.run_journal.proofs.Agreeing.{stands_at, after_more, not_now, stands_later, none_more, some_now, get_mapped, next_none}
-use Rattle.run_journal.proofs.Truths.{not_both, inside, and_true}
+use Rattle.run_journal.proofs.Truths.{not_both, and_true}
 
 -- ---- readiness
 
@@ -90,7 +91,7 @@ module _ (j : Job) (entry : Entry) (told : List Event) (past : List Entry) (acks
 
         one_of : (k : ℕ) (r : Request) → next ≡ true → slice_get (fresh_one ∷ []) k ≡ Some r → IsSomeAnd (core.after j.task k (event.Ready ∷ told)) (λ later. AgreesOn j k later r)
         one_of zero r e h =
-            subst (λ x. IsSomeAnd (core.after j.task 0 (event.Ready ∷ told)) (λ later. AgreesOn j 0 later x)) (inside h)
+            subst (λ x. IsSomeAnd (core.after j.task 0 (event.Ready ∷ told)) (λ later. AgreesOn j 0 later x)) (same_Some _ _ h)
             (subst (λ x. IsSomeAnd x (λ later. AgreesOn j 0 later fresh_one)) (sym (after_more j.task 0 event.Ready told))
             (some_now (λ later. AgreesOn j 0 later fresh_one) (stands_at j.task 0) event.Ready told (core.after j.task 0 told) (a.none 0 (next_planned e) (let n = no_length in omega (arith, n))) (first_both (next_planned e) ∙ e)
             (record { idle = refl; reply = refl })))
@@ -229,10 +230,6 @@ idle_io m later = by (core.has_idle (core.own later)) (says_idle m.content) (cor
 ios_idle : (ms : List Arrival) (later : List Event) → core.has_idle (core.own (told_on (map (λ m. event.Io (brief_of m)) ms) later)) ≡ (core.has_idle (core.own later) || has_idle ms)
 ios_idle [] later = sym (or-false (core.has_idle (core.own later)))
 ios_idle (m ∷ ms) later = ios_idle ms (event.Io (brief_of m) ∷ later) ∙ ap (λ b. b || has_idle ms) (idle_io m later) ∙ or_assoc (core.has_idle (core.own later)) (says_idle m.content) (has_idle ms)
-  where
-    or_assoc : (x y z : Bool) → ((x || y) || z) ≡ (x || (y || z))
-    or_assoc true y z = refl
-    or_assoc false y z = refl
 
 ios_reply : (ms : List Arrival) (later : List Event) → core.reply (told_on (map (λ m. event.Io (brief_of m)) ms) later) ≡ core.reply later
 ios_reply [] later = refl
@@ -310,10 +307,10 @@ open_on j entry past k later r on b =
 -- a request that isn't over is the last
 last_open : (j : Job) (k : ℕ) (rs : List Request) (i : ℕ) (q : Request) → ArePassed j k rs → slice_get rs i ≡ Some q → is_over q ≡ false → last_request k rs ≡ Some (k + i, q)
 last_open j k [] i q h e on = cc
-last_open j k (x ∷ []) zero q h e on = let n : k ≡ k + 0 = omega arith in ap (λ m. Some (m, x)) n ∙ ap (λ y. Some (k + 0, y)) (inside e)
+last_open j k (x ∷ []) zero q h e on = let n : k ≡ k + 0 = omega arith in ap (λ m. Some (m, x)) n ∙ ap (λ y. Some (k + 0, y)) (same_Some _ _ e)
 last_open j k (x ∷ []) (suc i) q h e on = cc
 last_open j k (x ∷ y ∷ rs) zero q h e on =
-    absurd (not_both (is_over q) (ap is_over (sym (inside e)) ∙ (and_parts (is_over x) (not (is_fatal j k (reply x))) h.0).0) on)
+    absurd (not_both (is_over q) (ap is_over (sym (same_Some _ _ e)) ∙ (and_parts (is_over x) (not (is_fatal j k (reply x))) h.0).0) on)
 last_open j k (x ∷ y ∷ rs) (suc i) q h e on =
     let n : (k + 1) + i ≡ k + suc i = omega arith in
     last_open j (k + 1) (y ∷ rs) i q h.1 e on ∙ ap (λ m. Some (m, q)) n

@@ -3,7 +3,7 @@ use Rattle.std.proofs.Common.{◌≡◌, ◌⊎◌, inl, inr, ℕ, suc, ◌+◌,
 use Rattle.std.specs.Prelude.{is_some, option_map, option_to_list, slice_get, if◌then◌else◌}
 use Rattle.std.specs.List.{list_any}
 use Rattle.std.proofs.lemmas.List.Folds.{list_any-append}
-use Rattle.std.proofs.lemmas.Bool.{and_parts, and_from, or_left, or_right, cond-true, cond-false, cases_Bool, false_from_ne_true, not_from_false}
+use Rattle.std.proofs.lemmas.Bool.{and_parts, and_from, or_left, or_right, cond-true, cond-false, cases_Bool, false_from_ne_true, not_from_false, or_cases}
 use Rattle.world.specs.declared.chan.Chan.{Chan}
 use Rattle.world.specs.declared.chan.Chan.TheVariants.{Shell, Iopub}
 use Rattle.world.specs.declared.entry.Entry.{Entry}
@@ -16,7 +16,7 @@ use Rattle.run_journal.specs.Parts.{acked, is_running}
 use Rattle.run_journal.specs.Arrivals.{arrive}
 use Rattle.run_journal.specs.Looks.{ever, shows_lost, is_lost, is_past}
 use Rattle.run_journal.specs.Requests.{Request, reply, or_later, first_clock, just_ran_out, deadline, is_just_out, is_broken, is_interrupted, with_news, goes_on, requests, last_request}
-use Rattle.run_journal.specs.Why.{when, bad_stream, is_done, is_error, is_not_ready, is_no_idle, is_timed_out, why}
+use Rattle.run_journal.specs.Why.{cause_if, bad_stream, is_done, is_error, is_not_ready, is_no_idle, is_timed_out, why}
 use Rattle.run_journal.specs.Due.{all_along}
 use Rattle.run_journal.specs.Order.{begins_unread}
 use Rattle.run_journal.specs.Decoding.{IsDecoding}
@@ -25,7 +25,7 @@ use Rattle.run_journal.specs.Course.{ends_look}
 use Rattle.run_journal.specs.Agreement.{BeginsUnread, KeepsRules}
 use Rattle.run_journal.proofs.Growth.{goes, reply_stays, length_on}
 use Rattle.run_journal.proofs.Telling.{stays_broken, unread_before}
-use Rattle.run_journal.proofs.Sighting.{or_either, looked_stays}
+use Rattle.run_journal.proofs.Sighting.{looked_stays}
 use Rattle.run_journal.proofs.Finding.{lost_is, lost_parts}
 use Rattle.run_journal.proofs.Dating.{Seen, whole, end}
 use Rattle.run_journal.proofs.Running.{rules_before, RanAtWait, ran_before, runs_at_wait}
@@ -39,7 +39,7 @@ use Rattle.run_journal.proofs.Truths.{not_both, too_late}
 
 -- where nothing has, no row holds
 pub rows_none : (d e b l n i t : Bool)
-    → or_later (when d cause.Done) (or_later (when e cause.CellError) (or_later (when b cause.BadPeer) (or_later (when l cause.KernelLost) (or_later (when n cause.NotReady) (or_later (when i cause.NoIdle) (when t cause.TimedOut)))))) ≡ None
+    → or_later (cause_if d cause.Done) (or_later (cause_if e cause.CellError) (or_later (cause_if b cause.BadPeer) (or_later (cause_if l cause.KernelLost) (or_later (cause_if n cause.NotReady) (or_later (cause_if i cause.NoIdle) (cause_if t cause.TimedOut)))))) ≡ None
     → (l ≡ false) × (n ≡ false) × (i ≡ false) × (t ≡ false)
 rows_none true e b l n i t f = cc
 rows_none false true b l n i t f = cc
@@ -71,7 +71,7 @@ module _ (jobs : List Job) (j : Job) (entry : Entry) (past : List Entry) (k : Ke
 
 pub ever_lost : (jobs : List Job) (j : Job) (past : List Entry) → KeepsRules jobs j past → RanAtWait j past → ever (is_lost j) past ≡ true → is_lost j past ≡ true
 ever_lost jobs j [] k h e = cc
-ever_lost jobs j (entry ∷ past) k h e = elim (or_either (is_lost j (entry ∷ past)) (ever (is_lost j) past) e) [
+ever_lost jobs j (entry ∷ past) k h e = elim (or_cases (is_lost j (entry ∷ past)) (ever (is_lost j) past) e) [
   | inl f ↦ f
   | inr f ↦ lost_stays jobs j entry past k h (ever_lost jobs j past (rules_before jobs j entry past k) (ran_before jobs j entry past k h) f)
 ]
@@ -138,7 +138,7 @@ wait_past entry past = elim (cases_Bool (is_wait entry)) [
 ]
 
 end_queued : (b : Bool) (s : Seen) → (end b s).queued ≡ true → ((b ≡ true) × (s.fresh ≡ true)) ⊎ (s.queued ≡ true)
-end_queued true s e = elim (or_either s.fresh s.queued e) [
+end_queued true s e = elim (or_cases s.fresh s.queued e) [
   | inl f ↦ inl (refl, f)
   | inr f ↦ inr f
 ]

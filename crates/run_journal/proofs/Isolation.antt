@@ -20,7 +20,7 @@ use Rattle.run_journal.specs.OfJob.{is_of, of_job}
 use Rattle.run_journal.specs.Arrivals.{arrive, has_some, can_ask, asked, is_ready}
 use Rattle.run_journal.specs.Looks.{looked, can_ping, ping_end, pings, is_lost, is_at_least}
 use Rattle.run_journal.specs.Requests.{Request, reply, or_later, is_broken, first_clock, before_clock, deadline, is_just_out, is_interrupted, with_news, with_interrupt, goes_on, is_next, is_over, fresh, count_queued, with_next, and_next, requests, last_request}
-use Rattle.run_journal.specs.Why.{BadStream, bad_by, fault_on, bad_stream, starts, child_clock, is_out, is_not_ready, is_no_idle, last_deadline, is_timed_out, is_done, is_error, when, why}
+use Rattle.run_journal.specs.Why.{BadStream, bad_by, fault_on, bad_stream, starts, child_clock, is_out, is_not_ready, is_no_idle, last_deadline, is_timed_out, is_done, is_error, cause_if, why}
 use Rattle.run_journal.specs.Saves.{saves_for, saves_by, saves}
 use Rattle.run_journal.proofs.Alike.{Quiet, Same, Near, empty, skips, shares, Alike, neither, theirs, ours, near, near_self, own_alike, alike_foreign}
 use Rattle.run_journal.proofs.AlikeLooks.{any_agree, map_agree, or_none, time_alike, got_alike, acked_alike, arrive_nothing, arrive_ours, ask_nothing, ask_alike, asked_alike, ready_alike, before_wait_alike, before_clock_alike, looked_alike, ping_nothing, ping_alike, is_lost_alike, clock_theirs, clock_ours, ran_out_alike}
@@ -252,22 +252,22 @@ module _ (j : Job) where
       ∙ ap (λ o. or_later t (or_later u (or_later v (or_later w (or_later x (or_later y o)))))) e7
 
   -- what stopped a job, by its first row and by the requests
-  pub why_but_done : {p q : List Entry} → Near j p q → when (is_done j (acked j p) (requests j p)) cause.Done ≡ when (is_done j (acked j q) (requests j q)) cause.Done
+  pub why_but_done : {p q : List Entry} → Near j p q → cause_if (is_done j (acked j p) (requests j p)) cause.Done ≡ cause_if (is_done j (acked j q) (requests j q)) cause.Done
       → requests j p ≡ requests j q → why j p ≡ why j q
   why_but_done {p} {q} a done rs =
       rows_alike
       done
-      (ap (λ rs. when (is_error j (last_request 0 rs)) cause.CellError) rs)
-      (ap (λ (o : Option BadStream). when (is_some o) cause.BadPeer) (bad_stream_alike a))
-      (ap (λ b. when b cause.KernelLost) (is_lost_alike j a))
-      (ap (λ b. when b cause.NotReady) (ap (λ rs. is_not_ready j rs p) rs ∙ not_ready_alike (requests j q) a))
-      (ap (λ b. when b cause.NoIdle) (ap (λ rs. is_no_idle j (last_request 0 rs) p) rs ∙ no_idle_alike (last_request 0 (requests j q)) a))
-      (ap (λ b. when b cause.TimedOut) (ap (λ rs. is_timed_out j (last_request 0 rs) p) rs ∙ timed_out_alike (last_request 0 (requests j q)) a))
+      (ap (λ rs. cause_if (is_error j (last_request 0 rs)) cause.CellError) rs)
+      (ap (λ (o : Option BadStream). cause_if (is_some o) cause.BadPeer) (bad_stream_alike a))
+      (ap (λ b. cause_if b cause.KernelLost) (is_lost_alike j a))
+      (ap (λ b. cause_if b cause.NotReady) (ap (λ rs. is_not_ready j rs p) rs ∙ not_ready_alike (requests j q) a))
+      (ap (λ b. cause_if b cause.NoIdle) (ap (λ rs. is_no_idle j (last_request 0 rs) p) rs ∙ no_idle_alike (last_request 0 (requests j q)) a))
+      (ap (λ b. cause_if b cause.TimedOut) (ap (λ rs. is_timed_out j (last_request 0 rs) p) rs ∙ timed_out_alike (last_request 0 (requests j q)) a))
 
   -- the same stopped it
   pub why_alike : {p q : List Entry} → Alike j p q → why j p ≡ why j q
   why_alike {p} {q} a =
-      why_but_done (near a) (ap (λ n. when (is_done j n (requests j p)) cause.Done) (acked_alike j a) ∙ ap (λ rs. when (is_done j (acked j q) rs) cause.Done) (requests_alike a)) (requests_alike a)
+      why_but_done (near a) (ap (λ n. cause_if (is_done j n (requests j p)) cause.Done) (acked_alike j a) ∙ ap (λ rs. cause_if (is_done j (acked j q) rs) cause.Done) (requests_alike a)) (requests_alike a)
 
   -- the same saves are due
   pub saves_by_alike : {p q : List Entry} → Alike j p q → saves_by j p ≡ saves_by j q

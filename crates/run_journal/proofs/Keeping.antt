@@ -1,7 +1,8 @@
 -- A core that has stopped keeps a cause.
 use Rattle.std.proofs.Common.{◌≡◌, ◌⊎◌, inl, inr, ℕ, zero, suc, ◌+◌, ◌<◌, ◌≤◌, List, [], ◌∷◌, ◌++◌, length, Bool, true, false, ◌&&◌, ◌||◌, not, cond, Option, Some, None, refl, sym, ◌∙◌, ap, arith}
 use Rattle.std.specs.Prelude.{is_some, is_none, nat_lt, if◌then◌else◌, ◌==◌}
-use Rattle.std.proofs.lemmas.Bool.{and_parts, and_left, and_right, or_left, or_right, cases_Bool, cond-true, cond-false, cond_both, eqb-true, eq-eqb, lt-ltb}
+use Rattle.std.proofs.lemmas.Bool.{and_parts, and_left, and_right, or_left, or_right, cases_Bool, cond-true, cond-false, cond_both, eqb-true, eq-eqb, lt-ltb, or_cases}
+use Rattle.std.proofs.lemmas.Option.{same_Some}
 use Rattle.world.specs.declared.entry.Entry.{Entry}
 use Rattle.cell_core.specs.declared.event.Event.{Event}
 use Rattle.cell_core.specs.declared.event.Event.TheVariants as event
@@ -18,13 +19,12 @@ use Rattle.run_journal.specs.Agreement.{Agrees, Flows}
 use Rattle.run_journal.proofs.Agreeing.{after_more, stands_at, agree_saved}
 use Rattle.run_journal.proofs.Flowing.{sync_brings_nothing, told_parts, course_agrees}
 use Rattle.run_journal.proofs.Asking.{Stands, nothing, last, stands, done_same, error_same}
-use Rattle.run_journal.proofs.Sighting.{or_either}
 use Rattle.run_journal.proofs.Beginning.{untold_first}
 use Rattle.run_journal.proofs.Dropping.{stops, tell_mute, stop_saved}
 use Rattle.run_journal.proofs.Lasting.{done_stays, error_stays}
 use Rattle.run_journal.proofs.Rowing.{standing_after}
 use Rattle.run_journal.proofs.Showing.{any_core}
-use Rattle.run_journal.proofs.Truths.{not_both, inside}
+use Rattle.run_journal.proofs.Truths.{not_both}
 
 -- ---- one more acknowledgement
 
@@ -35,7 +35,7 @@ last_under task (suc n) told s e = by (λ f. last_under task n told s f) (core.a
   where
     by : (core.last_below task n told ≡ Some s → s.request < n) → (o : Option (List Event)) → core.or_before n o (core.last_below task n told) ≡ Some s → s.request < suc n
     by ih None f = let g : s.request < n = ih f in omega (arith, g)
-    by ih (Some later) f = now (ap (λ (v : core.Standing). v.request) (inside f))
+    by ih (Some later) f = now (ap (λ (v : core.Standing). v.request) (same_Some _ _ f))
       where
         now : n ≡ s.request → s.request < suc n
         now i = omega (arith, i)
@@ -188,27 +188,27 @@ module _ (j : Job) (entry : Entry) (past : List Entry) (told : List Event) (plan
   pub cause_stays : is_some (core_saves.why j.task told) ≡ true → is_some (core_saves.why j.task more) ≡ true
   cause_stays e =
       any_core (core_saves.is_done j.task more) (core_saves.is_cell_error new) (events.came events.is_broken more) (events.looked events.is_lost more) (core_saves.is_not_ready j.task new more) (core_saves.is_no_idle new more) (core_saves.is_timed_out j.task new more)
-      ∙ by_done (or_either (core_saves.is_done j.task told) _
+      ∙ by_done (or_cases (core_saves.is_done j.task told) _
       (sym (any_core (core_saves.is_done j.task told) (core_saves.is_cell_error old) (events.came events.is_broken told) (events.looked events.is_lost told) (core_saves.is_not_ready j.task old told) (core_saves.is_no_idle old told) (core_saves.is_timed_out j.task old told)) ∙ e))
     where
       by_late : (late_of old told ≡ true) → late_of new more ≡ true
       by_late f = late_same old refl (stands j told past a) f
 
       by_lost : (events.looked events.is_lost told || late_of old told) ≡ true → (events.looked events.is_lost more || late_of new more) ≡ true
-      by_lost f = elim (or_either (events.looked events.is_lost told) _ f) [
+      by_lost f = elim (or_cases (events.looked events.is_lost told) _ f) [
         | inl g ↦ or_left (events.looked events.is_lost told) (late_of new more) g
         | inr g ↦ or_right (events.looked events.is_lost told) (late_of new more) (by_late g)
       ]
 
       by_broken : (events.came events.is_broken told || (events.looked events.is_lost told || late_of old told)) ≡ true → (events.came events.is_broken more || (events.looked events.is_lost more || late_of new more)) ≡ true
-      by_broken f = elim (or_either (events.came events.is_broken told) _ f) [
+      by_broken f = elim (or_cases (events.came events.is_broken told) _ f) [
         | inl g ↦ or_left (events.came events.is_broken told) _ g
         | inr g ↦ or_right (events.came events.is_broken told) _ (by_lost g)
       ]
 
       by_error : (core_saves.is_cell_error old || (events.came events.is_broken told || (events.looked events.is_lost told || late_of old told))) ≡ true
           → (core_saves.is_cell_error new || (events.came events.is_broken more || (events.looked events.is_lost more || late_of new more))) ≡ true
-      by_error f = elim (or_either (core_saves.is_cell_error old) _ f) [
+      by_error f = elim (or_cases (core_saves.is_cell_error old) _ f) [
         | inl g ↦ or_left (core_saves.is_cell_error new) _ (error_same j more (entry ∷ past) then_agrees ∙ error_stays j entry past (sym (error_same j told past a) ∙ g))
         | inr g ↦ or_right (core_saves.is_cell_error new) _ (by_broken g)
       ]

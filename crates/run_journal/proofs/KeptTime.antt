@@ -2,7 +2,6 @@
 use Rattle.std.proofs.Common.{◌≡◌, ℕ, ◌<◌, List, [], ◌∷◌, length, true, ◌&&◌, Some, refl, sym, ◌∙◌}
 use Rattle.std.proofs.lemmas.Bool.{and_parts, and_from, eq-eqb}
 use Rattle.world.specs.declared.entry.Entry.{Entry}
-use Rattle.cell_core.specs.Events as events
 use Rattle.run_journal.specs.Job.{Job}
 use Rattle.run_journal.specs.Parts.{is_acknowledging}
 use Rattle.run_journal.specs.Due.{all_along}

@@ -1,7 +1,7 @@
 -- A look after a clock entry at or past a deadline is found by the core where it is found by the journal, and stays so up to the next wait.
 use Rattle.std.proofs.Common.{◌≡◌, ◌⊎◌, inl, inr, ℕ, ◌≤◌, List, [], ◌∷◌, Bool, true, false, ◌&&◌, ◌||◌, not, Option, Some, None, refl, sym, ◌∙◌, ap, subst, arith}
 use Rattle.std.specs.Prelude.{is_some, nat_le, if◌then◌else◌, ◌==◌, length}
-use Rattle.std.proofs.lemmas.Bool.{and_parts, or_parts, and_from, or_left, or_right, cond-true, cond-false, cases_Bool, leb-true, not-true, not_from_false}
+use Rattle.std.proofs.lemmas.Bool.{and_parts, or_parts, and_from, or_left, or_right, cond-true, cond-false, cases_Bool, leb-true, not-true, not_from_false, or_cases}
 use Rattle.world.specs.declared.entry.Entry.{Entry}
 use Rattle.world.specs.declared.entry.Entry.TheVariants as made
 use Rattle.world.specs.Places.{time}
@@ -22,7 +22,7 @@ use Rattle.run_journal.specs.Course.{begins_at, in_look, ends_look}
 use Rattle.run_journal.specs.Agreement.{IsAmong, rises, KeepsRules}
 use Rattle.run_journal.proofs.Growth.{before_all}
 use Rattle.run_journal.proofs.Telling.{add_none, none_begins, none_turn}
-use Rattle.run_journal.proofs.Sighting.{or_either, looked_stays}
+use Rattle.run_journal.proofs.Sighting.{looked_stays}
 use Rattle.run_journal.proofs.Dating.{Seen, run, see, whole, end, clocks_at}
 use Rattle.run_journal.proofs.Running.{first_kept, all_of, rules_before, running_parts, RanAtWait, ran_before, runs_at_wait}
 use Rattle.run_journal.proofs.Turning.{Still, quiet_entry, quiet_look, still, first_waited, dates}
@@ -59,7 +59,7 @@ rules_at jobs j {q} (earlier {past} entry b) k h = rules_at jobs j b (rules_befo
 
 pub clock_from : (d : ℕ) (past : List Entry) → all_along rises past ≡ true → ever (is_past d) past ≡ true → d ≤ time past
 clock_from d [] e f = cc
-clock_from d (entry ∷ past) e f = elim (or_either (is_past d (entry ∷ past)) (ever (is_past d) past) f) [
+clock_from d (entry ∷ past) e f = elim (or_cases (is_past d (entry ∷ past)) (ever (is_past d) past) f) [
   | inl g ↦ now entry (has_wait past) g
   | inr g ↦
       let p = and_parts (rises (entry ∷ past)) (all_along rises past) e in
@@ -203,7 +203,7 @@ end_first true s = refl
 end_first false s = refl
 
 end_found : (b : Bool) (s : Seen) → (end b s).found ≡ true → ((b ≡ true) × (is_some s.first ≡ true)) ⊎ (s.found ≡ true)
-end_found true s e = elim (or_either (is_some s.first) s.found e) [
+end_found true s e = elim (or_cases (is_some s.first) s.found e) [
   | inl f ↦ inl (refl, f)
   | inr f ↦ inr f
 ]

@@ -2,7 +2,8 @@
 use Rattle.std.proofs.Common.{◌≡◌, ◌⊎◌, inl, inr, ℕ, suc, ◌+◌, ◌<◌, List, [], ◌∷◌, length, map, Bool, true, false, ◌&&◌, ◌||◌, not, Option, Some, None, refl, sym, ◌∙◌, ap, subst, arith}
 use Rattle.std.specs.Prelude.{is_some, nat_lt, ◌==◌}
 use Rattle.std.proofs.Math.Bool.{and-false}
-use Rattle.std.proofs.lemmas.Bool.{and_parts, and_from, or_left, or_right, cond-false, eqb-true, eq-eqb, ltb-true, false_from_ne_true, not-true}
+use Rattle.std.proofs.lemmas.Bool.{and_parts, and_from, or_left, or_right, cond-false, eqb-true, eq-eqb, ltb-true, false_from_ne_true, not-true, or_cases, and_right}
+use Rattle.std.proofs.lemmas.Option.{same_Some}
 use Rattle.world.specs.declared.chan.Chan.{Chan}
 use Rattle.world.specs.declared.entry.Entry.{Entry}
 use Rattle.cell_core.specs.declared.why.Why.{Why}
@@ -22,9 +23,8 @@ use Rattle.run_journal.specs.Course.{course}
 use Rattle.run_journal.specs.Agreement.{BeginsUnread, IsHeard, at_once, is_dated, hears_looks, HearsLooks, hears, Hears}
 use Rattle.run_journal.proofs.Growth.{go_map, over_stays, reply_stays, passed_stays}
 use Rattle.run_journal.proofs.Telling.{came_append, first_rows, journal_rows, bad_is, stays_broken, unread_before, heard_parts}
-use Rattle.run_journal.proofs.Sighting.{or_either}
 use Rattle.run_journal.proofs.Dropping.{dropped}
-use Rattle.run_journal.proofs.Truths.{not_both, inside}
+use Rattle.run_journal.proofs.Truths.{not_both}
 
 -- ---- the last request
 
@@ -81,14 +81,10 @@ module _ (j : Job) (entry : Entry) (past : List Entry) where
 
   full_next : (rs : List Request) (a r : Bool) (n : ℕ) → 0 < length j.task.plan → length rs ≡ length j.task.plan → is_next j a r n rs ≡ false
   full_next [] a r n p l = absurd (omega (arith, p, l))
-  full_next (x ∷ rs) a r n p l = by ((a && is_last_passed j 0 (x ∷ rs)) && n == length (x ∷ rs) + 1) (nat_lt (length (x ∷ rs)) (length j.task.plan)) (ap (λ m. nat_lt m (length j.task.plan)) l ∙ self (length j.task.plan))
+  full_next (x ∷ rs) a r n p l = and_right ((a && is_last_passed j 0 (x ∷ rs)) && n == length (x ∷ rs) + 1) (nat_lt (length (x ∷ rs)) (length j.task.plan)) (ap (λ m. nat_lt m (length j.task.plan)) l ∙ self (length j.task.plan))
     where
       self : (m : ℕ) → nat_lt m m ≡ false
       self m = false_from_ne_true (nat_lt m m) (λ e. let z = ltb-true m m e in absurd (omega (arith, z)))
-
-      by : (b c : Bool) → c ≡ false → (b && c) ≡ false
-      by true c e = e
-      by false c e = refl
 
   unpassed_next : (rs : List Request) (a r : Bool) (n : ℕ) (x : Request) (xs : List Request) → rs ≡ x ∷ xs → is_last_passed j 0 rs ≡ false → is_next j a r n rs ≡ false
   unpassed_next [] a r n x xs f e = cc
@@ -140,7 +136,7 @@ once_rows j past =
 unreplied_last : (j : Job) (k : ℕ) (rs : List Request) (m : ℕ) (q : Request) → last_request k rs ≡ Some (m, q) → reply q ≡ None → (is_last_passed j k rs ≡ false) × (is_error j (last_request k rs) ≡ false)
 unreplied_last j k [] m q e r = cc
 unreplied_last j k (x ∷ []) m q e r =
-    let same : reply x ≡ None = ap (λ (v : ℕ × Request). reply v.1) (inside e) ∙ r in
+    let same : reply x ≡ None = ap (λ (v : ℕ × Request). reply v.1) (same_Some _ _ e) ∙ r in
     (unpassed (has_idle x.io) (reply x) same, failed (has_idle x.io) (reply x) same)
   where
     unpassed : (i : Bool) (o : Option (Arrival × ℕ)) → o ≡ None → ((i && is_some o) && not (is_fatal j k o)) ≡ false
@@ -166,7 +162,7 @@ unanswered_open j past plan b m q e r =
 module _ (j : Job) (dec : IsDecoding j.codec) (plan : 0 < length j.task.plan) where
   -- one of these stays
   pub once_stays : (entry : Entry) (past : List Entry) → ((c : Chan) → begins_unread j c (entry ∷ past) ≡ true) → is_some (at_once (why j past)) ≡ true → is_some (at_once (why j (entry ∷ past))) ≡ true
-  once_stays entry past u e = once_rows j (entry ∷ past) ∙ by (or_either _ _ (sym (once_rows j past) ∙ e))
+  once_stays entry past u e = once_rows j (entry ∷ past) ∙ by (or_cases _ _ (sym (once_rows j past) ∙ e))
     where
       by_two : (is_error j (last_request 0 (requests j past)) ≡ true) ⊎ (is_broken j past ≡ true) → (is_error j (last_request 0 (requests j (entry ∷ past))) || is_broken j (entry ∷ past)) ≡ true
       by_two (inl f) = or_left _ _ (error_stays j entry past f)
@@ -175,7 +171,7 @@ module _ (j : Job) (dec : IsDecoding j.codec) (plan : 0 < length j.task.plan) wh
       by : (is_done j (acked j past) (requests j past) ≡ true) ⊎ ((is_error j (last_request 0 (requests j past)) || is_broken j past) ≡ true)
           → (is_done j (acked j (entry ∷ past)) (requests j (entry ∷ past)) || (is_error j (last_request 0 (requests j (entry ∷ past))) || is_broken j (entry ∷ past))) ≡ true
       by (inl f) = or_left _ _ (done_stays j entry past plan f)
-      by (inr f) = or_right (is_done j (acked j (entry ∷ past)) (requests j (entry ∷ past))) _ (by_two (or_either _ _ f))
+      by (inr f) = or_right (is_done j (acked j (entry ∷ past)) (requests j (entry ∷ past))) _ (by_two (or_cases _ _ f))
 
   pub open_before : (entry : Entry) (past : List Entry) → ((c : Chan) → begins_unread j c (entry ∷ past) ≡ true) → is_some (at_once (why j (entry ∷ past))) ≡ false → is_some (at_once (why j past)) ≡ false
   open_before entry past u e = false_from_ne_true (is_some (at_once (why j past))) (λ f. not_both (is_some (at_once (why j (entry ∷ past)))) (once_stays entry past u f) e)
@@ -188,7 +184,7 @@ module _ (j : Job) (dec : IsDecoding j.codec) (plan : 0 < length j.task.plan) wh
       let p = and_parts (hears j (entry ∷ past)) (all_along (hears j) past) h in
       came_append is_dated (dropped j past) (course j (entry ∷ past)).unheard
       ∙ ap (λ b. b || events.came is_dated (course j (entry ∷ past)).unheard) (hears_kept past v.1 p.1 (open_before entry past v.0 e))
-      ∙ by (or_either (hears_looks j (entry ∷ past)) _ p.0)
+      ∙ by (or_cases (hears_looks j (entry ∷ past)) _ p.0)
     where
       by : (hears_looks j (entry ∷ past) ≡ true) ⊎ (is_some (at_once (why j (entry ∷ past))) ≡ true) → events.came is_dated (course j (entry ∷ past)).unheard ≡ false
       by (inl f) = not-true (events.came is_dated (course j (entry ∷ past)).unheard) f

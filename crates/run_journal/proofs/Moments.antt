@@ -2,6 +2,7 @@
 use Rattle.std.proofs.Common.{◌≡◌, ◌⊎◌, inl, inr, ℕ, suc, List, [], ◌∷◌, ◌++◌, length, drop, Bool, true, false, ◌||◌, Option, Some, None, refl, sym, ◌∙◌, ap}
 use Rattle.std.specs.Prelude.{is_some}
 use Rattle.std.proofs.lemmas.Bool.{or_parts, cond-true, cond-false, cases_Bool}
+use Rattle.std.proofs.lemmas.Option.{same_Some}
 use Rattle.cell_core.specs.declared.event.Event.{Event}
 use Rattle.cell_core.specs.declared.event.Event.TheVariants as event
 use Rattle.cell_core.specs.Task.{Task}
@@ -13,7 +14,7 @@ use Rattle.run_journal.proofs.Agreeing.{stands_at, after_more, not_now, none_mor
 use Rattle.run_journal.proofs.Hearing.{IsComing, io, replied, AreComing, after_on}
 use Rattle.run_journal.proofs.Flowing.{AreOther}
 use Rattle.run_journal.proofs.Telling.{came_append}
-use Rattle.run_journal.proofs.Truths.{not_both, inside}
+use Rattle.run_journal.proofs.Truths.{not_both}
 
 -- ---- one event after another
 
@@ -203,7 +204,7 @@ mark_time task k (e ∷ es) told later f n s = by (cases_Bool (stands_at task k 
     stood : stands_at task k (e ∷ told) ≡ true → events.time (drop (length later) (told_on es (e ∷ told))) ≡ events.time (e ∷ told)
     stood h =
         let now : core.after task k (e ∷ told) ≡ Some [] = after_more task k e told ∙ some_once (stands_at task k) e told (core.after task k told) n h in
-        ap (λ xs. events.time (drop (length xs) (told_on es (e ∷ told)))) (inside (sym s ∙ after_on task k es (e ∷ told) [] now)) ∙ stood_on es [] (e ∷ told)
+        ap (λ xs. events.time (drop (length xs) (told_on es (e ∷ told)))) (same_Some _ _ (sym s ∙ after_on task k es (e ∷ told) [] now)) ∙ stood_on es [] (e ∷ told)
 
     by : (stands_at task k (e ∷ told) ≡ true) ⊎ (stands_at task k (e ∷ told) ≡ false) → (is_mark e ≡ true) ⊎ (is_mark e ≡ false)
         → (core.after task k (e ∷ told) ≡ None → core.after task k (told_on es (e ∷ told)) ≡ Some later → events.time (drop (length later) (told_on es (e ∷ told))) ≡ at_mark (events.time (e ∷ told)) es)

@@ -3,6 +3,7 @@ use Rattle.std.proofs.Common.{◌≡◌, inl, inr, ℕ, zero, suc, ◌+◌, List
 use Rattle.std.specs.Prelude.{filter, nat_lt, is_some, slice_get, option_map, ◌==◌}
 use Rattle.std.proofs.lemmas.List.{append-nil, map-append}
 use Rattle.std.proofs.lemmas.Bool.{and_parts, cond-false, cond_both, cases_Bool, lt-ltb, eqb-true}
+use Rattle.std.proofs.lemmas.Option.{same_Some}
 use Rattle.world.specs.declared.chan.Chan.{Chan}
 use Rattle.world.specs.declared.chan.Chan.TheVariants.{Shell, Iopub}
 use Rattle.world.specs.declared.connected.Connected.{Connected}
@@ -18,9 +19,9 @@ use Rattle.run_journal.specs.Codec.{Arrival}
 use Rattle.run_journal.specs.Job.{Job, Given, Refuses, Prepares, Runs}
 use Rattle.run_journal.specs.Parts.{place, connection, bytes_got, acked}
 use Rattle.run_journal.specs.Arrivals.{heard, arrive, arrivals}
-use Rattle.run_journal.specs.Requests.{Request, as_used, is_exec_reply, is_parent, through_idle, has_idle, own, first, reply, reply_date, used, used_of, is_over, is_fatal, is_passed, is_last_passed, requests, or_later, last_request}
+use Rattle.run_journal.specs.Requests.{Request, as_used, is_exec_reply, is_parent, through_idle, has_idle, own, first, reply, reply_date, use_of, used_of, is_over, is_fatal, is_passed, is_last_passed, requests, or_later, last_request}
 use Rattle.run_journal.specs.Looks.{is_lost}
-use Rattle.run_journal.specs.Why.{when, is_done, is_error, is_not_ready, is_no_idle, is_timed_out, bad_stream, plan_end, why}
+use Rattle.run_journal.specs.Why.{cause_if, is_done, is_error, is_not_ready, is_no_idle, is_timed_out, bad_stream, plan_end, why}
 use Rattle.run_journal.specs.Saves.{Save, save, passes, is_marked, last_cell, stop_save, stopping, is_complete, closing, run_saves, saves_for, saves_by}
 use Rattle.run_journal.specs.Decoding.{IsDecoding}
 use Rattle.run_journal.specs.Due.{all_along}
@@ -29,7 +30,7 @@ use Rattle.run_journal.specs.Order.{is_nothing, begins_unread, AreLater, ComesLa
 use Rattle.run_journal.proofs.Growth.{no_requests}
 use Rattle.run_journal.proofs.Positions.{literal}
 use Rattle.run_journal.proofs.Reading.{heard_more}
-use Rattle.run_journal.proofs.Truths.{inside, not_both}
+use Rattle.run_journal.proofs.Truths.{not_both}
 
 -- ---- bytes are added
 
@@ -195,13 +196,13 @@ some_alone (Some m) None e = cc
 
 fatal_alone : (j : Job) (k : ℕ) (o p : Option (Arrival × ℕ)) → option_map without_clock o ≡ option_map without_clock p → is_fatal j k o ≡ is_fatal j k p
 fatal_alone j k None None e = refl
-fatal_alone j k (Some m) (Some n) e = ap (λ (a : Arrival). j.fatal k a.content) (inside e)
+fatal_alone j k (Some m) (Some n) e = ap (λ (a : Arrival). j.fatal k a.content) (same_Some _ _ e)
 fatal_alone j k None (Some n) e = cc
 fatal_alone j k (Some m) None e = cc
 
 date_alone : (o p : Option (Arrival × ℕ)) → option_map without_clock o ≡ option_map without_clock p → reply_date o ≡ reply_date p
 date_alone None None e = refl
-date_alone (Some m) (Some n) e = ap (λ (a : Arrival). a.date) (inside e)
+date_alone (Some m) (Some n) e = ap (λ (a : Arrival). a.date) (same_Some _ _ e)
 date_alone None (Some n) e = cc
 date_alone (Some m) None e = cc
 
@@ -213,7 +214,7 @@ same_passed j k r s h =
     ap (λ b. b && not (is_fatal j k (reply r))) (same_over r s h)
     ∙ ap (λ b. is_over s && not b) (fatal_alone j k (reply r) (reply s) (same_reply r s h))
 
-same_used : (i : ℕ) (r s : Request) → SameFor r s → used i r ≡ used i s
+same_used : (i : ℕ) (r s : Request) → SameFor r s → use_of i r ≡ use_of i s
 same_used i r s h =
     ap (λ (ms : List Arrival). record { cell = i; own = map as_used (through_idle ms); reply = reply_date (reply r) }) h.io
     ∙ ap (λ (o : Option (List ℕ)). record { cell = i; own = map as_used (own s); reply = o }) (date_alone (reply r) (reply s) (same_reply r s h))
@@ -238,16 +239,16 @@ same_all_used : (plan : List ℕ) {rs ss : List Request} → SameForAll rs ss �
 same_all_used [] ends = refl
 same_all_used [] (also h hs) = refl
 same_all_used (i ∷ plan) ends = refl
-same_all_used (i ∷ plan) (also {r} {s} {rs} {ss} h hs) = ap (λ u. u ∷ used_of plan rs) (same_used i r s h) ∙ ap (λ us. used i s ∷ us) (same_all_used plan hs)
+same_all_used (i ∷ plan) (also {r} {s} {rs} {ss} h hs) = ap (λ u. u ∷ used_of plan rs) (same_used i r s h) ∙ ap (λ us. use_of i s ∷ us) (same_all_used plan hs)
 
 same_passes : (j : Job) (front : List Used) (k : ℕ) (plan : List ℕ) {rs ss : List Request} → SameForAll rs ss → passes j front k plan rs ≡ passes j front k plan ss
 same_passes j front k [] ends = refl
 same_passes j front k [] (also h hs) = refl
 same_passes j front k (i ∷ plan) ends = refl
 same_passes j front k (i ∷ plan) (also {r} {s} {rs} {ss} h hs) =
-    ap (λ b. cond b (with_pass (used i r) rs) []) (same_passed j k r s h)
+    ap (λ b. cond b (with_pass (use_of i r) rs) []) (same_passed j k r s h)
     ∙ ap (λ u. cond (is_passed j k s) (with_pass u rs) []) (same_used i r s h)
-    ∙ ap (λ ps. cond (is_passed j k s) (save j (front ++ used i s ∷ []) (i + 1) None ∷ ps) []) (same_passes j (front ++ used i s ∷ []) (k + 1) plan hs)
+    ∙ ap (λ ps. cond (is_passed j k s) (save j (front ++ use_of i s ∷ []) (i + 1) None ∷ ps) []) (same_passes j (front ++ use_of i s ∷ []) (k + 1) plan hs)
   where
     with_pass : Used → List Request → List Save
     with_pass u ts = save j (front ++ u ∷ []) (i + 1) None ∷ passes j (front ++ u ∷ []) (k + 1) plan ts
@@ -287,7 +288,7 @@ same_saves_for j Runs w h = same_run j w h
 
 -- no later row says that the plan was executed
 no_done : (b c d e f g : Bool)
-    → or_later (when b cause.CellError) (or_later (when c cause.BadPeer) (or_later (when d cause.KernelLost) (or_later (when e cause.NotReady) (or_later (when f cause.NoIdle) (when g cause.TimedOut))))) ≡ Some cause.Done → ⊥
+    → or_later (cause_if b cause.CellError) (or_later (cause_if c cause.BadPeer) (or_later (cause_if d cause.KernelLost) (or_later (cause_if e cause.NotReady) (or_later (cause_if f cause.NoIdle) (cause_if g cause.TimedOut))))) ≡ Some cause.Done → ⊥
 no_done true c d e f g h = cc
 no_done false true d e f g h = cc
 no_done false false true e f g h = cc
@@ -298,7 +299,7 @@ no_done false false false false false false h = cc
 
 -- nor that a reply was fatal
 no_error : (c d e f g : Bool)
-    → or_later (when c cause.BadPeer) (or_later (when d cause.KernelLost) (or_later (when e cause.NotReady) (or_later (when f cause.NoIdle) (when g cause.TimedOut)))) ≡ Some cause.CellError → ⊥
+    → or_later (cause_if c cause.BadPeer) (or_later (cause_if d cause.KernelLost) (or_later (cause_if e cause.NotReady) (or_later (cause_if f cause.NoIdle) (cause_if g cause.TimedOut)))) ≡ Some cause.CellError → ⊥
 no_error true d e f g h = cc
 no_error false true e f g h = cc
 no_error false false true f g h = cc
@@ -307,13 +308,13 @@ no_error false false false false true h = cc
 no_error false false false false false h = cc
 
 was_done : (a b c d e f g : Bool)
-    → or_later (when a cause.Done) (or_later (when b cause.CellError) (or_later (when c cause.BadPeer) (or_later (when d cause.KernelLost) (or_later (when e cause.NotReady) (or_later (when f cause.NoIdle) (when g cause.TimedOut)))))) ≡ Some cause.Done
+    → or_later (cause_if a cause.Done) (or_later (cause_if b cause.CellError) (or_later (cause_if c cause.BadPeer) (or_later (cause_if d cause.KernelLost) (or_later (cause_if e cause.NotReady) (or_later (cause_if f cause.NoIdle) (cause_if g cause.TimedOut)))))) ≡ Some cause.Done
     → a ≡ true
 was_done true b c d e f g h = refl
 was_done false b c d e f g h = absurd (no_done b c d e f g h)
 
 was_error : (a b c d e f g : Bool)
-    → or_later (when a cause.Done) (or_later (when b cause.CellError) (or_later (when c cause.BadPeer) (or_later (when d cause.KernelLost) (or_later (when e cause.NotReady) (or_later (when f cause.NoIdle) (when g cause.TimedOut)))))) ≡ Some cause.CellError
+    → or_later (cause_if a cause.Done) (or_later (cause_if b cause.CellError) (or_later (cause_if c cause.BadPeer) (or_later (cause_if d cause.KernelLost) (or_later (cause_if e cause.NotReady) (or_later (cause_if f cause.NoIdle) (cause_if g cause.TimedOut)))))) ≡ Some cause.CellError
     → (a ≡ false) × (b ≡ true)
 was_error true b c d e f g h = cc
 was_error false true c d e f g h = (refl, refl)

@@ -4,6 +4,7 @@ use Rattle.std.specs.Prelude.{filter, nat_lt, nat_le, if◌then◌else◌, slice
 use Rattle.std.proofs.lemmas.List.{map-append, length-map}
 use Rattle.std.proofs.lemmas.List.Elements.{filter-append}
 use Rattle.std.proofs.lemmas.Bool.{cond-true, cond-false, cond_both, cases_Bool, cases_lt, and_left, lt-ltb, le-ltb, lt-leb, le-leb}
+use Rattle.std.proofs.lemmas.Option.{same_Some}
 use Rattle.world.specs.declared.chan.Chan.{Chan}
 use Rattle.world.specs.declared.chan.Chan.TheVariants.{Shell, Iopub}
 use Rattle.world.specs.declared.entry.Entry.{Entry}
@@ -16,7 +17,6 @@ use Rattle.run_journal.specs.Requests.{Request, with_interrupt, goes_on, fresh, 
 use Rattle.run_journal.specs.Literal.{start_at, alone, later_with, is_for, is_reply_for, Literally}
 use Rattle.run_journal.proofs.Growth.{requests_go_on, length_on}
 use Rattle.run_journal.proofs.Agreeing.{get_some}
-use Rattle.run_journal.proofs.Truths.{inside}
 
 -- each arrival stands at a position before this one
 abbrev AllBelow : ℕ → List (ℕ × Arrival) → Type 0
@@ -131,7 +131,7 @@ module _ (j : Job) where
     | inl below ↦
         let old = get_some (requests j past) i below in
         let is : slice_get (requests j (entry ∷ past)) i ≡ Some (goes_on j entry past old.0) = kept (get_map (goes_on j entry past) (requests j past) i old.0 old.1) in
-        let same : r ≡ goes_on j entry past old.0 = inside (sym e ∙ is) in
+        let same : r ≡ goes_on j entry past old.0 = same_Some _ _ (sym e ∙ is) in
         subst (λ s. Literally j i (entry ∷ past) s) (sym same) (literal_on i entry past old.0 (literal past i old.0 old.1))
     | inr above ↦ fresh_one (omega (arith, above, length-map (requests j past) (goes_on j entry past))) e
   ]

@@ -2,7 +2,7 @@
 use Rattle.std.proofs.Common.{◌≡◌, inl, inr, ℕ, List, [], ◌∷◌, Bool, true, false, ◌&&◌, ◌||◌, not, cond, Option, Some, None, refl, ap}
 use Rattle.std.specs.Prelude.{is_some}
 use Rattle.std.specs.List.{list_any, list_all}
-use Rattle.std.proofs.lemmas.Bool.{and_parts, and_from}
+use Rattle.std.proofs.lemmas.Bool.{and_parts, and_from, or_cases}
 use Rattle.world.specs.declared.chan.Chan.{Chan}
 use Rattle.world.specs.declared.chan.Chan.TheVariants.{Shell, Control, Iopub, Heart}
 use Rattle.world.specs.declared.conn.Conn.{Conn}
@@ -19,7 +19,6 @@ use Rattle.run_journal.specs.Due.{all_along}
 use Rattle.run_journal.specs.Order.{is_nothing, begins_unread}
 use Rattle.run_journal.specs.Awake.{Awake, implies, is_its, is_connect, may_begin_again, in_order, begins_refused}
 use Rattle.run_journal.specs.Agreement.{IsAmong, BeginsUnread, tells_rightly, TellsRightly}
-use Rattle.run_journal.proofs.Sighting.{or_either}
 use Rattle.run_journal.proofs.Running.{all_of, or_off, by_both}
 use Rattle.run_journal.proofs.Truths.{not_both}
 use Rattle.run_journal.proofs.Ordering.{nothing_is}
@@ -74,7 +73,7 @@ at_wait : (p : ℕ) (ready : List Bool) (how : Did) (s : Status) (tried : Bool) 
 at_wait p ready did.Done s tried i e = record { awake = up; refused = i.refused; untried = i.untried }
   where
     up : (is_reported p ready || s.awake) ≡ true → s.up ≡ true
-    up f = elim (or_either (is_reported p ready) s.awake f) [
+    up f = elim (or_cases (is_reported p ready) s.awake f) [
       | inl g ↦ or_off (is_reported p ready) s.up e g
       | inr g ↦ i.awake g
     ]

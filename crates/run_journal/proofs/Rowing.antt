@@ -33,21 +33,13 @@ use Rattle.run_journal.proofs.Turning.{first_waited, dates}
 use Rattle.run_journal.proofs.Lapse.{Before, wait_was, ever_before, rules_at, clock_from, first_ever, first_before, ran_parts, Left, found_ran, ran_found}
 use Rattle.run_journal.proofs.Earlier.{Was, stood_before, replied_before, last_before, ready_stands, go_before, none_on}
 use Rattle.run_journal.proofs.Interrupting.{none_holds, called_start, called_request, no_reply_before, interrupted_queued, queued_interrupted}
-use Rattle.run_journal.proofs.Truths.{not_both, inside}
+use Rattle.run_journal.proofs.Truths.{not_both}
 use Rattle.std.proofs.Math.Bool.{and-false}
 use Rattle.std.proofs.lemmas.List.{nil_from_length}
 use Rattle.std.proofs.Math.Nat.{lt_of_lt_of_le}
+use Rattle.std.proofs.lemmas.Option.{same_Some}
+use Rattle.kernel_lines.proofs.LineLemmas.{same_tests}
 use Rattle.run_journal.proofs.Seconds.{first_least, first_last, child_before, ever_past, flagged_before, ready_before, uninterrupted}
-
--- ---- tests
-
-pub both : (a b : Bool) → (a ≡ true → b ≡ true) → (b ≡ true → a ≡ true) → a ≡ b
-both true b f g = sym (f refl)
-both false true f g = absurd (false_true (g refl))
-  where
-    false_true : false ≡ true → ⊥
-    false_true e = cc
-both false false f g = refl
 
 -- ---- the core's last request
 
@@ -57,13 +49,13 @@ standing_after task (suc n) told s e = by (λ x. standing_after task n told s x)
   where
     by : (core.last_below task n told ≡ Some s → core.after task s.request told ≡ Some s.later) → (o : Option (List Event)) → core.after task n told ≡ o → core.after task s.request told ≡ Some s.later
     by ih (Some later) f =
-        let same : record { request = n; later = later } ≡ s = inside (sym (ap (λ v. core.or_before n v (core.last_below task n told)) f) ∙ e) in
+        let same : record { request = n; later = later } ≡ s = same_Some _ _ (sym (ap (λ v. core.or_before n v (core.last_below task n told)) f) ∙ e) in
         ap (λ (v : core.Standing). core.after task v.request told) (sym same) ∙ f ∙ ap (λ (v : core.Standing). Some v.later) same
     by ih None f = ih (sym (ap (λ v. core.or_before n v (core.last_below task n told)) f) ∙ e)
 
 some_and_at : (P : List Event → Type 0) (o : Option (List Event)) (later : List Event) → o ≡ Some later → IsSomeAnd o P → P later
 some_and_at P None later e h = cc
-some_and_at P (Some v) later e h = subst P (inside e) h
+some_and_at P (Some v) later e h = subst P (same_Some _ _ e) h
 
 pub over_same : (j : Job) (k : ℕ) (later : List Event) (r : Request) → AgreesOn j k later r → core.is_over later ≡ is_over r
 over_same j k later r a =
@@ -277,7 +269,7 @@ module _ (jobs : List Job) (j : Job) (past : List Entry) (k : KeepsRules jobs j 
   found_same : (d : ℕ) → Calls jobs j past k h f t plan d → events.looked (events.is_turn_at d) told ≡ ran_out j d past
   found_same d c =
       found_told d
-      ∙ both (whole d j past).found (ran_out j d past)
+      ∙ same_tests (whole d j past).found (ran_out j d past)
       (λ e. elim (found_ran d jobs j past k h e) [
         | inl r ↦ r
         | inr l ↦ absurd (c.left l)
@@ -360,7 +352,7 @@ module _ (jobs : List Job) (j : Job) (past : List Entry) (k : KeepsRules jobs j 
       interrupt_same i =
           queued_is c j.task m told open_ bc lc
           ∙ ap (λ (v : Seen). v.queued) (sym (told_whole j c past none un))
-          ∙ both (whole c j past).queued q.interrupted
+          ∙ same_tests (whole c j past).queued q.interrupted
           (queued_interrupted c jobs j dec i past k h u b lost m q e r dead under)
           (interrupted_queued c jobs j past k h m q e l r dead under)
         where

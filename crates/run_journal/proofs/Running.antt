@@ -2,7 +2,7 @@
 use Rattle.std.proofs.Common.{◌≡◌, ◌⊎◌, inl, inr, ℕ, ◌<◌, List, [], ◌∷◌, Bool, true, false, ◌&&◌, ◌||◌, not, Option, Some, None, refl, sym, ◌∙◌, ap, arith}
 use Rattle.std.specs.Prelude.{is_some, nat_lt, if◌then◌else◌, ◌==◌}
 use Rattle.std.specs.List.{list_any, list_all}
-use Rattle.std.proofs.lemmas.Bool.{and_parts, or_parts, and_from, or_left, or_right, cond-true, cond-false, cases_Bool, eqb-true, ltb-true, not-true, not_from_false}
+use Rattle.std.proofs.lemmas.Bool.{and_parts, or_parts, and_from, or_left, or_right, cond-true, cond-false, cases_Bool, eqb-true, ltb-true, not-true, not_from_false, or_cases}
 use Rattle.world.specs.declared.entry.Entry.{Entry}
 use Rattle.world.specs.declared.entry.Entry.TheVariants as made
 use Rattle.world.specs.Places.{time}
@@ -16,7 +16,6 @@ use Rattle.run_journal.specs.Due.{all_along}
 use Rattle.run_journal.specs.Awake.{Awake, implies, in_order, waits_last, waits_short, reads_all, reads_few, keeps_up, reads_clock, looks_once, begins_again, begins_refused, begins_early, has_room}
 use Rattle.run_journal.specs.Agreement.{IsAmong, rises, draws, drawn_clock, is_clock, starts_in_turn, KeepsRules}
 use Rattle.run_journal.proofs.Growth.{acked_grows}
-use Rattle.run_journal.proofs.Sighting.{or_either}
 use Rattle.run_journal.proofs.Truths.{not_both}
 use Rattle.run_journal.proofs.Telling.{some_is}
 
@@ -100,7 +99,7 @@ early_at jobs j _ past m e b w = cc
 -- one that began did so before the last wait, if there was one
 pub begun_before : (jobs : List Job) (j : Job) (past : List Entry) → IsAmong j jobs → all_along (begins_early jobs) past ≡ true → list_any (begins j) past ≡ true → has_wait past ≡ true → list_any (begins j) (before_wait past) ≡ true
 begun_before jobs j [] m e b w = cc
-begun_before jobs j (entry ∷ past) m e b w = by (λ x y. begun_before jobs j past m p.1 x y) (cases_Bool (is_wait entry)) (or_either (begins j entry) (list_any (begins j) past) b)
+begun_before jobs j (entry ∷ past) m e b w = by (λ x y. begun_before jobs j past m p.1 x y) (cases_Bool (is_wait entry)) (or_cases (begins j entry) (list_any (begins j) past) b)
   where
     p : (begins_early jobs (entry ∷ past) ≡ true) × (all_along (begins_early jobs) past ≡ true)
     p = and_parts (begins_early jobs (entry ∷ past)) (all_along (begins_early jobs) past) e
@@ -197,7 +196,7 @@ module _ (j : Job) where
   begun_child (entry ∷ past) e b =
       let p = and_parts (starts_in_turn j (entry ∷ past)) (all_along (starts_in_turn j) past) e in
       later_some (child_clock j past) (if starts j entry then Some (time past) else None)
-      (elim (or_either (begins j entry) (list_any (begins j) past) b) [
+      (elim (or_cases (begins j entry) (list_any (begins j) past) b) [
         | inl f ↦ or_off (begins j entry) (is_some (child_clock j past)) (start_parts j entry past p.0).2 f
         | inr f ↦ begun_child past p.1 f
       ])

@@ -24,7 +24,7 @@ use Rattle.run_journal.specs.Parts.{acked, is_acknowledging, is_shut}
 use Rattle.run_journal.specs.OfJob.{is_own_path, is_of}
 use Rattle.run_journal.specs.Arrivals.{asked, is_ready}
 use Rattle.run_journal.specs.Requests.{Request, is_last_passed, is_next, with_interrupt, goes_on, fresh, count_queued, requests}
-use Rattle.run_journal.specs.Why.{when, is_done, are_acked, plain_count, why}
+use Rattle.run_journal.specs.Why.{cause_if, is_done, are_acked, plain_count, why}
 use Rattle.run_journal.specs.Saves.{Save, save, passes, is_marked, stopping, is_complete, run_saves, saves_by, saves, texts}
 use Rattle.run_journal.specs.Grow.{ArePassed}
 use Rattle.run_journal.specs.Safety.{IsSafeNow, StepsSafely}
@@ -127,7 +127,7 @@ done_alike j m n rs some = cond-false (length j.task.plan == 0) (are_acked (plai
 why_quiet : (j : Job) (entry : Entry) (past : List Entry) → Quiet j entry → (length j.task.plan == 0) ≡ false → requests j (entry ∷ past) ≡ requests j past → why j (entry ∷ past) ≡ why j past
 why_quiet j entry past f some same =
     why_but_done j (skips f (near_self j past))
-    (ap (λ b. when b cause.Done) (done_alike j (acked j (entry ∷ past)) (acked j past) (requests j (entry ∷ past)) some ∙ ap (is_done j (acked j past)) same)) same
+    (ap (λ b. cause_if b cause.Done) (done_alike j (acked j (entry ∷ past)) (acked j past) (requests j (entry ∷ past)) some ∙ ap (is_done j (acked j past)) same)) same
 
 saves_by_quiet : (j : Job) (entry : Entry) (past : List Entry) → Quiet j entry → Begins (saves_by j past) (saves_by j (entry ∷ past))
 saves_by_quiet j entry past f = given_grow j j.given (requests j past) (requests j (entry ∷ past)) (why j past) (why j (entry ∷ past)) (elim (cases_Bool (length j.task.plan == 0)) [

@@ -1,7 +1,8 @@
 -- What earlier moments have of clocks, starts and interrupts.
 use Rattle.std.proofs.Common.{◌≡◌, ◌⊎◌, inl, inr, ℕ, ◌+◌, ◌<◌, ◌≤◌, List, [], ◌∷◌, length, map, Bool, true, false, ◌&&◌, not, Option, Some, None, refl, sym, ◌∙◌, ap, subst, arith}
 use Rattle.std.specs.Prelude.{is_some, option_map, slice_get, nat_le, if◌then◌else◌}
-use Rattle.std.proofs.lemmas.Bool.{and_parts, or_left, or_right, cond-true, cond-false, cases_Bool, leb-true, le-leb, not-true, or_from}
+use Rattle.std.proofs.lemmas.Bool.{and_parts, or_left, or_right, cond-true, cond-false, cases_Bool, leb-true, le-leb, not-true, or_from, or_cases}
+use Rattle.std.proofs.lemmas.Option.{same_Some}
 use Rattle.world.specs.declared.chan.Chan.TheVariants.{Shell, Iopub}
 use Rattle.world.specs.declared.entry.Entry.{Entry}
 use Rattle.world.specs.Places.{time}
@@ -16,13 +17,12 @@ use Rattle.run_journal.specs.Due.{all_along}
 use Rattle.run_journal.specs.Grow.{GoesOn}
 use Rattle.run_journal.specs.Agreement.{rises}
 use Rattle.run_journal.proofs.Growth.{goes, goes_self, ready_stays}
-use Rattle.run_journal.proofs.Sighting.{or_either}
 use Rattle.run_journal.proofs.Running.{first_kept}
 use Rattle.run_journal.proofs.Turning.{moment_time, still}
 use Rattle.run_journal.proofs.Lapse.{Before, here, earlier, ever_before, clock_from, first_before}
 use Rattle.run_journal.proofs.Earlier.{CameBy, stood, anew, came_by, Was, goes_then}
 use Rattle.run_journal.proofs.Interrupting.{interrupted_parts}
-use Rattle.run_journal.proofs.Truths.{not_both, inside, too_late}
+use Rattle.run_journal.proofs.Truths.{not_both, too_late}
 
 -- ---- moments
 
@@ -42,7 +42,7 @@ least_past c d h (Some ms) e = let g = leb-true d ms e in le-leb c ms (omega (ar
 
 pub ever_past : (c d : ℕ) → c ≤ d → (past : List Entry) → ever (is_past d) past ≡ true → ever (is_past c) past ≡ true
 ever_past c d h [] e = cc
-ever_past c d h (entry ∷ past) e = elim (or_either (is_past d (entry ∷ past)) (ever (is_past d) past) e) [
+ever_past c d h (entry ∷ past) e = elim (or_cases (is_past d (entry ∷ past)) (ever (is_past d) past) e) [
   | inl f ↦ or_left (is_past c (entry ∷ past)) (ever (is_past c) past) (least_past c d h (turn_clock (entry ∷ past)) f)
   | inr f ↦ or_right (is_past c (entry ∷ past)) (ever (is_past c) past) (ever_past c d h past f)
 ]
@@ -58,7 +58,7 @@ module _ (d : ℕ) where
       new (Some t) f = by_test (nat_le d t) refl f
         where
           by_test : (b : Bool) → nat_le d t ≡ b → (if b then Some t else None) ≡ Some ms → d ≤ ms
-          by_test true g f = subst (λ n. d ≤ n) (inside f) (leb-true d t g)
+          by_test true g f = subst (λ n. d ≤ n) (same_Some _ _ f) (leb-true d t g)
           by_test false g f = cc
 
       by : (first_clock d past ≡ Some ms → d ≤ ms) → (o : Option ℕ) → first_clock d past ≡ o → d ≤ ms
@@ -80,7 +80,7 @@ module _ (d : ℕ) where
 
           at_moment : (o : Option ℕ) → o ≡ Some t → (if is_at_least d o then o else None) ≡ Some ms → t ≡ ms
           at_moment None i l = cc
-          at_moment (Some x) i l = subst (λ n. (if nat_le d n then Some n else None) ≡ Some ms → t ≡ ms) (sym (inside i)) (test (nat_le d t)) l
+          at_moment (Some x) i l = subst (λ n. (if nat_le d n then Some n else None) ≡ Some ms → t ≡ ms) (sym (same_Some _ _ i)) (test (nat_le d t)) l
 
           one : (w : Bool) → (if is_at_least d (if w then moment_of entry else None) then (if w then moment_of entry else None) else None) ≡ Some ms → t ≡ ms
           one true l = at_moment (moment_of entry) f l
@@ -132,7 +132,7 @@ flagged_before j c d {q} (earlier {past} entry b) e f two i r g l dead int = by 
         let at : o.clock ≡ r.clock = ap (λ (v : Request). v.clock) (sym n) in
         let on = goes j entry past o in
         let dead_o : deadline j o ≡ Some c = ap (λ t. option_map (λ limit. t + limit) j.task.times.limit_ms) at ∙ dead in
-        let flag : o.interrupted ≡ true = elim (or_either o.interrupted _ (ap (λ (v : Request). v.interrupted) (sym n) ∙ int)) [
+        let flag : o.interrupted ≡ true = elim (or_cases o.interrupted _ (ap (λ (v : Request). v.interrupted) (sym n) ∙ int)) [
           | inl x ↦ x
           | inr x ↦ absurd (not_now _ dead_o x)
         ] in

@@ -1,7 +1,7 @@
 -- By the loop's rules nothing of the clock or of a look comes after a stop that isn't at once; so the core stops where the job does.
 use Rattle.std.proofs.Common.{◌≡◌, ◌⊎◌, inl, inr, ℕ, ◌+◌, ◌<◌, ◌≤◌, List, [], ◌∷◌, ◌++◌, length, Bool, true, false, ◌&&◌, ◌||◌, not, Option, Some, None, refl, sym, ◌∙◌, ap, subst, arith, append_assoc}
 use Rattle.std.specs.Prelude.{is_some}
-use Rattle.std.proofs.lemmas.Bool.{and_parts, and_from, or_parts, or_left, or_right, cases_Bool, false_from_ne_true, not-true, not_from_false}
+use Rattle.std.proofs.lemmas.Bool.{and_parts, and_from, or_parts, or_left, or_right, cases_Bool, false_from_ne_true, not-true, not_from_false, or_cases}
 use Rattle.world.specs.declared.entry.Entry.{Entry}
 use Rattle.world.specs.Waits.{is_wait}
 use Rattle.cell_core.specs.declared.event.Event.{Event}
@@ -22,7 +22,6 @@ use Rattle.run_journal.specs.Course.{in_look, ends_look, course}
 use Rattle.run_journal.specs.Agreement.{BeginsUnread, EndsLooks, Flows, KeepsTime, keeps_time, is_dated, hears_looks, at_once, hears, Hears, KeepsRules}
 use Rattle.run_journal.proofs.Flowing.{told_parts}
 use Rattle.run_journal.proofs.Telling.{came_append, some_is, unread_before, at_once_same}
-use Rattle.run_journal.proofs.Sighting.{or_either}
 use Rattle.run_journal.proofs.Finding.{finds_lost, lost_parts}
 use Rattle.run_journal.proofs.Stopping.{from_at_once}
 use Rattle.run_journal.proofs.Dropping.{stops, dropped, none_dropped}
@@ -70,7 +69,7 @@ module _ (jobs : List Job) (j : Job) (dec : IsDecoding j.codec) (plan : 0 < leng
 
   -- before the end of a look it wasn't over, or nothing had stopped the job
   new_parts : (entry : Entry) (q : List Entry) → ends_look j entry q ≡ true → (is_wait entry ≡ true) ⊎ (looked j q ≡ false)
-  new_parts entry q e = elim (or_either (is_wait entry) (not (looked j q)) (and_parts (in_look j (entry ∷ q) && looked j (entry ∷ q)) (is_wait entry || not (looked j q)) e).1) [
+  new_parts entry q e = elim (or_cases (is_wait entry) (not (looked j q)) (and_parts (in_look j (entry ∷ q) && looked j (entry ∷ q)) (is_wait entry || not (looked j q)) e).1) [
     | inl w ↦ inl w
     | inr l ↦ inr (not-true (looked j q) l)
   ]

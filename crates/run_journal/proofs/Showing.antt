@@ -1,8 +1,9 @@
 -- A cause that the core has shows in the journal, whatever waits to be told or came after the stop.
 use Rattle.std.proofs.Common.{◌≡◌, ◌⊎◌, inl, inr, ℕ, suc, ◌+◌, ◌<◌, List, [], ◌∷◌, ◌++◌, length, Bool, true, false, ◌&&◌, ◌||◌, not, cond, Option, Some, None, refl, sym, ◌∙◌, ap}
 use Rattle.std.specs.Prelude.{is_some, is_none, option_map, slice_get, if◌then◌else◌}
-use Rattle.std.proofs.lemmas.Bool.{and_parts, and_from, or_left, or_right, cases_Bool, not-true, cond-true, cond-false}
+use Rattle.std.proofs.lemmas.Bool.{and_parts, and_from, or_left, or_right, cases_Bool, not-true, cond-true, cond-false, or_cases}
 use Rattle.std.proofs.lemmas.List.{nil_from_length}
+use Rattle.std.proofs.lemmas.Option.{same_Some}
 use Rattle.world.specs.declared.entry.Entry.{Entry}
 use Rattle.world.specs.Waits.{has_wait, before_wait}
 use Rattle.cell_core.specs.declared.event.Event.{Event}
@@ -18,7 +19,7 @@ use Rattle.run_journal.specs.Job.{Job}
 use Rattle.run_journal.specs.Parts.{acked, is_running}
 use Rattle.run_journal.specs.Looks.{looked, ever, shows_lost, is_lost, is_past, ran_out}
 use Rattle.run_journal.specs.Requests.{Request, reply, is_over, first_clock, deadline, or_later, is_broken, requests, last_request}
-use Rattle.run_journal.specs.Why.{child_clock, bad_stream, is_out, is_done, is_error, is_not_ready, is_no_idle, is_timed_out, last_deadline, when, why}
+use Rattle.run_journal.specs.Why.{child_clock, bad_stream, is_out, is_done, is_error, is_not_ready, is_no_idle, is_timed_out, last_deadline, cause_if, why}
 use Rattle.run_journal.specs.Decoding.{IsDecoding}
 use Rattle.run_journal.specs.Awake.{is_called_for}
 use Rattle.run_journal.specs.Course.{course}
@@ -26,7 +27,6 @@ use Rattle.run_journal.specs.Agreement.{AgreesOn, BeginsUnread, Flows, KeepsTime
 use Rattle.run_journal.proofs.Flowing.{course_agrees}
 use Rattle.run_journal.proofs.Asking.{Stands, nothing, last, stands, done_same, error_same}
 use Rattle.run_journal.proofs.Telling.{some_is, among_broken}
-use Rattle.run_journal.proofs.Sighting.{or_either}
 use Rattle.run_journal.proofs.Finding.{lost_found, lost_parts, lost_waited}
 use Rattle.run_journal.proofs.Dating.{Seen, seen, see, run, passes, start_is, found_is, queued_is, whole}
 use Rattle.run_journal.proofs.Dropping.{dropped, whole_told}
@@ -36,7 +36,7 @@ use Rattle.run_journal.proofs.Turning.{dates, first_waited}
 use Rattle.run_journal.proofs.Lapse.{ran_parts, found_ran, first_ever, ever_before, wait_was}
 use Rattle.run_journal.proofs.Interrupting.{ever_lost, queued_interrupted}
 use Rattle.run_journal.proofs.Rowing.{standing_after, over_same, plus_more, second_by, Calls, not_ready_calls, last_is, child_found, on, no_idle_calls, plain_calls, second_calls, plus_none}
-use Rattle.run_journal.proofs.Truths.{not_both, inside}
+use Rattle.run_journal.proofs.Truths.{not_both}
 
 -- ---- what more events leave
 
@@ -112,7 +112,7 @@ any_core false false false false false false true = refl
 any_core false false false false false false false = refl
 
 any_row : (d e b l n i t : Bool)
-    → is_some (or_later (when d cause.Done) (or_later (when e cause.CellError) (or_later (when b cause.BadPeer) (or_later (when l cause.KernelLost) (or_later (when n cause.NotReady) (or_later (when i cause.NoIdle) (when t cause.TimedOut)))))))
+    → is_some (or_later (cause_if d cause.Done) (or_later (cause_if e cause.CellError) (or_later (cause_if b cause.BadPeer) (or_later (cause_if l cause.KernelLost) (or_later (cause_if n cause.NotReady) (or_later (cause_if i cause.NoIdle) (cause_if t cause.TimedOut)))))))
     ≡ (d || (e || (b || (l || (n || (i || t))))))
 any_row true e b l n i t = refl
 any_row false true b l n i t = refl
@@ -190,7 +190,7 @@ module _ (jobs : List Job) (j : Job) (past : List Entry) (k : KeepsRules jobs j 
           let y_found : (seen d told).found ≡ true = sym (found_is d told) ∙ y in
           let drawn = up_start c g in
           let child = some_is (child_clock j past) (child_found jobs j past k h f t plan d (up_found d y_found)) in
-          let same : child.0 ≡ c = inside (sym (child_drawn j past k.start child.0 child.1) ∙ drawn) in
+          let same : child.0 ≡ c = same_Some _ _ (sym (child_drawn j past k.start child.0 child.1) ∙ drawn) in
           let at : child_clock j past ≡ Some c = child.1 ∙ ap (λ n. Some n) same in
           late d y_found (not_ready_calls jobs j past k h f t plan r c at)
           (λ z. rest_why j past (or_left (is_not_ready j (requests j past) past) _ (ap (λ rs. is_not_ready j rs past) r ∙ ap (λ o. is_out j j.task.times.start_ms o past) at ∙ z)))
@@ -298,9 +298,9 @@ module _ (jobs : List Job) (j : Job) (past : List Entry) (k : KeepsRules jobs j 
 
       by_time : events.came events.is_broken told ≡ false → events.looked events.is_lost told ≡ false
           → (core_saves.is_not_ready j.task standing told || (core_saves.is_no_idle standing told || core_saves.is_timed_out j.task standing told)) ≡ true → CoreRow
-      by_time b l y = elim (or_either (core_saves.is_not_ready j.task standing told) _ y) [
+      by_time b l y = elim (or_cases (core_saves.is_not_ready j.task standing told) _ y) [
         | inl z ↦ not_ready_row z
-        | inr z ↦ elim (or_either (core_saves.is_no_idle standing told) _ z) [
+        | inr z ↦ elim (or_cases (core_saves.is_no_idle standing told) _ z) [
           | inl w ↦ no_idle_row w
           | inr w ↦ timed_row flag b l w
         ]
@@ -311,9 +311,9 @@ module _ (jobs : List Job) (j : Job) (past : List Entry) (k : KeepsRules jobs j 
           || (core_saves.is_not_ready j.task standing told || (core_saves.is_no_idle standing told || core_saves.is_timed_out j.task standing told)))))) ≡ true → CoreRow
       by (inl b) l y = by_broken (sym (among_broken j dec past u f) ∙ or_left (events.came events.is_broken told) _ b)
       by (inr b) (inl l) y = lost l
-      by (inr b) (inr l) y = elim (or_either (core_saves.is_done j.task told) _ y) [
+      by (inr b) (inr l) y = elim (or_cases (core_saves.is_done j.task told) _ y) [
         | inl z ↦ by_done (sym (done_same j told past (course_agrees j past f) plan) ∙ z)
-        | inr z ↦ elim (or_either (core_saves.is_cell_error standing) _ z) [
+        | inr z ↦ elim (or_cases (core_saves.is_cell_error standing) _ z) [
           | inl w ↦ by_error (sym (error_same j told past (course_agrees j past f)) ∙ w)
           | inr w ↦ by_time b l
               (sym (ap (λ x. x || (core_saves.is_not_ready j.task standing told || (core_saves.is_no_idle standing told || core_saves.is_timed_out j.task standing told))) l)

@@ -1,9 +1,9 @@
 -- What an entry gives of losses and looks, and what of these is among the events of a course.
 use Rattle.std.proofs.Common.{◌≡◌, ◌⊎◌, inl, inr, ℕ, ◌+◌, List, [], ◌∷◌, ◌++◌, Bool, true, false, ◌&&◌, ◌||◌, not, cond, refl, sym, ◌∙◌, ap, arith, append_assoc}
-use Rattle.std.specs.Prelude.{nat_le, if◌then◌else◌}
+use Rattle.std.specs.Prelude.{nat_le}
 use Rattle.std.specs.List.{list_any, list_all}
 use Rattle.std.proofs.Math.Bool.{or-false, or_comm, or_assoc}
-use Rattle.std.proofs.lemmas.Bool.{and_parts, or_parts, and_from, or_left, or_right, cond-false, cond_both, leb-true, le-leb}
+use Rattle.std.proofs.lemmas.Bool.{and_parts, or_parts, and_from, or_left, or_right, cond-false, cond_both, leb-true, le-leb, or_cases}
 use Rattle.world.specs.declared.chan.Chan.{Chan}
 use Rattle.world.specs.declared.connected.Connected.{Connected}
 use Rattle.world.specs.declared.connected.Connected.TheVariants as connected
@@ -23,10 +23,6 @@ use Rattle.run_journal.proofs.Flowing.{Tells, front, tell_front, rest_at, core_a
 use Rattle.run_journal.proofs.Telling.{or_swap, came_append, came_on, add_none, none_then, came_saved, none_when, none_begins, none_turn, none_core, none_late, is_loss, loss_is, lost_when}
 
 -- ---- tests
-
-pub or_either : (a b : Bool) → (a || b) ≡ true → (a ≡ true) ⊎ (b ≡ true)
-or_either true b e = inl refl
-or_either false b e = inr e
 
 pub or_more : (a b c : Bool) → (a || b) ≡ true → (a || (b || c)) ≡ true
 or_more true b c e = refl
@@ -61,7 +57,7 @@ count_stays p clock (made.Waited ms reports how) s w e = cc
 count_stays p clock _ s w e = e
 
 pub drained_stays : (j : Job) (c : Chan) (entry : Entry) (past : List Entry) → is_wait entry ≡ false → is_drained j c past ≡ true → is_drained j c (entry ∷ past) ≡ true
-drained_stays j c entry past w e = by (or_either (list_any (ends_reading (place j c)) (since_wait past)) _ e)
+drained_stays j c entry past w e = by (or_cases (list_any (ends_reading (place j c)) (since_wait past)) _ e)
   where
     by : (list_any (ends_reading (place j c)) (since_wait past) ≡ true) ⊎ (nat_le 64 (connection j c past).count ≡ true) → is_drained j c (entry ∷ past) ≡ true
     by (inl h) =
@@ -83,7 +79,7 @@ looked_stays j entry past w e =
     ∙ all_more (λ c. not (connection j c (to_wait past)).awake || is_drained j c past) _ by channels p.1)
   where
     by : (c : Chan) → (not (connection j c (to_wait past)).awake || is_drained j c past) ≡ true → (not (connection j c (to_wait past)).awake || is_drained j c (entry ∷ past)) ≡ true
-    by c h = elim (or_either (not (connection j c (to_wait past)).awake) (is_drained j c past) h) [
+    by c h = elim (or_cases (not (connection j c (to_wait past)).awake) (is_drained j c past) h) [
       | inl k ↦ or_left _ _ k
       | inr k ↦ or_right (not (connection j c (to_wait past)).awake) _ (drained_stays j c entry past w k)
     ]

@@ -12,7 +12,7 @@ use Rattle.run_journal.specs.Job.{Job}
 use Rattle.run_journal.specs.Parts.{acked, is_running}
 use Rattle.run_journal.specs.Looks.{is_lost}
 use Rattle.run_journal.specs.Requests.{or_later, requests, last_request}
-use Rattle.run_journal.specs.Why.{bad_stream, is_done, is_error, is_not_ready, is_no_idle, is_timed_out, when, why}
+use Rattle.run_journal.specs.Why.{bad_stream, is_done, is_error, is_not_ready, is_no_idle, is_timed_out, cause_if, why}
 use Rattle.run_journal.specs.Decoding.{IsDecoding}
 use Rattle.run_journal.specs.Course.{course}
 use Rattle.run_journal.specs.Agreement.{Flows, Hears, EndsLooks, at_once, is_undated, BeginsUnread}
@@ -43,7 +43,7 @@ core_lost false false false false n i t f g = cc
 
 -- the row of a lost kernel holds where that is the cause
 journal_lost : (d e b l n i t : Bool)
-    → or_later (when d cause.Done) (or_later (when e cause.CellError) (or_later (when b cause.BadPeer) (or_later (when l cause.KernelLost) (or_later (when n cause.NotReady) (or_later (when i cause.NoIdle) (when t cause.TimedOut)))))) ≡ Some cause.KernelLost
+    → or_later (cause_if d cause.Done) (or_later (cause_if e cause.CellError) (or_later (cause_if b cause.BadPeer) (or_later (cause_if l cause.KernelLost) (or_later (cause_if n cause.NotReady) (or_later (cause_if i cause.NoIdle) (cause_if t cause.TimedOut)))))) ≡ Some cause.KernelLost
     → l ≡ true
 journal_lost true e b l n i t f = cc
 journal_lost false true b l n i t f = cc

@@ -1,6 +1,6 @@
 -- Broken streams and losses are told, and what stops a job at once stops its core.
 use Rattle.std.proofs.Common.{◌≡◌, ℕ, ◌<◌, List, [], ◌∷◌, ◌++◌, length, Bool, true, false, ◌&&◌, ◌||◌, not, cond, Option, Some, None, refl, sym, ◌∙◌, ap}
-use Rattle.std.specs.Prelude.{is_some, option_map, if◌then◌else◌}
+use Rattle.std.specs.Prelude.{is_some, option_map}
 use Rattle.std.specs.List.{list_any, list_all}
 use Rattle.std.proofs.Math.Bool.{or-false, or_assoc}
 use Rattle.std.proofs.lemmas.Bool.{and_parts, cond_both, not-true}
@@ -22,7 +22,7 @@ use Rattle.run_journal.specs.Job.{Job}
 use Rattle.run_journal.specs.Parts.{channels, bytes_got, turn_clock, acked, is_acknowledging, is_running}
 use Rattle.run_journal.specs.Looks.{looked, ever, shows_lost, is_lost}
 use Rattle.run_journal.specs.Requests.{or_later, is_broken, requests, last_request}
-use Rattle.run_journal.specs.Why.{fault_on, bad_stream, is_done, is_error, is_not_ready, is_no_idle, is_timed_out, when, why}
+use Rattle.run_journal.specs.Why.{fault_on, bad_stream, is_done, is_error, is_not_ready, is_no_idle, is_timed_out, cause_if, why}
 use Rattle.run_journal.specs.Decoding.{IsDecoding}
 use Rattle.run_journal.specs.Due.{all_along}
 use Rattle.run_journal.specs.Order.{begins_unread}
@@ -384,7 +384,7 @@ core_rows false false false false false false true = refl
 core_rows false false false false false false false = refl
 
 pub journal_rows : (d e b l n i t : Bool)
-    → at_once (or_later (when d cause.Done) (or_later (when e cause.CellError) (or_later (when b cause.BadPeer) (or_later (when l cause.KernelLost) (or_later (when n cause.NotReady) (or_later (when i cause.NoIdle) (when t cause.TimedOut)))))))
+    → at_once (or_later (cause_if d cause.Done) (or_later (cause_if e cause.CellError) (or_later (cause_if b cause.BadPeer) (or_later (cause_if l cause.KernelLost) (or_later (cause_if n cause.NotReady) (or_later (cause_if i cause.NoIdle) (cause_if t cause.TimedOut)))))))
     ≡ first_rows d e b
 journal_rows true e b l n i t = refl
 journal_rows false true b l n i t = refl

@@ -9,6 +9,7 @@ use Rattle.world.specs.declared.did.Did.TheVariants as did
 use Rattle.world.specs.declared.entry.Entry.{Entry}
 use Rattle.world.specs.declared.entry.Entry.TheVariants as made
 use Rattle.world.specs.Places.{Status, chan_number, is_at, connected_after, closed_after, ended_after, refused_after, time}
+use Rattle.world.proofs.StatusLemmas.{chan_below}
 use Rattle.cell_core.specs.declared.event.Event.{Event}
 use Rattle.cell_core.specs.declared.event.Event.TheVariants as event
 use Rattle.cell_core.specs.Acts.{is_empty_list}
@@ -32,7 +33,6 @@ use Rattle.run_journal.proofs.Running.{or_off, rules_before, RanAtWait, ran_befo
 use Rattle.run_journal.proofs.Turning.{dates}
 use Rattle.run_journal.proofs.Lapse.{here, earlier, first_before}
 use Rattle.run_journal.proofs.Rereading.{begins_unread_by}
-use Rattle.run_journal.proofs.Alike.{chan_small}
 use Rattle.run_journal.proofs.Ordering.{nothing_is}
 
 -- ---- entries by which no byte comes
@@ -52,8 +52,8 @@ its_job j c (made.Got conn room bytes) past e u = ap (λ (s : Status). s.got) (c
   where
     elsewhere : is_at (place j c) conn ≡ true → ⊥
     elsewhere f =
-        let n = chan_small c in
-        let m = chan_small conn.chan in
+        let n = chan_below c in
+        let m = chan_below conn.chan in
         let g = eqb-true (place j c) (4 * conn.job + chan_number conn.chan) f in
         not_both (conn.job == j.number) (eq-eqb conn.job j.number (omega (arith, n, m, g))) e
 its_job j c (made.Closed conn) past e u = same (is_at (place j c) conn)

@@ -1,5 +1,5 @@
 -- Small facts of tests, options and lists.
-use Rattle.std.proofs.Common.{◌≡◌, ℕ, ◌+◌, ◌<◌, ◌≤◌, List, [], ◌∷◌, ◌++◌, length, Bool, true, false, ◌&&◌, ◌||◌, Option, Some, None, refl, arith, length-append}
+use Rattle.std.proofs.Common.{◌≡◌, ℕ, ◌<◌, ◌≤◌, List, ◌∷◌, Bool, true, false, ◌&&◌, ◌||◌, Option, Some, None, refl, arith}
 use Rattle.std.specs.Prelude.{if◌then◌else◌}
 
 -- a test answers one way
@@ -17,10 +17,6 @@ pub and_true : (a b : Bool) → b ≡ true → (a && b) ≡ a
 and_true true b e = e
 and_true false b e = refl
 
--- what an option holds
-pub inside : {A : Type 0} {x y : A} → Some x ≡ Some y → x ≡ y
-inside e = cc
-
 -- it was chosen where it holds something
 pub if_some : {A : Type 0} (b : Bool) (o : Option A) (x : A) → (if b then o else None) ≡ Some x → b ≡ true
 if_some true o x e = refl
@@ -32,10 +28,6 @@ head_same e = cc
 
 pub tail_same : {A : Type 0} {x y : A} {xs ys : List A} → ◌≡◌ {A = List A} (x ∷ xs) (y ∷ ys) → xs ≡ ys
 tail_same e = cc
-
--- one item more
-pub one_longer : {A : Type 0} (xs : List A) (x : A) → length (xs ++ x ∷ []) ≡ length xs + 1
-one_longer xs x = length-append xs (x ∷ [])
 
 -- a clock before a deadline that the time has reached isn't the time
 pub too_late : (due time clock : ℕ) → due ≤ time → clock ≡ time → clock < due → ⊥

@@ -1,7 +1,8 @@
 -- Where the loop's rules are kept the core is told each turn's clock, and no clock is read in a look.
 use Rattle.std.proofs.Common.{◌≡◌, ◌⊎◌, inl, inr, ℕ, List, [], ◌∷◌, ◌++◌, Bool, true, false, ◌&&◌, ◌||◌, not, Option, Some, None, refl, sym, ◌∙◌, ap, subst}
 use Rattle.std.specs.Prelude.{is_some, nat_le, nat_lt, if◌then◌else◌}
-use Rattle.std.proofs.lemmas.Bool.{and_parts, or_parts, cond-true, cond-false, cases_Bool, not-true}
+use Rattle.std.proofs.lemmas.Bool.{and_parts, or_parts, cond-true, cond-false, cases_Bool, not-true, or_cases}
+use Rattle.std.proofs.lemmas.Option.{same_Some}
 use Rattle.world.specs.declared.did.Did.TheVariants.{Done, Failed}
 use Rattle.world.specs.declared.entry.Entry.{Entry}
 use Rattle.world.specs.declared.entry.Entry.TheVariants as made
@@ -18,10 +19,9 @@ use Rattle.run_journal.specs.Awake.{is_called_for, is_look_due, reads_clock}
 use Rattle.run_journal.specs.Course.{begins_at, clock_event}
 use Rattle.run_journal.specs.Agreement.{IsAmong, draws, drawn_clock, starts_in_turn, KeepsRules}
 use Rattle.run_journal.proofs.AlikeLooks.{or_none}
-use Rattle.run_journal.proofs.Sighting.{or_either}
 use Rattle.run_journal.proofs.Turns.{turn_is}
 use Rattle.run_journal.proofs.Dating.{Seen, dated, run, whole, end, clocks_at}
-use Rattle.run_journal.proofs.Truths.{not_both, inside}
+use Rattle.run_journal.proofs.Truths.{not_both}
 use Rattle.run_journal.proofs.Running.{RanAtWait, after_running, any_before, any_of, begun_drawn, first_kept, later_some, or_off, ran_before, rules_before, running_parts, start_parts}
 use Rattle.run_journal.proofs.Flowing.{turn_at}
 
@@ -122,7 +122,7 @@ dates_end : (d : ℕ) (j : Job) (past : List Entry) (s : Seen) (b : Bool) → Da
 dates_end d j past s true i = record { start = i.start; first = i.first; now = i.now; fresh = λ e. cc; passed = passed; news = i.news }
   where
     passed : (s.fresh || s.queued) ≡ true → is_some s.first ≡ true
-    passed e = elim (or_either s.fresh s.queued e) [
+    passed e = elim (or_cases s.fresh s.queued e) [
       | inl f ↦ (i.fresh f).0
       | inr f ↦ i.passed f
     ]
@@ -155,7 +155,7 @@ moment_draws j (made.Ports job ports) ms e = cc
 moment_draws j _ ms e = refl
 
 pub moment_time : (entry : Entry) (past : List Entry) (t : ℕ) → moment_of entry ≡ Some t → time (entry ∷ past) ≡ t
-moment_time (made.Moment ms) past t e = inside e
+moment_time (made.Moment ms) past t e = same_Some _ _ e
 moment_time _ past t e = cc
 
 early_first : (d : ℕ) (past : List Entry) (o : Option ℕ) → o ≡ None → or_later (first_clock d past) (if is_at_least d o then o else None) ≡ first_clock d past

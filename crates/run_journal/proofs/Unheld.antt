@@ -1,7 +1,7 @@
 -- By the loop's rules no clock entry waits for a save, where the job runs its notebook.
-use Rattle.std.proofs.Common.{◌≡◌, ◌⊎◌, inl, inr, ℕ, zero, suc, ◌+◌, ◌<◌, ◌≤◌, List, [], ◌∷◌, ◌++◌, length, drop, Bool, true, false, ◌&&◌, not, cond, Option, Some, None, refl, sym, ◌∙◌, ap, arith}
+use Rattle.std.proofs.Common.{◌≡◌, ◌⊎◌, inl, inr, ℕ, zero, suc, ◌+◌, ◌<◌, ◌≤◌, List, [], ◌∷◌, ◌++◌, length, Bool, true, false, ◌&&◌, not, cond, Option, Some, None, refl, sym, ◌∙◌, ap, arith}
 use Rattle.std.specs.Prelude.{is_some, if◌then◌else◌, nat_lt, ◌==◌}
-use Rattle.std.proofs.lemmas.List.{length-map}
+use Rattle.std.proofs.lemmas.List.{length-map, drop_all}
 use Rattle.std.proofs.lemmas.Bool.{and_parts, and_from, cases_Bool, cond-true, cond-false, cond_both, eqb-true, ltb-true, false_from_ne_true, not-true, not_from_false}
 use Rattle.std.proofs.Math.Bool.{and-not_self}
 use Rattle.world.specs.declared.did.Did.TheVariants as did
@@ -45,19 +45,13 @@ use Rattle.run_journal.proofs.Clocking.{wait_brings, wait_unacked, broken_as, no
 use Rattle.run_journal.proofs.KeptTime.{time_next}
 use Rattle.run_journal.proofs.Truths.{not_both, if_some}
 
-drop_past : {X : Type 0} (n : ℕ) (xs : List X) → length xs ≤ n → drop n xs ≡ []
-drop_past zero [] h = refl
-drop_past zero (x ∷ xs) h = absurd (omega (arith, h))
-drop_past (suc n) [] h = refl
-drop_past (suc n) (x ∷ xs) h = drop_past n xs (omega (arith, h))
-
 -- ---- where the core awaits no save
 
 -- as many saves are acknowledged as are due
 unawaited : (j : Job) (told : List Event) → stops j told ≡ false → length (core_saves.saves j.task told) ≤ events.acked told → awaits_saved j.task told ≡ false
 unawaited j told s h =
     ap (λ es. not (is_empty (core_saves.unacked j.task es))) (unstopped_heard j told s)
-    ∙ ap (λ (ps : List core_saves.Prefix). not (is_empty ps)) (drop_past (events.acked told) (core_saves.saves j.task told) h)
+    ∙ ap (λ (ps : List core_saves.Prefix). not (is_empty ps)) (drop_all (events.acked told) (core_saves.saves j.task told) h)
 
 none_is : (o : Option Why) → (is_some o ≡ true → ⊥) → o ≡ None
 none_is None f = refl

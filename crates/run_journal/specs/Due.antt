@@ -28,8 +28,8 @@ channel_of Ping = Heart
 channel_of Shutdown = Control
 
 -- how many messages with a header were queued by now
-abbrev pub numbered : Job → List Entry → ℕ
-numbered j past = count_queued (length (asked j past).ids) (requests j past)
+abbrev pub count_messages : Job → List Entry → ℕ
+count_messages j past = count_queued (length (asked j past).ids) (requests j past)
 
 -- it is queued, where there are more than before
 abbrev pub grown : ℕ → ℕ → Queued → List Queued
@@ -42,9 +42,9 @@ interrupts j past = count_by (λ (r : Request). r.interrupted) (requests j past)
 -- the messages that are queued in the handling of the newest entry
 abbrev pub news : Job → List Entry → List Entry → List Queued
 news j now past =
-    grown (length (asked j past).ids) (length (asked j now).ids) (record { what = Info; number = numbered j past + 1; date = time now })
-    ++ grown (length (requests j past)) (length (requests j now)) (record { what = Execute (length (requests j past)); number = numbered j past + 1; date = time now })
-    ++ grown (interrupts j past) (interrupts j now) (record { what = Interrupt; number = numbered j past + 1; date = time now })
+    grown (length (asked j past).ids) (length (asked j now).ids) (record { what = Info; number = count_messages j past + 1; date = time now })
+    ++ grown (length (requests j past)) (length (requests j now)) (record { what = Execute (length (requests j past)); number = count_messages j past + 1; date = time now })
+    ++ grown (interrupts j past) (interrupts j now) (record { what = Interrupt; number = count_messages j past + 1; date = time now })
     ++ grown (length (pings j past).queued) (length (pings j now).queued) (record { what = Ping; number = 0; date = 0 })
 
 -- the octets of those that go on a channel
@@ -63,7 +63,7 @@ queue j c (entry ∷ past) = queue j c past ++ replies_at j c (entry ∷ past) p
 
 -- the last message, once the job has ended after this journal
 abbrev pub farewell : Job → List Entry → List Queued
-farewell j end = record { what = Shutdown; number = numbered j end + 1; date = time end } ∷ []
+farewell j end = record { what = Shutdown; number = count_messages j end + 1; date = time end } ∷ []
 
 -- the job has ended, by itself or since no wait is left
 abbrev pub has_ended : Job → List Entry → Bool

@@ -69,12 +69,12 @@ reply_date None = None
 reply_date (Some m) = m.0.date
 
 -- what is used for the request of a cell
-abbrev pub used : ℕ → Request → Used
-used cell r = record { cell = cell; own = map as_used (own r); reply = reply_date (reply r) }
+abbrev pub use_of : ℕ → Request → Used
+use_of cell r = record { cell = cell; own = map as_used (own r); reply = reply_date (reply r) }
 
 -- what is used for these requests, of the cells of the plan in order
 abbrev pub used_of : List ℕ → List Request → List Used
-used_of (i ∷ plan) (r ∷ rs) = used i r ∷ used_of plan rs
+used_of (i ∷ plan) (r ∷ rs) = use_of i r ∷ used_of plan rs
 used_of plan rs = []
 
 -- ---- when a request is over

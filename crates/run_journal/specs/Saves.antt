@@ -9,7 +9,7 @@ use Rattle.cell_core.specs.Saves.{is_stop}
 use Rattle.out_fold.specs.declared.used.Used.{Used}
 use Rattle.run_journal.specs.Job.{Job, Given, Refuses, Prepares, Runs}
 use Rattle.run_journal.specs.Parts.{before_shut}
-use Rattle.run_journal.specs.Requests.{Request, used, used_of, is_passed, is_last_passed, requests}
+use Rattle.run_journal.specs.Requests.{Request, use_of, used_of, is_passed, is_last_passed, requests}
 use Rattle.run_journal.specs.Why.{plan_end, why}
 
 -- a save: how many cells it settles, and its text
@@ -26,7 +26,7 @@ save j us settled stop = record { settled = settled; text = j.print us settled s
 -- One for each request that is passed, the first of these being request k. Before them this was used.
 abbrev pub passes : Job → List Used → ℕ → List ℕ → List Request → List Save
 passes j front k (i ∷ plan) (r ∷ rs) =
-    if is_passed j k r then save j (front ++ used i r ∷ []) (i + 1) None ∷ passes j (front ++ used i r ∷ []) (k + 1) plan rs else []
+    if is_passed j k r then save j (front ++ use_of i r ∷ []) (i + 1) None ∷ passes j (front ++ use_of i r ∷ []) (k + 1) plan rs else []
 passes j front k plan rs = []
 
 -- a cause for which the last request's cell is saved as the stopping cell

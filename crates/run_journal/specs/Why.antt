@@ -101,16 +101,16 @@ is_timed_out j (Some r) past = not (is_some (reply r.1)) && is_out j 0 (last_dea
 -- ---- the first row that holds
 
 -- this cause, where its row holds
-abbrev pub when : Bool → Why → Option Why
-when holds why = if holds then Some why else None
+abbrev pub cause_if : Bool → Why → Option Why
+cause_if holds why = if holds then Some why else None
 
 -- what has stopped the job, if something has
 abbrev pub why : Job → List Entry → Option Why
 why j past =
-    or_later (when (is_done j (acked j past) (requests j past)) cause.Done)
-    (or_later (when (is_error j (last_request 0 (requests j past))) cause.CellError)
-    (or_later (when (is_some (bad_stream j past)) cause.BadPeer)
-    (or_later (when (is_lost j past) cause.KernelLost)
-    (or_later (when (is_not_ready j (requests j past) past) cause.NotReady)
-    (or_later (when (is_no_idle j (last_request 0 (requests j past)) past) cause.NoIdle)
-    (when (is_timed_out j (last_request 0 (requests j past)) past) cause.TimedOut))))))
+    or_later (cause_if (is_done j (acked j past) (requests j past)) cause.Done)
+    (or_later (cause_if (is_error j (last_request 0 (requests j past))) cause.CellError)
+    (or_later (cause_if (is_some (bad_stream j past)) cause.BadPeer)
+    (or_later (cause_if (is_lost j past) cause.KernelLost)
+    (or_later (cause_if (is_not_ready j (requests j past) past) cause.NotReady)
+    (or_later (cause_if (is_no_idle j (last_request 0 (requests j past)) past) cause.NoIdle)
+    (cause_if (is_timed_out j (last_request 0 (requests j past)) past) cause.TimedOut))))))

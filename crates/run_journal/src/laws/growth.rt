@@ -5,7 +5,7 @@ ghost use Rattle.zmtp_wire.specs.Meaning.{Begins};
 ghost use Rattle.run_journal.specs.Job.{Job};
 ghost use Rattle.run_journal.specs.Parts.{acked, before_shut};
 ghost use Rattle.run_journal.specs.Arrivals.{asked, is_ready};
-ghost use Rattle.run_journal.specs.Requests.{Request, requests, is_over, own, reply, used};
+ghost use Rattle.run_journal.specs.Requests.{Request, requests, is_over, own, reply, use_of};
 ghost use Rattle.run_journal.specs.Why.{why};
 ghost use Rattle.run_journal.specs.Saves.{saves};
 ghost use Rattle.run_journal.specs.Grow.{GoesOn, GoOn};
@@ -32,7 +32,7 @@ pub fn requests_stay()
     ensures over { (r s : Request) → GoesOn r s → is_over r ≡ true → is_over s ≡ true }
     ensures reply { (r s : Request) → GoesOn r s → is_some (reply r) ≡ true → reply s ≡ reply r }
     ensures used { (r s : Request) (cell : ℕ) → GoesOn r s → is_over r ≡ true →
-        used cell s ≡ used cell r }
+        use_of cell s ≡ use_of cell r }
 {}
 
 /// While nothing has stopped a job, its saves only grow.
