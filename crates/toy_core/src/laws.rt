@@ -15,5 +15,6 @@ pub fn a_cell_says_what_is_published()
 
 /// Where what was handed out is let go, what is left stays.
 pub fn what_is_left_stays()
-    ensures { (box : Outbox) (coming : List ℕ) → rest_due (trim_box box) coming ≡ rest_due box coming }
+    ensures { (box : Outbox) (coming : List ℕ) →
+        rest_due (trim_box box) coming ≡ rest_due box coming }
 {}
