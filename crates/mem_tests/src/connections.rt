@@ -4,7 +4,7 @@ ghost use Rattle.world.specs.Environment.{AllStrings};
 
 use crate::calls::{close, connect, gives, put, reports};
 use crate::seen::SeenDisk;
-use crate::worlds::{plain, script, world};
+use crate::worlds::{plain_script, script, world};
 use jtext::{Fields, Text, Texts};
 use std::test::Fail;
 use world::{Chan, Clock, Conn, Connected, Did, Entry, Kids, Put, Rand, Wire};
@@ -73,7 +73,7 @@ fn pours<W: Wire + Clock>(w: &mut W, buf: &mut [u8]) -> bool
 #[test]
 fn bytes_come_in_the_buffers_room(rt: HostRuntime) -> Result<(), Fail> {
     let alloc = rt.alloc();
-    let mut w = world(alloc, &[], 200_000, plain(alloc, &[])?)?;
+    let mut w = world(alloc, &[], 200_000, plain_script(alloc, &[])?)?;
     let mut buf = vec![in alloc; 0u8; 65_536]?;
     assert!(rt; !buf.is_empty());
     assert!(rt; pours(&mut w, &mut buf));
@@ -145,7 +145,7 @@ fn reports_exactly<W: Wire>(w: &mut W) -> bool {
 #[test]
 fn just_the_ready_connections_are_reported(rt: HostRuntime) -> Result<(), Fail> {
     let alloc = rt.alloc();
-    let mut w = world(alloc, &[], 1, plain(alloc, &[])?)?;
+    let mut w = world(alloc, &[], 1, plain_script(alloc, &[])?)?;
     assert!(rt; reports_exactly(&mut w));
     Ok(())
 }
@@ -178,7 +178,7 @@ fn counts_up<W: Wire + Rand>(w: &mut W) -> bool {
 #[test]
 fn ports_and_words_are_numbered(rt: HostRuntime) -> Result<(), Fail> {
     let alloc = rt.alloc();
-    let mut w = world(alloc, &[], 0, plain(alloc, &[])?)?;
+    let mut w = world(alloc, &[], 0, plain_script(alloc, &[])?)?;
     assert!(rt; counts_up(&mut w));
     Ok(())
 }
@@ -203,7 +203,7 @@ fn ends_in_time<W: Wire + Kids>(w: &mut W) -> bool {
 #[test]
 fn a_child_is_seen_to_end(rt: HostRuntime) -> Result<(), Fail> {
     let alloc = rt.alloc();
-    let mut w = world(alloc, &[], 0, plain(alloc, &[])?)?;
+    let mut w = world(alloc, &[], 0, plain_script(alloc, &[])?)?;
     let mut argv = Texts::new(alloc);
     argv.push(Text::of(alloc, "toy")?)?;
     assert!(rt; starts_one(&mut w, &argv, &Fields::new(alloc), &Text::of(alloc, "/")?));

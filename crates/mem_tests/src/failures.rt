@@ -3,7 +3,7 @@ ghost use Rattle.std.specs.Prelude.{◌<◌, length};
 ghost use Rattle.world.specs.Environment.{AllStrings};
 
 use crate::seen::{SeenCrash, SeenDisk};
-use crate::worlds::{plain, world};
+use crate::worlds::{plain_script, world};
 use jtext::{Fields, NoMemory, Text, Texts};
 use std::alloc::Global;
 use std::test::Fail;
@@ -165,7 +165,7 @@ fn fails_alone<W: World + SeenDisk>(
 }
 
 fn fails_by_number(alloc: Global, number: u64) -> Result<bool, NoMemory> {
-    let mut w = world(alloc, &[("a", "text")], 9, plain(alloc, &[number])?)?;
+    let mut w = world(alloc, &[("a", "text")], 9, plain_script(alloc, &[number])?)?;
     fails_alone(&mut w, alloc, number)
 }
 
@@ -197,7 +197,7 @@ fn burns<W: SeenCrash>(w: &mut W, alloc: Global, fuse: u64) -> Result<bool, NoMe
 
 fn fails_by_fuse(alloc: Global, fuse: u64) -> Result<bool, NoMemory> {
     let files = [("a", "text"), ("t", ""), ("b", "")];
-    let mut w = world(alloc, &files, 0, plain(alloc, &[])?)?;
+    let mut w = world(alloc, &files, 0, plain_script(alloc, &[])?)?;
     burns(&mut w, alloc, fuse)
 }
 

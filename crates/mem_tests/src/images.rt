@@ -1,6 +1,6 @@
 //! Images of what a crash leaves.
 use crate::seen::SeenCrash;
-use crate::worlds::{plain, world};
+use crate::worlds::{plain_script, world};
 use jtext::{NoMemory, Text};
 use std::alloc::Global;
 use std::test::Fail;
@@ -69,7 +69,7 @@ fn picks_by_digits<W: SeenCrash>(w: &mut W, alloc: Global) -> Result<bool, Fail>
 #[test]
 fn digits_pick_options_in_the_order_of_paths(rt: HostRuntime) -> Result<(), Fail> {
     let alloc = rt.alloc();
-    let mut w = world(alloc, &[("b", "old")], 0, plain(alloc, &[])?)?;
+    let mut w = world(alloc, &[("b", "old")], 0, plain_script(alloc, &[])?)?;
     assert!(rt; picks_by_digits(&mut w, alloc)?);
     Ok(())
 }

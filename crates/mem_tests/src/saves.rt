@@ -3,7 +3,7 @@ ghost use Rattle.std.specs.Prelude.{◌<◌, length};
 
 use crate::images::{always, stands};
 use crate::seen::{SeenCrash, SeenDisk};
-use crate::worlds::{plain, world};
+use crate::worlds::{plain_script, world};
 use jtext::{NoMemory, Text};
 use save_disk::{SaveFault, SavePath, save};
 use std::alloc::Global;
@@ -92,7 +92,7 @@ fn makes_a_file<W: SeenCrash>(w: &mut W, alloc: Global) -> Result<bool, Fail> {
 #[test]
 fn a_new_file_is_absent_or_whole(rt: HostRuntime) -> Result<(), Fail> {
     let alloc = rt.alloc();
-    let mut w = world(alloc, &[("d/i", "in")], 0, plain(alloc, &[])?)?;
+    let mut w = world(alloc, &[("d/i", "in")], 0, plain_script(alloc, &[])?)?;
     assert!(rt; makes_a_file(&mut w, alloc)?);
     Ok(())
 }
@@ -115,7 +115,7 @@ fn opens_the_temporary<W: SeenCrash>(w: &mut W, alloc: Global) -> Result<bool, F
 #[test]
 fn the_temporary_file_may_be_anything_until_its_sync(rt: HostRuntime) -> Result<(), Fail> {
     let alloc = rt.alloc();
-    let mut w = world(alloc, &[], 0, plain(alloc, &[])?)?;
+    let mut w = world(alloc, &[], 0, plain_script(alloc, &[])?)?;
     assert!(rt; opens_the_temporary(&mut w, alloc)?);
     Ok(())
 }
@@ -146,7 +146,7 @@ fn leaves_each<W: SeenCrash>(w: &mut W, alloc: Global) -> Result<bool, Fail> {
 #[test]
 fn a_failed_rename_leaves_the_last_save_or_its_own(rt: HostRuntime) -> Result<(), Fail> {
     let alloc = rt.alloc();
-    let mut w = world(alloc, &[("o", "0")], 0, plain(alloc, &[13])?)?;
+    let mut w = world(alloc, &[("o", "0")], 0, plain_script(alloc, &[13])?)?;
     assert!(rt; leaves_each(&mut w, alloc)?);
     Ok(())
 }
@@ -178,7 +178,7 @@ fn leaves_by_number(
     number: u64,
     answer: Result<(), SaveFault>,
 ) -> Result<bool, Fail> {
-    let mut w = world(alloc, &[("o", "old")], 0, plain(alloc, &[number])?)?;
+    let mut w = world(alloc, &[("o", "old")], 0, plain_script(alloc, &[number])?)?;
     leaves_either(&mut w, alloc, "o", answer)
 }
 
@@ -205,7 +205,7 @@ fn burns_between<W: SeenCrash>(
 }
 
 fn leaves_by_fuse(alloc: Global, fuse: u64, answer: Result<(), SaveFault>) -> Result<bool, Fail> {
-    let mut w = world(alloc, &[("o", "old")], 0, plain(alloc, &[])?)?;
+    let mut w = world(alloc, &[("o", "old")], 0, plain_script(alloc, &[])?)?;
     burns_between(&mut w, alloc, fuse, answer)
 }
 
@@ -233,7 +233,7 @@ fn replaces<W: SeenCrash>(w: &mut W, alloc: Global, output: &str) -> Result<bool
 }
 
 fn is_replaced(alloc: Global, output: &str) -> Result<bool, Fail> {
-    let mut w = world(alloc, &[(output, "old")], 0, plain(alloc, &[])?)?;
+    let mut w = world(alloc, &[(output, "old")], 0, plain_script(alloc, &[])?)?;
     replaces(&mut w, alloc, output)
 }
 

@@ -25,7 +25,7 @@ pub(crate) fn sizes(alloc: Global, rows: &[u64]) -> Result<Sizes, NoMemory> {
 }
 
 /// A script that starts at 0 and caps and refuses nothing, with these calls that fail.
-pub(crate) fn plain(alloc: Global, fails: &[u64]) -> Result<Script, NoMemory>
+pub(crate) fn plain_script(alloc: Global, fails: &[u64]) -> Result<Script, NoMemory>
     ensures { IfOk result (λ script. script.start_ms ≡ 0) }
 {
     Ok(Script {
