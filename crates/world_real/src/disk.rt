@@ -41,7 +41,7 @@ impl<R: Files + Net + Processes + Clock + Print + Drop> Disk for RealWorld<R> {
     }
 
     fn write(&mut self, path: &Text, piece: &[u8]) -> Wrote {
-        let taken = append_at(&self.rt, path.as_str(), capped(piece));
+        let taken = append_at(&self.rt, path.as_str(), cap(piece));
         wrote_of(taken, &mut self.disk_faults)
     }
 
@@ -130,7 +130,7 @@ fn sync_at<R: Files>(files: &R, path: &str) -> io::Result<()> {
 }
 
 /// A front of the piece, of at most 2^30 bytes.
-pub(crate) fn capped(piece: &[u8]) -> &[u8]
+pub(crate) fn cap(piece: &[u8]) -> &[u8]
     ensures some { 0 < length piece.now → 0 < length result.now }
     ensures most { length result.now ≤ 1073741824 }
     ensures within { length result.now ≤ length piece.now }

@@ -1,7 +1,7 @@
 //! The clock, random words and the standard output.
 use crate::RealWorld;
 use crate::answers::{value_of, wrote_of};
-use crate::disk::capped;
+use crate::disk::cap;
 use std::io::Read;
 use std::net::Net;
 use std::process::Processes;
@@ -47,7 +47,7 @@ impl<R: Files + Net + Processes + SystemClock + Print + Drop> Say for RealWorld<
     }
 
     fn write(&mut self, piece: &[u8]) -> Wrote {
-        let taken = self.rt.write_some(capped(piece));
+        let taken = self.rt.write_some(cap(piece));
         wrote_of(taken, &mut self.say_faults)
     }
 }
