@@ -19,6 +19,7 @@ use Rattle.ready_loop.specs.Standing.{IsLoopEntry, IsOfLoop}
 use Rattle.ready_loop.proofs.TableLemmas.{some_is}
 use Rattle.job_saves.specs.Calls.{Cast, IsOwnFile, IsCallOf, IsCallBy, IsCall}
 use Rattle.job_saves.specs.Children.{has_child, ports_of, KeepsEnd, AsksNone}
+use Rattle.job_saves.specs.Course.{TellsAll}
 use Rattle.job_saves.specs.Speaking.{SpeaksWhole}
 use Rattle.job_saves.proofs.KeptLemmas.{child_other, heard_other}
 use Rattle.job_saves.proofs.ChildLemmas.{same_number}
@@ -139,7 +140,7 @@ loop_spares path (entry ∷ past) is = other_spares path entry (loop_other entry
 pub run_spares : (asks : List Ask) (here path : List ℕ) (clean : Bool) → IsNoPath asks path → (now : List Entry) → IsRunCall (cast_of asks here clean) now → Spares path now
 run_spares asks here path clean none [] (inl is) = absurd is
 run_spares asks here path clean none (entry ∷ past) (inl is) = call_spares path here true clean is.number is.ask past entry (none is.number is.ask is.has) is.is
-run_spares asks here path clean none now (inr is) = loop_spares path now is
+run_spares asks here path clean none now (inr is) = loop_spares path now is.is
 
 -- ---- children
 
@@ -177,10 +178,11 @@ loop_asks_none n (Some x) (Some y) told h = loop_ports n told.so ∙ h
 
 -- ---- the role of a job
 
-pub plays : (k : ℕ) (a : Ask) (here : List ℕ) (starts clean : Bool) (j : Job) (since : List Entry) (p : Option (List Entry)) (c : Counts) → (clean ≡ true → SpeaksWhole p c) → PlaysRole k a j
+pub plays : (k : ℕ) (a : Ask) (here : List ℕ) (starts clean : Bool) (j : Job) (since : List Entry) (p : Option (List Entry)) (c : Counts) → (clean ≡ true → SpeaksWhole p c)
+    → (clean ≡ true → TellsAll a j.run.book p c) → PlaysRole k a j
     → IfSome p (Since (IsCall (sole k a here starts clean)) since) → HasRole (sole k a here starts clean) since c j p c
-plays k a here starts clean j since p c spoken r held = record {
-  part = record { number = k; ask = a; has = sole_here k a; output = r.output; so = record { told = held; counts_work = work_start c; spoken = spoken } };
+plays k a here starts clean j since p c spoken tells r held = record {
+  part = record { number = k; ask = a; has = sole_here k a; output = r.output; so = record { told = held; counts_work = work_start c; spoken = spoken }; told = tells };
   role = record {
     ask = a;
     has = subst (λ (n : ℕ). (if n == k then Some a else None) ≡ Some a) (sym r.number_is) (sole_here k a);
@@ -200,6 +202,12 @@ played k a here starts clean since from j p c h =
       connection = h.role.connection ∙ ap (λ (x : Ask). connection_of x.output) (sym at.1);
       folder = h.role.folder ∙ ap (λ (x : Ask). x.cwd) (sym at.1);
     }
+
+-- what its saves were told
+pub played_tells : (k : ℕ) (a : Ask) (here : List ℕ) (starts clean : Bool) (since : List Entry) (from : Counts) (j : Job) (p : Option (List Entry)) (c : Counts)
+    → HasRole (sole k a here starts clean) since from j p c → clean ≡ true → TellsAll a j.run.book p c
+played_tells k a here starts clean since from j p c h on =
+    subst (λ (x : Ask). TellsAll x j.run.book p c) (sym (sole_at h.part.number k a h.part.ask h.part.has).1) (h.part.told on)
 
 -- ---- its task
 

@@ -3,21 +3,22 @@ use Rattle.std.proofs.Common.{◌≡◌, inl, inr, ℕ, ◌+◌, ◌-◌, ◌≤
 use Rattle.words.specs.declared.ask.Ask.{Ask}
 use Rattle.world.specs.declared.entry.Entry.{Entry}
 use Rattle.world.specs.Counts.{Counts, CountsGrow, Rose}
+use Rattle.world.proofs.CountsLemmas.{rose_since, rose_still}
 use Rattle.job_begin.specs.Causes.{HasCause}
 use Rattle.world.specs.declared.conn.Conn.{Conn}
 use Rattle.ready_loop.specs.declared.fault.LoopFault.{LoopFault}
 use Rattle.ready_loop.specs.declared.fault.LoopFault.TheVariants as loop_fault
 use Rattle.batch_run.specs.declared.slot.Slot.{Slot}
+use Rattle.ready_loop.specs.declared.readiness.Loop.{Loop}
+use Rattle.ready_loop.specs.Wires.{ports_in}
+use Rattle.batch_run.specs.declared.lines.Lines.{Lines}
 use Rattle.batch_run.specs.declared.fault.Fault.{Fault}
 use Rattle.batch_run.specs.declared.fault.Fault.TheVariants as fault
 use Rattle.batch_run.specs.Batch.{HasWaited}
 use Rattle.batch_run.specs.Kept.{FaultCause}
-use Rattle.batch_run.specs.Stands.{Outset, AllStand, IsFaultOf, IsOutOfWaits, more_waits}
+use Rattle.batch_run.specs.Stands.{Outset, AllStand, IsFaultOf, IsOutOfWaits, more_waits, wired_by}
 
 -- ---- counts that grow
-
-pub rose_still : (a b c : ℕ) → Rose a b → b ≤ c → Rose a c
-rose_still a b c rose later = grind (arith, later, rose)
 
 pub cause_still : (old c d : Counts) (n : ℕ) → CountsGrow c d → HasCause old c n → HasCause old d n
 cause_still old c d n g h = record {
@@ -29,9 +30,6 @@ cause_still old c d n g h = record {
   save = λ e. rose_still old.disk c.disk d.disk (h.save e) g.disk;
   net = λ e. rose_still old.net c.net d.net (h.net e) g.net;
 }
-
-pub rose_since : (a b c : ℕ) → a ≤ b → Rose b c → Rose a c
-rose_since a b c more rose = grind (arith, more, rose)
 
 pub cause_since : (old c d : Counts) (n : ℕ) → CountsGrow old c → HasCause c d n → HasCause old d n
 cause_since old c d n g h = record {
@@ -76,6 +74,15 @@ pub fits_then : (asks : List Ask) (first : Option (List Entry)) (from : Outset) 
 fits_then asks first from {slots} {p} {c} l m n same s =
     let all : (from.waits + l) + m ≡ from.waits + n = omega (arith, same) in
     subst (λ (k : ℕ). AllStand asks first (record from { waits = k }) slots p c) all s
+
+-- where the connections are as they were
+pub same_lines : (asks : List Ask) (first : Option (List Entry)) (from : Outset) {slots : List Slot} {p : Option (List Entry)} {c : Counts} (was now : Lines) → now ≡ was
+    → AllStand asks first (wired_by was.connections from) slots p c → AllStand asks first (wired_by now.connections from) slots p c
+same_lines asks first from {slots} {p} {c} was now same s = subst (λ (l : Lines). AllStand asks first (wired_by l.connections from) slots p c) (sym same) s
+
+pub same_ports : (asks : List Ask) (first : Option (List Entry)) (from : Outset) {slots : List Slot} {p : Option (List Entry)} {c : Counts} (was now : Loop) → ports_in now ≡ ports_in was
+    → AllStand asks first (wired_by was from) slots p c → AllStand asks first (wired_by now from) slots p c
+same_ports asks first from {slots} {p} {c} was now same s = subst (λ (w : List (Option ℕ)). AllStand asks first (record from { wires = w }) slots p c) (sym same) s
 
 -- ---- faults
 

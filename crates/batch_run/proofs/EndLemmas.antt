@@ -19,23 +19,29 @@ use Rattle.cell_core.specs.Task.{Task}
 use Rattle.job_saves.specs.Course.{Origin}
 use Rattle.job_saves.proofs.CourseLemmas.{job_ends}
 use Rattle.nb_model.specs.declared.notebook.Notebook.{Notebook}
-use Rattle.job_begin.specs.Begun.{origin_of, first_of, counted_task}
+use Rattle.job_saves.specs.Reads.{first_of}
+use Rattle.job_begin.specs.Begun.{origin_of, counted_task}
 use Rattle.batch_run.specs.declared.slot.Slot.{Slot}
 use Rattle.batch_run.specs.declared.slot.Slot.TheVariants.{Waiting, Running, Ended}
-use Rattle.batch_run.specs.Batch.{HasStopped, HasWaited, EndsBy, EndsUnread, EndsRead, AreEnds, Makes, nothing, saves, MakesEach, LeavesOthers, CallsOfJobs, CallsOfRun, EndsChildren, IsClean}
+use Rattle.batch_run.specs.Batch.{HasStopped, HasWaited, EndsBy, EndsUnread, EndsRead, AreEnds, Makes, nothing, saves, MakesEach, LeavesOthers, CallsOfJobs, CallsOfRun, EndsChildren, IsApart, IsClean}
 use Rattle.job_saves.specs.Children.{has_child, HasEnd}
 use Rattle.job_saves.specs.Speaking.{IsWhole, SpeaksWhole}
 use Rattle.batch_run.proofs.CallLemmas.{run_spares}
-use Rattle.batch_run.specs.Stands.{Outset, IsIdle, SlotPlays, SlotEnds, SlotRuns, SlotTask, SlotKernel, SlotCounted, EndCounted, Stands, waits, spared, begun, AllStand, AllEnded, AreAnswers, HasEnded, answer_of, answers_of}
+use Rattle.batch_run.specs.Stands.{Outset, AreWired, IsIdle, SlotPlays, SlotTells, SlotEnds, SlotRuns, SlotTask, SlotKernel, SlotCounted, EndCounted, Stands, waits, spared, begun, AllStand, AllEnded, AreAnswers, HasEnded, answer_of, answers_of}
 use Rattle.batch_run.proofs.JournalLemmas.{has, extension, told_at}
 use Rattle.batch_run.proofs.SlotLemmas.{are_answers}
 
 -- ---- the begin
 
-pub all_start : (asks : List Ask) (slots : List Slot) (p : Option (List Entry)) (c : Counts) (here : List ℕ) (most : ℕ) (clean : Bool) → length slots ≡ length asks
-    → ((i : ℕ) (slot : Slot) → slice_get slots i ≡ Some slot → slot ≡ Waiting) → (clean ≡ true → SpeaksWhole p c) → (clean ≡ true → (n : ℕ) → IsIdle n p)
-    → AllStand asks p (record { here = here; counts = c; waits = c.waits; most = most; clean = clean }) slots p c
-all_start asks slots p c here most clean size waiting spoken idle = record {
+-- the jobs of a run before a clean one
+pub record AreIdle (asks : List Ask) (p : Option (List Entry)) : Type 0 where
+  pub idle : (i : ℕ) (a : Ask) → slice_get asks i ≡ Some a → IsIdle i a p
+  pub apart : (i : ℕ) (a : Ask) → slice_get asks i ≡ Some a → IsApart asks i a
+
+pub all_start : (asks : List Ask) (slots : List Slot) (p : Option (List Entry)) (c : Counts) (here : List ℕ) (most : ℕ) (wires : List (Option ℕ)) (clean : Bool) → length slots ≡ length asks
+    → ((i : ℕ) (slot : Slot) → slice_get slots i ≡ Some slot → slot ≡ Waiting) → (clean ≡ true → SpeaksWhole p c) → (clean ≡ true → AreIdle asks p) → IfSome p (AreWired wires)
+    → AllStand asks p (record { here = here; counts = c; waits = c.waits; most = most; clean = clean; wires = wires }) slots p c
+all_start asks slots p c here most wires clean size waiting spoken idle wired = record {
   size = size;
   grow = grow_start c;
   waits = omega arith;
@@ -43,7 +49,10 @@ all_start asks slots p c here most clean size waiting spoken idle = record {
   told = told_start (λ x. start);
   calls = told_start (λ x. start);
   spoken = spoken;
-  idle = λ e i a at got. idle e i;
+  idle = λ e i a at got. (idle e).idle i a at;
+  apart = λ e. (idle e).apart;
+  tells = λ e i a slot at got. subst (λ x. SlotTells a x p c) (sym (waiting i slot got)) tt;
+  wired = λ e. wired;
   plays = λ i a slot at got. subst (λ x. SlotPlays i a x) (sym (waiting i slot got)) tt;
   ends = λ i a slot at got. subst (λ x. SlotEnds i x p p) (sym (waiting i slot got)) (λ h. h);
   counted = λ i a slot at got. subst (λ x. SlotCounted a c most x p c) (sym (waiting i slot got)) tt;
@@ -59,17 +68,20 @@ told_of None (Some y) R S told so = absurd told.so
 told_of (Some x) (Some y) R S told so = record { so = so x y refl refl }
 
 -- the journal before a clean run
-clean_speaks : (p : Option (List Entry)) (c : Counts) (x : List Entry) → p ≡ Some x → IsClean x → SpeaksWhole p c
-clean_speaks p c x st h = λ none. subst (λ j. IfSome j IsWhole) (sym st) h.whole
+clean_speaks : (asks : List Ask) (p : Option (List Entry)) (c : Counts) (x : List Entry) → p ≡ Some x → IsClean asks x → SpeaksWhole p c
+clean_speaks asks p c x st h = λ none. subst (λ j. IfSome j IsWhole) (sym st) h.whole
 
-clean_idle : (p : Option (List Entry)) (x : List Entry) → p ≡ Some x → IsClean x → (n : ℕ) → IsIdle n p
-clean_idle p x st h n = subst (IsIdle n) (sym st) (record { childless = h.childless n; portless = h.portless n })
+clean_idle : (asks : List Ask) (p : Option (List Entry)) (x : List Entry) → p ≡ Some x → IsClean asks x → AreIdle asks p
+clean_idle asks p x st h = record {
+  idle = λ i a at. subst (IsIdle i a) (sym st) (record { childless = h.childless i; portless = h.portless i; lacks = h.lacks i a at });
+  apart = h.apart;
+}
 
 -- the calls of a run, by how it stands at its end where it began so
 pub run_calls : (asks : List Ask) (here : List ℕ) (p q : Option (List Entry)) (c : Counts) → Told p q Extends
-    → ((clean : Bool) → (clean ≡ true → SpeaksWhole p c) → (clean ≡ true → (n : ℕ) → IsIdle n p) → Told p q (CallsOfJobs asks here clean)) → Told p q (CallsOfRun asks here)
+    → ((clean : Bool) → (clean ≡ true → SpeaksWhole p c) → (clean ≡ true → AreIdle asks p) → Told p q (CallsOfJobs asks here clean)) → Told p q (CallsOfRun asks here)
 run_calls asks here p q c told calls = told_of p q Extends (CallsOfRun asks here) told (λ x y st f clean begins.
-    told_at p q (CallsOfJobs asks here clean) x y (calls clean (λ e. clean_speaks p c x st (begins e)) (λ e. clean_idle p x st (begins e))) st f)
+    told_at p q (CallsOfJobs asks here clean) x y (calls clean (λ e. clean_speaks asks p c x st (begins e)) (λ e. clean_idle asks p x st (begins e))) st f)
 
 -- ---- the end
 

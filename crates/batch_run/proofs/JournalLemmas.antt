@@ -1,6 +1,6 @@
 -- What is told of journals and paths.
 use Rattle.std.proofs.Common.{◌≡◌, ◌≢◌, ◌↔◌, ◌^◌, ◌-◌, min, ℕ, ◌+◌, ◌<◌, ◌≤◌, ◌++◌, Bool, false, List, [], ◌∷◌, length, Option, Some, None, Result, Ok, Err, arith, refl, sym, ◌∙◌, ap, subst, suc, zero}
-use Rattle.std.specs.Prelude.{slice_get, IfSome}
+use Rattle.std.specs.Prelude.{slice_get}
 use Rattle.world.specs.declared.entry.Entry.{Entry}
 use Rattle.world.specs.declared.entry.Entry.TheVariants as made
 use Rattle.world.specs.Counts.{Counts, CountsGrow, Rose}
@@ -49,15 +49,6 @@ pub told_at : (p q : Option (List Entry)) (R : List Entry → List Entry → Typ
 told_at p q R x y told e f =
     let back = told_back p q R y told f in
     subst (λ w. R w y) (some_is (sym back.1 ∙ e)) back.2
-
--- the journal, or none
-abbrev pub or_none : Option (List Entry) → List Entry
-or_none None = []
-or_none (Some x) = x
-
-pub at_start : (P : List Entry → Type 0) (p : Option (List Entry)) → IfSome p (Since P (or_none p))
-at_start P None = tt
-at_start P (Some x) = start
 
 -- ---- paths that no entry touches
 

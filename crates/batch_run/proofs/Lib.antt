@@ -5,3 +5,5 @@ pub mod JournalLemmas
 pub mod LineLemmas
 pub mod SlotLemmas
 pub mod StandLemmas
+pub mod JobStandLemmas
+pub mod WireLemmas

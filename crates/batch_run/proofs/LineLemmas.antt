@@ -5,9 +5,9 @@ use Rattle.std.proofs.Math.Nat.{mul-div-le, lt-div-mul-add}
 use Rattle.std.proofs.lemmas.Bool.{cases_eq, cases_lt, eq-eqb, ne_eqb, false≢true}
 use Rattle.std.proofs.lemmas.List.{length-set}
 use Rattle.std.proofs.lemmas.Option.{slice_get_within}
-use Rattle.world.specs.declared.chan.Chan.{Chan}
 use Rattle.world.specs.declared.chan.Chan.TheVariants.{Shell, Control, Iopub, Heart}
 use Rattle.world.specs.Places.{chan_number, place_of, is_at}
+use Rattle.world.proofs.StatusLemmas.{chan_below}
 use Rattle.ready_loop.specs.declared.fault.LoopFault.{LoopFault}
 use Rattle.ready_loop.specs.declared.fault.LoopFault.TheVariants.{NetFault, Spent}
 use Rattle.ready_loop.specs.declared.link.Link.{Link}
@@ -40,12 +40,6 @@ or_other false b e f = f
 
 -- ---- places
 
-chan_less : (c : Chan) → chan_number c < 4
-chan_less Shell = omega arith
-chan_less Control = omega arith
-chan_less Iopub = omega arith
-chan_less Heart = omega arith
-
 -- the four places of a job are of it
 pub of_job : (job p : ℕ) → 4 * job ≤ p → p < 4 * job + 4 → is_of_job job p ≡ true
 of_job job p low high =
@@ -75,7 +69,7 @@ of_none job p n0 n1 n2 n3 =
     or_none h (i || (c || s)) (ne_eqb p (4 * job + 3) n3)
     (or_none i (c || s) (ne_eqb p (4 * job + 2) n2) (or_none c s (ne_eqb p (4 * job + 1) n1) (ne_eqb p (4 * job + 0) z)))
 
-of_before : (job p : ℕ) → p < 4 * job → is_of_job job p ≡ false
+pub of_before : (job p : ℕ) → p < 4 * job → is_of_job job p ≡ false
 of_before job p low =
     let a : p ≢ 4 * job = λ e. omega (arith, e, low) in
     let b : p ≢ 4 * job + 1 = λ e. omega (arith, e, low) in
@@ -83,7 +77,7 @@ of_before job p low =
     let d : p ≢ 4 * job + 3 = λ e. omega (arith, e, low) in
     of_none job p a b c d
 
-of_after : (job p : ℕ) → 4 * (job + 1) ≤ p → is_of_job job p ≡ false
+pub of_after : (job p : ℕ) → 4 * (job + 1) ≤ p → is_of_job job p ≡ false
 of_after job p high =
     let a : p ≢ 4 * job = λ e. omega (arith, e, high) in
     let b : p ≢ 4 * job + 1 = λ e. omega (arith, e, high) in
@@ -164,7 +158,7 @@ pub lost_fault : {T : Type 0} (f : LoopFault) {old new : Loop} {lost then : List
 lost_fault (NetFault (Some conn)) {old = old} {then = then} fails notes are = record {
   each = λ p job low from to bad. elim (cases_eq p (place_of conn)) [
     | inl e ↦
-        let less : chan_number conn.chan < 4 = chan_less conn.chan in
+        let less : chan_number conn.chan < 4 = chan_below conn.chan in
         let same : conn.job ≡ job = omega (arith, e, less, from, to) in
         let few : conn.job < 16 = omega (arith, e, low) in
         subst (λ j. slice_get then j ≡ Some true) same (notes.marks conn refl few)

@@ -1,6 +1,6 @@
 -- Lists of jobs, one after another.
-use Rattle.std.proofs.Common.{◌≡◌, ◌≢◌, inl, inr, ℕ, ◌+◌, ◌<◌, ◌≤◌, ◌++◌, List, [], ◌∷◌, length, get_or, set, Some, Bool, true, Result, Ok, arith, refl, sym, ◌∙◌, ap, subst, suc, zero}
-use Rattle.std.specs.Prelude.{slice_get, IfOk}
+use Rattle.std.proofs.Common.{◌≡◌, ◌≢◌, inl, inr, ℕ, ◌+◌, ◌<◌, ◌≤◌, ◌++◌, List, [], ◌∷◌, length, get_or, set, Some, Bool, true, Result, Ok, arith, refl, sym, ◌∙◌, ap, subst, suc, zero, Option, None, Err}
+use Rattle.std.specs.Prelude.{slice_get, IfOk, IfSome}
 use Rattle.std.proofs.lemmas.Bool.{cases_eq}
 use Rattle.std.proofs.lemmas.Option.{slice_get_within}
 use Rattle.ready_loop.proofs.TableLemmas.{some_is, slice_get-set_other}
@@ -123,3 +123,8 @@ one_of fault.Spent e = absurd (cc)
 
 pub goes_on_by : {E : Type 0} (r : Result Bool E) (f : Fault) (b : Bool) → r ≡ Ok b → b ≡ true → IfOk r (λ x. x ≡ goes_on f) → goes_on f ≡ true
 goes_on_by r f b is on h = sym (subst (λ q. IfOk q (λ x. x ≡ goes_on f)) is h) ∙ on
+
+-- where nothing is wanted
+pub none_wanted : {A E : Type 0} (r : Result (Option A) E) (P : A → Type 0) → IfOk r (λ o. o ≡ None) → IfOk r (λ o. IfSome o P)
+none_wanted (Ok o) P none = subst (λ x. IfSome x P) (sym none) tt
+none_wanted (Err e) P none = tt

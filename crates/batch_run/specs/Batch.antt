@@ -1,10 +1,12 @@
 -- What a run makes of its jobs' outputs. A journal has its newest entry first.
-use Rattle.std.specs.Prelude.{◌≡◌, ◌≢◌, ◌⊎◌, ◌≤◌, ◌+◌, ◌-◌, ◌^◌, min, ℕ, List, ◌∷◌, ◌++◌, Bool, true, false, Option, Some, None, IfSome, Result, Ok, Err, slice_get}
+use Rattle.std.specs.Prelude.{◌≡◌, ◌≢◌, ◌⊎◌, ◌≤◌, ◌+◌, ◌-◌, ◌^◌, min, ℕ, List, [], ◌∷◌, ◌++◌, Bool, true, false, Option, Some, None, IfSome, Result, Ok, Err, slice_get}
 use Rattle.nb_model.specs.declared.notebook.Notebook.{Notebook}
 use Rattle.nb_load.specs.Loaded.{Accepts}
 use Rattle.words.specs.declared.ask.Ask.{Ask}
 use Rattle.world.specs.declared.entry.Entry.{Entry}
+use Rattle.world.specs.declared.conn.Conn.{Conn}
 use Rattle.world.specs.declared.entry.Entry.TheVariants.{Read}
+use Rattle.world.specs.declared.entry.Entry.TheVariants as made
 use Rattle.world.specs.declared.read_file.ReadFile.TheVariants as found
 use Rattle.world.specs.Counts.{Counts, CountsGrow}
 use Rattle.world.specs.Moments.{Since}
@@ -12,13 +14,15 @@ use Rattle.world.specs.Touched.{Spares}
 use Rattle.save_course.specs.Course.{IsRested}
 use Rattle.cell_core.specs.Task.{Task}
 use Rattle.job_end.specs.declared.answer.Answer.{Answer}
-use Rattle.job_saves.specs.Course.{Origin, Ends}
+use Rattle.job_saves.specs.Course.{Origin, Ends, LacksSaves}
 use Rattle.job_run.specs.Run.{EndsWith, IsOther}
+use Rattle.ready_loop.specs.Begins.{port_of}
 use Rattle.ready_loop.specs.Standing.{IsOfLoop}
 use Rattle.job_saves.specs.Calls.{Cast, IsCall}
 use Rattle.job_saves.specs.Children.{has_child, ports_of}
 use Rattle.job_saves.specs.Speaking.{IsAnswer, IsWhole}
-use Rattle.job_begin.specs.Begun.{origin_of, first_of, counted_task, IsCausedIn, IsUnread, HasKernel}
+use Rattle.job_saves.specs.Reads.{first_of}
+use Rattle.job_begin.specs.Begun.{origin_of, counted_task, IsCausedIn, IsUnread, HasKernel}
 use Rattle.job_begin.specs.Causes.{HasCause}
 
 -- the output of a job is no path of another one
@@ -93,24 +97,44 @@ LeavesOthers asks before after = (path : List ℕ) → IsNoPath asks path → Si
 abbrev pub cast_of : List Ask → List ℕ → Bool → Cast
 cast_of asks here clean = record { job = λ number. slice_get asks number; here = here; starts = true; clean = clean }
 
--- a run begins clean: what was heard ends with a whole line, no child is there, and no ports were asked for
-pub record IsClean (before : List Entry) : Type 0 where
+-- the jobs of a run begin clean: what was heard ends with a whole line, no child is there, no ports were asked for, no save of an
+-- output was acknowledged, and no job writes to the output of another one
+pub record IsClean (asks : List Ask) (before : List Entry) : Type 0 where
   pub whole : IsWhole before
   pub childless : (number : ℕ) → has_child number before ≡ false
   pub portless : (number : ℕ) → ports_of number before ≡ None
+  pub lacks : (i : ℕ) (a : Ask) → slice_get asks i ≡ Some a → LacksSaves a.output before
+  pub apart : (i : ℕ) (a : Ask) → slice_get asks i ≡ Some a → IsApart asks i a
+
+-- a port is that of a connection: of the ports that were given for its job, that of its channel
+pub record HasPort (conn : Conn) (port : ℕ) (past : List Entry) : Type 0 where
+  pub ports : List ℕ
+  pub given : ports_of conn.job past ≡ Some ports
+  pub is : port ≡ port_of ports conn.chan
+
+-- where the newest entry is a connect, it is on the port of its connection
+abbrev pub IsOnPort : List Entry → Type 0
+IsOnPort [] = ⊥
+IsOnPort (made.Connected conn port how ∷ past) = HasPort conn port past
+IsOnPort (_ ∷ past) = Unit {0}
+
+-- the newest entry is a call of the loop; where the run began clean, a connect is on the port of its connection
+pub record IsLoopCall (clean : Bool) (now : List Entry) : Type 0 where
+  pub is : IsOfLoop now
+  pub on_port : clean ≡ true → IsOnPort now
 
 -- the newest entry is a call of one of the jobs, or of the loop
 abbrev pub IsRunCall : Cast → List Entry → Type 0
-IsRunCall c now = IsCall c now ⊎ IsOfLoop now
+IsRunCall c now = IsCall c now ⊎ IsLoopCall c.clean now
 
--- so is each that was made; where the run began `clean`, each line was said whole behind whole ones, up to one that was cut, and a
--- child was started only where none was there
+-- so is each that was made; where the run began `clean`, each line was said whole behind whole ones, up to one that was cut, that of
+-- a save tells of how many cells it settles, and a child was started only where none was there
 abbrev pub CallsOfJobs : List Ask → List ℕ → Bool → List Entry → List Entry → Type 0
 CallsOfJobs asks here clean before after = Since (IsRunCall (cast_of asks here clean)) before after
 
 -- the calls of a run, which began clean or not
 abbrev pub CallsOfRun : List Ask → List ℕ → List Entry → List Entry → Type 0
-CallsOfRun asks here before after = (clean : Bool) → (clean ≡ true → IsClean before) → CallsOfJobs asks here clean before after
+CallsOfRun asks here before after = (clean : Bool) → (clean ≡ true → IsClean asks before) → CallsOfJobs asks here clean before after
 
 -- each child that was started has its end
 abbrev pub EndsChildren : List Ask → List Entry → List Entry → Type 0

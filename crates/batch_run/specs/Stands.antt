@@ -1,5 +1,5 @@
 -- How the jobs of a run stand while it lasts.
-use Rattle.std.specs.Prelude.{◌≡◌, ◌≢◌, ℕ, Bool, true, ◌+◌, ◌-◌, ◌<◌, ◌≤◌, List, [], ◌∷◌, length, Option, Some, None, Result, Ok, Err, slice_get, slice_set}
+use Rattle.std.specs.Prelude.{◌≡◌, ◌≢◌, ℕ, Bool, true, ◌+◌, ◌-◌, ◌<◌, ◌≤◌, List, [], ◌∷◌, length, Option, Some, None, Result, Ok, Err, slice_get, slice_set, IfSome}
 use Rattle.nb_model.specs.declared.notebook.Notebook.{Notebook}
 use Rattle.nb_load.specs.Loaded.{Accepts}
 use Rattle.words.specs.declared.ask.Ask.{Ask}
@@ -12,20 +12,27 @@ use Rattle.world.specs.Touched.{Spares}
 use Rattle.words.specs.Paths.{connection_of}
 use Rattle.save_course.specs.Course.{IsRested}
 use Rattle.cell_core.specs.Task.{Task}
+use Rattle.world.specs.declared.conn.Conn.{Conn}
+use Rattle.world.specs.Places.{place_of}
+use Rattle.ready_loop.specs.declared.readiness.Loop.{Loop}
+use Rattle.ready_loop.specs.Wires.{ports_in}
 use Rattle.ready_loop.specs.Offers.{Extends}
 use Rattle.job_end.specs.declared.answer.Answer.{Answer}
 use Rattle.job_notebook.specs.State.{output_of}
 use Rattle.job_saves.specs.Children.{KeepsEnd, HasEnd, AsksNone}
 use Rattle.job_saves.specs.Speaking.{IsAnswer, SpeaksWhole}
-use Rattle.job_saves.specs.Course.{Origin}
+use Rattle.job_saves.specs.Course.{Origin, LacksSaves, TellsAll}
+use Rattle.job_saves.specs.Reads.{first_of}
 use Rattle.job_run.specs.declared.job.Job.{Job}
-use Rattle.job_run.specs.Run.{Runs, RunsCounted, EndsWith, IsLost, IsSpent, number_of, outcome_of}
+use Rattle.job_run.specs.Run.{Runs, RunsCounted, EndsWith, IsLost, IsSpent, number_of, outcome_of, HasPorts}
 use Rattle.job_run.specs.Task.{task_for, task_of_job, output_of_job}
-use Rattle.job_begin.specs.Begun.{origin_of, first_of, counted_task, IsCausedIn, IsUnread, HasKernel}
+use Rattle.job_begin.specs.Begun.{origin_of, counted_task, IsCausedIn, IsUnread, HasKernel}
 use Rattle.batch_run.specs.declared.slot.Slot.{Slot}
 use Rattle.batch_run.specs.declared.slot.Slot.TheVariants.{Waiting, Running, Ended}
 use Rattle.batch_run.specs.declared.fault.Fault.{Fault}
-use Rattle.batch_run.specs.Batch.{IsApart, IsEndOf, HasWaited, CallsOfJobs}
+use Rattle.batch_run.specs.Batch.{IsApart, IsEndOf, HasWaited, CallsOfJobs, HasPort}
+use Rattle.batch_run.specs.declared.lines.Lines.{Lines}
+use Rattle.batch_run.specs.Lines.{waits_of}
 use Rattle.batch_run.specs.Kept.{FaultCause}
 
 -- what a run begins with: its working folder, the counts of its world, and whether it begins clean; and the count of waits by
@@ -36,6 +43,15 @@ pub record Outset : Type 0 where
   pub waits : ℕ
   pub most : ℕ
   pub clean : Bool
+  pub wires : List (Option ℕ)  -- the port that the loop keeps by now for each connection, by places
+
+-- the same, by what the connections of a run keep
+abbrev pub wired_by : Loop → Outset → Outset
+wired_by l from = record from { wires = ports_in l }
+
+-- each port that is kept is that of its connection
+pub record AreWired (wires : List (Option ℕ)) (past : List Entry) : Type 0 where
+  pub each : (conn : Conn) (port : ℕ) → slice_get wires (place_of conn) ≡ Some (Some port) → HasPort conn port past
 
 -- the same, where was waited so often more
 abbrev pub more_waits : ℕ → Outset → Outset
@@ -107,10 +123,17 @@ pub data Stands (a : Ask) (from : Counts) (before past : List Entry) (counts : C
       → SlotKernel a (first_of a n) slot (Read a.input 33554432 (found.Whole bytes) ∷ begin) past
       → SlotRuns (origin_of a n begin then) (counted_task a (first_of a n)) slot (Some past) counts → Stands a from before past counts slot
 
--- a job that has not begun has no child, and has asked for no ports
-pub record IsIdle (number : ℕ) (journal : Option (List Entry)) : Type 0 where
+-- a job that has not begun has no child, has asked for no ports, and no save of it was acknowledged
+pub record IsIdle (number : ℕ) (a : Ask) (journal : Option (List Entry)) : Type 0 where
   pub childless : HasEnd number journal
   pub portless : AsksNone number journal
+  pub lacks : IfSome journal (LacksSaves a.output)
+
+-- the saves of a job that runs were told by their lines
+abbrev pub SlotTells : Ask → Slot → Option (List Entry) → Counts → Type 0
+SlotTells a Waiting journal counts = Unit {0}
+SlotTells a (Running j) journal counts = TellsAll a j.run.book journal counts
+SlotTells a (Ended answer) journal counts = Unit {0}
 
 -- how all do, since a world was in this state
 pub record AllStand (asks : List Ask) (start : Option (List Entry)) (from : Outset) (slots : List Slot) (journal : Option (List Entry)) (counts : Counts) : Type 0 where
@@ -121,7 +144,10 @@ pub record AllStand (asks : List Ask) (start : Option (List Entry)) (from : Outs
   pub told : Told start journal Extends
   pub calls : Told start journal (CallsOfJobs asks from.here from.clean)
   pub spoken : from.clean ≡ true → SpeaksWhole journal counts
-  pub idle : from.clean ≡ true → (i : ℕ) (a : Ask) → slice_get asks i ≡ Some a → slice_get slots i ≡ Some Waiting → IsIdle i journal
+  pub idle : from.clean ≡ true → (i : ℕ) (a : Ask) → slice_get asks i ≡ Some a → slice_get slots i ≡ Some Waiting → IsIdle i a journal
+  pub apart : from.clean ≡ true → (i : ℕ) (a : Ask) → slice_get asks i ≡ Some a → IsApart asks i a
+  pub tells : from.clean ≡ true → (i : ℕ) (a : Ask) (slot : Slot) → slice_get asks i ≡ Some a → slice_get slots i ≡ Some slot → SlotTells a slot journal counts
+  pub wired : from.clean ≡ true → IfSome journal (AreWired from.wires)
   pub plays : (i : ℕ) (a : Ask) (slot : Slot) → slice_get asks i ≡ Some a → slice_get slots i ≡ Some slot → SlotPlays i a slot
   pub ends : (i : ℕ) (a : Ask) (slot : Slot) → slice_get asks i ≡ Some a → slice_get slots i ≡ Some slot → SlotEnds i slot start journal
   pub counted : (i : ℕ) (a : Ask) (slot : Slot) → slice_get asks i ≡ Some a → slice_get slots i ≡ Some slot → SlotCounted a from.counts from.most slot journal counts
@@ -147,15 +173,26 @@ abbrev pub KeepsAll : {W : Type 0} → (W → Option (List Entry)) → (W → Co
 KeepsAll journal counts old new was now = (asks : List Ask) (start : Option (List Entry)) (from : Outset)
     → AllStand asks start from was (journal old) (counts old) → AllStand asks start from now (journal new) (counts new)
 
+-- so do calls that may be of the loop, before which it was so, and then so
+abbrev pub KeepsLines : {W : Type 0} → (W → Option (List Entry)) → (W → Counts) → W → W → Loop → Loop → List Slot → List Slot → Type 0
+KeepsLines journal counts old new kept keeps was now = (asks : List Ask) (start : Option (List Entry)) (from : Outset)
+    → AllStand asks start (wired_by kept from) was (journal old) (counts old) → AllStand asks start (wired_by keeps from) now (journal new) (counts new)
+
 -- so do calls that wait as often as waits were used up, where those left are all that a run has yet
-abbrev pub KeepsWaiting : {W : Type 0} → (W → Option (List Entry)) → (W → Counts) → W → W → ℕ → ℕ → List Slot → List Slot → Type 0
-KeepsWaiting journal counts old new left rest was now = (asks : List Ask) (start : Option (List Entry)) (from : Outset)
-    → from.waits + left ≡ from.most → AllStand asks start from was (journal old) (counts old) → AllStand asks start (more_waits (left - rest) from) now (journal new) (counts new)
+abbrev pub KeepsWaiting : {W : Type 0} → (W → Option (List Entry)) → (W → Counts) → W → W → Lines → Lines → List Slot → List Slot → Type 0
+KeepsWaiting journal counts old new kept keeps was now = (asks : List Ask) (start : Option (List Entry)) (from : Outset)
+    → from.waits + waits_of kept ≡ from.most → AllStand asks start (wired_by kept.connections from) was (journal old) (counts old)
+    → AllStand asks start (wired_by keeps.connections (more_waits (waits_of kept - waits_of keeps) from)) now (journal new) (counts new)
 
 -- so does what calls nothing of the world
 abbrev pub StayAll : List Slot → List Slot → Type 0
 StayAll was now = (asks : List Ask) (start : Option (List Entry)) (from : Outset) (journal : Option (List Entry)) (counts : Counts)
     → AllStand asks start from was journal counts → AllStand asks start from now journal counts
+
+-- so does what queues something
+abbrev pub StayLines : Loop → Loop → List Slot → List Slot → Type 0
+StayLines kept keeps was now = (asks : List Ask) (start : Option (List Entry)) (from : Outset) (journal : Option (List Entry)) (counts : Counts)
+    → AllStand asks start (wired_by kept from) was journal counts → AllStand asks start (wired_by keeps from) now journal counts
 
 -- so it does where there is such a cause since the outset
 abbrev pub StayAllIf : (Outset → Counts → Type 0) → List Slot → List Slot → Type 0
@@ -175,14 +212,21 @@ abbrev pub IsFaultOf : Fault → Outset → Counts → Type 0
 IsFaultOf f from counts = FaultCause from.counts counts (IsOutOfWaits from counts) f
 
 -- so do those that touch no path
-abbrev pub KeepsEach : {W : Type 0} → (W → Option (List Entry)) → (W → Counts) → W → W → Type 0
-KeepsEach journal counts old new = (asks : List Ask) (start : Option (List Entry)) (from : Outset) (slots : List Slot)
-    → AllStand asks start from slots (journal old) (counts old) → AllStand asks start from slots (journal new) (counts new)
+abbrev pub KeepsEach : {W : Type 0} → (W → Option (List Entry)) → (W → Counts) → W → W → Loop → Loop → Type 0
+KeepsEach journal counts old new kept keeps = (asks : List Ask) (start : Option (List Entry)) (from : Outset) (slots : List Slot)
+    → AllStand asks start (wired_by kept from) slots (journal old) (counts old) → AllStand asks start (wired_by keeps from) slots (journal new) (counts new)
+
+-- so do those that begin the connections of a job, on ports that were given for it
+abbrev pub KeepsBegun : {W : Type 0} → (W → Option (List Entry)) → (W → Counts) → W → W → ℕ → List ℕ → Loop → Loop → List Slot → List Slot → Type 0
+KeepsBegun journal counts old new job ports kept keeps was now = (asks : List Ask) (start : Option (List Entry)) (from : Outset)
+    → (from.clean ≡ true → HasPorts job ports (journal old))
+    → AllStand asks start (wired_by kept from) was (journal old) (counts old) → AllStand asks start (wired_by keeps from) now (journal new) (counts new)
 
 -- and those of the loop that wait
-abbrev pub KeepsEachWaiting : {W : Type 0} → (W → Option (List Entry)) → (W → Counts) → W → W → ℕ → ℕ → Type 0
-KeepsEachWaiting journal counts old new left rest = (asks : List Ask) (start : Option (List Entry)) (from : Outset) (slots : List Slot)
-    → AllStand asks start from slots (journal old) (counts old) → AllStand asks start (more_waits (left - rest) from) slots (journal new) (counts new)
+abbrev pub KeepsEachWaiting : {W : Type 0} → (W → Option (List Entry)) → (W → Counts) → W → W → Lines → Lines → Type 0
+KeepsEachWaiting journal counts old new kept keeps = (asks : List Ask) (start : Option (List Entry)) (from : Outset) (slots : List Slot)
+    → AllStand asks start (wired_by kept.connections from) slots (journal old) (counts old)
+    → AllStand asks start (wired_by keeps.connections (more_waits (waits_of kept - waits_of keeps) from)) slots (journal new) (counts new)
 
 -- calls of the job in one slot keep all so
 abbrev pub SlotKeeps : {W : Type 0} → (W → Option (List Entry)) → (W → Counts) → W → W → Slot → Slot → Type 0
@@ -201,10 +245,11 @@ SlotStaysIf why was now = (asks : List Ask) (start : Option (List Entry)) (from 
     → why from counts → slice_get slots k ≡ Some was → AllStand asks start from slots journal counts → AllStand asks start from (slice_set slots k now) journal counts
 
 -- calls that leave the jobs as they stand: each is one of theirs or of the loop, touches no path and starts no child
-pub record PassBy (asks : List Ask) (here : List ℕ) (clean : Bool) (old new : Option (List Entry)) (was now : Counts) : Type 0 where
+pub record PassBy (asks : List Ask) (here : List ℕ) (clean : Bool) (kept wires : List (Option ℕ)) (old new : Option (List Entry)) (was now : Counts) : Type 0 where
   pub calls : Told old new (CallsOfJobs asks here clean)
   pub spoken : clean ≡ true → SpeaksWhole old was → SpeaksWhole new now
-  pub idle : (number : ℕ) → IsIdle number old → IsIdle number new
+  pub idle : (number : ℕ) (a : Ask) → IsIdle number a old → IsIdle number a new
+  pub wired : clean ≡ true → IfSome old (AreWired kept) → IfSome new (AreWired wires)
   pub spares : (path : List ℕ) → Told old new (Since (Spares path))
   pub ends : (number : ℕ) → KeepsEnd number old new
   pub grow : CountsGrow was now

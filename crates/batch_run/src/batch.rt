@@ -9,7 +9,7 @@ ghost use Rattle.world.specs.Counts.{Counts, CountsGrow};
 ghost use Rattle.batch_run.specs.Batch.{AreEnds, CallsOfRun, EndSpent, EndsChildren, LeavesOthers};
 ghost use Rattle.batch_run.specs.Batch.{MakesEach};
 ghost use Rattle.batch_run.specs.Kept.{IsFreshFrom};
-ghost use Rattle.batch_run.specs.Stands.{AllEnded, AllStand, Outset, WaitingFrom, more_waits};
+ghost use Rattle.batch_run.specs.Stands.{AllEnded, AllStand, Outset, WaitingFrom, more_waits, wired_by};
 ghost use Rattle.batch_run.specs.Lines.{waits_of};
 
 use crate::Limits;
@@ -112,9 +112,11 @@ fn carried_out<W: World>(
     ensures ended { OnOk result (AllEnded running.new.jobs.slots.items) }
     ensures stands { (start : Maybe (Plain Entry)) (from : Outset) →
         from.here ≡ limits.now.here → from.waits + waits_of running.old.lines ≡ from.most →
-        AllStand asks start from running.old.jobs.slots.items (W.journal w.old) (W.counts w.old) →
+        AllStand asks start (wired_by running.old.lines.connections from)
+        running.old.jobs.slots.items (W.journal w.old) (W.counts w.old) →
         AllStand asks start
-        (more_waits (waits_of running.old.lines - waits_of running.new.lines) from)
+        (wired_by running.new.lines.connections
+        (more_waits (waits_of running.old.lines - waits_of running.new.lines) from))
         running.new.jobs.slots.items (W.journal w.new) (W.counts w.new) }
 {
     match begin_all(w, asks, limits, running) {
@@ -141,8 +143,10 @@ fn begin_all<W: World>(
     ensures buf { running.new.buf ≡ running.old.buf }
     ensures stands { (start : Maybe (Plain Entry)) (from : Outset) →
         from.here ≡ limits.now.here →
-        AllStand asks start from running.old.jobs.slots.items (W.journal w.old) (W.counts w.old) →
-        AllStand asks start from running.new.jobs.slots.items (W.journal w.new) (W.counts w.new) }
+        AllStand asks start (wired_by running.old.lines.connections from)
+        running.old.jobs.slots.items (W.journal w.old) (W.counts w.old) →
+        AllStand asks start (wired_by running.new.lines.connections from)
+        running.new.jobs.slots.items (W.journal w.new) (W.counts w.new) }
 {
     let mut number = 0;
     for ask in asks.into_vec() {

@@ -20,8 +20,9 @@ pub(crate) struct Jobs {
 }
 
 impl Jobs {
-    ghost use Rattle.std.specs.Prelude.{◌≡◌, ◌<◌, ◌≤◌, ◌+◌, IfOk, IsTrue};
-    ghost use Rattle.std.specs.Prelude.{List as Plain, Option as Maybe, Some, length, slice_get, slice_set};
+    ghost use Rattle.std.specs.Prelude.{◌≡◌, ◌<◌, ◌≤◌, ◌+◌, IfOk, IfSome, IsTrue};
+    ghost use Rattle.job_run.specs.Run.{HasPorts};
+    ghost use Rattle.std.specs.Prelude.{List as Plain, Option as Maybe, Some, None, length, slice_get, slice_set};
     ghost use Rattle.words.specs.Runnable.{IsRunnable};
     ghost use Rattle.words.specs.declared.ask.Ask.{Ask as Asked};
     ghost use Rattle.world.specs.declared.entry.Entry.{Entry};
@@ -66,6 +67,9 @@ impl Jobs {
             slice_get asks number ≡ Some ask → from.here ≡ here.now →
             AllStand asks start from self.old.slots.items (W.journal w.old) (W.counts w.old) →
             AllStand asks start from self.new.slots.items (W.journal w.new) (W.counts w.new) }
+        // The connections that it wants are on the ports that were given for it.
+        ensures ports { IfOk result (λ o.
+            IfSome o (λ wanted. HasPorts number wanted.ports (W.journal w.new))) }
     {
         match begin(self.alloc, w, number as u8, ask, here) {
             Ok(job) => {
@@ -91,6 +95,7 @@ impl Jobs {
         ensures slots { self.new.slots.items
             ≡ slice_set self.old.slots.items number (Slot.Ended answer) }
         ensures stands { KeepsSaying W.journal W.counts w.old w.new answer }
+        ensures none { IfOk result (λ o. o ≡ None) }
     {
         let is_starved = answer.status == 12;
         say_end(w, &answer);

@@ -31,7 +31,10 @@ impl Lines {
     ghost use Rattle.batch_run.specs.Kept.{goes_on, is_fault, is_wait};
     ghost use Rattle.world.specs.Counts.{Rose};
     ghost use Rattle.batch_run.specs.Lines.{budget, reads_of, waits_of};
-    ghost use Rattle.batch_run.specs.Stands.{KeepsEach, KeepsEachWaiting};
+    ghost use Rattle.std.specs.Prelude.{List};
+    ghost use Rattle.ready_loop.specs.Wires.{ports_in};
+    ghost use Rattle.batch_run.specs.declared.slot.Slot.{Slot};
+    ghost use Rattle.batch_run.specs.Stands.{KeepsBegun, KeepsEach, KeepsEachWaiting};
 
     /// No connection, and so many waits.
     pub(crate) fn new(alloc: Global, turns: u64) -> Result<Lines, NoMemory>
@@ -55,7 +58,8 @@ impl Lines {
     ) -> Result<(), Fault>
         requires job { job < 16 }
         requires fresh { IsFreshFrom job self.old.connections }
-        ensures stands { KeepsEach W.journal W.counts w.old w.new }
+        ensures stands { (slots : List Slot) → KeepsBegun W.journal W.counts w.old w.new job
+            wanted.ports self.old.connections self.new.connections slots slots }
         ensures fresh { IsFreshFrom (job + 1) self.new.connections }
         ensures waits { waits_left self.new.connections ≡ waits_left self.old.connections }
         ensures drained { IsDrained self.old.connections → IsDrained self.new.connections }
@@ -85,6 +89,7 @@ impl Lines {
         ensures drained { IsDrained self.old.connections → IsDrained self.new.connections }
         ensures budget { budget self.new ≡ budget self.old }
         ensures left { waits_of self.new ≡ waits_of self.old }
+        ensures ports { ports_in self.new.connections ≡ ports_in self.old.connections }
     {
         self.connections.queue(conn, bytes)
     }
@@ -98,7 +103,8 @@ impl Lines {
 
     /// Puts out what is queued, and names the connections that were found ended.
     pub(crate) fn offer<W: World>(&mut self, w: &mut W) -> Result<[bool; 64], Fault>
-        ensures stands { KeepsEach W.journal W.counts w.old w.new }
+        ensures stands { KeepsEach W.journal W.counts w.old w.new self.old.connections
+            self.new.connections }
         ensures left { waits_of self.new ≡ waits_of self.old }
         ensures offered { OnOk result (IsOffered self.new.connections) }
         ensures drained { IsDrained self.old.connections → IsDrained self.new.connections }
@@ -120,8 +126,7 @@ impl Lines {
         requires drained { IsDrained self.old.connections }
         requires offered { IsOffered self.old.connections }
         requires none { NoneLost self.old.losses.jobs }
-        ensures stands { KeepsEachWaiting W.journal W.counts w.old w.new (waits_of self.old)
-            (waits_of self.new) }
+        ensures stands { KeepsEachWaiting W.journal W.counts w.old w.new self.old self.new }
         ensures left { waits_of self.new ≤ waits_of self.old }
         ensures drained { IfErr result (λ f. goes_on f ≡ true → IsDrained self.new.connections) }
         ensures budget { Falls (is_wait result) (budget self.old) (budget self.new) }
@@ -141,8 +146,7 @@ impl Lines {
         requires drained { IsDrained self.old.connections }
         requires offered { IsOffered self.old.connections }
         requires none { NoneLost self.old.losses.jobs }
-        ensures stands { KeepsEachWaiting W.journal W.counts w.old w.new (waits_of self.old)
-            (waits_of self.new) }
+        ensures stands { KeepsEachWaiting W.journal W.counts w.old w.new self.old self.new }
         ensures left { waits_of self.new ≤ waits_of self.old }
         ensures ends { IfErr result (λ f. goes_on f ≡ false) }
         ensures bound { IfOk result (λ ms. ms < 2 ^ 47) }
@@ -161,7 +165,8 @@ impl Lines {
     /// Reads one connection of those that were reported.
     pub(crate) fn next<W: World>(&mut self, w: &mut W, buf: &mut [u8]) -> Result<Next, Fault>
         requires { 0 < length buf.old }
-        ensures stands { KeepsEach W.journal W.counts w.old w.new }
+        ensures stands { KeepsEach W.journal W.counts w.old w.new self.old.connections
+            self.new.connections }
         ensures left { waits_of self.new ≡ waits_of self.old }
         ensures quiet { result ≡ Ok Quiet → IsDrained self.new.connections }
         ensures budget { Falls (is_fault result) (budget self.old) (budget self.new) }
@@ -179,7 +184,8 @@ impl Lines {
         requires { job < 16 }
         ensures drained { IsDrained self.old.connections → IsDrained self.new.connections }
         ensures offered { IsOffered self.old.connections → IsOffered self.new.connections }
-        ensures stands { KeepsEach W.journal W.counts w.old w.new }
+        ensures stands { KeepsEach W.journal W.counts w.old w.new self.old.connections
+            self.new.connections }
         ensures left { waits_of self.new ≡ waits_of self.old }
         ensures none { NoneLostBelow job self.old.losses.jobs →
             NoneLostBelow (job + 1) self.new.losses.jobs }

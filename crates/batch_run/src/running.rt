@@ -27,7 +27,8 @@ impl Running {
     ghost use Rattle.words.specs.Runnable.{IsRunnable};
     ghost use Rattle.batch_run.specs.Kept.{IsFreshFrom, NoneLost, NoneLostBelow};
     ghost use Rattle.batch_run.specs.Lines.{budget, waits_of};
-    ghost use Rattle.batch_run.specs.Stands.{AllStand, AllEnded, EndedBelow, KeepsAll, Outset};
+    ghost use Rattle.batch_run.specs.Stands.{AllStand, AllEnded, EndedBelow, KeepsBegun, KeepsLines};
+    ghost use Rattle.batch_run.specs.Stands.{Outset, wired_by};
     ghost use Rattle.batch_run.specs.Stands.{WaitingFrom, answers_of};
     ghost use Rattle.words.specs.declared.ask.Ask.{Ask as Asked};
     ghost use Rattle.world.specs.declared.entry.Entry.{Entry};
@@ -64,9 +65,10 @@ impl Running {
         ensures waiting { OnOk result (WaitingFrom (number + 1) self.new.jobs.slots.items) }
         ensures stands { (asks : Plain Asked) (start : Maybe (Plain Entry)) (from : Outset) →
             slice_get asks number ≡ Some ask → from.here ≡ here.now →
-            AllStand asks start from self.old.jobs.slots.items (W.journal w.old) (W.counts w.old)
-            → AllStand asks start from self.new.jobs.slots.items (W.journal w.new)
-            (W.counts w.new) }
+            AllStand asks start (wired_by self.old.lines.connections from)
+            self.old.jobs.slots.items (W.journal w.old) (W.counts w.old) →
+            AllStand asks start (wired_by self.new.lines.connections from)
+            self.new.jobs.slots.items (W.journal w.new) (W.counts w.new) }
         ensures size { length self.new.jobs.slots.items ≡ length self.old.jobs.slots.items }
         ensures fresh { OnOk result (IsFreshFrom (number + 1) self.new.lines.connections) }
         ensures drained { IsDrained self.old.lines.connections →
@@ -89,7 +91,8 @@ impl Running {
         requires fresh { IsFreshFrom number self.old.lines.connections }
         requires waiting { WaitingFrom (number + 1) self.old.jobs.slots.items }
         ensures waiting { WaitingFrom (number + 1) self.new.jobs.slots.items }
-        ensures stands { KeepsAll W.journal W.counts w.old w.new self.old.jobs.slots.items
+        ensures stands { KeepsBegun W.journal W.counts w.old w.new number wanted.ports
+            self.old.lines.connections self.new.lines.connections self.old.jobs.slots.items
             self.new.jobs.slots.items }
         ensures size { length self.new.jobs.slots.items ≡ length self.old.jobs.slots.items }
         ensures fresh { IsFreshFrom (number + 1) self.new.lines.connections }
@@ -114,8 +117,8 @@ impl Running {
         ensures none { NoneLost self.new.lines.losses.jobs }
         ensures budget { budget self.new.lines ≡ budget self.old.lines }
         ensures buf { self.new.buf ≡ self.old.buf }
-        ensures stands { KeepsAll W.journal W.counts w.old w.new self.old.jobs.slots.items
-            self.new.jobs.slots.items }
+        ensures stands { KeepsLines W.journal W.counts w.old w.new self.old.lines.connections
+            self.new.lines.connections self.old.jobs.slots.items self.new.jobs.slots.items }
         ensures left { waits_of self.new.lines ≡ waits_of self.old.lines }
     {
         for number in 0..16u8 {
@@ -133,8 +136,8 @@ impl Running {
             NoneLostBelow (number + 1) self.new.lines.losses.jobs }
         ensures budget { budget self.new.lines ≡ budget self.old.lines }
         ensures buf { self.new.buf ≡ self.old.buf }
-        ensures stands { KeepsAll W.journal W.counts w.old w.new self.old.jobs.slots.items
-            self.new.jobs.slots.items }
+        ensures stands { KeepsLines W.journal W.counts w.old w.new self.old.lines.connections
+            self.new.lines.connections self.old.jobs.slots.items self.new.jobs.slots.items }
         ensures left { waits_of self.new.lines ≡ waits_of self.old.lines }
     {
         if self.lines.losses.has(number) {
@@ -149,8 +152,8 @@ impl Running {
     /// Does so with each job, as no job can go on.
     pub(crate) fn retire_all<W: World>(&mut self, w: &mut W)
         ensures buf { self.new.buf ≡ self.old.buf }
-        ensures stands { KeepsAll W.journal W.counts w.old w.new self.old.jobs.slots.items
-            self.new.jobs.slots.items }
+        ensures stands { KeepsLines W.journal W.counts w.old w.new self.old.lines.connections
+            self.new.lines.connections self.old.jobs.slots.items self.new.jobs.slots.items }
         ensures left { waits_of self.new.lines ≡ waits_of self.old.lines }
         ensures ended { AllEnded self.new.jobs.slots.items }
     {
@@ -169,8 +172,8 @@ impl Running {
             NoneLostBelow (number + 1) self.new.lines.losses.jobs }
         ensures budget { budget self.new.lines ≡ budget self.old.lines }
         ensures buf { self.new.buf ≡ self.old.buf }
-        ensures stands { KeepsAll W.journal W.counts w.old w.new self.old.jobs.slots.items
-            self.new.jobs.slots.items }
+        ensures stands { KeepsLines W.journal W.counts w.old w.new self.old.lines.connections
+            self.new.lines.connections self.old.jobs.slots.items self.new.jobs.slots.items }
         ensures left { waits_of self.new.lines ≡ waits_of self.old.lines }
         ensures size { length self.new.jobs.slots.items ≡ length self.old.jobs.slots.items }
         ensures ended { EndedBelow number self.old.jobs.slots.items →
@@ -184,8 +187,8 @@ impl Running {
     pub(crate) fn abandon<W: World>(&mut self, w: &mut W)
         ensures ended { AllEnded self.new.jobs.slots.items }
         ensures left { waits_of self.new.lines ≡ waits_of self.old.lines }
-        ensures stands { KeepsAll W.journal W.counts w.old w.new self.old.jobs.slots.items
-            self.new.jobs.slots.items }
+        ensures stands { KeepsLines W.journal W.counts w.old w.new self.old.lines.connections
+            self.new.lines.connections self.old.jobs.slots.items self.new.jobs.slots.items }
     {
         for number in 0..self.jobs.len() {
             self.lines.close(w, number as u8);

@@ -17,15 +17,16 @@ impl Running {
     ghost use Rattle.batch_run.specs.Kept.{Falls, NoneLost, goes_on};
     ghost use Rattle.batch_run.specs.Lines.{budget, reads_of, waits_of};
     ghost use Rattle.batch_run.specs.Stands.{AllEnded, ChangesOne, KeepsAll, KeepsOthers};
-    ghost use Rattle.batch_run.specs.Stands.{IsFaultOf, KeepsWaiting, StayAll, StayAllIf};
+    ghost use Rattle.batch_run.specs.Stands.{IsFaultOf, KeepsLines, KeepsWaiting, StayAll};
+    ghost use Rattle.batch_run.specs.Stands.{StayAllIf, StayLines};
     ghost use Rattle.batch_run.specs.declared.fault.Fault.TheVariants.{OfJob};
 
     /// Turn after turn, until each job has ended.
     pub(crate) fn run<W: World>(&mut self, w: &mut W) -> Result<(), NoMemory>
         requires drained { IsDrained self.old.lines.connections }
         requires room { 0 < length self.old.buf.items }
-        ensures stands { KeepsWaiting W.journal W.counts w.old w.new (waits_of self.old.lines)
-            (waits_of self.new.lines) self.old.jobs.slots.items self.new.jobs.slots.items }
+        ensures stands { KeepsWaiting W.journal W.counts w.old w.new self.old.lines self.new.lines
+            self.old.jobs.slots.items self.new.jobs.slots.items }
         ensures left { waits_of self.new.lines ≤ waits_of self.old.lines }
         ensures ended { OnOk result (AllEnded self.new.jobs.slots.items) }
     {
@@ -41,8 +42,8 @@ impl Running {
         ensures drained { result ≡ Ok true → IsDrained self.new.lines.connections }
         ensures room { 0 < length self.new.buf.items }
         ensures budget { result ≡ Ok true → budget self.new.lines < budget self.old.lines }
-        ensures stands { KeepsWaiting W.journal W.counts w.old w.new (waits_of self.old.lines)
-            (waits_of self.new.lines) self.old.jobs.slots.items self.new.jobs.slots.items }
+        ensures stands { KeepsWaiting W.journal W.counts w.old w.new self.old.lines self.new.lines
+            self.old.jobs.slots.items self.new.jobs.slots.items }
         ensures left { waits_of self.new.lines ≤ waits_of self.old.lines }
         ensures ended { result ≡ Ok false → AllEnded self.new.jobs.slots.items }
     {
@@ -71,8 +72,8 @@ impl Running {
         ensures drained { result ≡ Ok true → IsDrained self.new.lines.connections }
         ensures room { 0 < length self.new.buf.items }
         ensures budget { result ≡ Ok true → budget self.new.lines < budget self.old.lines }
-        ensures stands { KeepsWaiting W.journal W.counts w.old w.new (waits_of self.old.lines)
-            (waits_of self.new.lines) self.old.jobs.slots.items self.new.jobs.slots.items }
+        ensures stands { KeepsWaiting W.journal W.counts w.old w.new self.old.lines self.new.lines
+            self.old.jobs.slots.items self.new.jobs.slots.items }
         ensures left { waits_of self.new.lines ≤ waits_of self.old.lines }
     {
         let looks = self.looks();
@@ -90,8 +91,8 @@ impl Running {
             IsDrained self.new.lines.connections }
         ensures buf { self.new.buf ≡ self.old.buf }
         ensures budget { Falls false (budget self.old.lines) (budget self.new.lines) }
-        ensures stands { KeepsAll W.journal W.counts w.old w.new self.old.jobs.slots.items
-            self.new.jobs.slots.items }
+        ensures stands { KeepsLines W.journal W.counts w.old w.new self.old.lines.connections
+            self.new.lines.connections self.old.jobs.slots.items self.new.jobs.slots.items }
         ensures left { waits_of self.new.lines ≡ waits_of self.old.lines }
     {
         loop {
@@ -115,7 +116,8 @@ impl Running {
             IsDrained self.new.lines.connections }
         ensures buf { self.new.buf ≡ self.old.buf }
         ensures budget { budget self.new.lines ≡ budget self.old.lines }
-        ensures stands { StayAll self.old.jobs.slots.items self.new.jobs.slots.items }
+        ensures stands { StayLines self.old.lines.connections self.new.lines.connections
+            self.old.jobs.slots.items self.new.jobs.slots.items }
         ensures left { waits_of self.new.lines ≡ waits_of self.old.lines }
     {
         for number in 0..self.jobs.len() {
@@ -130,7 +132,8 @@ impl Running {
             IsDrained self.new.lines.connections }
         ensures buf { self.new.buf ≡ self.old.buf }
         ensures budget { budget self.new.lines ≡ budget self.old.lines }
-        ensures stands { StayAll self.old.jobs.slots.items self.new.jobs.slots.items }
+        ensures stands { StayLines self.old.lines.connections self.new.lines.connections
+            self.old.jobs.slots.items self.new.jobs.slots.items }
         ensures left { waits_of self.new.lines ≡ waits_of self.old.lines }
     {
         for chan in CHANS {
@@ -145,7 +148,8 @@ impl Running {
             IsDrained self.new.lines.connections }
         ensures buf { self.new.buf ≡ self.old.buf }
         ensures budget { budget self.new.lines ≡ budget self.old.lines }
-        ensures stands { StayAll self.old.jobs.slots.items self.new.jobs.slots.items }
+        ensures stands { StayLines self.old.lines.connections self.new.lines.connections
+            self.old.jobs.slots.items self.new.jobs.slots.items }
         ensures left { waits_of self.new.lines ≡ waits_of self.old.lines }
     {
         if !self.lines.takes(conn) {
@@ -200,8 +204,8 @@ impl Running {
         ensures drained { result ≡ Ok true → IsDrained self.new.lines.connections }
         ensures room { 0 < length self.new.buf.items }
         ensures budget { result ≡ Ok true → budget self.new.lines < budget self.old.lines }
-        ensures stands { KeepsWaiting W.journal W.counts w.old w.new (waits_of self.old.lines)
-            (waits_of self.new.lines) self.old.jobs.slots.items self.new.jobs.slots.items }
+        ensures stands { KeepsWaiting W.journal W.counts w.old w.new self.old.lines self.new.lines
+            self.old.jobs.slots.items self.new.jobs.slots.items }
         ensures left { waits_of self.new.lines ≤ waits_of self.old.lines }
     {
         match self.lines.look(w, looks) {
@@ -224,8 +228,8 @@ impl Running {
         ensures drained { result ≡ Ok true → IsDrained self.new.lines.connections }
         ensures room { 0 < length self.new.buf.items }
         ensures budget { result ≡ Ok true → budget self.new.lines < budget self.old.lines }
-        ensures stands { KeepsWaiting W.journal W.counts w.old w.new (waits_of self.old.lines)
-            (waits_of self.new.lines) self.old.jobs.slots.items self.new.jobs.slots.items }
+        ensures stands { KeepsWaiting W.journal W.counts w.old w.new self.old.lines self.new.lines
+            self.old.jobs.slots.items self.new.jobs.slots.items }
         ensures left { waits_of self.new.lines ≤ waits_of self.old.lines }
     {
         let due = self.jobs.due();
@@ -270,8 +274,8 @@ impl Running {
         ensures drained { result ≡ Ok true → IsDrained self.new.lines.connections }
         ensures room { 0 < length self.new.buf.items }
         ensures budget { Falls false (budget self.old.lines) (budget self.new.lines) }
-        ensures stands { KeepsAll W.journal W.counts w.old w.new self.old.jobs.slots.items
-            self.new.jobs.slots.items }
+        ensures stands { KeepsLines W.journal W.counts w.old w.new self.old.lines.connections
+            self.new.lines.connections self.old.jobs.slots.items self.new.jobs.slots.items }
         ensures left { waits_of self.new.lines ≡ waits_of self.old.lines }
     {
         loop {
@@ -290,8 +294,8 @@ impl Running {
         ensures drained { result ≡ Ok (Some true) → IsDrained self.new.lines.connections }
         ensures room { 0 < length self.new.buf.items }
         ensures budget { Falls false (budget self.old.lines) (budget self.new.lines) }
-        ensures stands { KeepsAll W.journal W.counts w.old w.new self.old.jobs.slots.items
-            self.new.jobs.slots.items }
+        ensures stands { KeepsLines W.journal W.counts w.old w.new self.old.lines.connections
+            self.new.lines.connections self.old.jobs.slots.items self.new.jobs.slots.items }
         ensures left { waits_of self.new.lines ≡ waits_of self.old.lines }
         ensures reads { result ≡ Ok None → reads_of self.new.lines < reads_of self.old.lines }
         ensures one { result ≡ Ok None →

@@ -1,6 +1,6 @@
 -- What the steps of a job's begin make together.
 use Rattle.std.proofs.Common.{◌≡◌, inl, inr, ℕ, Bool, true, false, List, [], ◌∷◌, ◌++◌, length, Option, Some, None, Result, Ok, Err, refl, sym, ap, subst, ◌∙◌, arith, length-append}
-use Rattle.std.specs.Prelude.{IfSome, IfOk, IfErr}
+use Rattle.std.specs.Prelude.{IfSome, IfOk, IfErr, if◌then◌else◌}
 use Rattle.nb_model.specs.declared.notebook.Notebook.{Notebook}
 use Rattle.nb_model.specs.Prepared.{prepared_notebook}
 use Rattle.words.specs.declared.ask.Ask.{Ask}
@@ -23,10 +23,10 @@ use Rattle.job_end.specs.declared.end.End.{End}
 use Rattle.job_end.specs.declared.end.End.TheVariants as end
 use Rattle.job_end.specs.Answers.{Answers, said, starved}
 use Rattle.job_end.specs.Statuses.{status_of}
-use Rattle.job_saves.specs.Course.{Origin, IsFor, IsSaved, HasSaved, HasCalled, HasPart, CountsWork, Begins, Ends, keeps_open}
+use Rattle.job_saves.specs.Course.{Origin, IsFor, IsSaved, HasSaved, HasCalled, LacksSaves, HasOnlyRead, CountsWork, Begins, Ends, keeps_open}
 use Rattle.job_saves.specs.Calls.{Cast, IsCallBy, IsCall}
 use Rattle.job_saves.specs.Children.{KeepsEnd, AsksNone}
-use Rattle.job_saves.specs.Reads.{IsInputOf, IsNotebookOf, IsKernelOf}
+use Rattle.job_saves.specs.Reads.{IsInputOf, IsFirstOf, IsNotebookOf, IsKernelOf, first_of}
 use Rattle.job_saves.proofs.ChildLemmas.{told_keeps_end}
 use Rattle.job_saves.proofs.KeptLemmas.{part_quiet, part_keeps_end, part_asks_none}
 use Rattle.job_saves.proofs.ReadLemmas.{notebook_later}
@@ -37,11 +37,11 @@ use Rattle.job_saves.proofs.CourseLemmas.{told_as, told_on, calls_on, begins_pas
 use Rattle.job_run.specs.declared.job.Job.{Job}
 use Rattle.cell_core.specs.Task.{Task}
 use Rattle.job_run.proofs.TurnLemmas.{new_passes, begins_rested}
-use Rattle.job_run.specs.Run.{StartsAs, BeginsAs, BeginsNew, Runs, IsUnsaved, IsCastAs, HasNoChild, HasNoPorts, StartsInRole, HasRole}
+use Rattle.job_run.specs.Run.{StartsAs, BeginsAs, BeginsNew, Runs, IsUnsaved, IsCastAs, HasNoChild, HasNoPorts, HasNoSave, OnlyReads, StartsInRole, HasRole}
 use Rattle.job_begin.specs.Causes.{HasCause}
 use Rattle.job_begin.proofs.CountLemmas.{answer_counts}
 use Rattle.job_begin.specs.Steps.{EndsCounted}
-use Rattle.job_begin.specs.Begun.{counted_task, Begun, with_notebook, HasRead, AnswersAs, BeginsWith, FindsKernel, IsOpen, origin_of, first_of}
+use Rattle.job_begin.specs.Begun.{counted_task, Begun, with_notebook, HasRead, AnswersAs, BeginsWith, FindsKernel, IsOpen, origin_of}
 
 -- ---- an end without a save
 
@@ -57,9 +57,22 @@ end_unsaved o e j c unsaved s = subst (λ b. Ends o b j c) (sym unsaved) (record
 pub for_book : (a : Ask) (b : JobNotebook) (n : Notebook) (o : Origin) → output_of b ≡ a.output → merge_of b ≡ a.merge → IsFor a.output a.merge n o → IsFor (output_of b) (merge_of b) n o
 for_book a b n o output merge for = record { output_is = for.output_is ∙ sym output; merge_is = for.merge_is ∙ sym merge; first_is = for.first_is }
 
-pub part_by : (a : Ask) (b : JobNotebook) (cast : Cast) (number : ℕ) (since : List Entry) (from : Counts) (j : Option (List Entry)) (c : Counts) → output_of b ≡ a.output
-    → cast.job number ≡ Some a → HasCalled cast since from j c → HasPart cast since from b j c
-part_by a b cast number since from j c output has so = record { number = number; ask = a; has = has; output = output; so = so }
+-- the notebook that a job saves first, by what it has read
+read_first : (a : Ask) (n : Notebook) (past : List Entry) → a.prepare ≡ true → IsInputOf a past n → IsFirstOf a past n
+read_first a n past saves input = record { given = n; input = input; is = sym (ap (λ b. if b then n else prepared_notebook n) saves) }
+
+pub only_given : (a : Ask) (n : Notebook) (j : Option (List Entry)) → a.prepare ≡ true → IfSome j (λ past. IsInputOf a past n) → IfSome j (LacksSaves a.output)
+    → IfSome j (HasOnlyRead a n)
+only_given a n None saves input lacks = tt
+only_given a n (Some past) saves input lacks = record { own = read_first a n past saves input; lacks = lacks }
+
+prepared_first : (a : Ask) (n : Notebook) (past : List Entry) → a.prepare ≡ false → IsNotebookOf a past n → IsFirstOf a past n
+prepared_first a n past runs own = record { given = own.given; input = own.input; is = own.is ∙ sym (ap (λ b. if b then own.given else prepared_notebook own.given) runs) }
+
+pub only_prepared : (a : Ask) (n : Notebook) (j : Option (List Entry)) → a.prepare ≡ false → IfSome j (λ past. IsNotebookOf a past n) → IfSome j (LacksSaves a.output)
+    → IfSome j (HasOnlyRead a n)
+only_prepared a n None runs own lacks = tt
+only_prepared a n (Some past) runs own lacks = record { own = prepared_first a n past runs own; lacks = lacks }
 
 -- ---- calls add to the journal
 
@@ -91,14 +104,15 @@ sole_calls a here starts since j c held = record { told = held; counts_work = wo
 
 module _ {E : Type 0} (a : Ask) (number : ℕ) (here : List ℕ) (result : Result Job E) (c d : Counts) where
   abbrev Calls : Option (List Entry) → Option (List Entry) → Type 0
-  Calls j k = (cast : Cast) (since : List Entry) (from : Counts) → IsCastAs cast number a here → HasNoChild cast number j → HasNoPorts cast number j → HasCalled cast since from j c
+  Calls j k = (cast : Cast) (since : List Entry) (from : Counts) → IsCastAs cast number a here → HasNoChild cast number j → HasNoPorts cast number j → HasNoSave cast a j
+      → HasCalled cast since from j c
       → StartsInRole cast since from result k d
 
   pub told_appends : (j k : Option (List Entry)) → Calls j k → Told j k Appends
   told_appends j k calls =
       let cast : Cast = sole a here true in
       told_adds (told_by (IsCall cast) j k (λ since held.
-      (called cast since c result k d (calls cast since c (record { has = refl; folder = refl; starts = refl }) (λ e. absurd (cc)) (λ e. absurd (cc)) (sole_calls a here true since j c held))).told))
+      (called cast since c result k d (calls cast since c (record { has = refl; folder = refl; starts = refl }) (λ e. absurd (cc)) (λ e. absurd (cc)) (λ e. absurd (cc)) (sole_calls a here true since j c held))).told))
     where
       told_adds : {i m : Option (List Entry)} {P : List Entry → Type 0} → Told i m (Since P) → Told i m Appends
       told_adds told = moments_as told (λ x y s. appends s)
@@ -106,12 +120,12 @@ module _ {E : Type 0} (a : Ask) (number : ℕ) (here : List ℕ) (result : Resul
 -- ---- children
 
 -- calls of a job that start none
-pub none_started_in : (a : Ask) (n : ℕ) (j k : Option (List Entry)) (c d : Counts)
-    → ((cast : Cast) (number : ℕ) (since : List Entry) (from : Counts) → cast.job number ≡ Some a → HasCalled cast since from j c → HasCalled cast since from k d)
+pub none_started_in : (a : Ask) (first : Notebook) (n : ℕ) (j k : Option (List Entry)) (c d : Counts)
+    → ((cast : Cast) (number : ℕ) (since : List Entry) (from : Counts) → cast.job number ≡ Some a → OnlyReads cast a first j → HasCalled cast since from j c → HasCalled cast since from k d)
     → KeepsEnd n j k
-none_started_in a n j k c d calls =
+none_started_in a first n j k c d calls =
     let cast : Cast = sole a [] false in
-    told_keeps_end cast n (λ number b has starts. absurd (cc)) j k (told_by (IsCall cast) j k (λ since held. (calls cast 0 since c refl (sole_calls a [] false since j c held)).told))
+    told_keeps_end cast n (λ number b has starts. absurd (cc)) j k (told_by (IsCall cast) j k (λ since held. (calls cast 0 since c refl (λ e. absurd (cc)) (sole_calls a [] false since j c held)).told))
 
 -- calls of the disk alone
 pub disk_keeps_end : (n : ℕ) (j k : Option (List Entry)) → Told j k (Since (IsOf OnDisk)) → KeepsEnd n j k

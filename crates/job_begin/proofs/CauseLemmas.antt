@@ -1,7 +1,8 @@
 -- The causes of ends, by the counts.
-use Rattle.std.proofs.Common.{◌≡◌, ◌⊎◌, ℕ, ◌≤◌, List, Bool, true, false, Err, Result, Ok, refl, sym, ap, subst, ◌∙◌, arith}
+use Rattle.std.proofs.Common.{◌≡◌, ◌⊎◌, ℕ, List, Bool, true, false, Err, Result, Ok, refl, sym, ap, subst, ◌∙◌, arith}
 use Rattle.std.specs.Prelude.{◌==◌, ◌||◌, IfErr}
 use Rattle.world.specs.Counts.{Counts, CountsGrow, Rose}
+use Rattle.world.proofs.CountsLemmas.{rose_since}
 use Rattle.nb_load.specs.declared.load_fault.LoadFault.TheVariants as load
 use Rattle.job_end.specs.declared.answer.Answer.{Answer}
 use Rattle.job_end.specs.declared.end.End.{End}
@@ -15,9 +16,6 @@ use Rattle.job_run.proofs.CauseLemmas.{cause_stays}
 use Rattle.job_run.proofs.OutcomeLemmas.{spent_by, starved_spent}
 use Rattle.job_begin.specs.Begun.{AnswersAs, IsEndOfSaving, IsOpen}
 use Rattle.job_begin.specs.Causes.{HasCause}
-
-rose_later : (a b c : ℕ) → a ≤ b → Rose b c → Rose a c
-rose_later a b c more rose = grind (arith, more, rose)
 
 -- ---- by the status
 
@@ -121,7 +119,7 @@ module _ (old new : Counts) where
       → IfErr result (λ answer. HasCause old new answer.status)
   all_caused output mid (Ok j) (Ok k) same grow caused rose = tt
   all_caused output mid (Err e) (Err answer) answers grow caused rose =
-      answer_caused output e answer answers (cause_stays old mid new e grow caused) (λ shut. rose_later old.disk mid.disk new.disk grow.disk (rose e refl shut))
+      answer_caused output e answer answers (cause_stays old mid new e grow caused) (λ shut. rose_since old.disk mid.disk new.disk grow.disk (rose e refl shut))
   all_caused output mid (Ok j) (Err answer) wrong grow caused rose = absurd wrong
   all_caused output mid (Err e) (Ok k) wrong grow caused rose = absurd wrong
 

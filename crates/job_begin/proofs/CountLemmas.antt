@@ -33,15 +33,11 @@ use Rattle.job_run.specs.Counted.{IsCausedAfter, StopsAfter}
 use Rattle.job_run.specs.Run.{IsNew, BeginsNew, StartsCounted}
 use Rattle.job_run.specs.Task.{task_for, times_of}
 use Rattle.job_run.proofs.CountLemmas.{end_caused}
-use Rattle.job_run.proofs.TurnLemmas.{start_after, starved_count}
+use Rattle.job_run.proofs.TurnLemmas.{task_in, start_after, starved_count}
 use Rattle.job_begin.specs.Begun.{IsUncaused, counted_task}
 use Rattle.job_begin.specs.Steps.{EndsCounted, closing_saves, end_by}
 
 -- ---- the task
-
-abbrev task_in : Task → Option Task → Task
-task_in other None = other
-task_in other (Some t) = t
 
 -- where cells are executed it is that of the notebook
 only_task : (a : Ask) (first : Notebook) (t : Task) → counted_task a first ≡ Some t → task_for a first ≡ t

@@ -35,7 +35,8 @@ use Rattle.job_run.specs.Task.{ports_of_job, task_for, task_of_job, output_of_jo
 use Rattle.job_saves.specs.Speaking.{IsAnswer}
 use Rattle.job_run.specs.Told.{EndsJob, StartsBy, IsEnding, IsCaused, cause_of}
 use Rattle.job_run.proofs.StopLemmas.{why_in, start_caused}
-use Rattle.job_begin.specs.Begun.{AnswersAs, IsCausedIn, IsUncaused, IsEndOfSaving, StartsWith, BeginsWith, FindsKernel, GivesNone, not_read, too_large, refused, no_memory, not_asked, IsUnread, status_by, LooksInVain, KernelEnds, HasKernel, first_of}
+use Rattle.job_saves.specs.Reads.{first_of}
+use Rattle.job_begin.specs.Begun.{AnswersAs, IsCausedIn, IsUncaused, IsEndOfSaving, StartsWith, BeginsWith, FindsKernel, GivesNone, not_read, too_large, refused, no_memory, not_asked, IsUnread, status_by, LooksInVain, KernelEnds, HasKernel}
 
 -- ---- an end that names no cause
 

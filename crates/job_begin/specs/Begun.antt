@@ -1,7 +1,6 @@
 -- How a job begins, with what it asks of the world. A journal has its newest entry first.
 use Rattle.std.specs.Prelude.{◌≡◌, ◌≢◌, ◌⊎◌, ◌<◌, ℕ, List, ◌∷◌, ◌++◌, length, true, false, Option, Some, None, Result, Ok, Err, if◌then◌else◌}
 use Rattle.nb_model.specs.declared.notebook.Notebook.{Notebook}
-use Rattle.nb_model.specs.Prepared.{prepared_notebook}
 use Rattle.nb_model.specs.Planned.{plan}
 use Rattle.cell_core.specs.Task.{Task}
 use Rattle.cell_core.specs.declared.why.Why.{Why}
@@ -25,15 +24,11 @@ use Rattle.job_end.specs.declared.end.End.TheVariants as end
 use Rattle.job_end.specs.Answers.{Answers}
 use Rattle.job_end.specs.Statuses.{status_of}
 use Rattle.job_saves.specs.Course.{Origin, IsEndOfSave, keeps_open}
+use Rattle.job_saves.specs.Reads.{first_of}
 use Rattle.job_run.specs.declared.job.Job.{Job}
 use Rattle.job_run.specs.Run.{BeginsAs}
 use Rattle.job_run.specs.Task.{task_for, task_of_job}
 use Rattle.job_run.specs.Told.{StopsFor, cause_of}
-
--- the notebook that is saved first: as it was read with its parameters, and prepared for its cells' execution unless nothing
--- is executed
-abbrev pub first_of : Ask → Notebook → Notebook
-first_of a n = if a.prepare then n else prepared_notebook n
 
 -- the saves of that job begin so
 abbrev pub origin_of : Ask → Notebook → List Entry → Counts → Origin

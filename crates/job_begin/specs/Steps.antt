@@ -15,7 +15,7 @@ use Rattle.job_saves.specs.Children.{KeepsEnd}
 use Rattle.job_saves.specs.Course.{Origin, IsFor, HasCalled, Begins, Ends}
 use Rattle.job_run.specs.declared.job.Job.{Job}
 use Rattle.job_run.specs.Counted.{IsCausedAfter}
-use Rattle.job_run.specs.Run.{IsNew, BeginsNew, IsCastAs, HasNoChild, HasNoPorts, StartsAs, StartsInRole}
+use Rattle.job_run.specs.Run.{IsNew, BeginsNew, IsCastAs, HasNoChild, HasNoPorts, HasNoSave, OnlyReads, StartsAs, StartsInRole}
 use Rattle.job_begin.specs.Begun.{counted_task}
 
 -- calls save this notebook and end the job; no save has failed in them where `is_open`
@@ -51,16 +51,16 @@ abbrev pub end_by : {U : Type 0} → Result U End → End
 end_by (Ok u) = end.Done
 end_by (Err e) = e
 
--- calls of a job that ends are those of the job that is asked for
-abbrev pub EndsInRole : {W : Type 0} → (W → Option (List Entry)) → (W → Counts) → W → W → Ask → Type 0
-EndsInRole journal counts old new a = (c : Cast) (number : ℕ) (since : List Entry) (from : Counts) → c.job number ≡ Some a
-    → HasCalled c since from (journal old) (counts old) → HasCalled c since from (journal new) (counts new)
+-- calls of a job that ends are those of the job that is asked for, where this is the notebook that it has read and saves first
+abbrev pub EndsInRole : {W : Type 0} → (W → Option (List Entry)) → (W → Counts) → W → W → Ask → Notebook → Type 0
+EndsInRole journal counts old new a first = (c : Cast) (number : ℕ) (since : List Entry) (from : Counts) → c.job number ≡ Some a
+    → OnlyReads c a first (journal old) → HasCalled c since from (journal old) (counts old) → HasCalled c since from (journal new) (counts new)
 
 -- the same of a job that runs or has ended, in this working folder; where the jobs began clean, no child of its number is
--- there and it has asked for no ports
+-- there, it has asked for no ports, and no save of it was acknowledged
 abbrev pub BeginsInRole : {W E : Type 0} → (W → Option (List Entry)) → (W → Counts) → W → W → ℕ → Ask → List ℕ → Result Job E → Type 0
 BeginsInRole journal counts old new number a here result = (c : Cast) (since : List Entry) (from : Counts) → IsCastAs c number a here
-    → HasNoChild c number (journal old) → HasNoPorts c number (journal old) → HasCalled c since from (journal old) (counts old) → StartsInRole c since from result (journal new) (counts new)
+    → HasNoChild c number (journal old) → HasNoPorts c number (journal old) → HasNoSave c a (journal old) → HasCalled c since from (journal old) (counts old) → StartsInRole c since from result (journal new) (counts new)
 
 -- a job that has ended left no child without its end
 abbrev pub LeavesNone : {W E : Type 0} → (W → Option (List Entry)) → W → W → ℕ → Result Job E → Type 0

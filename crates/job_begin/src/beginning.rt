@@ -2,7 +2,7 @@
 ghost use Rattle.std.specs.Prelude.{◌≡◌, ◌⊎◌, ◌<◌, ◌^◌, ◌+◌, ℕ, List, false, length, None, Ok, Err};
 ghost use Rattle.std.specs.Prelude.{IfSome, IfOk, IfErr, OnOk};
 ghost use Rattle.std.specs.Str.{bytes_eq};
-ghost use Rattle.job_begin.specs.Begun.{Begun, HasRead, AnswersAs, IsOpen, first_of};
+ghost use Rattle.job_begin.specs.Begun.{Begun, HasRead, AnswersAs, IsOpen};
 ghost use Rattle.job_begin.specs.Begun.{StartsWith, IsUncaused, IsEndOfSaving};
 ghost use Rattle.job_begin.specs.Begun.{GivesNone, KernelEnds, status_by};
 ghost use Rattle.job_end.specs.declared.end.End.TheVariants as ending;
@@ -14,7 +14,7 @@ ghost use Rattle.job_begin.specs.Steps.{Acknowledges, closing_saves, end_by};
 ghost use Rattle.job_begin.specs.Steps.{BeginsInRole, LeavesNone};
 ghost use Rattle.job_notebook.specs.State.{notebook_of, settled_of, merge_of, output_of, KeepsRead};
 ghost use Rattle.job_saves.specs.Calls.{Cast, IsCall};
-ghost use Rattle.job_saves.specs.Reads.{IsInputOf, IsNotebookOf, IsKernelOf};
+ghost use Rattle.job_saves.specs.Reads.{IsInputOf, IsNotebookOf, IsKernelOf, first_of};
 ghost use Rattle.job_saves.specs.Speaking.{IsAnswer};
 ghost use Rattle.job_saves.specs.Course.{GoesOn, CallsOwn, CountsWork};
 ghost use Rattle.job_saves.specs.Course.{IsEndOfRun, IsEndOfSave, stays_open, keeps_open};
@@ -64,7 +64,7 @@ pub fn begin<W: World>(
         IsRested ask.output before →
         Begun ask result (W.counts w.old) (W.counts w.new) before after) }
     // Its calls are those of the job that was asked for, and no other job's, where no child of its
-    // number is there or the jobs didn't begin clean.
+    // number is there and no save of it was acknowledged, or the jobs didn't begin clean.
     ensures calls { BeginsInRole W.journal W.counts w.old w.new number ask here.now result }
     // Where it has ended a child that was started has its end.
     ensures left { LeavesNone W.journal w.old w.new number result }
@@ -204,7 +204,7 @@ fn save_alone<W: Disk + Say>(
 ) -> Result<(), End>
     requires { length notebook.cells < 2 ^ 32 }
     ensures course { SavesFor W.journal W.counts w.old w.new ask.now notebook (stays_open result) }
-    ensures calls { EndsInRole W.journal W.counts w.old w.new ask.now }
+    ensures calls { EndsInRole W.journal W.counts w.old w.new ask.now notebook }
     ensures own { IfErr result IsEndOfRun }
     ensures kind { IfErr result IsEndOfSave }
 {
@@ -240,7 +240,7 @@ fn save_twice<W: Disk + Say>(
     ensures course { SavesFor W.journal W.counts w.old w.new ask.now notebook (stays_open result) }
     ensures acked { OnOk result (Acknowledges W.journal w.old w.new ask.now.output
         (1 + closing_saves (length notebook.cells))) }
-    ensures calls { EndsInRole W.journal W.counts w.old w.new ask.now }
+    ensures calls { EndsInRole W.journal W.counts w.old w.new ask.now notebook }
     ensures own { IfErr result IsEndOfRun }
     ensures kind { IfErr result IsEndOfSave }
 {
@@ -286,6 +286,7 @@ fn execute<W: World>(
     ensures course { StartsFor W.journal W.counts w.old w.new ask notebook result }
     ensures counted { CountsEnd W.journal W.counts w.old w.new ask notebook result }
     ensures calls { IfSome (W.journal w.old) (λ past. IsNotebookOf ask past notebook) →
+        ask.prepare ≡ false →
         BeginsInRole W.journal W.counts w.old w.new number ask here.now result }
     ensures left { LeavesNone W.journal w.old w.new number result }
     ensures cause { IfErr result (EndCause (W.counts w.old) (W.counts w.new)) }

@@ -27,6 +27,17 @@ pub acts_once : {U E : Type 0} (r : Result U E) (act : Act) (old mid new : Execu
 acts_once (Ok u) act old mid new same asks = act_once act old mid new same asks
 acts_once (Err e) act old mid new same asks = tt
 
+-- under the same key
+pub once_keyed : {U E : Type 0} (r : Result U E) (old new : Execution) → OnOk r (AsksOnce old new) → OnOk r (new.session.key ≡ old.session.key)
+once_keyed (Ok u) old new once = once.key
+once_keyed (Err e) old new once = tt
+
+-- and so before other calls that keep it
+pub keyed_then : {U E : Type 0} (r : Result U E) (old mid new : Execution) → mid.session.key ≡ old.session.key → OnOk r (new.session.key ≡ mid.session.key)
+    → OnOk r (new.session.key ≡ old.session.key)
+keyed_then (Ok u) old mid new same then_ = then_ ∙ same
+keyed_then (Err e) old mid new same then_ = tt
+
 from_same : (old mid new : Execution) → mid.session ≡ old.session → AsksOnce mid new → AsksOnce old new
 from_same old mid new same once =
     let is : mid.session.made ≡ old.session.made = ap (λ i. i.made) same in

@@ -2,9 +2,10 @@
 use Rattle.std.proofs.Common.{◌≡◌, ◌⊎◌, inl, inr, ℕ, ◌≤◌, List, [], Option, Some, None, Result, Ok, Err, refl, sym, ap, ◌∙◌, arith}
 use Rattle.std.specs.Prelude.{false, IfSome, IfErr}
 use Rattle.world.specs.declared.entry.Entry.{Entry}
-use Rattle.world.specs.Counts.{Counts, CountsGrow, Rose}
-use Rattle.world.specs.Moments.{Since, start, Told}
+use Rattle.world.specs.Counts.{Counts, CountsGrow, Rose, no_counts}
+use Rattle.world.specs.Moments.{Since, Told}
 use Rattle.world.proofs.CountsLemmas.{grow_start}
+use Rattle.world.proofs.MomentsLemmas.{or_none, at_start}
 use Rattle.words.specs.declared.ask.Ask.{Ask}
 use Rattle.job_end.specs.declared.end.End.{End}
 use Rattle.job_end.specs.declared.end.End.TheVariants as end
@@ -119,15 +120,8 @@ has_part was j c since held = record {
   has = refl;
   output = refl;
   so = record { told = held; counts_work = work_start c; spoken = λ e. absurd (cc) };
+  told = λ e. absurd (cc);
 }
-
-abbrev or_none : Option (List Entry) → List Entry
-or_none None = []
-or_none (Some x) = x
-
-at_start : (P : List Entry → Type 0) (p : Option (List Entry)) → IfSome p (Since P (or_none p))
-at_start P None = tt
-at_start P (Some x) = start
 
 abbrev ask_in : List ℕ → Option Ask → List ℕ
 ask_in other None = other
@@ -157,9 +151,6 @@ module _ (was now : JobNotebook) (j k : Option (List Entry)) (c d : Counts)
       part.output ∙ ap (ask_in (output_of was)) (sym part.has)
 
 -- ---- what keeps its part keeps its output
-
-abbrev no_counts : Counts
-no_counts = record { disk = 0; net = 0; waits = 0; child = 0; rand = 0; say = 0; last = 0 }
 
 pub part_output : (was now : JobNotebook) → KeepsPart was now → output_of now ≡ output_of was
 part_output was now keeps =

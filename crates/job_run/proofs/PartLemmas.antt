@@ -29,6 +29,9 @@ rand_childless e = absurd (cc)
 pub rand_portless : OnRand ≢ OnWire
 rand_portless e = absurd (cc)
 
+pub kids_diskless : OnKids ≢ OnDisk
+kids_diskless e = absurd (cc)
+
 pub disk_portless : OnDisk ≢ OnWire
 disk_portless e = absurd (cc)
 

@@ -1,6 +1,6 @@
 -- Calls of a job go on with its course.
 use Rattle.std.specs.Prelude.{IfSome}
-use Rattle.std.proofs.Common.{◌≡◌, ◌≢◌, ℕ, Bool, true, false, List, Option, Some, None, is_some, refl, sym, ap, subst}
+use Rattle.std.proofs.Common.{◌≡◌, ◌≢◌, ℕ, Bool, true, false, List, ◌∷◌, Option, Some, None, is_some, refl, sym, ap, subst}
 use Rattle.std.specs.Prelude.{IfSome}
 use Rattle.std.specs.Str.{bytes_eq}
 use Rattle.world.specs.Counts.{CountsGrow}
@@ -18,6 +18,7 @@ use Rattle.job_notebook.specs.declared.notebook.JobNotebook.{JobNotebook}
 use Rattle.job_end.specs.declared.answer.Answer.{Answer}
 use Rattle.job_saves.specs.Course.{Origin, Stands, StaysOn, KeepsPart, HasPart, Ends, CountsWork}
 use Rattle.job_saves.specs.Calls.{Cast, IsCallBy, IsCall}
+use Rattle.job_saves.specs.Speaking.{SavesNone}
 use Rattle.job_run.specs.declared.execution.Execution.{Execution}
 use Rattle.job_run.specs.declared.job.Job.{Job}
 use Rattle.job_run.specs.declared.paths.Paths.{Paths}
@@ -29,9 +30,6 @@ use Rattle.cell_core.specs.Task.{Task}
 use Rattle.job_run.specs.Task.{task_of_job}
 use Rattle.job_run.proofs.TurnLemmas.{running_count, count_passes, ended_count, starved_count}
 use Rattle.job_run.specs.Run.{IsNew, CountsAll, Runs, HasEnded, HasFailed, EndsWith, IsRole, HasRole}
-
-not_both : {A : Type 0} (b : Bool) → b ≡ true → b ≡ false → A
-not_both b e f = let no : true ≡ false = subst (λ c. c ≡ false) e f in absurd (cc)
 
 -- a job that hasn't ended has saved all
 running_open : (is_open : Bool) (outcome : Option Answer) → (is_open ≡ false → HasEnded outcome) → is_some outcome ≡ false → is_open ≡ true
@@ -117,11 +115,12 @@ passes_role cast since from was now i k c d run number paths on r = record {
 told_called : (cast : Cast) (j k : Option (List Entry)) (entry : Entry) → ((past : List Entry) → IsCallBy cast past entry) → Tells j k entry → Told j k (Since (IsCall cast))
 told_called cast j k entry is tells = tells_as tells (λ past. later start (is past))
 
--- one call of the job, which says nothing
+-- one call of the job, which says nothing and is none of a save
 pub entry_called : (cast : Cast) (since : List Entry) (from : Counts) (b : JobNotebook) (j k : Option (List Entry)) (c d : Counts) (entry : Entry)
-    → ((past : List Entry) → IsCallBy cast past entry) → part_of entry ≢ OnSay → Tells j k entry → CountsWork c d → HasPart cast since from b j c → HasPart cast since from b k d
-entry_called cast since from b j k c d entry is other tells work s =
-    calls_part cast since from c d b b j k refl (told_called cast j k entry is tells) (entry_quiet entry other tells) work s
+    → ((past : List Entry) → IsCallBy cast past entry) → part_of entry ≢ OnSay → ((past : List Entry) → SavesNone (entry ∷ past)) → Tells j k entry → CountsWork c d
+    → HasPart cast since from b j c → HasPart cast since from b k d
+entry_called cast since from b j k c d entry is other none tells work s =
+    calls_part cast since from c d b j k (told_called cast j k entry is tells) (entry_quiet entry other tells) (tells_as tells (λ past. later start (none past))) work s
 
 called_at : (cast : Cast) (j k : Option (List Entry)) (entry : Entry) → IfSome j (λ past. IsCallBy cast past entry) → Tells j k entry → Told j k (Since (IsCall cast))
 called_at cast j None entry is tells = record { so = tt }
@@ -130,9 +129,10 @@ called_at cast (Some x) (Some y) entry is tells = record { so = subst (Since (Is
 
 -- the same of a call that is one by what was told before
 pub asked_called : (cast : Cast) (since : List Entry) (from : Counts) (b : JobNotebook) (j k : Option (List Entry)) (c d : Counts) (entry : Entry)
-    → IfSome j (λ past. IsCallBy cast past entry) → part_of entry ≢ OnSay → Tells j k entry → CountsWork c d → HasPart cast since from b j c → HasPart cast since from b k d
-asked_called cast since from b j k c d entry is other tells work s =
-    calls_part cast since from c d b b j k refl (called_at cast j k entry is tells) (entry_quiet entry other tells) work s
+    → IfSome j (λ past. IsCallBy cast past entry) → part_of entry ≢ OnSay → ((past : List Entry) → SavesNone (entry ∷ past)) → Tells j k entry → CountsWork c d
+    → HasPart cast since from b j c → HasPart cast since from b k d
+asked_called cast since from b j k c d entry is other none tells work s =
+    calls_part cast since from c d b j k (called_at cast j k entry is tells) (entry_quiet entry other tells) (tells_as tells (λ past. later start (none past))) work s
 
 -- ---- the end
 

@@ -1,14 +1,11 @@
 -- How many saves the core of a job was told of, over its calls.
-use Rattle.std.proofs.Common.{◌≡◌, ℕ, ◌+◌, ◌&&◌, Bool, true, false, List, ◌∷◌, Option, Some, None, Result, Ok, Err, if◌then◌else◌, refl, sym, ap, subst, ◌∙◌}
+use Rattle.std.proofs.Common.{◌≡◌, ℕ, Bool, true, false, List, Option, Some, None, Result, Ok, Err, sym, ap, subst, ◌∙◌}
 use Rattle.std.specs.Prelude.{is_some, IfSome, IfErr}
 use Rattle.world.specs.declared.entry.Entry.{Entry}
-use Rattle.world.specs.Acked.{acked, syncs_folder}
-use Rattle.world.specs.Moments.{Since, start, more as later, Told}
+use Rattle.world.specs.Moments.{Since, Told}
 use Rattle.world.specs.Touched.{Spares}
 use Rattle.save_disk.specs.Places.{acknowledged}
-use Rattle.save_disk.specs.Temporary.{temporary_of}
 use Rattle.save_course.specs.Course.{IsRested}
-use Rattle.save_course.proofs.RestLemmas.{spared_rest}
 use Rattle.cell_core.specs.declared.act.Act.TheVariants.{Nothing}
 use Rattle.cell_core.specs.StandsFor.{task_of}
 use Rattle.cell_core.specs.Task.{Task}
@@ -22,6 +19,7 @@ use Rattle.job_notebook.specs.State.{output_of}
 use Rattle.world.specs.Counts.{Counts}
 use Rattle.job_saves.specs.Course.{Origin, IsSaved, IsOnCourse, Begins}
 use Rattle.job_saves.proofs.CourseLemmas.{told_as}
+use Rattle.job_saves.proofs.TellingLemmas.{spared_count}
 use Rattle.job_run.specs.Counted.{IsCounted, IsCountedIn, IsCountedOn, IsCountedBy, IsCausedAfter, IsCountedAt, CountsOn, EndsAfter, EndsJobAfter, StartsAfter, saves_of}
 use Rattle.job_run.specs.Run.{BeginsNew, StartsCounted, CountsAll}
 use Rattle.job_run.specs.Told.{IsOutside, IsEndOfLaunch, EndsJob}
@@ -29,20 +27,6 @@ use Rattle.job_run.proofs.CountLemmas.{end_caused, starved_after}
 use Rattle.job_run.specs.declared.execution.Execution.{Execution}
 
 -- ---- calls that don't touch the output
-
-neither : (b : Bool) (x y : ℕ) → (if b && false then x else y) ≡ y
-neither true x y = refl
-neither false x y = refl
-
--- an entry acknowledges nothing where no rename comes before it
-none_waits : (output : List ℕ) (entry : Entry) (past : List Entry) → IsRested output past → acknowledged output (entry ∷ past) ≡ acknowledged output past
-none_waits output entry past rested =
-    subst (λ b. (if syncs_folder output entry && b then acked (temporary_of output) output past + 1 else acked (temporary_of output) output past) ≡ acked (temporary_of output) output past) (sym rested)
-    (neither (syncs_folder output entry) (acked (temporary_of output) output past + 1) (acked (temporary_of output) output past))
-
-pub spared_count : (output : List ℕ) {past after : List Entry} → IsRested output past → Since (Spares output) past after → acknowledged output after ≡ acknowledged output past
-spared_count output rested start = refl
-spared_count output rested (later {past = mid} {entry = entry} since spared) = none_waits output entry mid (spared_rest output rested since) ∙ spared_count output rested since
 
 pub count_passes : (o : Origin) (b : JobNotebook) (is_open : Bool) (x : Execution) (out : Option Answer) (i k : Option (List Entry)) → Told i k (Since (Spares o.output))
     → IfSome i (IsOnCourse o b is_open) → IfSome i (λ past. IsCountedIn out x (acknowledged o.output past)) → IfSome k (λ past. IsCountedIn out x (acknowledged o.output past))
@@ -162,7 +146,7 @@ end_counts output was now e out j at to same outside ends h =
 
 -- ---- the end
 
-abbrev task_in : Task → Option Task → Task
+abbrev pub task_in : Task → Option Task → Task
 task_in other None = other
 task_in other (Some t) = t
 

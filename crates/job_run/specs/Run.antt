@@ -7,13 +7,17 @@ use Rattle.save_disk.specs.Temporary.{temporary_of}
 use Rattle.words.specs.declared.ask.Ask.{Ask}
 use Rattle.words.specs.Paths.{connection_of}
 use Rattle.kernel_start.specs.declared.kernel.Kernel.{Kernel}
+use Rattle.kernel_start.specs.declared.random_words.RandomPairs.{RandomPairs}
 use Rattle.job_end.specs.declared.answer.Answer.{Answer}
 use Rattle.job_end.specs.declared.end.End.{End}
 use Rattle.job_end.specs.declared.end.End.TheVariants as end
-use Rattle.job_saves.specs.Course.{Origin, Stands, Ends, HasCalled, HasPart, keeps_open}
+use Rattle.job_saves.specs.Course.{Origin, Stands, Ends, HasCalled, LacksSaves, HasOnlyRead, HasPart, keeps_open}
+use Rattle.nb_model.specs.declared.notebook.Notebook.{Notebook}
 use Rattle.job_saves.specs.Calls.{Cast, IsReady}
 use Rattle.job_saves.specs.Children.{HasEnd, AsksNone, ports_of}
 use Rattle.job_saves.specs.Reads.{IsKernelOf}
+use Rattle.job_saves.specs.Sessions.{HasDrawn, HasAsked, key_of}
+use Rattle.job_notebook.specs.State.{output_of}
 use Rattle.save_disk.specs.Places.{acknowledged}
 use Rattle.cell_core.specs.Task.{Task}
 use Rattle.job_run.specs.Counted.{IsCountedIn, IsCausedAfter, StartsAfter}
@@ -141,12 +145,28 @@ HasNoChild c number journal = c.clean ≡ true → HasEnd number journal
 abbrev pub HasNoPorts : Cast → ℕ → Option (List Entry) → Type 0
 HasNoPorts c number journal = c.clean ≡ true → AsksNone number journal
 
--- and this is its kernel, by what it has read
-pub record MayStart (c : Cast) (number : ℕ) (kernel : Kernel) (here : List ℕ) (journal : Option (List Entry)) : Type 0 where
+-- where the jobs began clean, no save of this job was acknowledged
+abbrev pub HasNoSave : Cast → Ask → Option (List Entry) → Type 0
+HasNoSave c a journal = c.clean ≡ true → IfSome journal (LacksSaves a.output)
+
+-- where the jobs began clean, this job has read the notebook that it saves first, and has not saved yet
+abbrev pub OnlyReads : Cast → Ask → Notebook → Option (List Entry) → Type 0
+OnlyReads c a first journal = c.clean ≡ true → IfSome journal (HasOnlyRead a first)
+
+-- the session of an execution that saves to this output is of these words
+pub record IsOfWords (output : List ℕ) (pairs : RandomPairs) (x : Execution) : Type 0 where
+  pub output_is : output_of x.book ≡ output
+  pub key_is : x.session.key ≡ key_of pairs
+
+-- and this is its kernel, by what it has read, and its execution, whose words were drawn last
+pub record MayStart (c : Cast) (number : ℕ) (kernel : Kernel) (here : List ℕ) (x : Execution) (journal : Option (List Entry)) : Type 0 where
   pub ask : Ask
   pub cast : IsCastAs c number ask here
   pub kernel_is : IfSome journal (λ past. IsKernelOf ask past kernel)
   pub childless : HasNoChild c number journal
+  pub pairs : RandomPairs
+  pub words : IsOfWords ask.output pairs x
+  pub drawn : IfSome journal (HasDrawn ask.output pairs)
 
 -- these are the ports that were last given for the job of this number
 abbrev pub HasPorts : ℕ → List ℕ → Option (List Entry) → Type 0
@@ -155,6 +175,17 @@ HasPorts number ports journal = IfSome journal (λ past. ports_of number past �
 -- calls leave the ports that were last given as they are
 abbrev pub KeepsPorts : {W : Type 0} → (W → Option (List Entry)) → W → W → Type 0
 KeepsPorts journal old new = (number : ℕ) (ports : List ℕ) → HasPorts number ports (journal old) → HasPorts number ports (journal new)
+
+-- the same, where it has asked for its ports since, which are these
+pub record MayConnect (c : Cast) (number : ℕ) (ports : List ℕ) (kernel : Kernel) (here : List ℕ) (x : Execution) (journal : Option (List Entry)) : Type 0 where
+  pub ask : Ask
+  pub cast : IsCastAs c number ask here
+  pub kernel_is : IfSome journal (λ past. IsKernelOf ask past kernel)
+  pub childless : HasNoChild c number journal
+  pub given : HasPorts number ports journal
+  pub pairs : RandomPairs
+  pub words : IsOfWords ask.output pairs x
+  pub asked : IfSome journal (HasAsked number ask.output pairs ports)
 
 -- its connection file is written too, so that it may be started now
 pub record MayRun (c : Cast) (number : ℕ) (kernel : Kernel) (here : List ℕ) (journal : Option (List Entry)) : Type 0 where
@@ -168,20 +199,22 @@ abbrev pub WritesInRole : {W : Type 0} → (W → Option (List Entry)) → (W �
 WritesInRole journal counts old new j = (c : Cast) (since : List Entry) (from : Counts) → c.starts ≡ true → HasNoChild c j.number (journal old)
     → HasRole c since from j (journal old) (counts old) → HasRole c since from j (journal new) (counts new)
 
--- the connection file has the ports of the job: where these were given last, the kernel of a job at that file may be started
+-- the connection file has the ports and the key of the job: where these ports were given last, and the key is that of the words
+-- that were drawn last, the kernel of a job at that file may be started
 abbrev pub ReadiesIn : {W : Type 0} → (W → Option (List Entry)) → W → W → Job → Type 0
-ReadiesIn journal old new j = (a : Ask) (kernel : Kernel) → j.paths.connection ≡ connection_of a.output → IfSome (journal old) (λ past. IsKernelOf a past kernel)
-    → HasPorts j.number j.ports (journal old) → IfSome (journal new) (λ past. IsReady j.number a past kernel)
+ReadiesIn journal old new j = (a : Ask) (kernel : Kernel) (pairs : RandomPairs) → j.paths.connection ≡ connection_of a.output → IfSome (journal old) (λ past. IsKernelOf a past kernel)
+    → HasPorts j.number j.ports (journal old) → j.run.session.key ≡ key_of pairs → IfSome (journal old) (HasAsked j.number a.output pairs j.ports)
+    → IfSome (journal new) (λ past. IsReady j.number a past kernel)
 
 -- calls of the job, which may ask for its ports and start this kernel
 abbrev pub LaunchesInRole : {W : Type 0} → (W → Option (List Entry)) → (W → Counts) → W → W → Kernel → List ℕ → Job → Job → Type 0
-LaunchesInRole journal counts old new kernel here was now = (c : Cast) (since : List Entry) (from : Counts) → MayStart c was.number kernel here (journal old)
+LaunchesInRole journal counts old new kernel here was now = (c : Cast) (since : List Entry) (from : Counts) → MayStart c was.number kernel here was.run (journal old)
     → HasNoPorts c was.number (journal old) → HasRole c since from was (journal old) (counts old) → HasRole c since from now (journal new) (counts new)
 
 -- the same, where its ports were given
 abbrev pub LaunchesOnPorts : {W : Type 0} → (W → Option (List Entry)) → (W → Counts) → W → W → Kernel → List ℕ → Job → Type 0
-LaunchesOnPorts journal counts old new kernel here j = (c : Cast) (since : List Entry) (from : Counts) → MayStart c j.number kernel here (journal old)
-    → HasPorts j.number j.ports (journal old) → HasRole c since from j (journal old) (counts old) → HasRole c since from j (journal new) (counts new)
+LaunchesOnPorts journal counts old new kernel here j = (c : Cast) (since : List Entry) (from : Counts) → MayConnect c j.number j.ports kernel here j.run (journal old)
+    → HasRole c since from j (journal old) (counts old) → HasRole c since from j (journal new) (counts new)
 
 -- the same, where its connection file is written
 abbrev pub RunsInRole : {W : Type 0} → (W → Option (List Entry)) → (W → Counts) → W → W → Kernel → List ℕ → Job → Type 0

@@ -1,5 +1,5 @@
 //! The start of a job: its first save, its connection file and its kernel.
-ghost use Rattle.std.specs.Prelude.{◌≡◌, ◌<◌, ℕ, List, true, false, None, IfOk, IfErr};
+ghost use Rattle.std.specs.Prelude.{◌≡◌, ◌<◌, ℕ, List, true, false, None, Some, IfOk, IfErr};
 ghost use Rattle.std.specs.Str.{bytes_eq};
 ghost use Rattle.world.specs.declared.entry.Entry.{Entry};
 ghost use Rattle.world.specs.Counts.{Counts, CountsGrow};
@@ -11,6 +11,8 @@ ghost use Rattle.words.specs.Runnable.{IsRunnable};
 ghost use Rattle.job_notebook.specs.State.{merge_of, output_of, KeepsRead};
 ghost use Rattle.job_saves.specs.Calls.{Cast};
 ghost use Rattle.job_saves.specs.Children.{HasEnd, KeepsEnd};
+ghost use Rattle.job_saves.specs.Sessions.{key_of};
+ghost use Rattle.kernel_start.specs.RandomWords.{Draws};
 ghost use Rattle.job_saves.specs.Course.{Origin, Stands, HasPart, CountsWork, stays_open};
 ghost use Rattle.cell_core.specs.StandsFor.{task_of};
 ghost use Rattle.job_run.specs.Told.{StartsBy, IsEndOfLaunch};
@@ -50,10 +52,12 @@ impl Job {
     ghost use Rattle.job_saves.specs.Calls.{Cast};
     ghost use Rattle.job_saves.specs.Reads.{IsKernelOf};
     ghost use Rattle.job_saves.specs.Children.{KeepsEnd};
+    ghost use Rattle.job_saves.specs.Sessions.{HasDrawn};
     ghost use Rattle.job_run.specs.Run.{IsCastAs, BeginsNew, StartsAs, StartsCounted, StartsInRole};
     ghost use Rattle.job_run.specs.Run.{RunsOn};
     ghost use Rattle.job_run.specs.Run.{LaunchesInRole, LaunchesOnPorts, RunsInRole, WritesInRole};
     ghost use Rattle.job_run.specs.Run.{ReadiesIn, HasNoChild, HasNoPorts, EndCause, number_of};
+    ghost use Rattle.job_run.specs.Run.{OnlyReads};
     ghost use Rattle.job_run.specs.Run.{HasPorts, KeepsPorts, outcome_of};
     ghost use Rattle.job_run.specs.Task.{task_of_job, output_of_job, ports_of_job, task_for};
     ghost use Rattle.job_run.specs.Told.{StartsBy, IsEndOfLaunch};
@@ -77,11 +81,13 @@ impl Job {
             Begins o (W.journal w.old) (W.counts w.old) → BeginsNew o (W.journal w.old) →
             StartsAs o result (W.journal w.new) (W.counts w.new) }
         // Its calls are those of the job that was asked for, and no other job's, where this is the
-        // kernel that it has read of and no child of its number is there.
+        // kernel that it has read of and no child of its number is there, and the notebook the one
+        // that it has read.
         ensures calls { (c : Cast) (since : List Entry) (from : Counts) →
             IsCastAs c number ask here.now →
             IfSome (W.journal w.old) (λ past. IsKernelOf ask past kernel.now) →
             HasNoChild c number (W.journal w.old) → HasNoPorts c number (W.journal w.old) →
+            OnlyReads c ask agenda.notebook (W.journal w.old) →
             HasCalled c since from (W.journal w.old) (W.counts w.old) →
             StartsInRole c since from result (W.journal w.new) (W.counts w.new) }
         // Where it ends a child that was started has its end.
@@ -107,7 +113,7 @@ impl Job {
         }
     }
 
-    // The same, with the words of its session.
+    // The same, with the words of its session, which were drawn last.
     fn start_session<W: World>(
         alloc: Global,
         w: &mut W,
@@ -126,7 +132,9 @@ impl Job {
         ensures calls { (c : Cast) (since : List Entry) (from : Counts) →
             IsCastAs c number ask here.now →
             IfSome (W.journal w.old) (λ past. IsKernelOf ask past kernel.now) →
+            IfSome (W.journal w.old) (HasDrawn ask.output pairs) →
             HasNoChild c number (W.journal w.old) → HasNoPorts c number (W.journal w.old) →
+            OnlyReads c ask agenda.notebook (W.journal w.old) →
             HasCalled c since from (W.journal w.old) (W.counts w.old) →
             StartsInRole c since from result (W.journal w.new) (W.counts w.new) }
         ensures left { IfErr result (λ _. KeepsEnd number (W.journal w.old) (W.journal w.new)) }
@@ -226,8 +234,11 @@ impl Job {
 }
 
 impl Execution {
-    ghost use Rattle.std.specs.Prelude.{IfErr, OnOk};
+    ghost use Rattle.std.specs.Prelude.{◌≡◌, IfErr, OnOk};
+    ghost use Rattle.world.specs.Moments.{Told, Since};
     ghost use Rattle.cell_core.specs.StandsFor.{task_of};
+    ghost use Rattle.job_notebook.specs.State.{output_of};
+    ghost use Rattle.job_saves.specs.Sessions.{IsSaveCall};
     ghost use Rattle.job_saves.specs.Course.{GoesOn, CallsOwn, stays_open};
     ghost use Rattle.job_run.specs.Held.{Holds, IsCalm, IsFirst};
     ghost use Rattle.job_run.specs.Told.{EndsBy};
@@ -241,9 +252,12 @@ impl Execution {
         ensures course { GoesOn W.journal W.counts w.old w.new self.old.book self.new.book
             (stays_open result) }
         ensures calls { CallsOwn W.journal W.counts w.old w.new self.old.book self.new.book }
+        ensures saves { Told (W.journal w.old) (W.journal w.new)
+            (Since (IsSaveCall (output_of self.old.book))) }
         ensures task { task_of self.new.core ≡ task_of self.old.core }
         ensures own { IfErr result (EndsBy (task_of self.new.core)) }
         ensures counts { KeepsCounting W.journal w.old w.new self.old self.new result }
+        ensures key { OnOk result (self.new.session.key ≡ self.old.session.key) }
     {
         self.act(w, Act::Save(0))?;
         self.read_clock(w)
@@ -257,9 +271,12 @@ impl Execution {
         ensures course { GoesOn W.journal W.counts w.old w.new self.old.book self.new.book
             (stays_open result) }
         ensures calls { CallsOwn W.journal W.counts w.old w.new self.old.book self.new.book }
+        ensures saves { Told (W.journal w.old) (W.journal w.new)
+            (Since (IsSaveCall (output_of self.old.book))) }
         ensures task { task_of self.new.core ≡ task_of self.old.core }
         ensures own { IfErr result (EndsBy (task_of self.new.core)) }
         ensures counts { KeepsCounting W.journal w.old w.new self.old self.new result }
+        ensures key { OnOk result (self.new.session.key ≡ self.old.session.key) }
     {
         laws::other_calls_pass();
         let ms = w.now();
@@ -284,7 +301,7 @@ fn started<W: World>(
         bytes_eq paths.connection o.output ≡ false → BeginsNew o (W.journal w.old) →
         StartsAs o result (W.journal w.new) (W.counts w.new) }
     ensures calls { (c : Cast) (since : List Entry) (from : Counts) →
-        MayStart c number kernel.now here.now (W.journal w.old) →
+        MayStart c number kernel.now here.now run (W.journal w.old) →
         HasNoPorts c number (W.journal w.old) → IsRole c number paths →
         HasPart c since from run.book (W.journal w.old) (W.counts w.old) →
         StartsInRole c since from result (W.journal w.new) (W.counts w.new) }
@@ -334,7 +351,7 @@ fn with_kernel<W: World>(job: Job, w: &mut W, kernel: &Kernel, here: &Text) -> R
     ensures course { (o : Origin) → Runs o job (W.journal w.old) (W.counts w.old) →
         StartsAs o result (W.journal w.new) (W.counts w.new) }
     ensures calls { (c : Cast) (since : List Entry) (from : Counts) →
-        MayStart c (number_of job) kernel.now here.now (W.journal w.old) →
+        MayStart c (number_of job) kernel.now here.now job.run (W.journal w.old) →
         HasNoPorts c (number_of job) (W.journal w.old) →
         HasRole c since from job (W.journal w.old) (W.counts w.old) →
         StartsInRole c since from result (W.journal w.new) (W.counts w.new) }
@@ -362,6 +379,8 @@ fn drawn<W: World>(w: &mut W) -> Result<RandomPairs, End>
     ensures others { (path : List ℕ) →
         Told (W.journal w.old) (W.journal w.new) (Since (Spares path)) }
     ensures part { Told (W.journal w.old) (W.journal w.new) (Since (IsOf OnRand)) }
+    ensures words { IfOk result (λ pairs.
+        Told (W.journal w.old) (W.journal w.new) (Draws (Some pairs))) }
     ensures work { CountsWork (W.counts w.old) (W.counts w.new) }
     ensures saved { stays_open result ≡ true }
     ensures cause { IfErr result (EndCause (W.counts w.old) (W.counts w.new)) }
@@ -388,6 +407,7 @@ fn parts_of(
     ensures connection { IfOk result (λ p. p.0.connection ≡ connection_of ask.output) }
     ensures folder { IfOk result (λ p. p.0.cwd ≡ ask.cwd) }
     ensures task { IfOk result (λ p. task_of p.1.core ≡ task_for ask agenda.notebook) }
+    ensures key { IfOk result (λ p. p.1.session.key ≡ key_of pairs) }
     ensures paths { IfOk result (λ p. p.0.output ≡ ask.output) }
 {
     let paths = paths_of(alloc, &ask)?;
@@ -451,6 +471,7 @@ fn execution_of(
     ensures keeps { IfOk result (λ x. KeepsRead x.book agenda.notebook) }
     ensures task { IfOk result (λ x. task_of x.core ≡
         task_in terms.times agenda.notebook) }
+    ensures key { IfOk result (λ x. x.session.key ≡ key_of pairs) }
 {
     nb_model::laws::plan_in_order();
     let Agenda { notebook, cells } = agenda;

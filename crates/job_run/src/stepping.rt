@@ -21,7 +21,7 @@ impl Execution {
     ghost use Rattle.cell_core.specs.Sending.{next_of, saves_ahead};
     ghost use Rattle.cell_core.specs.StandsFor.{task_of};
     ghost use Rattle.cell_core.specs.declared.why.Why.TheVariants as cause;
-    ghost use Rattle.world.specs.Moments.{Told};
+    ghost use Rattle.world.specs.Moments.{Told, Since};
     ghost use Rattle.save_disk.specs.Places.{acknowledged};
     ghost use Rattle.job_notebook.specs.State.{settled_of, begun_of, output_of};
     ghost use Rattle.job_run.specs.Held.{Holds, IsToDo, IsCalm, IsSaid};
@@ -32,6 +32,7 @@ impl Execution {
     ghost use Rattle.job_run.specs.Counted.{StopsAfter, EndsAfter};
     ghost use Rattle.job_saves.specs.Course.{GoesOn, CallsOwn, StaysOn, KeepsPart, IsEndOfSave};
     ghost use Rattle.job_saves.specs.Course.{stays_open, keeps_open};
+    ghost use Rattle.job_saves.specs.Sessions.{IsSaveCall};
 
     /// Tells the core of one event, and does what it answers. `Err` where the job ends so.
     pub(crate) fn step<W: Disk + Say>(&mut self, w: &mut W, e: Event) -> Result<(), End>
@@ -45,6 +46,8 @@ impl Execution {
         ensures course { GoesOn W.journal W.counts w.old w.new self.old.book self.new.book
             (stays_open result) }
         ensures calls { CallsOwn W.journal W.counts w.old w.new self.old.book self.new.book }
+        ensures saves { Told (W.journal w.old) (W.journal w.new)
+            (Since (IsSaveCall (output_of self.old.book))) }
         ensures task { task_of self.new.core ≡ task_of self.old.core }
         ensures own { IfErr result (EndsBy (task_of self.new.core)) }
         ensures counts { KeepsCounting W.journal w.old w.new self.old self.new result }
@@ -82,6 +85,8 @@ impl Execution {
         ensures course { GoesOn W.journal W.counts w.old w.new self.old.book self.new.book
             (stays_open result) }
         ensures calls { CallsOwn W.journal W.counts w.old w.new self.old.book self.new.book }
+        ensures saves { Told (W.journal w.old) (W.journal w.new)
+            (Since (IsSaveCall (output_of self.old.book))) }
         ensures task { task_of self.new.core ≡ task_of self.old.core }
         ensures own { IfErr result (EndsBy (task_of self.new.core)) }
         ensures counts { IsCountedAt self.old act (W.journal w.old) →
@@ -106,6 +111,8 @@ impl Execution {
         ensures course { GoesOn W.journal W.counts w.old w.new self.old.book self.new.book
             (stays_open result) }
         ensures calls { CallsOwn W.journal W.counts w.old w.new self.old.book self.new.book }
+        ensures saves { Told (W.journal w.old) (W.journal w.new)
+            (Since (IsSaveCall (output_of self.old.book))) }
         ensures task { task_of self.new.core ≡ task_of self.old.core }
         ensures own { IfErr result (EndsBy (task_of self.new.core)) }
         ensures counts { IsCountedAt self.old Act.Nothing (W.journal w.old) →
@@ -155,6 +162,8 @@ impl Execution {
         ensures course { GoesOn W.journal W.counts w.old w.new self.old.book self.new.book
             (stays_open result) }
         ensures calls { CallsOwn W.journal W.counts w.old w.new self.old.book self.new.book }
+        ensures saves { Told (W.journal w.old) (W.journal w.new)
+            (Since (IsSaveCall (output_of self.old.book))) }
         ensures task { task_of self.new.core ≡ task_of self.old.core }
         ensures own { IfErr result (EndsBy (task_of self.new.core)) }
         ensures told { KeepsTold self.old self.new }

@@ -19,6 +19,9 @@ impl Execution {
     ghost use Rattle.job_run.specs.Counted.{IsCounted, IsCountedOn, KeepsCounting};
     ghost use Rattle.cell_core.specs.declared.act.Act.TheVariants.{Nothing};
     ghost use Rattle.job_saves.specs.Course.{GoesOn, CallsOwn, stays_open};
+    ghost use Rattle.job_saves.specs.Sessions.{IsSaveCall};
+    ghost use Rattle.job_notebook.specs.State.{output_of};
+    ghost use Rattle.world.specs.Moments.{Told, Since};
 
     /// The clock was read in a turn, and the child was found ended or not.
     pub(crate) fn on_moment<W: Disk + Say>(
@@ -94,6 +97,7 @@ impl Execution {
         ensures later { self.old.clock ≤ self.new.clock }
         ensures broken { self.new.broken ≡ self.old.broken }
         ensures book { self.new.book ≡ self.old.book }
+        ensures session { self.new.session ≡ self.old.session }
     {
         if ms <= self.clock {
             return;
@@ -110,9 +114,12 @@ impl Execution {
         ensures course { GoesOn W.journal W.counts w.old w.new self.old.book self.new.book
             (stays_open result) }
         ensures calls { CallsOwn W.journal W.counts w.old w.new self.old.book self.new.book }
+        ensures saves { Told (W.journal w.old) (W.journal w.new)
+            (Since (IsSaveCall (output_of self.old.book))) }
         ensures task { task_of self.new.core ≡ task_of self.old.core }
         ensures own { IfErr result (EndsBy (task_of self.new.core)) }
         ensures counts { KeepsCounting W.journal w.old w.new self.old self.new result }
+        ensures key { OnOk result (self.new.session.key ≡ self.old.session.key) }
     {
         if self.core.wants_look() {
             return Ok(());

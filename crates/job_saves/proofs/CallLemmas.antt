@@ -25,9 +25,10 @@ use Rattle.progress_save.specs.declared.progress_fault.ProgressFault.{ProgressFa
 use Rattle.progress_save.specs.declared.progress_fault.ProgressFault.TheVariants as fault
 use Rattle.progress_save.specs.Saved.{SaveAnswer, done, failure, SavesAs, SavesSilently}
 use Rattle.job_saves.specs.Calls.{Cast, IsOwnFile, IsCallOf, IsCallBy, IsCall}
-use Rattle.job_saves.specs.Speaking.{ends_line, IsWhole, SpeaksWhole, IsLine, of_save}
+use Rattle.job_saves.specs.Speaking.{ends_line, IsWhole, SpeaksWhole, IsLine}
 use Rattle.job_saves.proofs.KeptLemmas.{heard_since}
-use Rattle.job_saves.proofs.SpeakingLemmas.{line_ends, said_whole}
+use Rattle.job_saves.proofs.SpeakingLemmas.{saved_ends, said_whole}
+use Rattle.job_saves.proofs.TellingLemmas.{SaysLine}
 
 -- a file that is written stays one that the job may write
 pub own_still : (clean : Bool) (number : ℕ) (a : Ask) {path text : List ℕ} {before : List Entry} {rest : List ℕ} {after : List Entry} → IsOwnFile clean number a before path
@@ -87,7 +88,7 @@ module _ (cast : Cast) (number : ℕ) (a : Ask) (has : cast.job number ≡ Some 
 
   -- ---- a line
 
-  module _ (line : List ℕ) (begin : List Entry) (is : IsLine a begin line) (whole : cast.clean ≡ true → IsWhole begin) where
+  module _ (line : List ℕ) (begin : List Entry) (is : IsLine cast.clean a begin line) (whole : cast.clean ≡ true → IsWhole begin) where
     speech_called : {rest : List ℕ} {after : List Entry} → Speech line begin rest after → Since (IsCall cast) begin after
     speech_called said.none = start
     speech_called (said.more {rest} {past} n before) =
@@ -101,15 +102,15 @@ module _ (cast : Cast) (number : ℕ) (a : Ask) (has : cast.job number ≡ Some 
 
   -- ---- a save with its line
 
-  saves_line : (text : List ℕ) (settled cells : ℕ) (failed : Type 0) (result : Result (Unit {0}) ProgressFault) (before after : List Entry) → (cast.clean ≡ true → IsWhole before)
-      → SavesAs a.output text (saved_line a.output settled cells) failed result before after → Since (IsCall cast) before after
-  saves_line text settled cells failed (Ok u) before after whole did =
+  saves_line : (text line : List ℕ) (failed : Type 0) (result : Result (Unit {0}) ProgressFault) (before after : List Entry) → SaysLine cast.clean a text line result before
+      → (cast.clean ≡ true → IsWhole before) → SavesAs a.output text line failed result before after → Since (IsCall cast) before after
+  saves_line text line failed (Ok u) before after is whole did =
       since_then (save_called text done before did.past did.saves)
-      (says_called (saved_line a.output settled cells) did.past (of_save settled cells (saved_behind a.output text before did.past did.saves))
+      (says_called line did.past (is u refl did.past did.saves (saved_behind a.output text before did.past did.saves))
       (λ e. subst (λ xs. ends_line xs ≡ true) (sym (heard_since disk_says_nothing (part_of_save a.output text before done did.past did.saves))) (whole e)) did.says)
-  saves_line text settled cells failed (Err (fault.Save f)) before after whole did = save_called text (failure f) before after did
-  saves_line text settled cells failed (Err fault.Closed) before after whole same = subst (Since (IsCall cast) before) (sym same) start
-  saves_line text settled cells failed (Err fault.NoMemory) before after whole same = subst (Since (IsCall cast) before) (sym same) start
+  saves_line text line failed (Err (fault.Save f)) before after is whole did = save_called text (failure f) before after did
+  saves_line text line failed (Err fault.Closed) before after is whole same = subst (Since (IsCall cast) before) (sym same) start
+  saves_line text line failed (Err fault.NoMemory) before after is whole same = subst (Since (IsCall cast) before) (sym same) start
 
   saves_nothing_said : (text : List ℕ) (result : Result (Unit {0}) ProgressFault) (before after : List Entry) → SavesSilently a.output text result before after
       → Since (IsCall cast) before after
@@ -120,23 +121,24 @@ module _ (cast : Cast) (number : ℕ) (a : Ask) (has : cast.job number ≡ Some 
 
 -- ---- where it is told
 
-module _ (cast : Cast) (number : ℕ) (a : Ask) (has : cast.job number ≡ Some a) (text : List ℕ) (settled cells : ℕ) (result : Result (Unit {0}) ProgressFault) where
+module _ (cast : Cast) (number : ℕ) (a : Ask) (has : cast.job number ≡ Some a) (text line : List ℕ) (result : Result (Unit {0}) ProgressFault) where
   abbrev Saves : Counts → List Entry → List Entry → Type 0
-  Saves d before after = SavesAs a.output text (saved_line a.output settled cells) (0 < d.say) result before after
+  Saves d before after = SavesAs a.output text line (0 < d.say) result before after
 
-  line_told : (j k : Option (List Entry)) (d : Counts) → (cast.clean ≡ true → IfSome j IsWhole) → Told j k (Saves d) → Told j k (Since (IsCall cast))
-  line_told j None d whole told = record { so = tt }
-  line_told None (Some y) d whole told = absurd told.so
-  line_told (Some x) (Some y) d whole told = record { so = saves_line cast number a has text settled cells (0 < d.say) result x y whole told.so }
+  line_told : (j k : Option (List Entry)) (d : Counts) → IfSome j (SaysLine cast.clean a text line result) → (cast.clean ≡ true → IfSome j IsWhole) → Told j k (Saves d)
+      → Told j k (Since (IsCall cast))
+  line_told j None d is whole told = record { so = tt }
+  line_told None (Some y) d is whole told = absurd told.so
+  line_told (Some x) (Some y) d is whole told = record { so = saves_line cast number a has text line (0 < d.say) result x y is whole told.so }
 
-  pub saves_called : (j k : Option (List Entry)) (c d : Counts) → (cast.clean ≡ true → SpeaksWhole j c) → Told j k (Saves d)
-      → (0 < c.say → Told j k (SavesSilently a.output text result)) → Told j k (Since (IsCall cast))
-  saves_called j k c d spoken told silent =
+  pub saves_called : (j k : Option (List Entry)) (c d : Counts) → (((0 < c.say) → ⊥) → IfSome j (SaysLine cast.clean a text line result)) → (cast.clean ≡ true → SpeaksWhole j c)
+      → Told j k (Saves d) → (0 < c.say → Told j k (SavesSilently a.output text result)) → Told j k (Since (IsCall cast))
+  saves_called j k c d is spoken told silent =
       or_failed (Told j k (Since (IsCall cast))) c.say
       (λ failed. moments_as (silent failed) (λ x y did. saves_nothing_said cast number a has text result x y did))
-      (λ none. line_told j k d (λ e. spoken e none) told)
+      (λ none. line_told j k d (is none) (λ e. spoken e none) told)
 
-module _ (cast : Cast) (number : ℕ) (a : Ask) (has : cast.job number ≡ Some a) (line : List ℕ) (is : (begin : List Entry) → IsLine a begin line) where
+module _ (cast : Cast) (number : ℕ) (a : Ask) (has : cast.job number ≡ Some a) (line : List ℕ) (is : (begin : List Entry) → IsLine cast.clean a begin line) where
   say_told : (j k : Option (List Entry)) (d : Counts) → (cast.clean ≡ true → IfSome j IsWhole) → Told j k (Says line (0 < d.say)) → Told j k (Since (IsCall cast))
   say_told j None d whole told = record { so = tt }
   say_told None (Some y) d whole told = absurd told.so
@@ -161,7 +163,7 @@ says_whole is none (said.refused f speech) whole = absurd (none f)
 pub saves_whole : (a : Ask) (text : List ℕ) (settled cells : ℕ) (failed : Type 0) (result : Result (Unit {0}) ProgressFault) (before after : List Entry) → (failed → ⊥)
     → SavesAs a.output text (saved_line a.output settled cells) failed result before after → IsWhole before → IsWhole after
 saves_whole a text settled cells failed (Ok u) before after none did whole =
-    says_whole (line_ends a did.past (saved_line a.output settled cells) (of_save settled cells (saved_behind a.output text before did.past did.saves))) none did.says
+    says_whole (saved_ends a.output settled cells) none did.says
     (subst (λ xs. ends_line xs ≡ true) (sym (heard_since disk_says_nothing (part_of_save a.output text before done did.past did.saves))) whole)
 saves_whole a text settled cells failed (Err (fault.Save f)) before after none did whole =
     subst (λ xs. ends_line xs ≡ true) (sym (heard_since disk_says_nothing (part_of_save a.output text before (failure f) after did))) whole

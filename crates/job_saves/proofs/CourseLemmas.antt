@@ -15,7 +15,7 @@ use Rattle.world.proofs.MomentsLemmas.{told_as as moments_as}
 use Rattle.save_disk.specs.Places.{durable_place, acknowledged}
 use Rattle.job_end.specs.declared.end.End.{End}
 use Rattle.job_end.specs.declared.end.End.TheVariants as end
-use Rattle.world.proofs.CountsLemmas.{grow_start, grow_then}
+use Rattle.world.proofs.CountsLemmas.{grow_start, grow_then, rose_since, rose_still}
 use Rattle.world.proofs.MomentsLemmas.{since_then}
 use Rattle.progress_save.specs.declared.progress_fault.ProgressFault.{ProgressFault}
 use Rattle.progress_save.specs.declared.progress_fault.ProgressFault.TheVariants as fault
@@ -26,11 +26,12 @@ use Rattle.save_course.proofs.CourseLemmas.{saved_goes_on}
 use Rattle.save_course.proofs.RestLemmas.{spared_go_on, spared_rest, saved_rests}
 use Rattle.job_notebook.specs.declared.notebook.JobNotebook.{JobNotebook}
 use Rattle.job_notebook.specs.State.{notebook_of, settled_of, merge_of, output_of, is_closed, Keeps, KeepsParts, KeepsRead, OnCall, closed_after}
-use Rattle.job_saves.specs.Course.{Origin, IsFor, IsSaved, IsOnCourse, HasSaved, Begins, Stands, Ends, CountsWork, HasCalled, HasPart, stays_open, answer_of}
+use Rattle.job_saves.specs.Course.{Origin, IsFor, IsSaved, IsOnCourse, HasSaved, Begins, Stands, Ends, CountsWork, HasCalled, HasPart, TellsAll, stays_open, answer_of}
 use Rattle.job_saves.specs.Calls.{Cast, IsCall}
-use Rattle.job_saves.specs.Speaking.{ends_line, IsWhole, SpeaksWhole, IsLine}
+use Rattle.job_saves.specs.Speaking.{ends_line, IsWhole, SpeaksWhole, SavesNone, IsLine}
 use Rattle.job_saves.proofs.CallLemmas.{saves_called, line_called, says_whole, saves_whole}
 use Rattle.job_saves.proofs.SpeakingLemmas.{line_ends}
+use Rattle.job_saves.proofs.TellingLemmas.{not_both, not_stopped, save_line, save_tells_all, tells_pass, tells_stay}
 
 -- ---- what is told and what was held
 
@@ -44,12 +45,6 @@ told_on (Some x) (Some y) R P Q told held turns = turns x y held told.so
 pub told_as : (j : Option (List Entry)) (P Q : List Entry → Type 0) → ((x : List Entry) → P x → Q x) → IfSome j P → IfSome j Q
 told_as None P Q turns held = tt
 told_as (Some x) P Q turns held = turns x held
-
-rose_later : (a b c : ℕ) → a ≤ b → Rose b c → Rose a c
-rose_later a b c more rose = grind (arith, more, rose)
-
-rose_still : (a b c : ℕ) → Rose a b → b ≤ c → Rose a c
-rose_still a b c rose more = grind (arith, more, rose)
 
 pub save_grows : (old new : Counts) (failed : Type 0) → SaveCause old new failed → CountsGrow old new
 save_grows old new failed c =
@@ -65,16 +60,9 @@ save_grows old new failed c =
 
 -- ---- a save
 
-not_both : {A : Type 0} (b : Bool) → b ≡ true → b ≡ false → A
-not_both b e f = let no : true ≡ false = subst (λ c. c ≡ false) e f in absurd (cc)
-
 is_open_or : (b : Bool) (A : Type 0) → (b ≡ true → A) → (b ≡ false → A) → A
 is_open_or true A t f = t refl
 is_open_or false A t f = f refl
-
-not_stopped : (stop : Option ℕ) (r : Result (Unit {0}) ProgressFault) (u : Unit {0}) → r ≡ Ok u → closed_after r stop ≡ false → stop ≡ None
-not_stopped None r u e closed = refl
-not_stopped (Some cell) r u e closed = let no : true ≡ false = subst (λ q. closed_after q (Some cell) ≡ false) e closed in absurd (cc)
 
 module _ (o : Origin) (was now : JobNotebook) (p : ℕ) (stop : Option ℕ) (line : List ℕ) (failed : Type 0) (past after : List Entry) (h : IsOnCourse o was true past)
     (merge : merge_of was ≡ o.merge) (above : settled_of was ≤ p) where
@@ -165,7 +153,7 @@ save_stands o was now p stop line failed result j k c d above is keeps settles c
       (λ x y h saved. save_goes_on o was now p stop line failed x y h s.merge above result is keeps settles closes shut
       (subst (λ q. SavesAs q (text_of (notebook_of now)) line failed result x y) s.output saved));
   grow = grow_then s.grow (save_grows c d (IsSaveFault result) cause);
-  cause = λ e. rose_later o.counts.disk c.disk d.disk s.grow.disk (failed_rose result c.disk d.disk cause.disk.cause e);
+  cause = λ e. rose_since o.counts.disk c.disk d.disk s.grow.disk (failed_rose result c.disk d.disk cause.disk.cause e);
 }
 
 -- ---- the calls of a job
@@ -198,11 +186,11 @@ quiet_speaks j k c d quiet grow speaks =
     (λ x y whole same. subst (λ xs. ends_line xs ≡ true) (sym same) whole)
 
 -- a line that was said
-pub line_speaks : (a : Ask) (line : List ℕ) → ((begin : List Entry) → IsLine a begin line) → (j k : Option (List Entry)) (c d : Counts) → Told j k (Says line (0 < d.say))
+pub line_speaks : (clean : Bool) (a : Ask) (line : List ℕ) → ((begin : List Entry) → IsLine clean a begin line) → (j k : Option (List Entry)) (c d : Counts) → Told j k (Says line (0 < d.say))
     → CountsGrow c d → SpeaksWhole j c → SpeaksWhole k d
-line_speaks a line is j k c d told grow speaks =
+line_speaks clean a line is j k c d told grow speaks =
     λ none. told_on j k (Says line (0 < d.say)) IsWhole IsWhole told (speaks (none_before c d grow none))
-    (λ x y whole said. says_whole (line_ends a x line (is x)) none said whole)
+    (λ x y whole said. says_whole (line_ends clean a x line (is x)) none said whole)
 
 saves_speak : (a : Ask) (text : List ℕ) (settled cells : ℕ) (result : Result (Unit {0}) ProgressFault) (j k : Option (List Entry)) (c d : Counts)
     → Told j k (SavesAs a.output text (saved_line a.output settled cells) (0 < d.say) result) → CountsGrow c d → SpeaksWhole j c → SpeaksWhole k d
@@ -215,32 +203,46 @@ pub calls_on : (cast : Cast) (since : List Entry) (from c d : Counts) (j k : Opt
 calls_on cast since from c d j k told quiet work s = calls_with cast since from c d j k told work (λ e. quiet_speaks j k c d quiet work.grow) s
 
 -- a line that a job of the cast says by itself
-pub line_on : (cast : Cast) (number : ℕ) (a : Ask) → cast.job number ≡ Some a → (line : List ℕ) → ((begin : List Entry) → IsLine a begin line) → (since : List Entry)
+pub line_on : (cast : Cast) (number : ℕ) (a : Ask) → cast.job number ≡ Some a → (line : List ℕ) → ((begin : List Entry) → IsLine cast.clean a begin line) → (since : List Entry)
     → (from c d : Counts) (j k : Option (List Entry)) → Told j k (Says line (0 < d.say)) → (0 < c.say → k ≡ j) → CountsWork c d → HasCalled cast since from j c
     → HasCalled cast since from k d
 line_on cast number a has line is since from c d j k told silent work s =
-    calls_with cast since from c d j k (line_called cast number a has line is j k c d s.spoken told silent) work (λ e. line_speaks a line is j k c d told work.grow) s
+    calls_with cast since from c d j k (line_called cast number a has line is j k c d s.spoken told silent) work (λ e. line_speaks cast.clean a line is j k c d told work.grow) s
 
 part_with : (cast : Cast) (since : List Entry) (from c d : Counts) (was now : JobNotebook) (j k : Option (List Entry)) → output_of now ≡ output_of was
-    → (HasCalled cast since from j c → HasCalled cast since from k d) → HasPart cast since from was j c → HasPart cast since from now k d
-part_with cast since from c d was now j k output calls s = record { number = s.number; ask = s.ask; has = s.has; output = output ∙ s.output; so = calls s.so }
-
-pub calls_part : (cast : Cast) (since : List Entry) (from c d : Counts) (was now : JobNotebook) (j k : Option (List Entry)) → output_of now ≡ output_of was
-    → Told j k (Since (IsCall cast)) → Told j k (λ before after. heard after ≡ heard before) → CountsWork c d → HasPart cast since from was j c
+    → (HasCalled cast since from j c → HasCalled cast since from k d) → (p : HasPart cast since from was j c) → (cast.clean ≡ true → TellsAll p.ask now k d)
     → HasPart cast since from now k d
-calls_part cast since from c d was now j k output told quiet work s = part_with cast since from c d was now j k output (calls_on cast since from c d j k told quiet work) s
+part_with cast since from c d was now j k output calls s told =
+    record { number = s.number; ask = s.ask; has = s.has; output = output ∙ s.output; so = calls s.so; told = told }
 
-pub save_called : (cast : Cast) (since : List Entry) (from : Counts) (was now : JobNotebook) (p : ℕ) (n : Notebook) (text : List ℕ)
-    (result : Result (Unit {0}) ProgressFault) (j k : Option (List Entry)) (c d : Counts) → output_of now ≡ output_of was
-    → Told j k (SavesAs (output_of was) text (line_of (output_of was) p n) (0 < d.say) result) → (0 < c.say → Told j k (SavesSilently (output_of was) text result))
+-- calls that save nothing
+pub calls_part : (cast : Cast) (since : List Entry) (from c d : Counts) (b : JobNotebook) (j k : Option (List Entry)) → Told j k (Since (IsCall cast))
+    → Told j k (λ before after. heard after ≡ heard before) → Told j k (Since SavesNone) → CountsWork c d → HasPart cast since from b j c → HasPart cast since from b k d
+calls_part cast since from c d b j k told quiet none work s =
+    part_with cast since from c d b b j k refl (calls_on cast since from c d j k told quiet work) s (λ e. tells_pass s.ask b j k c d none work.grow (s.told e))
+
+pub save_called : (cast : Cast) (since : List Entry) (from : Counts) (was now : JobNotebook) (p : ℕ) (stop : Option ℕ)
+    (result : Result (Unit {0}) ProgressFault) (j k : Option (List Entry)) (c d : Counts)
+    → settled_of was ≤ p → p ≤ length (notebook_of was).cells
+    → OnCall result ((first : Notebook) (us : List Used) → Keeps was first us → notebook_of now ≡ prefix (merge_of was) us p stop first)
+    → OnOk result (stop ≡ None → (first : Notebook) → KeepsRead was first → KeepsRead now first)
+    → OnCall result (settled_of now ≡ p) → is_closed now ≡ closed_after result stop → (is_closed was ≡ true → result ≡ Err fault.Closed)
+    → merge_of now ≡ merge_of was → length (notebook_of now).cells ≡ length (notebook_of was).cells → output_of now ≡ output_of was
+    → Told j k (SavesAs (output_of was) (text_of (notebook_of now)) (line_of (output_of was) p (notebook_of now)) (0 < d.say) result)
+    → (0 < c.say → Told j k (SavesSilently (output_of was) (text_of (notebook_of now)) result))
     → SaveCause c d (IsSaveFault result) → HasPart cast since from was j c → HasPart cast since from now k d
-save_called cast since from was now p n text result j k c d output did silent cause s =
-    let told = subst (λ q. Told j k (SavesAs q text (line_of q p n) (0 < d.say) result)) s.output did in
+save_called cast since from was now p stop result j k c d above within is keeps settles closes shut merge size output did silent cause s =
+    let text = text_of (notebook_of now) in
+    let cells = length (notebook_of now).cells in
+    let told = subst (λ q. Told j k (SavesAs q text (line_of q p (notebook_of now)) (0 < d.say) result)) s.output did in
     let unsaid : 0 < c.say → Told j k (SavesSilently (Ask.output s.ask) text result) = λ f. subst (λ q. Told j k (SavesSilently q text result)) s.output (silent f) in
     let work = save_works c d (IsSaveFault result) cause in
     part_with cast since from c d was now j k output
-    (calls_with cast since from c d j k (saves_called cast s.number s.ask s.has text p (length n.cells) result j k c d s.so.spoken told unsaid) work
-    (λ e. saves_speak s.ask text p (length n.cells) result j k c d told work.grow)) s
+    (calls_with cast since from c d j k
+    (saves_called cast s.number s.ask s.has text (saved_line (Ask.output s.ask) p cells) result j k c d
+    (save_line cast.clean s.ask was now p stop result j c above within is shut merge size s.told) s.so.spoken told unsaid) work
+    (λ e. saves_speak s.ask text p cells result j k c d told work.grow)) s
+    (λ e. save_tells_all s.ask was now p stop result j k c d above within is keeps settles closes shut merge size told work.grow (s.told e))
 
 -- ---- what is used changes nothing of the course
 
@@ -260,8 +262,15 @@ stays was now parts reads o is_open j c s = record {
 }
 
 pub keeps_part : (was now : JobNotebook) (cast : Cast) (since : List Entry) (from : Counts) (j : Option (List Entry)) (c : Counts) → KeepsParts was now
-    → HasPart cast since from was j c → HasPart cast since from now j c
-keeps_part was now cast since from j c parts s = record { number = s.number; ask = s.ask; has = s.has; output = parts.output ∙ s.output; so = s.so }
+    → ((first : Notebook) → KeepsRead was first → KeepsRead now first) → HasPart cast since from was j c → HasPart cast since from now j c
+keeps_part was now cast since from j c parts reads s = record {
+  number = s.number;
+  ask = s.ask;
+  has = s.has;
+  output = parts.output ∙ s.output;
+  so = s.so;
+  told = λ e. tells_stay s.ask was now j c parts reads (s.told e);
+}
 
 -- ---- other calls
 

@@ -13,6 +13,7 @@ use Rattle.world.specs.Moments.{Since, start, Told, Tells}
 use Rattle.world.specs.Parts.{OnDisk, OnRand, part_of, IsOf}
 use Rattle.world.proofs.MomentsLemmas.{told_as, since_as, since_then}
 use Rattle.kernel_start.specs.declared.kernel.Kernel.{Kernel}
+use Rattle.kernel_start.specs.declared.random_words.RandomPairs.{RandomPairs}
 use Rattle.kernel_start.specs.declared.launch_fault.LaunchFault.{LaunchFault}
 use Rattle.kernel_start.specs.declared.launch_fault.LaunchFault.TheVariants as launch
 use Rattle.kernel_start.specs.declared.connection_fault.ConnectionFault.{ConnectionFault}
@@ -22,10 +23,12 @@ use Rattle.kernel_start.specs.Launch.{from_root, StartsChild, Launches}
 use Rattle.job_saves.specs.Calls.{Cast, IsChildless, IsOwnFile, IsReady, IsStart, IsCallOf, IsCall}
 use Rattle.job_saves.specs.Children.{ports_of, HasEnd}
 use Rattle.job_saves.specs.Reads.{IsKernelOf}
+use Rattle.job_saves.specs.Sessions.{HasAsked, key_of}
 use Rattle.job_saves.proofs.CallLemmas.{by_job, one_more, own_still, writes_called, write_fails_called}
 use Rattle.job_saves.proofs.ChildLemmas.{same_number}
 use Rattle.job_saves.proofs.KeptLemmas.{ports_since}
 use Rattle.job_saves.proofs.ReadLemmas.{kernel_later}
+use Rattle.job_saves.proofs.SessionLemmas.{asked_later}
 
 -- ---- random words
 
@@ -110,22 +113,37 @@ file_called cast number a has starts path text at result (Some x) (Some y) child
     record { so = file_each cast number a has starts path text at x childless result y told.so }
 
 -- and behind it the kernel is ready
-ready_by : (number : ℕ) (a : Ask) (kernel : Kernel) (path ports key : List ℕ) → path ≡ connection_of a.output → (before after : List Entry) → IsKernelOf a before kernel
-    → ports_of number before ≡ Some ports → Since (IsOf OnDisk) before after → place after path ≡ synced_text (file_text ports key) → IsReady number a after kernel
-ready_by number a kernel path ports key at before after found given disk file = record {
+ready_by : (number : ℕ) (a : Ask) (kernel : Kernel) (path ports : List ℕ) (pairs : RandomPairs) → path ≡ connection_of a.output → (before after : List Entry) → IsKernelOf a before kernel
+    → ports_of number before ≡ Some ports → HasAsked number a.output pairs ports before → Since (IsOf OnDisk) before after
+    → WritesAndSyncs path (file_text ports (key_of pairs)) Done before after → place after path ≡ synced_text (file_text ports (key_of pairs)) → IsReady number a after kernel
+ready_by number a kernel path ports pairs at before after found given asked disk writes file = record {
   found = kernel_later a kernel disk found;
   ports = ports;
   given = ports_since number (λ e. absurd (cc)) disk ∙ given;
-  key = key;
-  file = subst (λ p. place after p ≡ synced_text (file_text ports key)) at file;
+  pairs = pairs;
+  session = asked_later number a.output pairs ports path (file_text ports (key_of pairs)) at before after writes asked;
+  file = subst (λ p. place after p ≡ synced_text (file_text ports (key_of pairs))) at file;
 }
 
-pub file_ready : (number : ℕ) (a : Ask) (kernel : Kernel) (path ports key : List ℕ) → path ≡ connection_of a.output → (j k : Option (List Entry))
-    → IfSome j (λ past. IsKernelOf a past kernel) → IfSome j (λ past. ports_of number past ≡ Some ports) → Told j k (Since (IsOf OnDisk))
+-- what was written whole
+file_done : (path text : List ℕ) (result : Result (Unit {0}) ConnectionFault) (u : Unit {0}) → result ≡ Ok u → (j k : Option (List Entry)) → Told j k (WritesFile path text result)
+    → Told j k (WritesAndSyncs path text Done)
+file_done path text result u is j k told = subst (λ r. Told j k (WritesFile path text r)) is told
+
+pub file_ready : (number : ℕ) (a : Ask) (kernel : Kernel) (path ports key : List ℕ) (pairs : RandomPairs) (result : Result (Unit {0}) ConnectionFault) (u : Unit {0}) → path ≡ connection_of a.output
+    → key ≡ key_of pairs → result ≡ Ok u → (j k : Option (List Entry)) → IfSome j (λ past. IsKernelOf a past kernel) → IfSome j (λ past. ports_of number past ≡ Some ports)
+    → IfSome j (HasAsked number a.output pairs ports) → Told j k (Since (IsOf OnDisk)) → Told j k (WritesFile path (file_text ports key) result)
     → Told j k (λ before after. place after path ≡ synced_text (file_text ports key)) → IfSome k (λ past. IsReady number a past kernel)
-file_ready number a kernel path ports key at j None found given disk file = tt
-file_ready number a kernel path ports key at None (Some y) found given disk file = absurd disk.so
-file_ready number a kernel path ports key at (Some x) (Some y) found given disk file = ready_by number a kernel path ports key at x y found given disk.so file.so
+file_ready number a kernel path ports key pairs result u at is ok j k found given asked disk writes file =
+    ready_told j k found given asked disk (file_done path (file_text ports (key_of pairs)) result u ok j k (subst (λ x. Told j k (WritesFile path (file_text ports x) result)) is writes))
+    (subst (λ x. Told j k (λ before after. place after path ≡ synced_text (file_text ports x))) is file)
+  where
+    ready_told : (j k : Option (List Entry)) → IfSome j (λ past. IsKernelOf a past kernel) → IfSome j (λ past. ports_of number past ≡ Some ports)
+        → IfSome j (HasAsked number a.output pairs ports) → Told j k (Since (IsOf OnDisk)) → Told j k (WritesAndSyncs path (file_text ports (key_of pairs)) Done)
+        → Told j k (λ before after. place after path ≡ synced_text (file_text ports (key_of pairs))) → IfSome k (λ past. IsReady number a past kernel)
+    ready_told j None found given asked disk writes file = tt
+    ready_told None (Some y) found given asked disk writes file = absurd disk.so
+    ready_told (Some x) (Some y) found given asked disk writes file = ready_by number a kernel path ports pairs at x y found given asked disk.so writes.so file.so
 
 -- ---- the child
 

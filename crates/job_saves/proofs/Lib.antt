@@ -4,5 +4,7 @@ pub mod CourseLemmas
 pub mod KeptLemmas
 pub mod LaunchLemmas
 pub mod ReadLemmas
+pub mod SessionLemmas
 pub mod SpeakingLemmas
+pub mod TellingLemmas
 pub mod ToldLemmas

@@ -1,15 +1,15 @@
 -- What is heard of the lines of jobs.
-use Rattle.std.proofs.Common.{◌≡◌, ℕ, List, [], ◌∷◌, ◌++◌, take, drop, true, refl, sym, ◌∙◌, ap, subst, append_assoc}
+use Rattle.std.proofs.Common.{◌≡◌, ℕ, List, [], ◌∷◌, ◌++◌, Bool, true, refl, sym, ◌∙◌, subst}
 use Rattle.std.specs.Prelude.{codes}
 use Rattle.std.specs.Fmt.{decimal}
 use Rattle.std.proofs.Math.Bool.{Bool-set}
 use Rattle.std.proofs.Math.Logic.{∥∥₁_elim}
-use Rattle.std.proofs.lemmas.List.{take-append-drop, append-nil}
+use Rattle.std.proofs.lemmas.List.{append-nil}
 use Rattle.words.specs.declared.ask.Ask.{Ask}
 use Rattle.world.specs.declared.entry.Entry.{Entry}
 use Rattle.said_lines.specs.Lines.{spoken_line, saved_line}
 use Rattle.said_lines.specs.Speech.{Speech, heard}
-use Rattle.said_lines.specs.Speech as said
+use Rattle.said_lines.proofs.SpeechLemmas.{speech_heard}
 use Rattle.nb_load.specs.declared.load_fault.LoadFault.TheVariants as load
 use Rattle.job_end.specs.declared.answer.Answer.{Answer}
 use Rattle.job_end.specs.declared.end.End.{End}
@@ -36,7 +36,7 @@ ends_both (c ∷ d ∷ text) more e f = ends_both (d ∷ text) more e f
 spoken_ends : (of what : List ℕ) → ends_line (spoken_line of what) ≡ true
 spoken_ends of what = ends_behind (of ++ codes ": " ++ what)
 
-saved_ends : (output : List ℕ) (settled cells : ℕ) → ends_line (saved_line output settled cells) ≡ true
+pub saved_ends : (output : List ℕ) (settled cells : ℕ) → ends_line (saved_line output settled cells) ≡ true
 saved_ends output settled cells = ends_behind (codes "saved " ++ decimal settled ++ codes "/" ++ decimal cells ++ codes " " ++ output)
 
 last_ends : (output : List ℕ) (e : End) → ends_line (line_of output e) ≡ true
@@ -68,15 +68,11 @@ answer_ends output e a answer.said = last_ends output e
 answer_ends output e a answer.starved = refl
 
 -- each line of a job does
-pub line_ends : (a : Ask) (begin : List Entry) (line : List ℕ) → IsLine a begin line → ends_line line ≡ true
-line_ends a begin line (of_save settled cells behind) = saved_ends a.output settled cells
-line_ends a begin line (of_end answer is) = ∥∥₁_elim is (Bool-set (ends_line answer.line) true) (λ x. answer_ends a.output x.end answer x.answers)
+pub line_ends : (clean : Bool) (a : Ask) (begin : List Entry) (line : List ℕ) → IsLine clean a begin line → ends_line line ≡ true
+line_ends clean a begin line (of_save settled cells behind prefix) = saved_ends a.output settled cells
+line_ends clean a begin line (of_end answer is) = ∥∥₁_elim is (Bool-set (ends_line answer.line) true) (λ x. answer_ends a.output x.end answer x.answers)
 
 -- ---- what is heard of a text
-
-speech_heard : {text : List ℕ} {before : List Entry} {rest : List ℕ} {after : List Entry} → Speech text before rest after → heard after ++ rest ≡ heard before ++ text
-speech_heard said.none = refl
-speech_heard (said.more {rest} {past} n before) = append_assoc (heard past) (take n rest) (drop n rest) ∙ ap (λ xs. heard past ++ xs) (take-append-drop n rest) ∙ speech_heard before
 
 -- a line that was said whole
 pub said_whole : (line : List ℕ) (before after : List Entry) → ends_line line ≡ true → Speech line before [] after → IsWhole before → IsWhole after

@@ -9,14 +9,17 @@ use Rattle.world.specs.declared.entry.Entry.TheVariants as made
 use Rattle.world.specs.Disk.{folder_of, place}
 use Rattle.save_disk.specs.Temporary.{temporary_of}
 use Rattle.kernel_start.specs.declared.kernel.Kernel.{Kernel}
+use Rattle.kernel_start.specs.declared.random_words.RandomPairs.{RandomPairs}
 use Rattle.kernel_start.specs.ConnectionFile.{file_text, synced_text}
 use Rattle.kernel_start.specs.Launch.{from_root}
 use Rattle.job_saves.specs.Children.{has_child, ports_of}
 use Rattle.job_saves.specs.Reads.{IsRead, IsKernelOf}
+use Rattle.job_saves.specs.Sessions.{HasAsked, key_of}
 use Rattle.job_saves.specs.Speaking.{IsPiece}
 
 -- the jobs of a run, by their numbers, the working folder, whether they may start a child, and whether they began clean: what
--- was heard ended with a whole line, each child had its end, and no job had asked for ports
+-- was heard ended with a whole line, each child had its end, no job had asked for ports, no save of a job's output was
+-- acknowledged, and no job writes to the output of another one
 pub record Cast : Type 0 where
   pub job : ℕ → Option Ask
   pub here : List ℕ
@@ -36,13 +39,15 @@ abbrev pub IsOwnFile : Bool → ℕ → Ask → List Entry → List ℕ → Type
 IsOwnFile clean number a past path = (path ≡ temporary_of a.output) ⊎ ((path ≡ connection_of a.output) × IsChildless clean number past)
 
 -- The kernel of a job is found and ready to be started: its connection file has the ports that were last given for the job
--- and a key, and is synced (jupyter_client, "Connection files").
+-- and the key of its session, and is synced (jupyter_client, "Connection files"). The words of the session are the last that were
+-- drawn, and all that was asked since they were is of this job's first save, its ports and that file.
 pub record IsReady (number : ℕ) (a : Ask) (past : List Entry) (kernel : Kernel) : Type 0 where
   pub found : IsKernelOf a past kernel
   pub ports : List ℕ
   pub given : ports_of number past ≡ Some ports
-  pub key : List ℕ
-  pub file : place past (connection_of a.output) ≡ synced_text (file_text ports key)
+  pub pairs : RandomPairs
+  pub session : HasAsked number a.output pairs ports past
+  pub file : place past (connection_of a.output) ≡ synced_text (file_text ports (key_of pairs))
 
 -- a start of such a kernel (jupyter_client, "Kernel specs"): its arguments with their names replaced, its variables, and the
 -- folder that was asked for

@@ -1,6 +1,6 @@
 -- What a job makes of its output: a course of saves, each of a prefix of its notebook (Papermill and nbclient save after each
 -- cell). A journal has its newest entry first.
-use Rattle.std.specs.Prelude.{◌≡◌, ℕ, ◌≤◌, List, Bool, true, false, Option, Some, IfSome, Result, Ok, Err}
+use Rattle.std.specs.Prelude.{◌≡◌, ℕ, ◌≤◌, ◌<◌, length, List, Bool, true, false, Option, Some, IfSome, Result, Ok, Err}
 use Rattle.nb_model.specs.declared.notebook.Notebook.{Notebook}
 use Rattle.world.specs.declared.entry.Entry.{Entry}
 use Rattle.world.specs.Counts.{Counts, CountsGrow, Rose}
@@ -8,13 +8,15 @@ use Rattle.world.specs.Moments.{Since}
 use Rattle.progress_save.specs.declared.progress_fault.ProgressFault.{ProgressFault}
 use Rattle.progress_save.specs.declared.progress_fault.ProgressFault.TheVariants as fault
 use Rattle.save_course.specs.Course.{Course, IsRested}
+use Rattle.save_disk.specs.Places.{acknowledged}
 use Rattle.job_notebook.specs.declared.notebook.JobNotebook.{JobNotebook}
-use Rattle.job_notebook.specs.State.{settled_of, merge_of, output_of, is_closed, KeepsRead}
+use Rattle.job_notebook.specs.State.{notebook_of, settled_of, merge_of, output_of, is_closed, KeepsRead}
 use Rattle.words.specs.declared.ask.Ask.{Ask}
 use Rattle.job_end.specs.declared.end.End.{End}
 use Rattle.job_end.specs.declared.end.End.TheVariants as end
 use Rattle.job_saves.specs.Calls.{Cast, IsCall}
-use Rattle.job_saves.specs.Speaking.{SpeaksWhole}
+use Rattle.job_saves.specs.Reads.{IsFirstOf}
+use Rattle.job_saves.specs.Speaking.{SpeaksWhole, TellsEach}
 
 -- what the saves of a job begin with: its output, whether neighbouring streams of one name are joined, the notebook as it is
 -- before its cells are executed, and the journal and the counts of failures before its first entry; what is said of one that
@@ -68,13 +70,39 @@ pub record HasCalled (c : Cast) (since : List Entry) (from : Counts) (journal : 
   pub counts_work : CountsWork from counts
   pub spoken : c.clean ≡ true → SpeaksWhole journal counts
 
--- and this is the notebook of one of them
+-- no save of this output was acknowledged, and no rename onto it waits for the sync of its folder
+pub record LacksSaves (output : List ℕ) (past : List Entry) : Type 0 where
+  pub rested : IsRested output past
+  pub none : acknowledged output past ≡ 0
+
+-- a job has read the notebook that it saves first, and has not saved yet
+pub record HasOnlyRead (a : Ask) (first : Notebook) (past : List Entry) : Type 0 where
+  pub own : IsFirstOf a past first
+  pub lacks : LacksSaves a.output past
+
+-- The next save of this notebook is of a prefix of the one that the job has read, and each of its saves that was acknowledged was
+-- told by its line. No rename onto the output waits for the sync of its folder.
+pub record IsTold (a : Ask) (b : JobNotebook) (past : List Entry) : Type 0 where
+  pub first : Notebook
+  pub own : IsFirstOf a past first
+  pub size : length (notebook_of b).cells ≡ length first.cells
+  pub merge : merge_of b ≡ a.merge
+  pub keeps : KeepsRead b first
+  pub rested : IsRested a.output past
+  pub lines : TellsEach a.output (settled_of b) (length first.cells) past
+
+-- so it is as long as saves may follow and no say has failed
+abbrev pub TellsAll : Ask → JobNotebook → Option (List Entry) → Counts → Type 0
+TellsAll a b journal counts = is_closed b ≡ false → ((0 < counts.say) → ⊥) → IfSome journal (IsTold a b)
+
+-- and this is the notebook of one of them; where they began clean, its saves are told so
 pub record HasPart (c : Cast) (since : List Entry) (from : Counts) (b : JobNotebook) (journal : Option (List Entry)) (counts : Counts) : Type 0 where
   pub number : ℕ
   pub ask : Ask
   pub has : c.job number ≡ Some ask
   pub output : output_of b ≡ ask.output
   pub so : HasCalled c since from journal counts
+  pub told : c.clean ≡ true → TellsAll ask b journal counts
 
 -- calls are those of a job with this notebook
 abbrev pub CallsOwn : {W : Type 0} → (W → Option (List Entry)) → (W → Counts) → W → W → JobNotebook → JobNotebook → Type 0

@@ -1,5 +1,5 @@
 -- What a job has read, and what it found in it, by the entries of a journal, its newest entry first.
-use Rattle.std.specs.Prelude.{◌≡◌, ◌⊎◌, ℕ, List, ◌∷◌, ◌++◌}
+use Rattle.std.specs.Prelude.{◌≡◌, ◌⊎◌, ℕ, List, ◌∷◌, ◌++◌, if◌then◌else◌}
 use Rattle.nb_model.specs.declared.notebook.Notebook.{Notebook}
 use Rattle.nb_model.specs.Prepared.{prepared_notebook}
 use Rattle.nb_load.specs.Loaded.{Accepts}
@@ -28,6 +28,17 @@ pub record IsNotebookOf (a : Ask) (past : List Entry) (n : Notebook) : Type 0 wh
   pub given : Notebook
   pub input : IsInputOf a past given
   pub is : n ≡ prepared_notebook given
+
+-- the notebook that is saved first: as it was read with its parameters, and prepared for its cells' execution unless nothing
+-- is executed
+abbrev pub first_of : Ask → Notebook → Notebook
+first_of a n = if a.prepare then n else prepared_notebook n
+
+-- the notebook that a job saves first, by the bytes that were read of its input
+pub record IsFirstOf (a : Ask) (past : List Entry) (n : Notebook) : Type 0 where
+  pub given : Notebook
+  pub input : IsInputOf a past given
+  pub is : n ≡ first_of a given
 
 -- the file of the spec that the job's words or its notebook name
 pub record IsSpecOf (a : Ask) (past : List Entry) (path : List ℕ) : Type 0 where

@@ -13,13 +13,15 @@ ghost use Rattle.job_notebook.specs.declared.notebook.JobNotebook.{JobNotebook};
 ghost use Rattle.job_notebook.specs.State.{merge_of, output_of, KeepsParts, KeepsRead};
 ghost use Rattle.job_saves.specs.Course.{Origin, IsFor, IsSaved, Begins, Stands, Ends};
 ghost use Rattle.job_saves.specs.Calls.{Cast, IsCall};
+ghost use Rattle.job_saves.specs.Speaking.{SavesNone};
 ghost use Rattle.job_saves.specs.Course.{StaysOn, KeepsPart, HasPart, HasCalled, CountsWork};
 
 /// What was used for a request, where its contents were read, changes nothing of a job's course.
 pub fn messages_stay_on_course()
     ensures course { (was now : JobNotebook) → KeepsParts was now →
         ((first : Notebook) → KeepsRead was first → KeepsRead now first) → StaysOn was now }
-    ensures calls { (was now : JobNotebook) → KeepsParts was now → KeepsPart was now }
+    ensures calls { (was now : JobNotebook) → KeepsParts was now →
+        ((first : Notebook) → KeepsRead was first → KeepsRead now first) → KeepsPart was now }
 {}
 
 /// A notebook of which nothing was saved stands where a job begins, and a job that stands so can end.
@@ -34,7 +36,8 @@ pub fn jobs_begin_and_end()
 {}
 
 /// Calls that don't touch a job's output leave it on its course, whichever folders they sync; and
-/// calls of the jobs of a cast that say nothing are such since an earlier moment too.
+/// calls of the jobs of a cast that say nothing are such since an earlier moment too, and go on with
+/// what the lines of a job's saves tell where they are none of a save.
 pub fn other_calls_pass()
     ensures course { (o : Origin) (b : JobNotebook) (is_open : Bool) (j k : Option (List Entry))
         (c d : Counts) → Told j k (Since (Spares o.output)) → CountsGrow c d →
@@ -45,7 +48,8 @@ pub fn other_calls_pass()
         HasCalled cast since from j c → HasCalled cast since from k d }
     ensures calls { (b : JobNotebook) (cast : Cast) (since : List Entry) (from c d : Counts)
         (j k : Option (List Entry)) → Told j k (Since (IsCall cast)) →
-        Told j k (λ before after. heard after ≡ heard before) → CountsWork c d →
+        Told j k (λ before after. heard after ≡ heard before) →
+        Told j k (Since SavesNone) → CountsWork c d →
         HasPart cast since from b j c → HasPart cast since from b k d }
     ensures begins { (o : Origin) (j k : Option (List Entry)) (c d : Counts) →
         Told j k (Since (Spares o.output)) → CountsGrow c d → Begins o j c → Begins o k d }

@@ -3,7 +3,7 @@ ghost use Rattle.std.specs.Prelude.{◌≡◌, ◌≤◌, ◌+◌, List, length,
 ghost use Rattle.nb_model.specs.declared.notebook.Notebook as whole;
 ghost use Rattle.out_fold.specs.declared.used.Used.{Used};
 ghost use Rattle.world.specs.Disk.{place};
-ghost use Rattle.world.specs.Moments.{Told};
+ghost use Rattle.world.specs.Moments.{Told, Since};
 ghost use Rattle.save_disk.specs.Places.{acknowledged, durable_place};
 ghost use Rattle.progress_save.specs.Prefix.{prefix};
 ghost use Rattle.progress_save.specs.Saved.{text_of};
@@ -12,6 +12,7 @@ ghost use Rattle.job_notebook.specs.State.{notebook_of, settled_of, begun_of, me
 ghost use Rattle.job_notebook.specs.State.{Keeps};
 ghost use Rattle.job_saves.specs.Course.{GoesOn, CallsOwn, stays_open, answer_of};
 ghost use Rattle.job_saves.specs.Course.{IsEndOfRun, IsEndOfSave};
+ghost use Rattle.job_saves.specs.Sessions.{IsSaveCall};
 
 use job_end::End;
 use job_notebook::JobNotebook;
@@ -32,6 +33,9 @@ pub fn save_next<W: Disk + Say>(
     // It goes on with the course of the saves so far, and its calls are those of its job.
     ensures course { GoesOn W.journal W.counts w.old w.new book.old book.new (stays_open result) }
     ensures calls { CallsOwn W.journal W.counts w.old w.new book.old book.new }
+    // It asks for nothing but that save and its line.
+    ensures saves { Told (W.journal w.old) (W.journal w.new)
+        (Since (IsSaveCall (output_of book.old))) }
 
     // After Ok the notebook is that prefix of the first one, for the messages that were used, a
     // crash leaves its text at the output, and one save more is acknowledged.

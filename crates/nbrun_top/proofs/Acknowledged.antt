@@ -16,7 +16,7 @@ use Rattle.nb_load.specs.declared.load_fault.LoadFault.{LoadFault}
 use Rattle.nb_load.specs.declared.load_fault.LoadFault.TheVariants as fault
 use Rattle.nbrun_top.specs.Ran.{SavesAs, Prepares, Ran, read_of, text_of}
 use Rattle.nbrun_top.specs.Ran as ran
-use Rattle.nbrun_top.proofs.Crashes.{one_ask}
+use Rattle.nbrun_top.proofs.Spared.{one_ask}
 use Rattle.said_lines.proofs.SpeechLemmas.{says_since}
 
 -- the status of an end that saved nothing acknowledges nothing

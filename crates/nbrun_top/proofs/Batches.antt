@@ -11,7 +11,8 @@ use Rattle.world.specs.Moments.{Since, start, more as later}
 use Rattle.world.specs.Touched.{Spares}
 use Rattle.job_end.specs.declared.answer.Answer.{Answer}
 use Rattle.nb_model.specs.declared.notebook.Notebook.{Notebook}
-use Rattle.job_begin.specs.Begun.{first_of, IsCausedIn, IsUnread, HasKernel}
+use Rattle.job_saves.specs.Reads.{first_of}
+use Rattle.job_begin.specs.Begun.{IsCausedIn, IsUnread, HasKernel}
 use Rattle.job_begin.proofs.EndLemmas.{uncaused_in, unread_pass, unread_twelve, unread_not_zero, other_kernel}
 use Rattle.batch_run.specs.Batch.{IsClean}
 use Rattle.said_lines.specs.Speech.{Says}
@@ -29,17 +30,13 @@ use Rattle.nbrun_top.specs.Ran as ran
 use Rattle.nbrun_top.specs.Said.{said_of}
 use Rattle.nbrun_top.proofs.Asked.{no_job_executes, no_batch_of_one}
 use Rattle.nbrun_top.proofs.JobsApart.{file_apart}
-use Rattle.nbrun_top.proofs.Executions.{untouched_path, uncounted}
+use Rattle.nbrun_top.proofs.Executions.{untouched_path, uncounted, apart_of, output_in}
 use Rattle.nbrun_top.proofs.Statuses.{one_fault}
 use Rattle.nbrun_top.proofs.Spared.{one_ask, says_spare, apart_paths, apart_from_temporary, apart_from_connection}
 
 -- ---- one job is apart from itself
 
--- the paths of a job that there may be
-abbrev output_in : Option Ask → List ℕ
-output_in None = []
-output_in (Some a) = a.output
-
+-- the input of a job that there may be
 abbrev input_in : Option Ask → List ℕ
 input_in None = []
 input_in (Some a) = a.input
@@ -72,20 +69,33 @@ one_apart words a is = record { outputs = alone_in_one a; inputs = input_in_one 
 
 -- ---- a run begins clean
 
-clean_start : IsClean []
-clean_start = record { whole = refl; childless = λ n. refl; portless = λ n. refl }
+clean_start : (asks : List Ask) → AreApart asks → IsClean asks []
+clean_start asks alone = record {
+  whole = refl;
+  childless = λ n. refl;
+  portless = λ n. refl;
+  lacks = λ i a at. record { rested = refl; none = refl };
+  apart = λ i a at. apart_of asks i a (alone.outputs i a at);
+}
 
-clean_read : (file bytes : List ℕ) → IsClean (file_read file (found.Whole bytes) [])
-clean_read file bytes = record { whole = refl; childless = λ n. refl; portless = λ n. refl }
+clean_read : (asks : List Ask) → AreApart asks → (file bytes : List ℕ) → IsClean asks (file_read file (found.Whole bytes) [])
+clean_read asks alone file bytes = record {
+  whole = refl;
+  childless = λ n. refl;
+  portless = λ n. refl;
+  lacks = λ i a at. record { rested = refl; none = refl };
+  apart = λ i a at. apart_of asks i a (alone.outputs i a at);
+}
 
 -- ---- the parts
 
 pub of_one : {here : List ℕ} (words : List (List ℕ)) (a : Ask) (asks : List Ask) (rose cut : Type 0) (code : ℕ) (before after : List Entry) → asks ≡ a ∷ [] → IsExecuted words a
-    → (IsQuiet before → IsClean before → AreApart asks → Runs asks here rose cut code before after) → before ≡ [] → Executed words here rose cut code after
+    → (IsQuiet before → IsClean asks before → AreApart asks → Runs asks here rose cut code before after) → before ≡ [] → Executed words here rose cut code after
 of_one {here} words a asks rose cut code before after same is runs new =
     executed.ran (a ∷ []) [] after code (of_words a is)
     (subst (λ b. Runs (a ∷ []) here rose cut code b after) new (subst (λ xs. Runs xs here rose cut code before after) same
-    (runs (λ path. subst (Since (Spares path) []) (sym new) start) (subst IsClean (sym new) clean_start) (subst AreApart (sym same) (one_apart words a is)))))
+    (runs (λ path. subst (Since (Spares path) []) (sym new) start) (subst (IsClean asks) (sym new) (clean_start asks (subst AreApart (sym same) (one_apart words a is))))
+    (subst AreApart (sym same) (one_apart words a is)))))
 
 pub of_starved : {here : List ℕ} (words : List (List ℕ)) (rose cut : Type 0) (code : ℕ) (before after : List Entry) → code ≡ 12 → Says (said [] [] end.NoMemory) cut before after → before ≡ []
     → Executed words here rose cut code after
@@ -93,12 +103,12 @@ of_starved {here} words rose cut code before after is says new =
     subst (λ n. Executed words here rose cut n after) (sym is) (executed.starved after (subst (λ b. Says (said [] [] end.NoMemory) cut b after) new says))
 
 pub of_batch : {here : List ℕ} (words : List (List ℕ)) (file : List ℕ) (common : Ask) (asks : List Ask) (rose cut : Type 0) (code : ℕ) (before read after : List Entry) → IsBatch words file common
-    → GivesAsks file common before (Ok asks) read → (IsQuiet read → IsClean read → AreApart asks → Runs asks here rose cut code read after) → before ≡ [] → Executed words here rose cut code after
+    → GivesAsks file common before (Ok asks) read → (IsQuiet read → IsClean asks read → AreApart asks → Runs asks here rose cut code read after) → before ≡ [] → Executed words here rose cut code after
 of_batch {here} words file common asks rose cut code before read after is (bytes, gives, entry) runs new =
     let begun : read ≡ file_read file (found.Whole bytes) [] = entry ∙ ap (λ b. file_read file (found.Whole bytes) b) new in
     executed.ran asks (file_read file (found.Whole bytes) []) after code (of_file file common bytes asks is gives)
     (subst (λ b. Runs asks here rose cut code b after) begun
-    (runs (λ path. subst (Since (Spares path) []) (sym begun) (later start refl)) (subst IsClean (sym begun) (clean_read file bytes)) (file_apart file common bytes asks gives)))
+    (runs (λ path. subst (Since (Spares path) []) (sym begun) (later start refl)) (subst (IsClean asks) (sym begun) (clean_read asks (file_apart file common bytes asks gives) file bytes)) (file_apart file common bytes asks gives)))
 
 pub of_none : {here : List ℕ} (words : List (List ℕ)) (file : List ℕ) (common : Ask) (answer : Last) (line : List ℕ) (rose cut : Type 0) (code : ℕ) (before read after : List Entry)
     → IsBatch words file common → code ≡ code_of answer.end → line ≡ said file (codes "nbrun") answer.end → GivesNone file before answer.end read → Says line cut read after

@@ -4,6 +4,7 @@ use Rattle.std.specs.Prelude.{◌==◌, find, slice_get, if◌then◌else◌}
 use Rattle.std.proofs.Math.Logic.{∥∥₁_elim}
 use Rattle.std.proofs.lemmas.Option.{slice_get_within}
 use Rattle.world.specs.Counts.{Counts, CountsGrow, Rose}
+use Rattle.world.proofs.CountsLemmas.{rose_since, rose_still}
 use Rattle.words.specs.declared.ask.Ask.{Ask}
 use Rattle.nb_load.specs.declared.load_fault.LoadFault.TheVariants as load
 use Rattle.job_end.specs.declared.answer.Answer.{Answer}
@@ -131,18 +132,12 @@ file_counted turns old new (last.NotLoaded f) is read = absurd is
 file_counted turns old new (last.NotSaved f) is read = absurd is
 file_counted turns old new last.NoMemory is read = starved_counted turns old new 12 refl
 
-rose_on : (a b c : ℕ) → Rose a b → b ≤ c → Rose a c
-rose_on a b c rose more = grind (arith, more, rose)
-
 pub unread_counted : (turns : ℕ) (old mid new : Counts) (e : Last) (code : ℕ) → code ≡ code_of e → IsEndOfFile e → (e ≡ last.NotRead → Rose old.disk mid.disk) → CountsGrow mid new
     → IsCounted turns old new code
 unread_counted turns old mid new e code is kind read grow =
-    subst (IsCounted turns old new) (sym is) (file_counted turns old new e kind (λ f. rose_on old.disk mid.disk new.disk (read f) grow.disk))
+    subst (IsCounted turns old new) (sym is) (file_counted turns old new e kind (λ f. rose_still old.disk mid.disk new.disk (read f) grow.disk))
 
 -- ---- since an earlier moment
-
-rose_since : (a b c : ℕ) → a ≤ b → Rose b c → Rose a c
-rose_since a b c more rose = grind (arith, more, rose)
 
 waited_since : (turns : ℕ) (old mid new : Counts) → old.waits ≤ mid.waits → HasWaited (mid.waits + turns) new → HasWaited (old.waits + turns) new
 waited_since turns old mid new more waited = grind (arith, more, waited)

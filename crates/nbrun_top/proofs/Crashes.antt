@@ -2,7 +2,6 @@
 use Rattle.std.proofs.Common.{◌≡◌, inl, inr, ℕ, zero, suc, ◌-◌, List, [], ◌∷◌, ◌++◌, Result, Ok, Err, length, drop, refl, sym, ◌∙◌, ap, subst, arith}
 use Rattle.std.proofs.Math.Seq.{drop-length}
 use Rattle.words.specs.declared.ask.Ask.{Ask}
-use Rattle.words.specs.declared.command.Command.TheVariants as command
 use Rattle.world.specs.declared.entry.Entry.{Entry}
 use Rattle.world.specs.declared.entry.Entry.TheVariants.{Read}
 use Rattle.world.specs.declared.left.Left.{Left}
@@ -28,6 +27,7 @@ use Rattle.nbrun_top.specs.Ran.{SavesAs, Prepares, Ran, read_of, text_of}
 use Rattle.nbrun_top.specs.Ran as ran
 use Rattle.said_lines.proofs.SpeechLemmas.{says_since}
 use Rattle.nbrun_top.proofs.Saves.{EndsWith, ends_since}
+use Rattle.nbrun_top.proofs.Spared.{one_ask}
 
 -- ---- by the options
 
@@ -119,9 +119,6 @@ prepares_good a e on_disk after ran.too_large said = read_good a after found.Big
 prepares_good a e on_disk after (ran.not_accepted bytes e_ why) said = read_good a after (found.Whole bytes)
 prepares_good a e on_disk after (ran.no_memory_later answer) said = read_good a after answer
 prepares_good a e on_disk after (ran.saves bytes n e_ after_ accepted save) said = saves_good a bytes n e on_disk after accepted save said
-
-pub one_ask : {a b : Ask} → command.One a ≡ command.One b → a ≡ b
-one_ask e = cc
 
 ran_good : (words : List (List ℕ)) (a : Ask) → IsJob words a → (e : End) (on_disk after : List Entry) → Ran words [] e on_disk → Since (IsOf OnSay) on_disk after → Since (Good a after) [] on_disk
 ran_good words a is e on_disk after (ran.refused u why) said = start

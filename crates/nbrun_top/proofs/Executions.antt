@@ -1,5 +1,5 @@
 -- What runs that execute notebooks make of the world.
-use Rattle.std.proofs.Common.{◌≡◌, inr, ℕ, zero, suc, ◌+◌, ◌<◌, ◌≤◌, ◌&&◌, Bool, true, false, List, [], ◌∷◌, ◌++◌, length, length-append, append_assoc, Option, Some, None, refl, sym, ◌∙◌, ap, subst, arith, if◌then◌else◌}
+use Rattle.std.proofs.Common.{◌≡◌, inr, ℕ, zero, suc, ◌<◌, ◌≤◌, Bool, true, false, List, [], ◌∷◌, ◌++◌, length, length-append, append_assoc, Option, Some, None, refl, sym, ◌∙◌, ap, subst, arith}
 use Rattle.std.specs.Prelude.{slice_get}
 use Rattle.std.specs.Str.{bytes_eq}
 use Rattle.nb_model.specs.declared.notebook.Notebook.{Notebook}
@@ -9,7 +9,6 @@ use Rattle.words.specs.Paths.{connection_of}
 use Rattle.world.specs.declared.entry.Entry.{Entry}
 use Rattle.world.specs.declared.entry.Entry.TheVariants.{Read}
 use Rattle.world.specs.declared.read_file.ReadFile.TheVariants as found
-use Rattle.world.specs.Acked.{acked, syncs_folder, is_renamed}
 use Rattle.world.specs.Counts.{Counts, CountsGrow}
 use Rattle.world.specs.Moments.{Since, start, more as later}
 use Rattle.world.specs.Touched.{Spares}
@@ -19,13 +18,14 @@ use Rattle.save_disk.specs.Places.{acknowledged}
 use Rattle.save_disk.specs.Temporary.{temporary_of}
 use Rattle.save_course.specs.Course.{IsRested}
 use Rattle.save_course.proofs.CourseLemmas.{course_safe}
-use Rattle.save_course.proofs.RestLemmas.{spared_rest}
+use Rattle.save_course.proofs.RestLemmas.{none_waits, spared_rest}
 use Rattle.job_end.specs.declared.answer.Answer.{Answer}
 use Rattle.job_saves.specs.Course.{HasSaved, Ends}
 use Rattle.job_saves.proofs.CourseLemmas.{ends_pass}
 use Rattle.job_run.specs.Run.{IsOther, IsNew}
 use Rattle.job_run.specs.Told.{cause_of}
-use Rattle.job_begin.specs.Begun.{first_of, origin_of, IsCausedIn}
+use Rattle.job_saves.specs.Reads.{first_of}
+use Rattle.job_begin.specs.Begun.{origin_of, IsCausedIn}
 use Rattle.job_begin.proofs.EndLemmas.{uncaused_in, unread_pass, unread_twelve, other_kernel, twelve_other}
 use Rattle.job_begin.specs.Begun.{HasKernel}
 use Rattle.batch_run.specs.Batch.{Makes, nothing, saves, IsNoPath, IsApart, LeavesOthers, CallsOfJobs, EndsChildren}
@@ -42,16 +42,6 @@ use Rattle.nbrun_top.proofs.Statuses.{all_starved, starved_count, starved_fault,
 
 pub untouched_path : (path : List ℕ) {journal : List Entry} → Since (Spares path) [] journal → IsUntouched path journal
 untouched_path path {journal} since = at_moment path journal (spared_moments refl since)
-
-neither : (b : Bool) (x y : ℕ) → (if b && false then x else y) ≡ y
-neither true x y = refl
-neither false x y = refl
-
--- an entry acknowledges nothing where no rename comes before it
-none_waits : (from to : List ℕ) (entry : Entry) (past : List Entry) → is_renamed from to past ≡ false → acked from to (entry ∷ past) ≡ acked from to past
-none_waits from to entry past rested =
-    subst (λ b. (if syncs_folder to entry && b then acked from to past + 1 else acked from to past) ≡ acked from to past) (sym rested)
-    (neither (syncs_folder to entry) (acked from to past + 1) (acked from to past))
 
 none_acked : (output : List ℕ) {journal : List Entry} → Since (Spares output) [] journal → acknowledged output journal ≡ 0
 none_acked output start = refl
@@ -124,7 +114,7 @@ other_of output path d = record {
 none_of : (asks : List Ask) (path : List ℕ) → NoneWrites asks path → IsNoPath asks path
 none_of asks path none k b is = other_of b.output path (none k b is)
 
-apart_of : (asks : List Ask) (i : ℕ) (a : Ask) → IsAlone asks i a → IsApart asks i a
+pub apart_of : (asks : List Ask) (i : ℕ) (a : Ask) → IsAlone asks i a → IsApart asks i a
 apart_of asks i a s k b is differs = other_of b.output a.output (s.others k b differs is)
 
 -- a path that is longer than all that the jobs write to
@@ -145,7 +135,8 @@ far_more (a ∷ rest) = omega (
   length-append a.output (far rest),
 )
 
-abbrev output_in : Option Ask → List ℕ
+-- the output of a job that there may be
+abbrev pub output_in : Option Ask → List ℕ
 output_in None = []
 output_in (Some a) = a.output
 

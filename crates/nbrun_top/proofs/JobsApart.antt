@@ -10,29 +10,15 @@ use Rattle.words.specs.Apart.{are_distinct}
 use Rattle.words.specs.JobsAsked.{ask_of_job}
 use Rattle.words.specs.JobsFile.{IsJobsFile, jobs_of, path_at, paths_from, paths_of}
 use Rattle.words.specs.Paths.{temporary_of, connection_of}
+use Rattle.std.proofs.lemmas.Bool.{and_parts, or_parts, not-true, true≢false}
 use Rattle.std.proofs.lemmas.Bool.Decides.{eqb_tells}
 use Rattle.world.proofs.PlaceLemmas.{same_bytes}
 use Rattle.nbrun_top.specs.Executed.{IsFileOf, IsAlone, NoneWrites, DoesNotWrite, AreApart}
 
 -- ---- tests
 
-clash : {A : Type 0} → true ≡ false → A
-clash e = cc
-
-both : (a b : Bool) → (a && b) ≡ true → (a ≡ true) × (b ≡ true)
-both true b e = (refl, e)
-both false b e = clash (sym e)
-
-neither : (a b : Bool) → (a || b) ≡ false → (a ≡ false) × (b ≡ false)
-neither true b e = clash e
-neither false b e = (refl, e)
-
-is_false : (a : Bool) → not a ≡ true → a ≡ false
-is_false true e = clash (sym e)
-is_false false e = refl
-
 differ : (x y : List ℕ) → bytes_eq x y ≡ false → x ≢ y
-differ x y e same = clash (sym (same_bytes x) ∙ ap (bytes_eq x) same ∙ e)
+differ x y e same = true≢false (sym (same_bytes x) ∙ ap (bytes_eq x) same ∙ e)
 
 -- ---- the paths of a job
 
@@ -104,25 +90,25 @@ apart_from_all : (path : List ℕ) (n : ℕ) (jobs : List Json) → list_any (by
     → (k : ℕ) (job : Json) → slice_get jobs k ≡ Some job → Apart path job
 apart_from_all path n [] none k job is = cc
 apart_from_all path n (first ∷ rest) none zero job is =
-    let i = neither (bytes_eq path (input_of first)) _ none in
-    let o = neither (bytes_eq path (output_of first)) _ i.1 in
-    let t = neither (bytes_eq path (temporary_of (output_of first))) _ o.1 in
-    let c = neither (bytes_eq path (connection_of (output_of first))) _ t.1 in
+    let i = or_parts (bytes_eq path (input_of first)) _ none in
+    let o = or_parts (bytes_eq path (output_of first)) _ i.1 in
+    let t = or_parts (bytes_eq path (temporary_of (output_of first))) _ o.1 in
+    let c = or_parts (bytes_eq path (connection_of (output_of first))) _ t.1 in
     subst (λ j. Apart path (job_in j)) is (record { input = i.0; output = o.0; temporary = t.0; connection = c.0 })
 apart_from_all path n (first ∷ rest) none (suc k) job is =
-    let i = neither (bytes_eq path (input_of first)) _ none in
-    let o = neither (bytes_eq path (output_of first)) _ i.1 in
-    let t = neither (bytes_eq path (temporary_of (output_of first))) _ o.1 in
-    let c = neither (bytes_eq path (connection_of (output_of first))) _ t.1 in
+    let i = or_parts (bytes_eq path (input_of first)) _ none in
+    let o = or_parts (bytes_eq path (output_of first)) _ i.1 in
+    let t = or_parts (bytes_eq path (temporary_of (output_of first))) _ o.1 in
+    let c = or_parts (bytes_eq path (connection_of (output_of first))) _ t.1 in
     apart_from_all path (n + 1) rest c.1 k job is
 
 -- ---- the first job
 
 split : {U : Type 0} (same : U → U → Bool) (x : U) (xs : List U) → are_distinct same (x ∷ xs) ≡ true → (list_any (same x) xs ≡ false) × (are_distinct same xs ≡ true)
-split same x xs e = let p = both (not (list_any (same x) xs)) (are_distinct same xs) e in (is_false (list_any (same x) xs) p.0, p.1)
+split same x xs e = let p = and_parts (not (list_any (same x) xs)) (are_distinct same xs) e in (not-true (list_any (same x) xs) p.0, p.1)
 
 past_one : {U : Type 0} (same : U → U → Bool) (p x : U) (xs : List U) → list_any (same p) (x ∷ xs) ≡ false → (same p x ≡ false) × (list_any (same p) xs ≡ false)
-past_one same p x xs e = neither (same p x) (list_any (same p) xs) e
+past_one same p x xs e = or_parts (same p x) (list_any (same p) xs) e
 
 -- four items and others, no two of them the same
 record Four {U : Type 0} (same : U → U → Bool) (i o t c : U) (others : List U) : Type 0 where

@@ -24,7 +24,8 @@ use Rattle.world.specs.Counts.{Counts, Rose}
 use Rattle.world.specs.Moments.{Since}
 use Rattle.world.specs.Touched.{Spares}
 use Rattle.job_end.specs.declared.answer.Answer.{Answer}
-use Rattle.job_begin.specs.Begun.{first_of, counted_task, IsCausedIn, IsUnread, HasKernel}
+use Rattle.job_saves.specs.Reads.{first_of}
+use Rattle.job_begin.specs.Begun.{counted_task, IsCausedIn, IsUnread, HasKernel}
 use Rattle.job_begin.specs.Causes.{HasCause}
 use Rattle.batch_run.specs.Batch.{CallsOfJobs, EndsChildren, HasWaited}
 use Rattle.nbrun_top.specs.declared.answer.Answer.{Answer as Last}

@@ -71,9 +71,9 @@ fn run_all<W: World>(alloc: Global, asks: Asks, limits: &Limits, w: &mut W) -> u
     requires some { 1 ≤ length asks }
     requires few { length asks ≤ 16 }
     requires runnable { AllByRecursion IsRunnable asks }
-    ensures runs { Between W.journal w.old w.new (λ before after. IsQuiet before → IsClean before →
-        AreApart asks → Runs asks limits.now.here (SayRose W.counts w.old w.new)
-        (SayFailed W.counts w.new) result before after) }
+    ensures runs { Between W.journal w.old w.new (λ before after. IsQuiet before →
+        IsClean asks before → AreApart asks → Runs asks limits.now.here
+        (SayRose W.counts w.old w.new) (SayFailed W.counts w.new) result before after) }
     ensures counted { IsCounted limits.now.turns (W.counts w.old) (W.counts w.new) result }
     ensures waits { WaitsAtMost W.counts w.old w.new limits.now.turns }
     ensures heard { result ≡ 0 → SayRose W.counts w.old w.new → ⊥ }

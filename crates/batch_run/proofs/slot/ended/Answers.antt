@@ -1,6 +1,7 @@
 use Rattle.std.proofs.Common.{Some, ap, set, ◌∙◌}
 use Rattle.batch_run.specs.declared.slot.Slot.TheVariants.{Ended}
-use Rattle.batch_run.proofs.StandLemmas.{end_said, job_ends, slot_rests, waiting_ends}
+use Rattle.batch_run.proofs.JobStandLemmas.{end_said, job_ends}
+use Rattle.batch_run.proofs.StandLemmas.{slot_rests, waiting_ends}
 use Rattle.batch_run.proofs.slot.ended.Goals as goal
 
 pub returns-in-Running : goal.returns-in-Running

@@ -1,7 +1,9 @@
 use Rattle.std.proofs.Common.{refl, subst}
 use Rattle.world.specs.Moments.{start}
 use Rattle.world.proofs.MomentsLemmas.{told_start, told_as, told_both}
-use Rattle.job_begin.specs.Begun.{AnswersAs, without, first_of}
+use Rattle.job_saves.specs.Reads.{first_of}
+use Rattle.job_saves.proofs.TellingLemmas.{lacks_later}
+use Rattle.job_begin.specs.Begun.{AnswersAs, without}
 use Rattle.job_begin.proofs.BeginLemmas.{told_appends, save_rose, begun_so, disk_calls, disk_keeps_end, disk_asks_none, input_read, answered_role, answered_left}
 use Rattle.job_run.proofs.LaunchLemmas.{ends_then}
 use Rattle.job_begin.proofs.CauseLemmas.{unsaved_caused, all_caused, answer_unspent, starved_unspent, all_unspent}
@@ -19,7 +21,7 @@ pub returns-in-Err-clause-begun : goal.returns-in-Err-clause-begun
 returns-in-Err-clause-begun g c = told_as (told_both (c.in-Err.ensures.others c.args.ask.output) c.in-Err.ensures.none) (λ x y s rested. without refl (unread_answer c.args.ask c.in-Ok.output c.in-Err.end c.answer.result x y c.answer.ensures s.1) s.0)
 
 pub returns-in-Err-clause-calls : goal.returns-in-Err-clause-calls
-returns-in-Err-clause-calls g c cast since from who childless portless so = disk_calls cast since from _ _ _ _ (c.in-Err.ensures.calls cast c.args.number who.has) c.in-Err.ensures.part c.in-Err.ensures.work so
+returns-in-Err-clause-calls g c cast since from who childless portless lacks so = disk_calls cast since from _ _ _ _ (c.in-Err.ensures.calls cast c.args.number who.has) c.in-Err.ensures.part c.in-Err.ensures.work so
 
 pub returns-in-Err-clause-left : goal.returns-in-Err-clause-left
 returns-in-Err-clause-left g c = disk_keeps_end c.args.number _ _ c.in-Err.ensures.part
@@ -41,12 +43,13 @@ returns-in-Ok-input_of-clause-begun g c =
     begun_so a n begun _ _ c.answer_of.result _ _ _ _ answers caused task (λ x y f g_. answered_kernel a (first_of a n) a.output begun c.answer_of.result x y answers (at_moments a (first_of a n) begun _ _ x y f g_ c.begin_with-begun.ensures.kernel)) e.read (e.others a.output) e.work.grow c.begin_with-begun.ensures.course c.begin_with-begun.ensures.counted (told_appends a c.args.number c.args.here.now begun _ _ _ _ (c.begin_with-begun.ensures.calls (input_read a n _ _ e.read)))
 
 pub returns-in-Ok-input_of-clause-calls : goal.returns-in-Ok-input_of-clause-calls
-returns-in-Ok-input_of-clause-calls g c cast since from who childless portless so =
+returns-in-Ok-input_of-clause-calls g c cast since from who childless portless lacks so =
     let e = c.in-Ok-input_of.ensures in
     let read = input_read c.args.ask c.in-Ok-input_of.notebook _ _ e.read in
     answered_role c.in-Ok.output c.begin_with-begun.result c.answer_of.result c.answer_of.ensures cast since from _ _
     (c.begin_with-begun.ensures.calls read cast since from who (λ clean. disk_keeps_end c.args.number _ _ e.part (childless clean))
     (λ clean. disk_asks_none c.args.number _ _ e.part (portless clean))
+    (λ clean. lacks_later c.args.ask.output _ _ (e.others c.args.ask.output) (lacks clean))
     (disk_calls cast since from _ _ _ _ (e.calls cast c.args.number who.has) e.part e.work so))
 
 pub returns-in-Ok-input_of-clause-left : goal.returns-in-Ok-input_of-clause-left

@@ -3,9 +3,10 @@ use Rattle.std.proofs.Common.{◌≡◌, true, false, if◌then◌else◌, refl,
 use Rattle.nb_model.specs.Prepared.{prepared_notebook}
 use Rattle.job_begin.proofs.CountLemmas.{prepared_counts, uncaused_counts}
 use Rattle.job_begin.specs.Steps.{EndsCounted}
-use Rattle.job_begin.specs.Begun.{counted_task, StartsWith, KernelEnds, first_of}
+use Rattle.job_saves.specs.Reads.{first_of}
+use Rattle.job_begin.specs.Begun.{counted_task, StartsWith, KernelEnds}
 use Rattle.std.specs.Prelude.{IfErr}
-use Rattle.job_begin.proofs.BeginLemmas.{none_started_in, input_prepared, end_unsaved}
+use Rattle.job_begin.proofs.BeginLemmas.{none_started_in, input_prepared, end_unsaved, only_given}
 use Rattle.job_saves.specs.Course.{Ends}
 use Rattle.job_end.specs.declared.end.End.TheVariants as end
 use Rattle.job_begin.proofs.EndLemmas.{saving_in, uncaused_in, saving_ends}
@@ -44,20 +45,21 @@ returns-clause-task g c =
     subst (λ first. StartsWith a first c.execute.result) same (c.execute.ensures.task c.if-ask.false)
 
 pub returns-then-ask-clause-calls : goal.returns-then-ask-clause-calls
-returns-then-ask-clause-calls g c read cast since from who childless portless so = c.save_alone-saved.ensures.calls cast c.args.number since from who.has so
+returns-then-ask-clause-calls g c read cast since from who childless portless lacks so =
+    c.save_alone-saved.ensures.calls cast c.args.number since from who.has (λ clean. only_given c.args.ask c.args.notebook _ c.if-ask.true read (lacks clean)) so
 
 pub returns-then-ask-clause-left : goal.returns-then-ask-clause-left
-returns-then-ask-clause-left g c = none_started_in c.args.ask c.args.number _ _ _ _ c.save_alone-saved.ensures.calls
+returns-then-ask-clause-left g c = none_started_in c.args.ask c.args.notebook c.args.number _ _ _ _ c.save_alone-saved.ensures.calls
 
 pub returns-in_default-clause-calls : goal.returns-in_default-clause-calls
-returns-in_default-clause-calls g c read cast since from who childless portless so = so
+returns-in_default-clause-calls g c read cast since from who childless portless lacks so = so
 
 pub returns-in_default-clause-left : goal.returns-in_default-clause-left
 returns-in_default-clause-left g c = λ h. h
 
 pub returns-clause-calls : goal.returns-clause-calls
-returns-clause-calls g c read cast since from who childless portless so =
-    c.execute.ensures.calls (input_prepared c.args.ask c.args.notebook c.in-Ok.notebook _ c.in-Ok.ensures read) cast since from who childless portless so
+returns-clause-calls g c read cast since from who childless portless lacks so =
+    c.execute.ensures.calls (input_prepared c.args.ask c.args.notebook c.in-Ok.notebook _ c.in-Ok.ensures read) c.if-ask.false cast since from who childless portless lacks so
 
 pub returns-clause-left : goal.returns-clause-left
 returns-clause-left g c = c.execute.ensures.left

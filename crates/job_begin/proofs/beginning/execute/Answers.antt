@@ -1,5 +1,6 @@
 use Rattle.job_saves.proofs.CourseLemmas.{begins_pass}
-use Rattle.job_begin.proofs.BeginLemmas.{end_unsaved, disk_calls, disk_keeps_end, disk_asks_none, none_started_in}
+use Rattle.job_saves.proofs.TellingLemmas.{only_later}
+use Rattle.job_begin.proofs.BeginLemmas.{end_unsaved, disk_calls, disk_keeps_end, disk_asks_none, none_started_in, only_prepared}
 use Rattle.job_run.proofs.LaunchLemmas.{ends_then}
 use Rattle.job_run.proofs.TurnLemmas.{new_passes, begins_rested}
 use Rattle.job_begin.proofs.CauseLemmas.{saving_caused}
@@ -22,10 +23,11 @@ returns-in-Ok-kernel_of-clause-course g c o for s fresh =
     (new_passes o _ _ (begins_rested o _ _ s) (c.kernel_of.ensures.others o.output) fresh)
 
 pub returns-in-Ok-kernel_of-clause-calls : goal.returns-in-Ok-kernel_of-clause-calls
-returns-in-Ok-kernel_of-clause-calls g c own cast since from who childless portless so =
+returns-in-Ok-kernel_of-clause-calls g c own runs cast since from who childless portless lacks so =
     let e = c.kernel_of.ensures in
     c.start.ensures.calls cast since from who (c.in-Ok-kernel_of.ensures.found own) (λ clean. disk_keeps_end c.args.number _ _ e.part (childless clean))
     (λ clean. disk_asks_none c.args.number _ _ e.part (portless clean))
+    (λ clean. only_later c.args.ask c.args.notebook _ _ (e.others c.args.ask.output) (only_prepared c.args.ask c.args.notebook _ runs own (lacks clean)))
     (disk_calls cast since from _ _ _ _ (e.calls cast c.args.number who.has own) e.part e.work so)
 
 pub returns-in-Ok-kernel_of-clause-left : goal.returns-in-Ok-kernel_of-clause-left
@@ -37,20 +39,21 @@ returns-in-Err-clause-course g c o for s fresh =
     end_unsaved o _ _ _ c.in-Err.ensures.unsaved (begins_pass o _ _ _ _ (c.kernel_of.ensures.others o.output) c.kernel_of.ensures.work.grow s)
 
 pub returns-in-Err-clause-calls : goal.returns-in-Err-clause-calls
-returns-in-Err-clause-calls g c own cast since from who childless portless so =
+returns-in-Err-clause-calls g c own runs cast since from who childless portless lacks so =
     disk_calls cast since from _ _ _ _ (c.kernel_of.ensures.calls cast c.args.number who.has own) c.kernel_of.ensures.part c.kernel_of.ensures.work so
 
 pub returns-in-Err-clause-left : goal.returns-in-Err-clause-left
 returns-in-Err-clause-left g c = disk_keeps_end c.args.number _ _ c.kernel_of.ensures.part
 
 pub returns-then-len-eq0-clause-calls : goal.returns-then-len-eq0-clause-calls
-returns-then-len-eq0-clause-calls g c own cast since from who childless portless so = c.save_twice-saved.ensures.calls cast c.args.number since from who.has so
+returns-then-len-eq0-clause-calls g c own runs cast since from who childless portless lacks so =
+    c.save_twice-saved.ensures.calls cast c.args.number since from who.has (λ clean. only_prepared c.args.ask c.args.notebook _ runs own (lacks clean)) so
 
 pub returns-then-len-eq0-clause-left : goal.returns-then-len-eq0-clause-left
-returns-then-len-eq0-clause-left g c = none_started_in c.args.ask c.args.number _ _ _ _ c.save_twice-saved.ensures.calls
+returns-then-len-eq0-clause-left g c = none_started_in c.args.ask c.args.notebook c.args.number _ _ _ _ c.save_twice-saved.ensures.calls
 
 pub returns-in_default-clause-calls : goal.returns-in_default-clause-calls
-returns-in_default-clause-calls g c own cast since from who childless portless so = so
+returns-in_default-clause-calls g c own runs cast since from who childless portless lacks so = so
 
 pub returns-in_default-clause-left : goal.returns-in_default-clause-left
 returns-in_default-clause-left g c = λ h. h

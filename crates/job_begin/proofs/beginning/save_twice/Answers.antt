@@ -1,8 +1,9 @@
 use Rattle.job_saves.proofs.CourseLemmas.{job_begins, job_ends}
-use Rattle.job_begin.proofs.BeginLemmas.{for_book, part_by}
+use Rattle.job_begin.proofs.BeginLemmas.{for_book}
 use Rattle.job_begin.proofs.CountLemmas.{both_acked}
 use Rattle.std.proofs.Common.{length, ◌∙◌}
 use Rattle.job_notebook.specs.State.{notebook_of}
+use Rattle.job_run.proofs.BeginLemmas.{part_first}
 use Rattle.job_begin.proofs.beginning.save_twice.Goals as goal
 
 pub returns-in-Ok-clause-course : goal.returns-in-Ok-clause-course
@@ -13,8 +14,9 @@ returns-in-Ok-clause-course g c o for s =
     job_ends o c.save_done.new.book _ _ _ (c.save_done.ensures.course o (c.in-Ok.ensures.course o on))
 
 pub returns-in-Ok-clause-calls : goal.returns-in-Ok-clause-calls
-returns-in-Ok-clause-calls g c cast number since from has so =
-    let part = part_by c.args.ask.now c.in_ok-book.book cast number since from _ _ c.in_ok-book.ensures.output has so in
+returns-in-Ok-clause-calls g c cast number since from has reads so =
+    let e = c.in_ok-book.ensures in
+    let part = part_first c.in_ok-book.book c.args.ask.now c.args.notebook cast number since from _ _ e.output e.merge e.cells e.keeps has reads so in
     (c.save_done.ensures.calls cast since from (c.save_next.ensures.calls cast since from part)).so
 
 pub returns-clause-course : goal.returns-clause-course
@@ -25,8 +27,9 @@ returns-clause-course g c o for s =
     job_ends o c.save_next.new.book _ _ _ (c.in-Err.ensures.course o on)
 
 pub returns-clause-calls : goal.returns-clause-calls
-returns-clause-calls g c cast number since from has so =
-    let part = part_by c.args.ask.now c.in_ok-book.book cast number since from _ _ c.in_ok-book.ensures.output has so in
+returns-clause-calls g c cast number since from has reads so =
+    let e = c.in_ok-book.ensures in
+    let part = part_first c.in_ok-book.book c.args.ask.now c.args.notebook cast number since from _ _ e.output e.merge e.cells e.keeps has reads so in
     (c.save_next.ensures.calls cast since from part).so
 
 pub returns-in-Ok-clause-acked : goal.returns-in-Ok-clause-acked

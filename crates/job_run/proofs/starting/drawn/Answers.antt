@@ -1,5 +1,7 @@
 use Rattle.job_run.proofs.WorkLemmas.{rand_works}
-use Rattle.std.proofs.Common.{inl}
+use Rattle.std.proofs.Common.{inl, subst}
+use Rattle.world.specs.Moments.{Told}
+use Rattle.kernel_start.specs.RandomWords.{Draws}
 use Rattle.job_run.proofs.starting.drawn.Goals as goal
 
 pub returns-in-Some-clause-work : goal.returns-in-Some-clause-work
@@ -7,6 +9,10 @@ returns-in-Some-clause-work g c = rand_works c.random_pairs.ensures.cause
 
 pub returns-in-Some-clause-others : goal.returns-in-Some-clause-others
 returns-in-Some-clause-others g c path = c.random_pairs.ensures.others path
+
+pub returns-in-Some-clause-words : goal.returns-in-Some-clause-words
+returns-in-Some-clause-words g c =
+    subst (λ r. Told (g.W.Journal.journal c.args.w.now) (g.W.Journal.journal c.random_pairs.new.w) (Draws r)) c.in-Some.is c.random_pairs.ensures.entries
 
 pub returns-in-None-clause-work : goal.returns-in-None-clause-work
 returns-in-None-clause-work g c = rand_works c.random_pairs.ensures.cause

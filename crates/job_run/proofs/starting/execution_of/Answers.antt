@@ -32,6 +32,9 @@ returns-clause-first c =
       counted = record { heard = ∣ record { tells = told; count = refl } ∣₁; stops = λ cause is. absurd (cc) };
     }
 
+pub returns-clause-key : goal.returns-clause-key
+returns-clause-key c = ap (λ s. s.key) c.in_ok-session.ensures
+
 pub returns-clause-output : goal.returns-clause-output
 returns-clause-output c = c.in_ok-book.ensures.output
 

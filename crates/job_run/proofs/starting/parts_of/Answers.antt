@@ -6,5 +6,8 @@ use Rattle.job_run.proofs.starting.parts_of.Goals as goal
 pub returns-clause-task : goal.returns-clause-task
 returns-clause-task c = subst (λ t. task_of c.in_ok-run.run'.core ≡ task_in t c.args.agenda.notebook) c.terms_of.ensures.times c.in_ok-run.ensures.task
 
+pub returns-clause-key : goal.returns-clause-key
+returns-clause-key c = c.in_ok-run.ensures.key
+
 pub returns-clause-paths : goal.returns-clause-paths
 returns-clause-paths c = c.in_ok-paths.ensures.output

@@ -3,12 +3,12 @@ use Rattle.job_saves.specs.Course.{Stands, stays_open}
 use Rattle.job_saves.proofs.CourseLemmas.{job_ends}
 use Rattle.job_run.proofs.TurnLemmas.{first_counts, launches_counted, first_ends}
 use Rattle.job_run.proofs.RunLemmas.{begun, begun_role}
-use Rattle.job_run.proofs.LaunchLemmas.{ends_then, may_later}
+use Rattle.job_run.proofs.LaunchLemmas.{ends_then, may_later, may_run}
 use Rattle.job_saves.specs.Children.{HasEnd}
-use Rattle.job_run.specs.Run.{MayStart, HasNoPorts, HasPorts}
+use Rattle.job_run.specs.Run.{HasNoPorts, HasPorts}
 use Rattle.job_run.specs.Task.{ports_of_job}
 use Rattle.std.specs.Prelude.{IfOk}
-use Rattle.job_run.proofs.CauseLemmas.{causes_stay, own_caused, calls_grow, calls_told, calls_end, calls_ask_none}
+use Rattle.job_run.proofs.CauseLemmas.{causes_stay, own_caused, calls_grow, calls_told, calls_end, calls_ask_none, calls_output}
 use Rattle.job_run.proofs.StopLemmas.{starts_by, launches, of_run, at_paths}
 use Rattle.cell_core.specs.StandsFor.{task_of}
 use Rattle.job_run.specs.Told.{EndsBy}
@@ -23,9 +23,13 @@ returns-in-Ok-clause-course g c o s apart fresh =
 
 pub returns-in-Ok-clause-calls : goal.returns-in-Ok-clause-calls
 returns-in-Ok-clause-calls g c cast since from may portless role s =
-    c.with_kernel.ensures.calls cast since from (subst (λ n. MayStart cast n c.args.kernel.now c.args.here.now (g.W.Journal.journal c.save_first.new.w)) (sym c.job_of.ensures.number)
-    (may_later cast c.args.number c.args.kernel.now c.args.here.now (g.W.Journal.journal c.args.w.now) (g.W.Journal.journal c.save_first.new.w)
+    c.with_kernel.ensures.calls cast since from (may_run cast c.args.number c.job_of.result c.args.kernel.now c.args.here.now c.save_first.new.self (g.W.Journal.journal c.save_first.new.w)
+    c.job_of.ensures.number c.job_of.ensures.run
+    (may_later cast c.args.number c.args.kernel.now c.args.here.now c.args.run c.save_first.new.self (g.W.Journal.journal c.args.w.now) (g.W.Journal.journal c.save_first.new.w)
     (calls_told c.args.run.book c.save_first.new.self.book (g.W.Journal.journal c.args.w.now) (g.W.Journal.journal c.save_first.new.w) (g.W.Journal.counts c.args.w.now) (g.W.Journal.counts c.save_first.new.w) c.save_first.ensures.calls)
+    c.save_first.ensures.saves
+    (calls_output c.args.run.book c.save_first.new.self.book (g.W.Journal.journal c.args.w.now) (g.W.Journal.journal c.save_first.new.w) (g.W.Journal.counts c.args.w.now) (g.W.Journal.counts c.save_first.new.w) c.save_first.ensures.calls)
+    c.in-Ok.ensures.key
     (calls_end c.args.run.book c.save_first.new.self.book (g.W.Journal.journal c.args.w.now) (g.W.Journal.journal c.save_first.new.w) (g.W.Journal.counts c.args.w.now) (g.W.Journal.counts c.save_first.new.w) c.save_first.ensures.calls c.args.number) may))
     (subst (λ n. HasNoPorts cast n (g.W.Journal.journal c.save_first.new.w)) (sym c.job_of.ensures.number)
     (λ e. calls_ask_none c.args.run.book c.save_first.new.self.book (g.W.Journal.journal c.args.w.now) (g.W.Journal.journal c.save_first.new.w) (g.W.Journal.counts c.args.w.now) (g.W.Journal.counts c.save_first.new.w) c.save_first.ensures.calls c.args.number (portless e)))

@@ -5,4 +5,4 @@ pub returns-clause-course : goal.returns-clause-course
 returns-clause-course c was now parts reads o is_open j counts s = stays was now parts reads o is_open j counts s
 
 pub returns-clause-calls : goal.returns-clause-calls
-returns-clause-calls c was now parts cast since from j counts s = keeps_part was now cast since from j counts parts s
+returns-clause-calls c was now parts reads cast since from j counts s = keeps_part was now cast since from j counts parts reads s

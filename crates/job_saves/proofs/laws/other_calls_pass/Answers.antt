@@ -1,4 +1,3 @@
-use Rattle.std.proofs.Common.{refl}
 use Rattle.job_saves.proofs.CourseLemmas.{others_pass, calls_on, calls_part, begins_pass, ends_pass}
 use Rattle.job_saves.proofs.laws.other_calls_pass.Goals as goal
 
@@ -9,7 +8,7 @@ pub returns-clause-called : goal.returns-clause-called
 returns-clause-called c cast since from before after j k told quiet work s = calls_on cast since from before after j k told quiet work s
 
 pub returns-clause-calls : goal.returns-clause-calls
-returns-clause-calls c b cast since from before after j k told quiet work s = calls_part cast since from before after b b j k refl told quiet work s
+returns-clause-calls c b cast since from before after j k told quiet none work s = calls_part cast since from before after b j k told quiet none work s
 
 pub returns-clause-begins : goal.returns-clause-begins
 returns-clause-begins c o j k before after told grow s = begins_pass o j k before after told grow s

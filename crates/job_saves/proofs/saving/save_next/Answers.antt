@@ -1,7 +1,8 @@
 use Rattle.std.proofs.Common.{sym, subst, ◌∙◌}
-use Rattle.job_notebook.specs.State.{notebook_of}
+use Rattle.world.proofs.MomentsLemmas.{told_as}
 use Rattle.job_saves.specs.Course.{Stands, stays_open}
 use Rattle.job_saves.proofs.CourseLemmas.{save_stands, save_called, on_answer, durable_answer, acknowledged_answer, left_alone}
+use Rattle.job_saves.proofs.SessionLemmas.{saves_made}
 use Rattle.job_saves.proofs.saving.save_next.Goals as goal
 
 pub returns-clause-course : goal.returns-clause-course
@@ -14,7 +15,11 @@ returns-clause-course g c o s =
 pub returns-clause-calls : goal.returns-clause-calls
 returns-clause-calls g c cast since from s =
     let e = c.save.ensures in
-    save_called cast since from c.args.book.now c.save.new.self c.args.settled (notebook_of c.save.new.self) _ c.save.result _ _ _ _ e.output e.entries e.silent e.cause s
+    save_called cast since from c.args.book.now c.save.new.self c.args.settled c.args.stop c.save.result _ _ _ _
+    c.requires.above c.requires.within e.prefix e.read e.settled e.after (λ closed. e.closed.1 closed) e.merge e.cells e.output e.entries e.silent e.cause s
+
+pub returns-clause-saves : goal.returns-clause-saves
+returns-clause-saves g c = told_as c.save.ensures.entries (λ x y did. saves_made _ _ _ _ c.save.result x y did)
 
 pub returns-clause-prefix : goal.returns-clause-prefix
 returns-clause-prefix g c = on_answer c.save.result c.end_of.result _ c.end_of.ensures.answer c.save.ensures.prefix

@@ -3,7 +3,9 @@ use Rattle.std.proofs.lemmas.List.{length-set}
 use Rattle.batch_run.specs.declared.slot.Slot.TheVariants.{Running, Ended}
 use Rattle.batch_run.specs.Stands.{AllStand, WaitingFrom}
 use Rattle.batch_run.proofs.SlotLemmas.{waiting_at, waiting_set}
-use Rattle.batch_run.proofs.StandLemmas.{job_begins}
+use Rattle.batch_run.proofs.JobStandLemmas.{job_begins}
+use Rattle.job_run.specs.Run.{HasPorts}
+use Rattle.batch_run.proofs.SlotLemmas.{none_wanted}
 use Rattle.batch_run.proofs.jobs.Jobs.begin.Goals as goal
 
 pub returns-in-Ok-clause-waiting : goal.returns-in-Ok-clause-waiting
@@ -29,3 +31,9 @@ returns-in-Err-clause-stands g c = λ asks start from own here s.
     job_begins asks start from items (g.W.Journal.journal c.args.w.now) (g.W.Journal.journal c.begin.new.w) (g.W.Journal.counts c.args.w.now) (g.W.Journal.counts c.begin.new.w)
     c.args.number c.args.ask (Err c.in-Err.answer) here c.in-Err.ensures.begun c.in-Err.ensures.calls c.in-Err.ensures.left c.in-Err.ensures.cause c.in-Err.ensures.answer c.in-Err.ensures.spent tt tt tt own (waiting_at c.requires.waiting c.requires.within) s in
     subst (λ xs. AllStand asks start from xs (g.W.Journal.journal c.end.new.w) (g.W.Journal.counts c.end.new.w)) (sym c.end.ensures.slots) (c.end.ensures.stands asks start from mid c.args.number c.args.ask own c.in-Err.ensures.answer b)
+
+pub returns-in-Ok-clause-ports : goal.returns-in-Ok-clause-ports
+returns-in-Ok-clause-ports g c = subst (λ ports. HasPorts c.args.number ports (g.W.Journal.journal c.begin.new.w)) (sym c.ports.ensures) c.in-Ok.ensures.ports
+
+pub returns-in-Err-clause-ports : goal.returns-in-Err-clause-ports
+returns-in-Err-clause-ports g c = none_wanted c.end.result (λ wanted. HasPorts c.args.number wanted.ports (g.W.Journal.journal c.end.new.w)) c.end.ensures.none

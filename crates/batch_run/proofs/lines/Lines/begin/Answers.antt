@@ -3,7 +3,7 @@ use Rattle.std.proofs.Common.{◌+◌, ◌*◌, ◌<◌, arith, length, sym, sub
 use Rattle.batch_run.specs.Kept.{AreBegun}
 use Rattle.batch_run.proofs.LineLemmas.{begun_begun, begun_failed, fresh_job, fresh_next, lost_ok, lost_fault}
 use Rattle.world.proofs.CountsLemmas.{net_grows}
-use Rattle.batch_run.proofs.StandLemmas.{loop_keeps}
+use Rattle.batch_run.proofs.StandLemmas.{loop_begins}
 use Rattle.batch_run.proofs.lines.Lines.begin.Goals as goal
 
 pub begin-requires-clause-fresh : goal.begin-requires-clause-fresh
@@ -34,10 +34,10 @@ pub returns-in-Err-clause-fresh : goal.returns-in-Err-clause-fresh
 returns-in-Err-clause-fresh g c = fresh_next c.requires.fresh c.in-Err.ensures.others
 
 pub returns-in-Ok-clause-stands : goal.returns-in-Ok-clause-stands
-returns-in-Ok-clause-stands g c = loop_keeps c.begin.ensures.calls (net_grows c.begin.ensures.cause) (ap (λ (n : Counts). n.waits) c.begin.ensures.cause.others)
+returns-in-Ok-clause-stands g c = λ slots asks start from given s. loop_begins c.args.job c.args.wanted.ports c.args.self.now.connections c.begin.new.self c.begin.ensures.ports c.begin.ensures.kept c.begin.ensures.wires c.begin.ensures.calls (net_grows c.begin.ensures.cause) (ap (λ (n : Counts). n.waits) c.begin.ensures.cause.others) asks start from slots given s
 
 pub returns-in-Err-clause-stands : goal.returns-in-Err-clause-stands
-returns-in-Err-clause-stands g c = loop_keeps c.begin.ensures.calls (net_grows c.begin.ensures.cause) (ap (λ (n : Counts). n.waits) c.begin.ensures.cause.others)
+returns-in-Err-clause-stands g c = λ slots asks start from given s. loop_begins c.args.job c.args.wanted.ports c.args.self.now.connections c.begin.new.self c.begin.ensures.ports c.begin.ensures.kept c.begin.ensures.wires c.begin.ensures.calls (net_grows c.begin.ensures.cause) (ap (λ (n : Counts). n.waits) c.begin.ensures.cause.others) asks start from slots given s
 
 pub returns-in-Err-clause-cause : goal.returns-in-Err-clause-cause
 returns-in-Err-clause-cause g c = c.in-Err.ensures.cause.net.cause refl

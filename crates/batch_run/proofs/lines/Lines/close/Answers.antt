@@ -19,4 +19,4 @@ pub returns-clause-none : goal.returns-clause-none
 returns-clause-none g c = λ none. none_set c.forgive.ensures.room c.forgive.ensures.jobs none
 
 pub returns-clause-stands : goal.returns-clause-stands
-returns-clause-stands g c = loop_keeps c.close.ensures.calls (grow_same c.close.ensures.counts) (ap (λ (n : Counts). n.waits) c.close.ensures.counts)
+returns-clause-stands g c = loop_keeps c.args.self.now.connections c.close.new.self c.close.ensures.ports c.close.ensures.wires c.close.ensures.calls (grow_same c.close.ensures.counts) (ap (λ (n : Counts). n.waits) c.close.ensures.counts)

@@ -29,16 +29,16 @@ invariant_of-self-in-Err-Spent g c =
     }
 
 pub returns-in-Ok-clause-stands : goal.returns-in-Ok-clause-stands
-returns-in-Ok-clause-stands g c = loop_waits c.look.ensures.calls (look_grows c.look.result (g.W.Journal.counts c.args.w.now) (g.W.Journal.counts c.look.new.w) c.look.ensures.cause) (waits_of c.args.self.now) (waits_left c.look.new.self) (look_waits c.look.result (g.W.Journal.counts c.args.w.now) (g.W.Journal.counts c.look.new.w) (waits_of c.args.self.now) (waits_left c.look.new.self) c.look.ensures.cause c.look.ensures.left c.look.ensures.spent).few (look_waits c.look.result (g.W.Journal.counts c.args.w.now) (g.W.Journal.counts c.look.new.w) (waits_of c.args.self.now) (waits_left c.look.new.self) c.look.ensures.cause c.look.ensures.left c.look.ensures.spent).all
+returns-in-Ok-clause-stands g c = loop_waits c.args.self.now.connections c.look.new.self c.look.ensures.ports c.look.ensures.wires c.look.ensures.calls (look_grows c.look.result (g.W.Journal.counts c.args.w.now) (g.W.Journal.counts c.look.new.w) c.look.ensures.cause) (waits_of c.args.self.now) (waits_left c.look.new.self) (look_waits c.look.result (g.W.Journal.counts c.args.w.now) (g.W.Journal.counts c.look.new.w) (waits_of c.args.self.now) (waits_left c.look.new.self) c.look.ensures.cause c.look.ensures.left c.look.ensures.spent).few (look_waits c.look.result (g.W.Journal.counts c.args.w.now) (g.W.Journal.counts c.look.new.w) (waits_of c.args.self.now) (waits_left c.look.new.self) c.look.ensures.cause c.look.ensures.left c.look.ensures.spent).all
 
 pub returns-in-Err-NetFault-Some-clause-stands : goal.returns-in-Err-NetFault-Some-clause-stands
-returns-in-Err-NetFault-Some-clause-stands g c = loop_waits c.look.ensures.calls (look_grows c.look.result (g.W.Journal.counts c.args.w.now) (g.W.Journal.counts c.look.new.w) c.look.ensures.cause) (waits_of c.args.self.now) (waits_left c.look.new.self) (look_waits c.look.result (g.W.Journal.counts c.args.w.now) (g.W.Journal.counts c.look.new.w) (waits_of c.args.self.now) (waits_left c.look.new.self) c.look.ensures.cause c.look.ensures.left c.look.ensures.spent).few (look_waits c.look.result (g.W.Journal.counts c.args.w.now) (g.W.Journal.counts c.look.new.w) (waits_of c.args.self.now) (waits_left c.look.new.self) c.look.ensures.cause c.look.ensures.left c.look.ensures.spent).all
+returns-in-Err-NetFault-Some-clause-stands g c = loop_waits c.args.self.now.connections c.look.new.self c.look.ensures.ports c.look.ensures.wires c.look.ensures.calls (look_grows c.look.result (g.W.Journal.counts c.args.w.now) (g.W.Journal.counts c.look.new.w) c.look.ensures.cause) (waits_of c.args.self.now) (waits_left c.look.new.self) (look_waits c.look.result (g.W.Journal.counts c.args.w.now) (g.W.Journal.counts c.look.new.w) (waits_of c.args.self.now) (waits_left c.look.new.self) c.look.ensures.cause c.look.ensures.left c.look.ensures.spent).few (look_waits c.look.result (g.W.Journal.counts c.args.w.now) (g.W.Journal.counts c.look.new.w) (waits_of c.args.self.now) (waits_left c.look.new.self) c.look.ensures.cause c.look.ensures.left c.look.ensures.spent).all
 
 pub returns-in-Err-NetFault-None-clause-stands : goal.returns-in-Err-NetFault-None-clause-stands
-returns-in-Err-NetFault-None-clause-stands g c = loop_waits c.look.ensures.calls (look_grows c.look.result (g.W.Journal.counts c.args.w.now) (g.W.Journal.counts c.look.new.w) c.look.ensures.cause) (waits_of c.args.self.now) (waits_left c.look.new.self) (look_waits c.look.result (g.W.Journal.counts c.args.w.now) (g.W.Journal.counts c.look.new.w) (waits_of c.args.self.now) (waits_left c.look.new.self) c.look.ensures.cause c.look.ensures.left c.look.ensures.spent).few (look_waits c.look.result (g.W.Journal.counts c.args.w.now) (g.W.Journal.counts c.look.new.w) (waits_of c.args.self.now) (waits_left c.look.new.self) c.look.ensures.cause c.look.ensures.left c.look.ensures.spent).all
+returns-in-Err-NetFault-None-clause-stands g c = loop_waits c.args.self.now.connections c.look.new.self c.look.ensures.ports c.look.ensures.wires c.look.ensures.calls (look_grows c.look.result (g.W.Journal.counts c.args.w.now) (g.W.Journal.counts c.look.new.w) c.look.ensures.cause) (waits_of c.args.self.now) (waits_left c.look.new.self) (look_waits c.look.result (g.W.Journal.counts c.args.w.now) (g.W.Journal.counts c.look.new.w) (waits_of c.args.self.now) (waits_left c.look.new.self) c.look.ensures.cause c.look.ensures.left c.look.ensures.spent).few (look_waits c.look.result (g.W.Journal.counts c.args.w.now) (g.W.Journal.counts c.look.new.w) (waits_of c.args.self.now) (waits_left c.look.new.self) c.look.ensures.cause c.look.ensures.left c.look.ensures.spent).all
 
 pub returns-in-Err-Spent-clause-stands : goal.returns-in-Err-Spent-clause-stands
-returns-in-Err-Spent-clause-stands g c = loop_waits c.look.ensures.calls (look_grows c.look.result (g.W.Journal.counts c.args.w.now) (g.W.Journal.counts c.look.new.w) c.look.ensures.cause) (waits_of c.args.self.now) (waits_left c.look.new.self) (look_waits c.look.result (g.W.Journal.counts c.args.w.now) (g.W.Journal.counts c.look.new.w) (waits_of c.args.self.now) (waits_left c.look.new.self) c.look.ensures.cause c.look.ensures.left c.look.ensures.spent).few (look_waits c.look.result (g.W.Journal.counts c.args.w.now) (g.W.Journal.counts c.look.new.w) (waits_of c.args.self.now) (waits_left c.look.new.self) c.look.ensures.cause c.look.ensures.left c.look.ensures.spent).all
+returns-in-Err-Spent-clause-stands g c = loop_waits c.args.self.now.connections c.look.new.self c.look.ensures.ports c.look.ensures.wires c.look.ensures.calls (look_grows c.look.result (g.W.Journal.counts c.args.w.now) (g.W.Journal.counts c.look.new.w) c.look.ensures.cause) (waits_of c.args.self.now) (waits_left c.look.new.self) (look_waits c.look.result (g.W.Journal.counts c.args.w.now) (g.W.Journal.counts c.look.new.w) (waits_of c.args.self.now) (waits_left c.look.new.self) c.look.ensures.cause c.look.ensures.left c.look.ensures.spent).few (look_waits c.look.result (g.W.Journal.counts c.args.w.now) (g.W.Journal.counts c.look.new.w) (waits_of c.args.self.now) (waits_left c.look.new.self) c.look.ensures.cause c.look.ensures.left c.look.ensures.spent).all
 
 pub returns-in-Ok-clause-left : goal.returns-in-Ok-clause-left
 returns-in-Ok-clause-left g c = (look_waits c.look.result (g.W.Journal.counts c.args.w.now) (g.W.Journal.counts c.look.new.w) (waits_of c.args.self.now) (waits_left c.look.new.self) c.look.ensures.cause c.look.ensures.left c.look.ensures.spent).less

@@ -16,10 +16,10 @@ invariant_of-self-in-Err g c =
     }
 
 pub returns-in-Ok-clause-stands : goal.returns-in-Ok-clause-stands
-returns-in-Ok-clause-stands g c = loop_keeps c.next.ensures.calls (net_grows c.next.ensures.cause) (ap (λ (n : Counts). n.waits) c.next.ensures.cause.others)
+returns-in-Ok-clause-stands g c = loop_keeps c.args.self.now.connections c.next.new.self c.next.ensures.ports c.next.ensures.wires c.next.ensures.calls (net_grows c.next.ensures.cause) (ap (λ (n : Counts). n.waits) c.next.ensures.cause.others)
 
 pub returns-in-Err-clause-stands : goal.returns-in-Err-clause-stands
-returns-in-Err-clause-stands g c = loop_keeps c.next.ensures.calls (net_grows c.next.ensures.cause) (ap (λ (n : Counts). n.waits) c.next.ensures.cause.others)
+returns-in-Err-clause-stands g c = loop_keeps c.args.self.now.connections c.next.new.self c.next.ensures.ports c.next.ensures.wires c.next.ensures.calls (net_grows c.next.ensures.cause) (ap (λ (n : Counts). n.waits) c.next.ensures.cause.others)
 
 pub returns-in-Err-clause-cause : goal.returns-in-Err-clause-cause
 returns-in-Err-clause-cause g c = net_caused c.note.result (g.W.Journal.counts c.args.w.now) (g.W.Journal.counts c.next.new.w) ⊥ (c.note.ensures.net c.in-Err.ensures.fault) (c.in-Err.ensures.cause.net.cause refl)

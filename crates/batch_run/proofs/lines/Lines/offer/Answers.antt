@@ -15,10 +15,10 @@ invariant_of-self-in-Err g c =
     }
 
 pub returns-in-Ok-clause-stands : goal.returns-in-Ok-clause-stands
-returns-in-Ok-clause-stands g c = loop_keeps c.offer.ensures.calls (net_grows c.offer.ensures.cause) (ap (λ (n : Counts). n.waits) c.offer.ensures.cause.others)
+returns-in-Ok-clause-stands g c = loop_keeps c.args.self.now.connections c.offer.new.self c.offer.ensures.ports c.offer.ensures.wires c.offer.ensures.calls (net_grows c.offer.ensures.cause) (ap (λ (n : Counts). n.waits) c.offer.ensures.cause.others)
 
 pub returns-in-Err-clause-stands : goal.returns-in-Err-clause-stands
-returns-in-Err-clause-stands g c = loop_keeps c.offer.ensures.calls (net_grows c.offer.ensures.cause) (ap (λ (n : Counts). n.waits) c.offer.ensures.cause.others)
+returns-in-Err-clause-stands g c = loop_keeps c.args.self.now.connections c.offer.new.self c.offer.ensures.ports c.offer.ensures.wires c.offer.ensures.calls (net_grows c.offer.ensures.cause) (ap (λ (n : Counts). n.waits) c.offer.ensures.cause.others)
 
 pub returns-in-Err-clause-cause : goal.returns-in-Err-clause-cause
 returns-in-Err-clause-cause g c = net_caused c.note.result (g.W.Journal.counts c.args.w.now) (g.W.Journal.counts c.offer.new.w) ⊥ (c.note.ensures.net c.in-Err.ensures.fault) (c.in-Err.ensures.cause.net.cause refl)

@@ -13,13 +13,13 @@ turn-requires g c =
     record { drained = c.requires.drained; offered = c.requires.offered; sound = sound_none b.lost_are c.requires.none }
 
 pub returns-in-Ok-clause-stands : goal.returns-in-Ok-clause-stands
-returns-in-Ok-clause-stands g c = loop_waits c.turn.ensures.calls (turn_grows c.turn.result (g.W.Journal.counts c.args.w.now) (g.W.Journal.counts c.turn.new.w) c.turn.ensures.cause c.turn.ensures.later) (waits_of c.args.self.now) (waits_left c.turn.new.self) (turn_waits c.turn.result (g.W.Journal.counts c.args.w.now) (g.W.Journal.counts c.turn.new.w) (waits_of c.args.self.now) (waits_left c.turn.new.self) c.turn.ensures.cause c.turn.ensures.left c.turn.ensures.spent).few (turn_waits c.turn.result (g.W.Journal.counts c.args.w.now) (g.W.Journal.counts c.turn.new.w) (waits_of c.args.self.now) (waits_left c.turn.new.self) c.turn.ensures.cause c.turn.ensures.left c.turn.ensures.spent).all
+returns-in-Ok-clause-stands g c = loop_waits c.args.self.now.connections c.turn.new.self c.turn.ensures.ports c.turn.ensures.wires c.turn.ensures.calls (turn_grows c.turn.result (g.W.Journal.counts c.args.w.now) (g.W.Journal.counts c.turn.new.w) c.turn.ensures.cause c.turn.ensures.later) (waits_of c.args.self.now) (waits_left c.turn.new.self) (turn_waits c.turn.result (g.W.Journal.counts c.args.w.now) (g.W.Journal.counts c.turn.new.w) (waits_of c.args.self.now) (waits_left c.turn.new.self) c.turn.ensures.cause c.turn.ensures.left c.turn.ensures.spent).few (turn_waits c.turn.result (g.W.Journal.counts c.args.w.now) (g.W.Journal.counts c.turn.new.w) (waits_of c.args.self.now) (waits_left c.turn.new.self) c.turn.ensures.cause c.turn.ensures.left c.turn.ensures.spent).all
 
 pub returns-in-Err-NetFault-clause-stands : goal.returns-in-Err-NetFault-clause-stands
-returns-in-Err-NetFault-clause-stands g c = loop_waits c.turn.ensures.calls (turn_grows c.turn.result (g.W.Journal.counts c.args.w.now) (g.W.Journal.counts c.turn.new.w) c.turn.ensures.cause c.turn.ensures.later) (waits_of c.args.self.now) (waits_left c.turn.new.self) (turn_waits c.turn.result (g.W.Journal.counts c.args.w.now) (g.W.Journal.counts c.turn.new.w) (waits_of c.args.self.now) (waits_left c.turn.new.self) c.turn.ensures.cause c.turn.ensures.left c.turn.ensures.spent).few (turn_waits c.turn.result (g.W.Journal.counts c.args.w.now) (g.W.Journal.counts c.turn.new.w) (waits_of c.args.self.now) (waits_left c.turn.new.self) c.turn.ensures.cause c.turn.ensures.left c.turn.ensures.spent).all
+returns-in-Err-NetFault-clause-stands g c = loop_waits c.args.self.now.connections c.turn.new.self c.turn.ensures.ports c.turn.ensures.wires c.turn.ensures.calls (turn_grows c.turn.result (g.W.Journal.counts c.args.w.now) (g.W.Journal.counts c.turn.new.w) c.turn.ensures.cause c.turn.ensures.later) (waits_of c.args.self.now) (waits_left c.turn.new.self) (turn_waits c.turn.result (g.W.Journal.counts c.args.w.now) (g.W.Journal.counts c.turn.new.w) (waits_of c.args.self.now) (waits_left c.turn.new.self) c.turn.ensures.cause c.turn.ensures.left c.turn.ensures.spent).few (turn_waits c.turn.result (g.W.Journal.counts c.args.w.now) (g.W.Journal.counts c.turn.new.w) (waits_of c.args.self.now) (waits_left c.turn.new.self) c.turn.ensures.cause c.turn.ensures.left c.turn.ensures.spent).all
 
 pub returns-in-Err-Spent-clause-stands : goal.returns-in-Err-Spent-clause-stands
-returns-in-Err-Spent-clause-stands g c = loop_waits c.turn.ensures.calls (turn_grows c.turn.result (g.W.Journal.counts c.args.w.now) (g.W.Journal.counts c.turn.new.w) c.turn.ensures.cause c.turn.ensures.later) (waits_of c.args.self.now) (waits_left c.turn.new.self) (turn_waits c.turn.result (g.W.Journal.counts c.args.w.now) (g.W.Journal.counts c.turn.new.w) (waits_of c.args.self.now) (waits_left c.turn.new.self) c.turn.ensures.cause c.turn.ensures.left c.turn.ensures.spent).few (turn_waits c.turn.result (g.W.Journal.counts c.args.w.now) (g.W.Journal.counts c.turn.new.w) (waits_of c.args.self.now) (waits_left c.turn.new.self) c.turn.ensures.cause c.turn.ensures.left c.turn.ensures.spent).all
+returns-in-Err-Spent-clause-stands g c = loop_waits c.args.self.now.connections c.turn.new.self c.turn.ensures.ports c.turn.ensures.wires c.turn.ensures.calls (turn_grows c.turn.result (g.W.Journal.counts c.args.w.now) (g.W.Journal.counts c.turn.new.w) c.turn.ensures.cause c.turn.ensures.later) (waits_of c.args.self.now) (waits_left c.turn.new.self) (turn_waits c.turn.result (g.W.Journal.counts c.args.w.now) (g.W.Journal.counts c.turn.new.w) (waits_of c.args.self.now) (waits_left c.turn.new.self) c.turn.ensures.cause c.turn.ensures.left c.turn.ensures.spent).few (turn_waits c.turn.result (g.W.Journal.counts c.args.w.now) (g.W.Journal.counts c.turn.new.w) (waits_of c.args.self.now) (waits_left c.turn.new.self) c.turn.ensures.cause c.turn.ensures.left c.turn.ensures.spent).all
 
 pub returns-in-Ok-clause-left : goal.returns-in-Ok-clause-left
 returns-in-Ok-clause-left g c = (turn_waits c.turn.result (g.W.Journal.counts c.args.w.now) (g.W.Journal.counts c.turn.new.w) (waits_of c.args.self.now) (waits_left c.turn.new.self) c.turn.ensures.cause c.turn.ensures.left c.turn.ensures.spent).less

@@ -2,18 +2,21 @@ use Rattle.std.proofs.Common.{true, refl, ap, arith}
 use Rattle.ready_loop.specs.declared.next.Next.TheVariants.{Piece, Ended, Refused, Quiet}
 use Rattle.batch_run.proofs.LineLemmas.{err_not, err_other, some_not, not_quiet}
 use Rattle.batch_run.specs.Lines.{reads_of}
-use Rattle.batch_run.proofs.CauseLemmas.{net_fault}
+use Rattle.batch_run.proofs.CauseLemmas.{net_fault, same_lines}
+use Rattle.batch_run.specs.Stands.{wired_by}
 use Rattle.batch_run.proofs.running.Running.read_one.Goals as goal
 
 pub returns-in_err-hear-in-Ok-Piece-clause-stands : goal.returns-in_err-hear-in-Ok-Piece-clause-stands
-returns-in_err-hear-in-Ok-Piece-clause-stands g c = λ asks start from s. c.hear.ensures.stands asks start from (c.next.ensures.stands asks start from c.args.self.now.jobs.slots.items s)
+returns-in_err-hear-in-Ok-Piece-clause-stands g c = λ asks start from s. same_lines asks start from c.next.new.self c.hear.new.self.lines c.hear.ensures.lines
+    (c.hear.ensures.stands asks start (wired_by c.next.new.self.connections from) (c.next.ensures.stands asks start from c.args.self.now.jobs.slots.items s))
 
 pub returns-in_ok-hear-in-Ok-Piece-clause-stands : goal.returns-in_ok-hear-in-Ok-Piece-clause-stands
-returns-in_ok-hear-in-Ok-Piece-clause-stands g c = λ asks start from s. c.hear.ensures.stands asks start from (c.next.ensures.stands asks start from c.args.self.now.jobs.slots.items s)
+returns-in_ok-hear-in-Ok-Piece-clause-stands g c = λ asks start from s. same_lines asks start from c.next.new.self c.hear.new.self.lines c.hear.ensures.lines
+    (c.hear.ensures.stands asks start (wired_by c.next.new.self.connections from) (c.next.ensures.stands asks start from c.args.self.now.jobs.slots.items s))
 
 pub returns-in-Ok-Ended-clause-stands : goal.returns-in-Ok-Ended-clause-stands
 returns-in-Ok-Ended-clause-stands g c = λ asks start from s.
-    c.on_ended.ensures.stands asks start from (g.W.Journal.journal c.next.new.w) (g.W.Journal.counts c.next.new.w) (c.next.ensures.stands asks start from c.args.self.now.jobs.slots.items s)
+    c.on_ended.ensures.stands asks start (wired_by c.next.new.self.connections from) (g.W.Journal.journal c.next.new.w) (g.W.Journal.counts c.next.new.w) (c.next.ensures.stands asks start from c.args.self.now.jobs.slots.items s)
 
 pub returns-in-Ok-Refused-clause-stands : goal.returns-in-Ok-Refused-clause-stands
 returns-in-Ok-Refused-clause-stands g c = λ asks start from s. c.next.ensures.stands asks start from c.args.self.now.jobs.slots.items s
@@ -23,8 +26,9 @@ returns-in-Ok-Quiet-clause-stands g c = λ asks start from s. c.next.ensures.sta
 
 pub returns-in-Err-clause-stands : goal.returns-in-Err-clause-stands
 returns-in-Err-clause-stands g c = λ asks start from s.
-    c.read_on.ensures.stands asks start from (g.W.Journal.journal c.next.new.w) (g.W.Journal.counts c.next.new.w)
-    (net_fault c.in-Err.fault from (g.W.Journal.counts c.args.w.now) (g.W.Journal.counts c.next.new.w) s.grow c.in-Err.ensures.cause) (c.next.ensures.stands asks start from c.args.self.now.jobs.slots.items s)
+    same_lines asks start from c.next.new.self c.read_on.new.self.lines c.read_on.ensures.lines
+    (c.read_on.ensures.stands asks start (wired_by c.next.new.self.connections from) (g.W.Journal.journal c.next.new.w) (g.W.Journal.counts c.next.new.w)
+    (net_fault c.in-Err.fault (wired_by c.next.new.self.connections from) (g.W.Journal.counts c.args.w.now) (g.W.Journal.counts c.next.new.w) s.grow c.in-Err.ensures.cause) (c.next.ensures.stands asks start from c.args.self.now.jobs.slots.items s))
 
 pub returns-in_ok-hear-in-Ok-Piece-clause-one : goal.returns-in_ok-hear-in-Ok-Piece-clause-one
 returns-in_ok-hear-in-Ok-Piece-clause-one g c = λ e. (_, c.hear.ensures.others)

@@ -1,6 +1,6 @@
 use Rattle.std.proofs.Common.{◌-◌, arith, rules}
 use Rattle.batch_run.specs.Lines.{waits_of}
-use Rattle.batch_run.specs.Stands.{more_waits}
+use Rattle.batch_run.specs.Stands.{more_waits, wired_by}
 use Rattle.batch_run.proofs.CauseLemmas.{fits_then}
 use Rattle.batch_run.proofs.running.Running.run.Goals as goal
 
@@ -9,7 +9,7 @@ returns-in_err-turn-clause-stands g c = λ asks start from all s.
     let a = waits_of c.args.self.now.lines in
     let b = waits_of c.loop.self.lines in
     let e = waits_of c.turn.new.self.lines in
-    fits_then asks start from (a - b) (b - e) (a - e) (omega (arith, c.loop.invariant.left, c.turn.ensures.left)) (c.turn.ensures.stands asks start (more_waits (a - b) from) (omega (arith, all, c.loop.invariant.left)) (c.loop.invariant.stands asks start from all s))
+    fits_then asks start (wired_by c.turn.new.self.lines.connections from) (a - b) (b - e) (a - e) (omega (arith, c.loop.invariant.left, c.turn.ensures.left)) (c.turn.ensures.stands asks start (more_waits (a - b) from) (omega (arith, all, c.loop.invariant.left)) (c.loop.invariant.stands asks start from all s))
 
 pub returns-in_err-turn-clause-left : goal.returns-in_err-turn-clause-left
 returns-in_err-turn-clause-left g c = omega (arith, c.loop.invariant.left, c.turn.ensures.left)
@@ -20,7 +20,7 @@ loop-preserved g c = record {
       let a = waits_of c.args.self.now.lines in
       let b = waits_of c.loop.self.lines in
       let e = waits_of c.turn.new.self.lines in
-      fits_then asks start from (a - b) (b - e) (a - e) (omega (arith, c.loop.invariant.left, c.turn.ensures.left)) (c.turn.ensures.stands asks start (more_waits (a - b) from) (omega (arith, all, c.loop.invariant.left)) (c.loop.invariant.stands asks start from all s));
+      fits_then asks start (wired_by c.turn.new.self.lines.connections from) (a - b) (b - e) (a - e) (omega (arith, c.loop.invariant.left, c.turn.ensures.left)) (c.turn.ensures.stands asks start (more_waits (a - b) from) (omega (arith, all, c.loop.invariant.left)) (c.loop.invariant.stands asks start from all s));
   left = omega (arith, c.loop.invariant.left, c.turn.ensures.left);
   drained = search rules;
   room = search rules;
@@ -31,7 +31,7 @@ returns-clause-stands g c = λ asks start from all s.
     let a = waits_of c.args.self.now.lines in
     let b = waits_of c.loop.self.lines in
     let e = waits_of c.turn.new.self.lines in
-    fits_then asks start from (a - b) (b - e) (a - e) (omega (arith, c.loop.invariant.left, c.turn.ensures.left)) (c.turn.ensures.stands asks start (more_waits (a - b) from) (omega (arith, all, c.loop.invariant.left)) (c.loop.invariant.stands asks start from all s))
+    fits_then asks start (wired_by c.turn.new.self.lines.connections from) (a - b) (b - e) (a - e) (omega (arith, c.loop.invariant.left, c.turn.ensures.left)) (c.turn.ensures.stands asks start (more_waits (a - b) from) (omega (arith, all, c.loop.invariant.left)) (c.loop.invariant.stands asks start from all s))
 
 pub returns-clause-left : goal.returns-clause-left
 returns-clause-left g c = omega (arith, c.loop.invariant.left, c.turn.ensures.left)

@@ -6,7 +6,7 @@ use Rattle.batch_run.proofs.running.Running.run.Given as goal
 
 abbrev pub invariant-loop : goal.invariant-loop
 invariant-loop g l = record {
-  stands : KeepsWaiting g.W.Journal.journal g.W.Journal.counts l.fn.w l.w (waits_of l.fn.self.lines) (waits_of l.self.lines) l.fn.self.jobs.slots.items l.self.jobs.slots.items;
+  stands : KeepsWaiting g.W.Journal.journal g.W.Journal.counts l.fn.w l.w l.fn.self.lines l.self.lines l.fn.self.jobs.slots.items l.self.jobs.slots.items;
   left : waits_of l.self.lines ≤ waits_of l.fn.self.lines;
   drained : IsDrained l.self.lines.connections;
   room : 0 < length l.self.buf.items;

@@ -1,21 +1,27 @@
 use Rattle.std.proofs.Common.{◌-◌, ap, arith}
 use Rattle.batch_run.specs.Lines.{waits_of}
-use Rattle.batch_run.specs.Stands.{AllStand, Outset, more_waits}
-use Rattle.batch_run.proofs.CauseLemmas.{fits, wait_fault}
+use Rattle.batch_run.specs.Stands.{AllStand, Outset, more_waits, wired_by}
+use Rattle.batch_run.proofs.CauseLemmas.{fits, same_lines, wait_fault}
 use Rattle.batch_run.proofs.running.Running.wait.Goals as goal
 
 pub returns-in_err-tell_moments-in-Ok-clause-stands : goal.returns-in_err-tell_moments-in-Ok-clause-stands
 returns-in_err-tell_moments-in-Ok-clause-stands g c = λ asks start from all s.
-    fits asks start from (waits_of c.args.self.now.lines - waits_of c.turn.new.self) (waits_of c.args.self.now.lines - waits_of c.tell_moments.new.self.lines) (omega (arith, ap waits_of c.tell_moments.ensures.lines))
-    (c.tell_moments.ensures.stands asks start (more_waits (waits_of c.args.self.now.lines - waits_of c.turn.new.self) from) (c.turn.ensures.stands asks start from c.args.self.now.jobs.slots.items s))
+    let m = waits_of c.args.self.now.lines - waits_of c.turn.new.self in
+    let mid : Outset = more_waits m from in
+    fits asks start (wired_by c.tell_moments.new.self.lines.connections from) m (waits_of c.args.self.now.lines - waits_of c.tell_moments.new.self.lines) (omega (arith, ap waits_of c.tell_moments.ensures.lines))
+    (same_lines asks start mid c.turn.new.self c.tell_moments.new.self.lines c.tell_moments.ensures.lines
+    (c.tell_moments.ensures.stands asks start (wired_by c.turn.new.self.connections mid) (c.turn.ensures.stands asks start from c.args.self.now.jobs.slots.items s)))
 
 pub returns-in_err-tell_moments-in-Ok-clause-left : goal.returns-in_err-tell_moments-in-Ok-clause-left
 returns-in_err-tell_moments-in-Ok-clause-left g c = omega (arith, c.turn.ensures.left, ap waits_of c.tell_moments.ensures.lines)
 
 pub returns-in_ok-tell_moments-in-Ok-clause-stands : goal.returns-in_ok-tell_moments-in-Ok-clause-stands
 returns-in_ok-tell_moments-in-Ok-clause-stands g c = λ asks start from all s.
-    fits asks start from (waits_of c.args.self.now.lines - waits_of c.turn.new.self) (waits_of c.args.self.now.lines - waits_of c.read_all.new.self.lines) (omega (arith, ap waits_of c.tell_moments.ensures.lines, c.read_all.ensures.left))
-    (c.read_all.ensures.stands asks start (more_waits (waits_of c.args.self.now.lines - waits_of c.turn.new.self) from) (c.tell_moments.ensures.stands asks start (more_waits (waits_of c.args.self.now.lines - waits_of c.turn.new.self) from) (c.turn.ensures.stands asks start from c.args.self.now.jobs.slots.items s)))
+    let m = waits_of c.args.self.now.lines - waits_of c.turn.new.self in
+    let mid : Outset = more_waits m from in
+    fits asks start (wired_by c.read_all.new.self.lines.connections from) m (waits_of c.args.self.now.lines - waits_of c.read_all.new.self.lines) (omega (arith, ap waits_of c.tell_moments.ensures.lines, c.read_all.ensures.left))
+    (c.read_all.ensures.stands asks start mid (same_lines asks start mid c.turn.new.self c.tell_moments.new.self.lines c.tell_moments.ensures.lines
+    (c.tell_moments.ensures.stands asks start (wired_by c.turn.new.self.connections mid) (c.turn.ensures.stands asks start from c.args.self.now.jobs.slots.items s))))
 
 pub returns-in_ok-tell_moments-in-Ok-clause-left : goal.returns-in_ok-tell_moments-in-Ok-clause-left
 returns-in_ok-tell_moments-in-Ok-clause-left g c = omega (arith, c.turn.ensures.left, ap waits_of c.tell_moments.ensures.lines, c.read_all.ensures.left)
@@ -26,10 +32,11 @@ returns-in-Err-clause-stands g c = λ asks start from all s.
     let d = g.W.Journal.counts c.turn.new.w in
     let left = waits_of c.args.self.now.lines in
     let rest = waits_of c.turn.new.self in
-    let mid : Outset = more_waits (left - rest) from in
+    let mid : Outset = wired_by c.turn.new.self.connections (more_waits (left - rest) from) in
     let after : AllStand asks start mid c.args.self.now.jobs.slots.items (g.W.Journal.journal c.turn.new.w) d = c.turn.ensures.stands asks start from c.args.self.now.jobs.slots.items s in
-    fits asks start from (left - rest) (left - waits_of c.on_fault.new.self.lines) (omega (arith, ap waits_of c.on_fault.ensures.lines))
-    (c.on_fault.ensures.stands asks start mid (g.W.Journal.journal c.turn.new.w) d (wait_fault c.in-Err.fault from c_ d left rest s.grow all after.waited c.in-Err.ensures.cause) after)
+    fits asks start (wired_by c.on_fault.new.self.lines.connections from) (left - rest) (left - waits_of c.on_fault.new.self.lines) (omega (arith, ap waits_of c.on_fault.ensures.lines))
+    (same_lines asks start (more_waits (left - rest) from) c.turn.new.self c.on_fault.new.self.lines c.on_fault.ensures.lines
+    (c.on_fault.ensures.stands asks start mid (g.W.Journal.journal c.turn.new.w) d (wait_fault c.in-Err.fault from c_ d left rest s.grow all after.waited c.in-Err.ensures.cause) after))
 
 pub returns-in-Err-clause-left : goal.returns-in-Err-clause-left
 returns-in-Err-clause-left g c = omega (arith, c.turn.ensures.left, ap waits_of c.on_fault.ensures.lines)

@@ -1,5 +1,6 @@
 use Rattle.std.proofs.Common.{Some, inl, ap, ◌∙◌}
-use Rattle.batch_run.proofs.StandLemmas.{job_goes_on, slot_rests}
+use Rattle.batch_run.proofs.JobStandLemmas.{job_goes_on}
+use Rattle.batch_run.proofs.StandLemmas.{slot_rests}
 use Rattle.batch_run.proofs.slot.Slot.on_taken.Goals as goal
 
 pub returns-in-Running : goal.returns-in-Running

@@ -1,9 +1,25 @@
-use Rattle.std.proofs.Common.{sym, subst, ◌∙◌}
+use Rattle.std.proofs.Common.{refl, sym, subst, ◌∙◌}
+use Rattle.world.specs.Moments.{start}
+use Rattle.world.proofs.MomentsLemmas.{told_start}
 use Rattle.job_saves.specs.Course.{Stands}
 use Rattle.job_run.proofs.AskLemmas.{acts_once}
 use Rattle.job_run.proofs.CountLemmas.{counts_on, quiet_at, residual_on}
-use Rattle.job_run.proofs.CauseLemmas.{part_output}
+use Rattle.job_run.proofs.CauseLemmas.{part_output, calls_output}
+use Rattle.job_saves.proofs.SessionLemmas.{saves_then}
+use Rattle.job_notebook.specs.State.{output_of}
 use Rattle.job_run.proofs.execution.Execution.act.Goals as goal
+
+pub loop-act-init : goal.loop-act-init
+loop-act-init g c = record {
+  holds = c.requires.holds;
+  todo = c.requires.todo;
+  course = λ o s. s;
+  calls = λ cast since from s. s;
+  saves = told_start (λ x. start);
+  task = refl;
+  session = refl;
+  counts = λ h. h;
+}
 
 pub loop-act-preserved : goal.loop-act-preserved
 loop-act-preserved g c =
@@ -14,6 +30,9 @@ loop-act-preserved g c =
       todo = e.todo;
       course = λ o s. e.course o (i.course o s);
       calls = λ cast since from s. e.calls cast since from (i.calls cast since from s);
+      saves = saves_then (output_of c.args.self.now.book) (output_of c.loop-act.self.book)
+          (calls_output c.args.self.now.book c.loop-act.self.book (g.W.Journal.journal c.args.w.now) (g.W.Journal.journal c.loop-act.w) (g.W.Journal.counts c.args.w.now) (g.W.Journal.counts c.loop-act.w) i.calls)
+          i.saves e.saves;
       task = e.task ∙ i.task;
       session = e.asks ∙ i.session;
       counts = λ h. e.counts (quiet_at c.loop-act.self c.loop-act.act (g.W.Journal.journal c.loop-act.w) (i.counts h));
@@ -29,6 +48,7 @@ returns g c =
       course = λ o s. subst (λ b. Stands o c.perform.new.self.book b (g.W.Journal.journal c.loop-act.w) (g.W.Journal.counts c.loop-act.w)) (sym p.saved)
           (p.course o _ _ _ (i.course o s));
       calls = λ cast since from s. p.calls cast since from _ _ (i.calls cast since from s);
+      saves = i.saves;
       task = p.task ∙ i.task;
       own = p.own;
       counts = λ h. counts_on c.loop-act.self c.perform.new.self c.loop-act.act c.perform.result (g.W.Journal.journal c.loop-act.w)
@@ -38,6 +58,13 @@ returns g c =
 
 pub returns-in_err-act-clause-calls : goal.returns-in_err-act-clause-calls
 returns-in_err-act-clause-calls g c cast since from s = c.save_on.ensures.calls cast since from (c.loop-act.invariant.calls cast since from s)
+
+pub returns-in_err-act-clause-saves : goal.returns-in_err-act-clause-saves
+returns-in_err-act-clause-saves g c =
+    let i = c.loop-act.invariant in
+    saves_then (output_of c.args.self.now.book) (output_of c.loop-act.self.book)
+    (calls_output c.args.self.now.book c.loop-act.self.book (g.W.Journal.journal c.args.w.now) (g.W.Journal.journal c.loop-act.w) (g.W.Journal.counts c.args.w.now) (g.W.Journal.counts c.loop-act.w) i.calls)
+    i.saves c.save_on.ensures.saves
 
 pub returns-in_err-act-clause-counts : goal.returns-in_err-act-clause-counts
 returns-in_err-act-clause-counts g c h =

@@ -1,7 +1,10 @@
 use Rattle.std.proofs.Common.{true, ◌≡◌}
 use Rattle.cell_core.specs.StandsFor.{task_of}
 use Rattle.cell_core.specs.Sending.{saves_ahead}
+use Rattle.world.specs.Moments.{Told, Since}
+use Rattle.job_notebook.specs.State.{output_of}
 use Rattle.job_saves.specs.Course.{GoesOn, CallsOwn}
+use Rattle.job_saves.specs.Sessions.{IsSaveCall}
 use Rattle.job_run.specs.Held.{Holds, IsToDo}
 use Rattle.job_run.specs.Counted.{IsCountedAt}
 use Rattle.job_run.proofs.execution.Execution.act.Given as goal
@@ -13,6 +16,7 @@ invariant-loop-act g l =
       todo : IsToDo l.self l.act;
       course : GoesOn g.W.Journal.journal g.W.Journal.counts l.fn.w l.w l.fn.self.book l.self.book true;
       calls : CallsOwn g.W.Journal.journal g.W.Journal.counts l.fn.w l.w l.fn.self.book l.self.book;
+      saves : Told (g.W.Journal.journal l.fn.w) (g.W.Journal.journal l.w) (Since (IsSaveCall (output_of l.fn.self.book)));
       task : task_of l.self.core ≡ task_of l.fn.self.core;
       session : l.self.session ≡ l.fn.self.session;
       counts : IsCountedAt l.fn.self l.fn.act (g.W.Journal.journal l.fn.w) → IsCountedAt l.self l.act (g.W.Journal.journal l.w);

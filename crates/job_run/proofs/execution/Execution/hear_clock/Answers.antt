@@ -1,10 +1,25 @@
-use Rattle.std.proofs.Common.{sym, ◌∙◌}
+use Rattle.std.proofs.Common.{refl, sym, ◌∙◌}
+use Rattle.world.specs.Moments.{start}
+use Rattle.world.proofs.MomentsLemmas.{told_start}
+use Rattle.job_run.proofs.AskLemmas.{once_keyed}
 use Rattle.std.specs.Prelude.{is_some}
 use Rattle.job_run.proofs.ToldLemmas.{moment_may}
 use Rattle.job_run.proofs.execution.Execution.hear_clock.Goals as goal
 
 pub returns-clause-calls : goal.returns-clause-calls
 returns-clause-calls g c cast since from s = c.step.ensures.calls cast since from s
+
+pub returns-then-wants_look-clause-saves : goal.returns-then-wants_look-clause-saves
+returns-then-wants_look-clause-saves g c = told_start (λ x. start)
+
+pub returns-then-wants_look-clause-key : goal.returns-then-wants_look-clause-key
+returns-then-wants_look-clause-key g c = refl
+
+pub returns-clause-saves : goal.returns-clause-saves
+returns-clause-saves g c = c.step.ensures.saves
+
+pub returns-clause-key : goal.returns-clause-key
+returns-clause-key g c = once_keyed c.step.result c.args.self.now c.step.new.self c.step.ensures.asks
 
 pub step-requires-clause-may : goal.step-requires-clause-may
 step-requires-clause-may g c = moment_may c.args.self.now.core c.args.self.now.clock (is_some c.args.self.now.broken) c.requires.calm (λ events stands. sym c.if-wants_look.false ∙ c.wants_look.ensures events stands)

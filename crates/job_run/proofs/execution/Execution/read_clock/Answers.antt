@@ -1,5 +1,9 @@
 use Rattle.std.proofs.Common.{true, refl, sym, ap, subst}
 use Rattle.world.proofs.CountsLemmas.{moment_grows}
+use Rattle.world.proofs.MomentsLemmas.{tells_as}
+use Rattle.world.specs.Moments.{start, more as later}
+use Rattle.job_saves.proofs.SessionLemmas.{saves_then}
+use Rattle.job_run.proofs.AskLemmas.{keyed_then}
 use Rattle.job_saves.specs.Course.{Stands, HasPart}
 use Rattle.job_saves.proofs.CourseLemmas.{others_pass}
 use Rattle.job_run.proofs.RunLemmas.{told_spares, entry_called}
@@ -18,9 +22,18 @@ returns-clause-course g c o s =
 
 pub returns-clause-calls : goal.returns-clause-calls
 returns-clause-calls g c cast since from s =
-    let on = entry_called cast since from c.args.self.now.book _ _ _ _ _ (λ past. record { number = s.number; ask = s.ask; has = s.has; is = tt }) clock_quiet c.now-ms.ensures.tells (moment_works c.now-ms.ensures.later c.now-ms.ensures.counts) s in
+    let on = entry_called cast since from c.args.self.now.book _ _ _ _ _ (λ past. record { number = s.number; ask = s.ask; has = s.has; is = tt }) clock_quiet (λ past. tt) c.now-ms.ensures.tells (moment_works c.now-ms.ensures.later c.now-ms.ensures.counts) s in
     c.hear_clock.ensures.calls cast since from
     (subst (λ b. HasPart cast since from b (g.W.Journal.journal c.now-ms.new.self) (g.W.Journal.counts c.now-ms.new.self)) (sym c.turn_clock.ensures.book) on)
+
+pub returns-clause-saves : goal.returns-clause-saves
+returns-clause-saves g c =
+    saves_then (output_of c.args.self.now.book) (output_of c.turn_clock.new.self.book) (ap output_of c.turn_clock.ensures.book) (tells_as c.now-ms.ensures.tells (λ past. later start tt))
+    c.hear_clock.ensures.saves
+
+pub returns-clause-key : goal.returns-clause-key
+returns-clause-key g c =
+    keyed_then c.hear_clock.result c.args.self.now c.turn_clock.new.self c.hear_clock.new.self (ap (λ s. s.key) c.turn_clock.ensures.session) c.hear_clock.ensures.key
 
 pub returns-clause-counts : goal.returns-clause-counts
 returns-clause-counts g c h =

@@ -1,6 +1,9 @@
 use Rattle.job_run.proofs.CauseLemmas.{calls_output}
 use Rattle.job_run.proofs.execution.Execution.save.Goals as goal
 
+pub returns-clause-saves : goal.returns-clause-saves
+returns-clause-saves g c = c.save_next.ensures.saves
+
 pub returns-clause-output : goal.returns-clause-output
 returns-clause-output g c =
     let s = c.save_next in

@@ -44,6 +44,12 @@ returns-clause-todo g c =
       named = names_more x.core s.new.self x.clock (is_some x.broken) Saved s.result.act steps tt h.heard;
     }
 
+pub returns-clause-saves : goal.returns-clause-saves
+returns-clause-saves g c = c.save.ensures.saves
+
+pub returns-in_err-save-clause-saves : goal.returns-in_err-save-clause-saves
+returns-in_err-save-clause-saves g c = c.save.ensures.saves
+
 pub returns-clause-counts : goal.returns-clause-counts
 returns-clause-counts g c h =
     let x = c.args.self.now in

@@ -15,9 +15,9 @@ returns-clause-course g c o r =
 pub returns-clause-calls : goal.returns-clause-calls
 returns-clause-calls g c cast since from r =
     let number = c.args.self.now.number in
-    let ended = entry_called cast since from _ _ _ _ _ _ (λ past. record { number = number; ask = r.role.ask; has = r.role.has; is = refl }) kids_quiet c.end.ensures.tells (same_works c.end.ensures.same) r.part in
+    let ended = entry_called cast since from _ _ _ _ _ _ (λ past. record { number = number; ask = r.role.ask; has = r.role.has; is = refl }) kids_quiet (λ past. tt) c.end.ensures.tells (same_works c.end.ensures.same) r.part in
     record {
-      part = entry_called cast since from _ _ _ _ _ _ (λ past. record { number = number; ask = r.role.ask; has = r.role.has; is = r.role.connection }) disk_quiet c.remove.ensures.tells (disk_works c.remove.ensures.cause) ended;
+      part = entry_called cast since from _ _ _ _ _ _ (λ past. record { number = number; ask = r.role.ask; has = r.role.has; is = r.role.connection }) disk_quiet (λ past. tt) c.remove.ensures.tells (disk_works c.remove.ensures.cause) ended;
       role = r.role;
     }
 

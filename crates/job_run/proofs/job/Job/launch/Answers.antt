@@ -2,7 +2,7 @@ use Rattle.std.proofs.Common.{refl, subst}
 use Rattle.world.specs.declared.entry.Entry.TheVariants as made
 use Rattle.world.specs.Moments.{Tells}
 use Rattle.job_saves.proofs.LaunchLemmas.{ports_given}
-use Rattle.job_run.proofs.LaunchLemmas.{either_way, may_passed, ports_asked}
+use Rattle.job_run.proofs.LaunchLemmas.{either_way, may_connect, ports_asked}
 use Rattle.world.proofs.CountsLemmas.{net_grows, grow_then}
 use Rattle.job_run.proofs.RunLemmas.{passes_one, passes_role, asked_called}
 use Rattle.job_run.proofs.WorkLemmas.{net_works}
@@ -20,9 +20,9 @@ returns-in-Some-clause-calls g c cast since from may portless r =
     let j = g.W.Journal.journal c.args.w.now in
     let k = g.W.Journal.journal c.free_ports.new.self in
     let tells = subst (λ (q : _). Tells j k (made.Ports number q)) c.in-Some.is c.free_ports.ensures.tells in
-    c.start_on_ports.ensures.calls cast since from (may_passed cast number c.args.kernel.now c.args.here.now j k _ wire_childless c.free_ports.ensures.tells may)
-    (ports_given number c.in-Some.ports j k tells) (passes_role cast since from c.args.self.now _ _ _ _ _ refl refl refl
-    (λ s. asked_called cast since from _ _ _ _ _ _ (ports_asked cast c.args.self.now.number r.role.ask r.role.has may.cast.starts _ _ portless) wire_quiet c.free_ports.ensures.tells (net_works c.free_ports.ensures.cause) s) r)
+    c.start_on_ports.ensures.calls cast since from (may_connect cast number c.in-Some.ports c.args.kernel.now c.args.here.now c.args.self.now.run j k wire_childless tells may)
+    (passes_role cast since from c.args.self.now _ _ _ _ _ refl refl refl
+    (λ s. asked_called cast since from _ _ _ _ _ _ (ports_asked cast c.args.self.now.number r.role.ask r.role.has may.cast.starts _ _ portless) wire_quiet (λ past. tt) c.free_ports.ensures.tells (net_works c.free_ports.ensures.cause) s) r)
 
 pub returns-in-None-clause-course : goal.returns-in-None-clause-course
 returns-in-None-clause-course g c o r =
@@ -31,7 +31,7 @@ returns-in-None-clause-course g c o r =
 pub returns-in-None-clause-calls : goal.returns-in-None-clause-calls
 returns-in-None-clause-calls g c cast since from may portless r =
     passes_role cast since from c.args.self.now _ _ _ _ _ refl refl refl
-    (λ s. asked_called cast since from _ _ _ _ _ _ (ports_asked cast c.args.self.now.number r.role.ask r.role.has may.cast.starts _ _ portless) wire_quiet c.free_ports.ensures.tells (net_works c.free_ports.ensures.cause) s) r
+    (λ s. asked_called cast since from _ _ _ _ _ _ (ports_asked cast c.args.self.now.number r.role.ask r.role.has may.cast.starts _ _ portless) wire_quiet (λ past. tt) c.free_ports.ensures.tells (net_works c.free_ports.ensures.cause) s) r
 
 pub returns-in-Some-clause-saved : goal.returns-in-Some-clause-saved
 returns-in-Some-clause-saved g c = c.start_on_ports.ensures.saved

@@ -26,7 +26,7 @@ pub returns-clause-calls : goal.returns-clause-calls
 returns-clause-calls g c cast since from r =
     let t = c.on_moment-turned in
     plays_on cast since from c.args.self.now _ t.new.self.book _ _ _ _
-    (λ s. t.ensures.calls cast since from (entry_called cast since from _ _ _ _ _ _ (λ past. record { number = c.args.self.now.number; ask = r.role.ask; has = r.role.has; is = refl }) kids_quiet c.look.ensures.tells (same_works c.look.ensures.same) s)) c.outcome_of.ensures.calls refl refl r
+    (λ s. t.ensures.calls cast since from (entry_called cast since from _ _ _ _ _ _ (λ past. record { number = c.args.self.now.number; ask = r.role.ask; has = r.role.has; is = refl }) kids_quiet (λ past. tt) c.look.ensures.tells (same_works c.look.ensures.same) s)) c.outcome_of.ensures.calls refl refl r
 
 pub outcome_of-requires-clause-own : goal.outcome_of-requires-clause-own
 outcome_of-requires-clause-own g c = job_ends (task_of c.on_moment-turned.new.self.core) c.on_moment-turned.result c.on_moment-turned.ensures.own

@@ -6,6 +6,8 @@ use Rattle.job_run.proofs.StopLemmas.{launch_starts}
 use Rattle.job_run.proofs.BeginLemmas.{ends_unsaved}
 use Rattle.job_saves.proofs.KeptLemmas.{part_quiet, part_keeps_end, part_asks_none}
 use Rattle.job_saves.proofs.LaunchLemmas.{words_called}
+use Rattle.job_saves.proofs.SessionLemmas.{words_drawn}
+use Rattle.job_saves.proofs.TellingLemmas.{only_later}
 use Rattle.job_saves.proofs.ReadLemmas.{told_kernel}
 use Rattle.job_run.proofs.LaunchLemmas.{ends_then}
 use Rattle.job_run.proofs.CauseLemmas.{causes_stay}
@@ -20,11 +22,13 @@ returns-in-Ok-clause-course g c o for b fresh =
     (new_passes o j (g.W.Journal.journal c.drawn.new.w) (begins_rested o j (g.W.Journal.counts c.args.w.now) b) (c.drawn.ensures.others o.output) fresh)
 
 pub returns-in-Ok-clause-calls : goal.returns-in-Ok-clause-calls
-returns-in-Ok-clause-calls g c cast since from who kernel childless portless u =
+returns-in-Ok-clause-calls g c cast since from who kernel childless portless reads u =
     let j = g.W.Journal.journal c.args.w.now in
     let k = g.W.Journal.journal c.drawn.new.w in
     c.start_session.ensures.calls cast since from who (told_kernel c.args.ask c.args.kernel.now j k c.drawn.ensures.part kernel)
+    (words_drawn c.args.ask.output c.in-Ok.pairs j k c.in-Ok.ensures.words)
     (λ e. part_keeps_end c.args.number j k rand_childless c.drawn.ensures.part (childless e)) (λ e. part_asks_none c.args.number j k rand_portless c.drawn.ensures.part (portless e))
+    (λ e. only_later c.args.ask c.args.agenda.notebook j k (c.drawn.ensures.others c.args.ask.output) (reads e))
     (calls_on cast since from _ _ _ _ (words_called cast c.args.number c.args.ask who.has c.drawn.ensures.part) (part_quiet rand_quiet c.drawn.ensures.part) c.drawn.ensures.work u)
 
 pub returns-in-Ok-clause-left : goal.returns-in-Ok-clause-left
@@ -40,7 +44,7 @@ returns-in-Err-clause-course g c o for b fresh =
     (ends_unsaved o _ _ (begins_pass o _ _ _ _ (c.drawn.ensures.others o.output) c.drawn.ensures.work.grow b))
 
 pub returns-in-Err-clause-calls : goal.returns-in-Err-clause-calls
-returns-in-Err-clause-calls g c cast since from who kernel childless portless u =
+returns-in-Err-clause-calls g c cast since from who kernel childless portless reads u =
     calls_on cast since from _ _ _ _ (words_called cast c.args.number c.args.ask who.has c.drawn.ensures.part) (part_quiet rand_quiet c.drawn.ensures.part) c.drawn.ensures.work u
 
 pub returns-in-Ok-clause-cause : goal.returns-in-Ok-clause-cause

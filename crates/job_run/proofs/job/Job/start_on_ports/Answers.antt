@@ -9,13 +9,13 @@ pub returns-in-Ok-clause-course : goal.returns-in-Ok-clause-course
 returns-in-Ok-clause-course g c o r = c.start_child.ensures.course o (c.write_file.ensures.course o r)
 
 pub returns-in-Ok-clause-calls : goal.returns-in-Ok-clause-calls
-returns-in-Ok-clause-calls g c cast since from may given r =
+returns-in-Ok-clause-calls g c cast since from may r =
     let self = c.args.self.now in
     let file = (role_of cast self.number self.paths may.ask may.cast.has r.role).file in
     c.start_child.ensures.calls cast since from (record {
       ask = may.ask;
       cast = may.cast;
-      ready = c.in-Ok.ensures.ready may.ask c.args.kernel.now file may.kernel_is given;
+      ready = c.in-Ok.ensures.ready may.ask c.args.kernel.now may.pairs file may.kernel_is may.given may.words.key_is may.asked;
       childless = λ e. c.write_file.ensures.left (may.childless e);
     }) (c.write_file.ensures.calls cast since from may.cast.starts may.childless r)
 
@@ -23,7 +23,7 @@ pub returns-in-Err-clause-course : goal.returns-in-Err-clause-course
 returns-in-Err-clause-course g c o r = c.write_file.ensures.course o r
 
 pub returns-in-Err-clause-calls : goal.returns-in-Err-clause-calls
-returns-in-Err-clause-calls g c cast since from may given r = c.write_file.ensures.calls cast since from may.cast.starts may.childless r
+returns-in-Err-clause-calls g c cast since from may r = c.write_file.ensures.calls cast since from may.cast.starts may.childless r
 
 pub returns-in-Ok-clause-saved : goal.returns-in-Ok-clause-saved
 returns-in-Ok-clause-saved g c = c.start_child.ensures.saved

@@ -1,5 +1,5 @@
 use Rattle.std.proofs.Common.{◌≡◌, subst}
-use Rattle.job_run.proofs.BeginLemmas.{on_ok, stands_first, part_first, apart_first, ends_unsaved}
+use Rattle.job_run.proofs.BeginLemmas.{on_ok, stands_first, part_first, cells_first, apart_first, ends_unsaved}
 use Rattle.std.specs.Prelude.{IfOk, IfErr}
 use Rattle.job_run.specs.Task.{task_of_job, output_of_job, task_for}
 use Rattle.job_end.specs.declared.end.End.TheVariants as end
@@ -18,12 +18,21 @@ returns-in-Ok-clause-course g c o for b fresh =
     (apart_first c.in-Ok.paths.connection c.args.ask.output o.output (on_ok _ _ _ is e.connection) for.output_is) fresh
 
 pub returns-in-Ok-clause-calls : goal.returns-in-Ok-clause-calls
-returns-in-Ok-clause-calls g c cast since from who kernel childless portless u =
+returns-in-Ok-clause-calls g c cast since from who kernel drawn childless portless reads u =
     let e = c.parts_of.ensures in
     let is = c.in-Ok.is in
-    c.started.ensures.calls cast since from (record { ask = c.args.ask; cast = who; kernel_is = kernel; childless = childless }) portless
+    c.started.ensures.calls cast since from (record {
+      ask = c.args.ask;
+      cast = who;
+      kernel_is = kernel;
+      childless = childless;
+      pairs = c.args.pairs;
+      words = record { output_is = on_ok _ _ _ is e.output; key_is = on_ok _ _ _ is e.key };
+      drawn = drawn;
+    }) portless
     (record { ask = c.args.ask; has = who.has; connection = on_ok _ _ _ is e.connection; folder = on_ok _ _ _ is e.folder })
-    (part_first c.in-Ok.run'.book c.args.ask cast c.args.number since from _ _ (on_ok _ _ _ is e.output) who.has u)
+    (part_first c.in-Ok.run'.book c.args.ask c.args.agenda.notebook cast c.args.number since from _ _ (on_ok _ _ _ is e.output) (on_ok _ _ _ is e.merge)
+    (cells_first c.in-Ok.run' c.args.ask c.args.agenda.notebook (on_ok _ _ _ is e.first) (on_ok _ _ _ is e.task)) (on_ok _ _ _ is e.keeps) who.has reads u)
 
 pub returns-in-Ok-clause-left : goal.returns-in-Ok-clause-left
 returns-in-Ok-clause-left g c = c.started.ensures.left
@@ -35,7 +44,7 @@ pub returns-in-Err-clause-course : goal.returns-in-Err-clause-course
 returns-in-Err-clause-course g c o for b fresh = ends_unsaved o _ _ b
 
 pub returns-in-Err-clause-calls : goal.returns-in-Err-clause-calls
-returns-in-Err-clause-calls g c cast since from who kernel childless portless u = u
+returns-in-Err-clause-calls g c cast since from who kernel drawn childless portless reads u = u
 
 pub returns-in-Ok-clause-cause : goal.returns-in-Ok-clause-cause
 returns-in-Ok-clause-cause g c = c.started.ensures.cause
