@@ -1,5 +1,5 @@
 -- On which port the loop of a run makes each connect.
-use Rattle.std.proofs.Common.{◌≡◌, inl, inr, ℕ, ◌+◌, ◌*◌, ◌<◌, ◌≤◌, List, ◌∷◌, length, Bool, true, false, Option, Some, None, slice_get, arith, refl, sym, ◌∙◌, ap, subst}
+use Rattle.std.proofs.Common.{◌≡◌, inl, inr, ℕ, ◌+◌, ◌*◌, ◌<◌, ◌≤◌, List, ◌∷◌, Bool, true, false, Option, Some, None, slice_get, arith, refl, sym, ◌∙◌, ap, subst}
 use Rattle.std.specs.Prelude.{IfSome}
 use Rattle.std.proofs.lemmas.Bool.{cases_lt, false≢true}
 use Rattle.ready_loop.proofs.TableLemmas.{some_is}
@@ -20,6 +20,7 @@ use Rattle.ready_loop.proofs.WireLemmas.{known_of_port}
 use Rattle.job_saves.specs.Children.{ports_of}
 use Rattle.job_saves.specs.Calls.{Cast, IsCall}
 use Rattle.job_saves.proofs.ChildLemmas.{calls_hold_ports}
+use Rattle.job_saves.proofs.ToldLemmas.{too_long}
 use Rattle.batch_run.specs.Batch.{HasPort, IsOnPort, IsLoopCall}
 use Rattle.batch_run.specs.Stands.{AreWired}
 use Rattle.batch_run.proofs.CallLemmas.{loop_ports}
@@ -27,19 +28,10 @@ use Rattle.batch_run.proofs.LineLemmas.{of_before, of_after}
 
 -- ---- two facts of each new entry
 
-since_length : {P : List Entry → Type 0} {x y : List Entry} → Since P x y → length x ≤ length y
-since_length start = omega arith
-since_length (later {past} {entry} s p) = let less = since_length s in omega (arith, less)
-
-no_longer : {P : List Entry → Type 0} {entry : Entry} {y : List Entry} → Since P (entry ∷ y) y → ⊥
-no_longer {P} {entry} {y} s =
-    let less : length (entry ∷ y) ≤ length y = since_length s in
-    omega (arith, less)
-
 both_from : {P Q : List Entry → Type 0} {x z y : List Entry} → x ≡ z → Since P x y → Since Q z y → Since (λ now. P now × Q now) x y
 both_from e start start = start
-both_from {P} {Q} e start (later {past = mid} s q) = absurd (no_longer (subst (λ w. Since Q w mid) (sym e) s))
-both_from {P} {Q} e (later {past = mid} s p) start = absurd (no_longer (subst (λ w. Since P w mid) e s))
+both_from {P} {Q} e start (later {past = mid} s q) = absurd (too_long (subst (λ w. Since Q w mid) (sym e) s))
+both_from {P} {Q} e (later {past = mid} s p) start = absurd (too_long (subst (λ w. Since P w mid) e s))
 both_from e (later s p) (later t q) = later (both_from e s t) (p, q)
 
 pub since_both : {P Q : List Entry → Type 0} {x y : List Entry} → Since P x y → Since Q x y → Since (λ now. P now × Q now) x y
