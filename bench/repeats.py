@@ -3,9 +3,10 @@
 
     bench/repeats.py [--most N] [CRATE..]
 
-Four lists: lemmas with one statement and one proof under several names, runs of equal lines, functions with a
-clause wider than 100 columns, and definitions without a comment. It reads .rt and .antt files, changes nothing
-and always ends with status 0: a row is a place to look, and no verdict.
+Six lists: definitions and lemmas with one statement and one body under several names, lemmas of several files that
+say the same but for the names of their variables, functions that differ in names alone, runs of equal lines,
+functions with a clause wider than 100 columns, and definitions without a comment. It reads .rt and .antt files, changes nothing and always ends with status 0: a row
+is a place to look, and no verdict.
 """
 import argparse
 import os
@@ -15,8 +16,10 @@ from pathlib import Path
 
 WIDE = 100
 RUN = 8
-IMPORTS = ("use ", "ghost use ", "pub use", "pub mod", "mod ", "#[tactic")
+IMPORTS = ("use ", "ghost use ", "pub use", "pub mod", "mod ", "#[tactic", "#[cfg")
 DEFINITION = re.compile(r"(?:abbrev |unfoldable |irrelevant )?(?:pub )?(?:record |data )?([^\s:()]+)(?: \([^:]*)? : ")
+LEMMA = re.compile(r"(?:irrelevant )?(?:pub )?([^\s:{}()]+)((?: [{(].*?[)}])?) : (.+)", re.S)
+BINDER = re.compile(r"[({]([\w\s'ℓ]+) : ([^(){}]*(?:\([^()]*\)[^(){}]*)*)[)}]")
 FUNCTION = re.compile(r"\s*(?:pub(?:\(crate\))? )?fn (\w+)")
 
 
@@ -27,8 +30,26 @@ def files(crates, suffix, *folders):
             yield from sorted((crate / folder).rglob(f"*{suffix}"))
 
 
-def equal_lemmas(crates):
-    """Groups of lemmas that differ in their name alone."""
+def renumbered(text, names):
+    """The text with each of these names replaced by a number, in the order in which they come."""
+    places = {}
+    for word in re.findall(r"[\w'\-]+", text):
+        if word in names:
+            places.setdefault(word, f"v{len(places)}")
+    return re.sub(r"[\w'\-]+", lambda found: places.get(found.group(0), found.group(0)), text)
+
+
+def clause_of(name, block):
+    """A clause of a definition, its own name and those of its variables taken away."""
+    text = re.sub(r"\s+", " ", re.sub(r"--[^\n]*", "", block)).strip()
+    head = text[len(name):].partition(" = ")[0]
+    bound = " ".join(found.group(1) for found in re.finditer(r"λ ([^.]*)\.", text))
+    text = re.sub(rf"(?<![\w.-]){re.escape(name)}(?![\w-])", "ITSELF", text)
+    return renumbered(text, {word for word in re.findall(r"[\w']+", head + " " + bound) if word[0].islower()})
+
+
+def equal_definitions(crates):
+    """Groups of definitions and lemmas that differ in their name and those of their variables alone."""
     groups = defaultdict(list)
     for path in files(crates, ".antt", "proofs", "specs"):
         blocks = re.split(r"\n(?=\S)", path.read_text())
@@ -36,16 +57,72 @@ def equal_lemmas(crates):
             found = re.match(r"(?:abbrev |unfoldable |irrelevant )?(?:pub )?([^\s:]+) : (.+)", block.strip(), re.S)
             if not found or block.startswith(IMPORTS + ("--",)):
                 continue
-            name, text = found.group(1), found.group(2)
+            name, text = found.group(1), spoken(found.group(2))
             for clause in blocks[at + 1:]:
                 if not clause.startswith((name + " ", name + "=")):
                     break
-                text += " | " + clause
-            text = re.sub(r"\s+", " ", re.sub(r"--[^\n]*", "", text))
-            text = re.sub(rf"(?<![\w-]){re.escape(name)}(?![\w-])", "ITSELF", text)
-            if len(text) > 60:
+                text += " | " + clause_of(name, clause)
+            if len(text) > 45 and " | " in text:
                 groups[text].append(f"{path}:{name}")
     return sorted((group for group in groups.values() if len(group) > 1), key=len, reverse=True)
+
+
+def functions_in(path):
+    """Pairs of the number of its first line and the lines of each function of a .rt file that has a body."""
+    lines = path.read_text().splitlines()
+    for at, line in enumerate(lines):
+        if FUNCTION.match(line):
+            end = line[:len(line) - len(line.lstrip())] + "}"
+            for below in range(at, len(lines)):
+                if lines[below] == end:
+                    yield at + 1, lines[at:below + 1]
+                    break
+
+
+def equal_functions(crates):
+    """Groups of functions that differ in their name and those of their variables alone."""
+    groups = defaultdict(list)
+    for path in files(crates, ".rt", "src"):
+        for number, lines in functions_in(path):
+            name = FUNCTION.match(lines[0]).group(1)
+            text = " ".join(line.strip() for line in lines if not line.strip().startswith("//"))
+            text = re.sub(r"^pub(?:\(crate\))? ", "", text)
+            text = re.sub(r"(?<=[{( ])[a-z_]+\.(?=[a-z_]+ [\w(])", "", text)
+            bound = re.findall(r"(\w+): |let (?:mut )?(\w+)|for (\w+) in|\|(\w+)\||λ (\w+)\.", text)
+            text = renumbered(text, {word for words in bound for word in words} | {name})
+            if len(text) > 110:
+                groups[text].append(f"{path}:{number}:{name}")
+    return sorted((group for group in groups.values() if len(group) > 1), key=len, reverse=True)
+
+
+def spoken(statement):
+    """The statement without the types of its variables, each variable named by the order in which it comes."""
+    text = re.sub(r"\s+", " ", re.sub(r"--[^\n]*", "", statement))
+    variables = {name for found in BINDER.finditer(text) for name in found.group(1).split()}
+    return renumbered(re.sub(r"(\s*→\s*)+", " → ", BINDER.sub(" ", text)).strip(" →"), variables)
+
+
+def blocks_of(text):
+    """The top-level blocks of a file; those within a module's parameters count as such."""
+    for block in re.split(r"\n(?=\S)", text):
+        if block.startswith("module "):
+            yield from re.split(r"\n  (?=\S)", block)[1:]
+        else:
+            yield block
+
+
+def same_statements(crates):
+    """Groups of lemmas in several files of proofs/ that say one thing, but for the names and types of variables."""
+    groups = defaultdict(list)
+    for crate in crates:
+        for path in sorted((crate / "proofs").glob("*.antt")):
+            for block in blocks_of(path.read_text()):
+                found = LEMMA.match(block.strip())
+                said = spoken(found.group(2) + " → " + found.group(3)) if found else ""
+                if "≡" in said and "Type 0" not in said:
+                    groups[said].append((path, found.group(1)))
+    several = [group for group in groups.values() if len({path for path, _ in group}) > 1]
+    return sorted(([f"{path}:{name}" for path, name in group] for group in several), key=len, reverse=True)
 
 
 def code_lines(path):
@@ -126,7 +203,9 @@ def main():
     asked = words.parse_args()
     os.chdir(Path(__file__).resolve().parent.parent)
     crates = [Path("crates", name) for name in asked.crates] or sorted(path for path in Path("crates").iterdir() if path.is_dir())
-    show("groups of equal lemmas", equal_lemmas(crates), asked.most)
+    show("groups of equal definitions and lemmas", equal_definitions(crates), asked.most)
+    show("groups of lemmas that say the same", same_statements(crates), asked.most)
+    show("groups of equal functions", equal_functions(crates), asked.most)
     for suffix in (".rt", ".antt"):
         show(f"runs of {RUN} or more equal lines in {suffix} files", equal_runs(crates, suffix), asked.most)
     show(f"functions with a clause over {WIDE} columns", wide_clauses(crates), asked.most)
