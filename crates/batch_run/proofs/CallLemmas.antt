@@ -2,7 +2,8 @@
 use Rattle.std.proofs.Common.{◌≡◌, ◌≢◌, ◌⊎◌, inl, inr, ℕ, ◌==◌, ◌||◌, List, [], ◌∷◌, Bool, true, false, Option, Some, None, refl, sym, ◌∙◌, ap, subst}
 use Rattle.std.specs.Prelude.{slice_get, IfSome, if◌then◌else◌}
 use Rattle.std.specs.Str.{bytes_eq}
-use Rattle.std.proofs.lemmas.Bool.{eqb-true}
+use Rattle.std.proofs.lemmas.Bool.{eq-eqb, eqb-true}
+use Rattle.std.proofs.lemmas.Option.{same_Some}
 use Rattle.words.specs.declared.ask.Ask.{Ask}
 use Rattle.words.specs.Paths.{connection_of}
 use Rattle.world.specs.declared.entry.Entry.{Entry}
@@ -13,16 +14,14 @@ use Rattle.world.specs.Parts.{Part, OnDisk, OnWire, OnKids, OnClock, OnSay, part
 use Rattle.world.specs.Touched.{touches, Spares}
 use Rattle.world.proofs.MomentsLemmas.{since_as, told_as}
 use Rattle.said_lines.specs.Speech.{heard}
-use Rattle.save_disk.specs.Temporary.{temporary_of}
+use Rattle.world.specs.Save.{temporary_of}
 use Rattle.ready_loop.proofs.PartLemmas.{loop_part}
 use Rattle.ready_loop.specs.Standing.{IsLoopEntry, IsOfLoop}
-use Rattle.ready_loop.proofs.TableLemmas.{some_is}
 use Rattle.job_saves.specs.Calls.{Cast, IsOwnFile, IsCallOf, IsCallBy, IsCall}
 use Rattle.job_saves.specs.Children.{has_child, ports_of, KeepsEnd, AsksNone}
 use Rattle.job_saves.specs.Course.{TellsAll}
 use Rattle.job_saves.specs.Speaking.{SpeaksWhole}
 use Rattle.job_saves.proofs.KeptLemmas.{child_other, heard_other}
-use Rattle.job_saves.proofs.ChildLemmas.{same_number}
 use Rattle.job_saves.proofs.CourseLemmas.{work_start}
 use Rattle.nb_model.specs.declared.notebook.Notebook.{Notebook}
 use Rattle.cell_core.specs.Task.{Task}
@@ -32,7 +31,7 @@ use Rattle.job_run.specs.declared.job.Job.{Job}
 use Rattle.job_run.specs.Run.{HasRole, IsOther}
 use Rattle.batch_run.specs.Batch.{IsNoPath, cast_of, IsRunCall}
 use Rattle.batch_run.specs.Stands.{PlaysRole}
-use Rattle.batch_run.proofs.JournalLemmas.{other_spares}
+use Rattle.save_course.proofs.CourseLemmas.{spared_other}
 
 -- ---- one job alone
 
@@ -41,10 +40,10 @@ abbrev pub sole : ℕ → Ask → List ℕ → Bool → Bool → Cast
 sole k a here starts clean = record { job = λ n. if n == k then Some a else None; here = here; starts = starts; clean = clean }
 
 pub sole_here : (k : ℕ) (a : Ask) → (if k == k then Some a else None) ≡ Some a
-sole_here k a = subst (λ (x : Bool). (if x then Some a else None) ≡ Some a) (sym (same_number k)) refl
+sole_here k a = subst (λ (x : Bool). (if x then Some a else None) ≡ Some a) (sym (eq-eqb k k refl)) refl
 
 sole_by : (n k : ℕ) (a b : Ask) (x : Bool) → (n == k) ≡ x → (if x then Some a else None) ≡ Some b → (n ≡ k) × (a ≡ b)
-sole_by n k a b true is e = (eqb-true n k is, some_is e)
+sole_by n k a b true is e = (eqb-true n k is, same_Some _ _ e)
 sole_by n k a b false is e = absurd (cc)
 
 pub sole_at : (n k : ℕ) (a b : Ask) → (if n == k then Some a else None) ≡ Some b → (n ≡ k) × (a ≡ b)
@@ -134,7 +133,7 @@ loop_other entry is = other_part OnDisk entry (λ e. absurd (cc)) (λ e. absurd 
 
 pub loop_spares : (path : List ℕ) (now : List Entry) → IsOfLoop now → Spares path now
 loop_spares path [] is = absurd is
-loop_spares path (entry ∷ past) is = other_spares path entry (loop_other entry is)
+loop_spares path (entry ∷ past) is = spared_other path entry (loop_other entry is)
 
 -- a call of a run touches no other path than those of its jobs
 pub run_spares : (asks : List Ask) (here path : List ℕ) (clean : Bool) → IsNoPath asks path → (now : List Entry) → IsRunCall (cast_of asks here clean) now → Spares path now
@@ -214,7 +213,7 @@ played_tells k a here starts clean since from j p c h on =
 -- the task that is told of is that of the job
 option_is : (b : Bool) (x t : Task) → (if b then None else Some x) ≡ Some t → t ≡ x
 option_is true x t e = absurd (cc)
-option_is false x t e = sym (some_is e)
+option_is false x t e = sym (same_Some _ _ e)
 
 pub counted_is : (a : Ask) (first : Notebook) (t : Task) → counted_task a first ≡ Some t → t ≡ task_for a first
 counted_is a first t e = option_is a.prepare (task_for a first) t e

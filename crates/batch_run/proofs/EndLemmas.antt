@@ -1,7 +1,8 @@
 -- How a run begins and ends.
 use Rattle.std.proofs.Common.{◌≡◌, ℕ, Bool, ◌<◌, List, ◌∷◌, length, Option, Some, None, Result, Ok, Err, true, false, refl, sym, ◌∙◌, ap, subst, arith}
 use Rattle.std.specs.Prelude.{slice_get, IfOk, IfSome}
-use Rattle.std.proofs.lemmas.Option.{slice_get_within}
+use Rattle.std.proofs.lemmas.Option.{slice_get_within, same_Some}
+use Rattle.jtext.proofs.Lists.{some_at}
 use Rattle.jtext.specs.declared.no_memory.NoMemory.{NoMemory}
 use Rattle.words.specs.declared.ask.Ask.{Ask}
 use Rattle.world.specs.declared.entry.Entry.{Entry}
@@ -13,7 +14,6 @@ use Rattle.world.specs.Touched.{Spares}
 use Rattle.world.proofs.CountsLemmas.{grow_start}
 use Rattle.world.proofs.MomentsLemmas.{told_start, since_as}
 use Rattle.ready_loop.specs.Offers.{Extends}
-use Rattle.ready_loop.proofs.TableLemmas.{some_is}
 use Rattle.job_end.specs.declared.answer.Answer.{Answer}
 use Rattle.cell_core.specs.Task.{Task}
 use Rattle.job_saves.specs.Course.{Origin}
@@ -28,7 +28,7 @@ use Rattle.job_saves.specs.Children.{has_child, HasEnd}
 use Rattle.job_saves.specs.Speaking.{IsWhole, SpeaksWhole}
 use Rattle.batch_run.proofs.CallLemmas.{run_spares}
 use Rattle.batch_run.specs.Stands.{Outset, AreWired, IsIdle, SlotPlays, SlotTells, SlotEnds, SlotRuns, SlotTask, SlotKernel, SlotCounted, EndCounted, Stands, waits, spared, begun, AllStand, AllEnded, AreAnswers, HasEnded, answer_of, answers_of}
-use Rattle.batch_run.proofs.JournalLemmas.{has, extension, told_at}
+use Rattle.batch_run.proofs.JournalLemmas.{extension, told_at}
 use Rattle.batch_run.proofs.SlotLemmas.{are_answers}
 
 -- ---- the begin
@@ -57,7 +57,7 @@ all_start asks slots p c here most wires clean size waiting spoken idle wired = 
   ends = λ i a slot at got. subst (λ x. SlotEnds i x p p) (sym (waiting i slot got)) (λ h. h);
   counted = λ i a slot at got. subst (λ x. SlotCounted a c most x p c) (sym (waiting i slot got)) tt;
   each = λ before past st e i a slot at got apart rested.
-      waits (waiting i slot got) (subst (λ x. Since (Spares a.output) before x) (some_is (sym st ∙ e)) start);
+      waits (waiting i slot got) (subst (λ x. Since (Spares a.output) before x) (same_Some _ _ (sym st ∙ e)) start);
 }
 
 -- what holds of the journals holds where they are told
@@ -118,7 +118,7 @@ made_ended a from before past d slot ended (begun bytes n begin then acc h g ext
 module _ (asks : List Ask) (first : Option (List Entry)) (from : Outset) (slots : List Slot) (q : Option (List Entry)) (d : Counts)
     (s : AllStand asks first from slots q d) where
   slot_at : (i : ℕ) (a : Ask) → slice_get asks i ≡ Some a → (slot : Slot) × (slice_get slots i ≡ Some slot)
-  slot_at i a at = has slots i (subst (λ n. i < n) (sym s.size) (slice_get_within asks i a at))
+  slot_at i a at = some_at slots i (subst (λ n. i < n) (sym s.size) (slice_get_within asks i a at))
 
   pub made_without : (e : NoMemory) → Told first q (MakesEach asks (Err e) from.counts d)
   made_without e = told_of first q Extends (MakesEach asks (Err e) from.counts d) s.told (λ x y st f i a at apart rested.
@@ -135,7 +135,7 @@ module _ (asks : List Ask) (first : Option (List Entry)) (from : Outset) (slots 
       → EndCounted a from.counts from.most answer d
   slot_end a Waiting answer is h = absurd (cc)
   slot_end a (Running j) answer is h = absurd (cc)
-  slot_end a (Ended x) answer is h = subst (λ y. EndCounted a from.counts from.most y d) (some_is is) h
+  slot_end a (Ended x) answer is h = subst (λ y. EndCounted a from.counts from.most y d) (same_Some _ _ is) h
 
   -- each answer is that of an end
   pub are_ends : (answers : List Answer) → AreAnswers slots answers → AreEnds asks from.counts d answers
@@ -147,7 +147,7 @@ module _ (asks : List Ask) (first : Option (List Entry)) (from : Outset) (slots 
   pub end_spent : (answers : List Answer) → AreAnswers slots answers → (i : ℕ) (answer : Answer) → slice_get answers i ≡ Some answer → answer.status ≡ 16 → HasWaited from.most d
   end_spent answers are i answer got is =
       let low : i < length answers = slice_get_within answers i answer got in
-      let own = has asks i (omega (arith, low, are.size, s.size)) in
+      let own = some_at asks i (omega (arith, low, are.size, s.size)) in
       let slot = slot_at i own.0 own.1 in
       (slot_end own.0 slot.0 answer (sym (are.each i ∙ ap answer_of slot.1) ∙ got) (s.counted i own.0 slot.0 own.1 slot.1)).spent is
 

@@ -1,7 +1,8 @@
 -- How the jobs of a run stand once one of them has begun, gone on or ended.
 use Rattle.std.proofs.Common.{◌≡◌, ◌⊎◌, inl, inr, ℕ, ◌<◌, Bool, true, List, ◌∷◌, set, Option, Some, None, Result, Ok, Err, refl, sym, ◌∙◌, ap, subst}
 use Rattle.std.specs.Prelude.{slice_get, IfSome, IfOk, IfErr}
-use Rattle.std.proofs.lemmas.Option.{slice_get_within}
+use Rattle.std.proofs.lemmas.Option.{slice_get_within, same_Some}
+use Rattle.jtext.proofs.Lists.{some_at}
 use Rattle.words.specs.declared.ask.Ask.{Ask}
 use Rattle.world.specs.declared.entry.Entry.{Entry}
 use Rattle.world.specs.declared.entry.Entry.TheVariants.{Read}
@@ -14,7 +15,6 @@ use Rattle.world.proofs.MomentsLemmas.{or_none, at_start, since_then}
 use Rattle.save_course.specs.Course.{IsRested}
 use Rattle.save_course.proofs.RestLemmas.{spared_rest}
 use Rattle.ready_loop.specs.Offers.{Extends}
-use Rattle.ready_loop.proofs.TableLemmas.{some_is}
 use Rattle.job_end.specs.declared.answer.Answer.{Answer}
 use Rattle.nb_model.specs.declared.notebook.Notebook.{Notebook}
 use Rattle.job_saves.specs.Course.{Origin, CountsWork, HasCalled, TellsAll}
@@ -24,7 +24,7 @@ use Rattle.job_run.specs.declared.job.Job.{Job}
 use Rattle.job_run.specs.Run.{Runs, RunsCounted, EndsWith, IsLost, IsSpent, IsCastAs, HasNoChild, HasNoPorts, HasNoSave, HasRole, StartsInRole, BeginsAs, number_of, outcome_of}
 use Rattle.job_run.specs.Task.{task_of_job, task_for, output_of_job}
 use Rattle.job_run.specs.Counted.{IsCausedAfter}
-use Rattle.save_disk.specs.Places.{acknowledged}
+use Rattle.save_disk.specs.Places.{save_count}
 use Rattle.cell_core.specs.Task.{Task}
 use Rattle.job_saves.specs.Calls.{Cast, IsCall}
 use Rattle.job_saves.specs.Children.{HasEnd, KeepsEnd}
@@ -35,13 +35,15 @@ use Rattle.job_run.proofs.StopLemmas.{ending_caused, ending_answers, ending_star
 use Rattle.job_begin.specs.Begun.{Begun, without, with_notebook, counted_task, BeginsWith, FindsKernel, origin_of}
 use Rattle.job_begin.specs.Causes.{HasCause}
 use Rattle.job_begin.proofs.EndLemmas.{caused_in, unread_pass, other_kernel, ending_other}
+use Rattle.job_begin.proofs.BeginLemmas.{starts_called}
 use Rattle.batch_run.specs.declared.slot.Slot.{Slot}
 use Rattle.batch_run.specs.declared.slot.Slot.TheVariants.{Waiting, Running, Ended}
 use Rattle.batch_run.specs.Stands.{Outset, PlaysRole, SlotPlays, SlotTells, SlotEnds, SlotRuns, SlotTask, SlotKernel, SlotCounted, Stands, waits, spared, begun, AllStand, IsCutOff, IsOutOfWaits, slot_of}
 use Rattle.batch_run.proofs.CallLemmas.{counted_is, sole, sole_here, plays, played, played_tells}
 use Rattle.world.proofs.CountsLemmas.{rose_still, rose_since}
 use Rattle.batch_run.proofs.CauseLemmas.{cause_since, waited_still}
-use Rattle.batch_run.proofs.JournalLemmas.{has, extends, extended, told_at}
+use Rattle.batch_run.proofs.JournalLemmas.{extended, told_at}
+use Rattle.ready_loop.proofs.LookLemmas.{extends_of}
 use Rattle.batch_run.proofs.StandLemmas.{change}
 
 -- ---- a job that runs
@@ -65,7 +67,7 @@ called k a here clean was p q c d spoken tells role calls =
 own_ask : (asks : List Ask) (first : Option (List Entry)) (from : Outset) (slots : List Slot) (p : Option (List Entry)) (c : Counts) (k : ℕ) (was : Job)
     → slice_get slots k ≡ Some (Running was) → AllStand asks first from slots p c → (a : Ask) × (slice_get asks k ≡ Some a) × PlaysRole k a was
 own_ask asks first from slots p c k was found s =
-    let own = has asks k (subst (λ n. k < n) s.size (slice_get_within slots k (Running was) found)) in
+    let own = some_at asks k (subst (λ n. k < n) s.size (slice_get_within slots k (Running was) found)) in
     (own.0, own.1, s.plays k own.0 (Running was) own.1 found)
 
 -- a call of a job
@@ -119,7 +121,7 @@ job_goes_on asks first from slots p q c d k was next runs leaves task output los
     step a before past after at role e f rested (spared answer g u h) = absurd (cc)
     step a before past after at role e f rested (begun bytes n begin then acc h gr ext of kernel r) =
         let o = origin_of a n begin then in
-        begun bytes n begin then acc h gr (since_then ext (extends (told_at p q (Since (IsCall (sole k a from.here true from.clean))) past after (made a at role) e f))) (task ∙ of) tt
+        begun bytes n begin then acc h gr (since_then ext (extends_of (told_at p q (Since (IsCall (sole k a from.here true from.clean))) past after (made a at role) e f))) (task ∙ of) tt
         (subst (λ x. Runs o next x d) f (runs o (subst (λ x. Runs o was x c) (sym e) r)))
 
 -- what brought its end is of the task of the job that was asked for
@@ -131,7 +133,7 @@ counted_end a first o task answer after d of e = record {
   shut = e.shut;
   fails = e.fails;
   counted = λ t same fresh.
-      subst (λ x. IsCausedAfter (acknowledged o.output after) x answer.status) (of ∙ sym (counted_is a first t same)) (e.counted task refl fresh);
+      subst (λ x. IsCausedAfter (save_count o.output after) x answer.status) (of ∙ sym (counted_is a first t same)) (e.counted task refl fresh);
 }
 
 -- the end of a job
@@ -185,7 +187,7 @@ job_ends asks first from slots p q c d k was answer ends leaves left end lost sp
     step a before past after at role e f rested (begun bytes n begin then acc h gr ext of kernel r) =
         let o = origin_of a n begin then in
         let why = ending_caused (output_of_job was) (task_of_job was) answer end in
-        begun bytes n begin then acc h gr (since_then ext (extends (told_at p q (Since (IsCall (sole k a from.here true from.clean))) past after (made a at role) e f)))
+        begun bytes n begin then acc h gr (since_then ext (extends_of (told_at p q (Since (IsCall (sole k a from.here true from.clean))) past after (made a at role) e f)))
         (caused_in a (first_of a n) answer.status (subst (λ t. IsCaused t answer.status) of why))
         (other_kernel a (first_of a n) answer.status _ after (ending_other (output_of_job was) (task_of_job was) answer end))
         (counted_end a (first_of a n) o (task_of_job was) answer after d of
@@ -200,11 +202,6 @@ end_said asks first from slots p c k was answer end found s =
     (own.0, own.1, ending_answers (output_of_job was) (Ask.output own.0) (task_of_job was) answer (s.counted k own.0 (Running was) own.1 found).output end)
 
 -- ---- a job that begins
-
-starts_called : (cast : Cast) (since : List Entry) (then : Counts) (result : Result Job Answer) (q : Option (List Entry)) (d : Counts)
-    → StartsInRole cast since then result q d → HasCalled cast since then q d
-starts_called cast since then (Ok j) q d r = r.part.so
-starts_called cast since then (Err e) q d r = r
 
 starts_role : (k : ℕ) (a : Ask) (here : List ℕ) (clean : Bool) (since : List Entry) (then : Counts) (result : Result Job Answer) (q : Option (List Entry)) (d : Counts)
     → StartsInRole (sole k a here true clean) since then result q d → SlotPlays k a (slot_of result)
@@ -267,9 +264,9 @@ pub job_begins : (asks : List Ask) (first : Option (List Entry)) (from : Outset)
     → AllStand asks first from slots p c → AllStand asks first from (set slots k (slot_of result)) q d
 job_begins asks first from slots p q c d k a result {here} here_is begins leaves left cause answer unspent output runs fresh own found s =
     change asks first from slots p q c d k Waiting (slot_of result) found work (slot_moves result) (starts_called (sole k a from.here true from.clean) (or_none p) c result q d at_first).spoken (λ b at role.
-    let same : a ≡ b = some_is (sym own ∙ at) in
+    let same : a ≡ b = same_Some _ _ (sym own ∙ at) in
     (subst (λ x. Told p q (Since (IsCall (sole k x from.here true from.clean)))) same made, subst (λ x. SlotPlays k x (slot_of result)) same plays_so))
-    (λ e b at role. subst (λ x. SlotTells x (slot_of result) q d) (some_is (sym own ∙ at)) (starts_tells k a from.here from.clean (or_none p) c result q d at_first e))
+    (λ e b at role. subst (λ x. SlotTells x (slot_of result) q d) (same_Some _ _ (sym own ∙ at)) (starts_tells k a from.here from.clean (or_none p) c result q d at_first e))
     (λ b at role h. starts_ends k result first p q left h) step count s
   where
     start_role : (since : List Entry) → IfSome p (Since (IsCall (sole k a from.here true from.clean)) since) → StartsInRole (sole k a from.here true from.clean) since c result q d
@@ -291,14 +288,14 @@ job_begins asks first from slots p q c d k a result {here} here_is begins leaves
     work = (starts_called (sole k a from.here true from.clean) (or_none p) c result q d at_first).counts_work
 
     count : (b : Ask) → slice_get asks k ≡ Some b → SlotCounted b from.counts from.most Waiting p c → SlotCounted b from.counts from.most (slot_of result) q d
-    count b at w = subst (λ x. SlotCounted x from.counts from.most (slot_of result) q d) (some_is (sym own ∙ at)) (begins_counted a from.counts c d from.most q result s.grow cause answer unspent output runs fresh)
+    count b at w = subst (λ x. SlotCounted x from.counts from.most (slot_of result) q d) (same_Some _ _ (sym own ∙ at)) (begins_counted a from.counts c d from.most q result s.grow cause answer unspent output runs fresh)
 
     step : (b : Ask) (before past after : List Entry) → slice_get asks k ≡ Some b → Unit {0} → p ≡ Some past → q ≡ Some after → IsRested b.output before
         → Stands b from.counts before past c Waiting → Stands b from.counts before after d (slot_of result)
     step b before past after at role e f rested (spared x g u h) = absurd (cc)
     step b before past after at role e f rested (begun bytes n begin then acc h gr ext of kernel r) = absurd r
     step b before past after at role e f rested (waits g h) =
-        let same : a ≡ b = some_is (sym own ∙ at) in
+        let same : a ≡ b = same_Some _ _ (sym own ∙ at) in
         let rests : IsRested b.output past = spared_rest b.output rested h in
         let began = told_at p q (λ x y. IsRested a.output x → Begun a result c d x y) past after begins e f in
         let began' = subst (λ x. IsRested x.output past → Begun x result c d past after) same began in

@@ -1,6 +1,8 @@
 -- What is told of journals and paths.
 use Rattle.std.proofs.Common.{◌≡◌, ◌≢◌, ◌↔◌, ◌^◌, ◌-◌, min, ℕ, ◌+◌, ◌<◌, ◌≤◌, ◌++◌, Bool, false, List, [], ◌∷◌, length, Option, Some, None, Result, Ok, Err, arith, refl, sym, ◌∙◌, ap, subst, suc, zero}
+use Rattle.std.proofs.lemmas.Option.{same_Some}
 use Rattle.std.specs.Prelude.{slice_get}
+use Rattle.save_course.proofs.CourseLemmas.{spared_other}
 use Rattle.world.specs.declared.entry.Entry.{Entry}
 use Rattle.world.specs.declared.entry.Entry.TheVariants as made
 use Rattle.world.specs.Counts.{Counts, CountsGrow, Rose}
@@ -16,19 +18,8 @@ use Rattle.said_lines.specs.Speech.{Says}
 use Rattle.said_lines.proofs.SpeechLemmas.{says_since}
 use Rattle.ready_loop.specs.Offers.{Extends}
 use Rattle.batch_run.specs.Batch.{HasWaited}
-use Rattle.ready_loop.proofs.TableLemmas.{some_is}
-
--- ---- lists
-
-pub has : {X : Type 0} (xs : List X) (k : ℕ) → k < length xs → (x : X) × (slice_get xs k ≡ Some x)
-has [] k low = absurd (omega arith)
-has (x ∷ xs) zero low = (x, refl)
-has (x ∷ xs) (suc k) low = has xs k (omega arith)
 
 -- ---- journals
-
-pub extends : {P : List Entry → Type 0} {x y : List Entry} → Since P x y → Extends x y
-extends s = since_as (λ n p. tt) s
 
 pub extended : (front : List Entry) (x : List Entry) → Extends x (front ++ x)
 extended [] x = start
@@ -43,26 +34,18 @@ pub told_back : (p q : Option (List Entry)) (R : List Entry → List Entry → T
     → (x : List Entry) × (p ≡ Some x) × R x y
 told_back p None R y told e = absurd (cc)
 told_back None (Some z) R y told e = absurd told.so
-told_back (Some x) (Some z) R y told e = (x, refl, subst (λ w. R x w) (some_is e) told.so)
+told_back (Some x) (Some z) R y told e = (x, refl, subst (λ w. R x w) (same_Some _ _ e) told.so)
 
 pub told_at : (p q : Option (List Entry)) (R : List Entry → List Entry → Type 0) (x y : List Entry) → Told p q R → p ≡ Some x → q ≡ Some y → R x y
 told_at p q R x y told e f =
     let back = told_back p q R y told f in
-    subst (λ w. R w y) (some_is (sym back.1 ∙ e)) back.2
+    subst (λ w. R w y) (same_Some _ _ (sym back.1 ∙ e)) back.2
 
 -- ---- paths that no entry touches
 
-pub other_spares : (path : List ℕ) (entry : Entry) → part_of entry ≢ OnDisk → touches path entry ≡ false
-other_spares path (made.Created p d) other = absurd (other refl)
-other_spares path (made.Wrote p bytes d) other = absurd (other refl)
-other_spares path (made.Synced p d) other = absurd (other refl)
-other_spares path (made.Renamed from to d) other = absurd (other refl)
-other_spares path (made.Removed p d) other = absurd (other refl)
-other_spares path _ other = refl
-
 elsewhere_spares : (path : List ℕ) (j : List Entry) → IsNotOf OnDisk j → Spares path j
 elsewhere_spares path [] h = absurd h
-elsewhere_spares path (entry ∷ past) h = other_spares path entry h
+elsewhere_spares path (entry ∷ past) h = spared_other path entry h
 
 said_elsewhere : (j : List Entry) → IsOf OnSay j → IsNotOf OnDisk j
 said_elsewhere [] h = absurd h

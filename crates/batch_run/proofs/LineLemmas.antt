@@ -2,9 +2,9 @@
 use Rattle.std.proofs.Common.{◌≡◌, ◌≢◌, inl, inr, ◌+◌, ◌*◌, ◌<◌, ◌≤◌, ◌||◌, ◌/◌, ℕ, Bool, true, false, List, length, replicate, set, suc, zero, Option, Some, None, Result, Ok, Err, slice_get, arith, refl, sym, ◌∙◌, ap, subst}
 use Rattle.std.specs.Prelude.{IsErr}
 use Rattle.std.proofs.Math.Nat.{mul-div-le, lt-div-mul-add}
-use Rattle.std.proofs.lemmas.Bool.{cases_eq, cases_lt, eq-eqb, ne_eqb, false≢true}
+use Rattle.std.proofs.lemmas.Bool.{cases_eq, cases_lt, eq-eqb, ne_eqb, false≢true, or_from, or_left, or_right}
 use Rattle.std.proofs.lemmas.List.{length-set}
-use Rattle.std.proofs.lemmas.Option.{slice_get_within}
+use Rattle.std.proofs.lemmas.Option.{slice_get_within, same_Some}
 use Rattle.world.specs.declared.chan.Chan.TheVariants.{Shell, Control, Iopub, Heart}
 use Rattle.world.specs.Places.{chan_number, place_of, is_at}
 use Rattle.world.proofs.StatusLemmas.{chan_below}
@@ -17,26 +17,8 @@ use Rattle.ready_loop.specs.declared.readiness.Loop.{Loop}
 use Rattle.ready_loop.specs.Begins.{IsFresh, IsBegun, is_of_job, failed_closed}
 use Rattle.ready_loop.specs.History.{conn_on}
 use Rattle.ready_loop.specs.States.{FailsOnly, IsSound, MayWait, SameKnown, failed_at, failed_in, known_at}
-use Rattle.ready_loop.proofs.TableLemmas.{some_is, slice_get-set_same, slice_get-set_other}
-use Rattle.batch_run.specs.Kept.{AreBegun, AreLost, IsFreshFrom, Loses, NoneLost, NoneLostBelow, NoPlaces, Notes, marked}
-
--- ---- tests
-
-or_left : (a b : Bool) → a ≡ true → (a || b) ≡ true
-or_left true b e = refl
-or_left false b e = cc
-
-or_right : (a b : Bool) → b ≡ true → (a || b) ≡ true
-or_right true b e = refl
-or_right false b e = e
-
-or_none : (a b : Bool) → a ≡ false → b ≡ false → (a || b) ≡ false
-or_none true b e f = cc
-or_none false b e f = f
-
-or_other : (a b : Bool) → a ≡ false → (a || b) ≡ true → b ≡ true
-or_other true b e f = cc
-or_other false b e f = f
+use Rattle.batch_run.specs.Kept.{AreBegun, AreLost, IsFreshFrom, Loses, NoneLost, NoneLostBelow, NoPlaces, Notes, mark_job}
+use Rattle.jtext.proofs.Lists.{slice_get-set_same, slice_get-set_other, or_other}
 
 -- ---- places
 
@@ -66,8 +48,8 @@ of_none job p n0 n1 n2 n3 =
     let i = is_at p (conn_on job Iopub) in
     let c = is_at p (conn_on job Control) in
     let s = is_at p (conn_on job Shell) in
-    or_none h (i || (c || s)) (ne_eqb p (4 * job + 3) n3)
-    (or_none i (c || s) (ne_eqb p (4 * job + 2) n2) (or_none c s (ne_eqb p (4 * job + 1) n1) (ne_eqb p (4 * job + 0) z)))
+    or_from h (i || (c || s)) (ne_eqb p (4 * job + 3) n3)
+    (or_from i (c || s) (ne_eqb p (4 * job + 2) n2) (or_from c s (ne_eqb p (4 * job + 1) n1) (ne_eqb p (4 * job + 0) z)))
 
 pub of_before : (job p : ℕ) → p < 4 * job → is_of_job job p ≡ false
 of_before job p low =
@@ -88,7 +70,7 @@ of_after job p high =
 -- ---- lists
 
 set_is : (xs : List Bool) (q : ℕ) (a b : Bool) → slice_get (set xs q a) q ≡ Some b → q < length xs → a ≡ b
-set_is xs q a b e low = some_is (sym (slice_get-set_same xs q a low) ∙ e)
+set_is xs q a b e low = same_Some _ _ (sym (slice_get-set_same xs q a low) ∙ e)
 
 -- ---- the connections that were begun
 
@@ -118,7 +100,7 @@ begun_failed {job} f others are = record {
 
 -- and where it went well
 pub begun_begun : {job : ℕ} {heart : Bool} {begun : List Bool} {old new : Loop} → 4 * job + 3 < length begun → IsBegun job heart new
-    → ((p : ℕ) → is_of_job job p ≡ false → known_at new p ≡ known_at old p) → AreBegun begun old → AreBegun (marked job heart begun) new
+    → ((p : ℕ) → is_of_job job p ≡ false → known_at new p ≡ known_at old p) → AreBegun begun old → AreBegun (mark_job job heart begun) new
 begun_begun {job} {heart} {begun} {old} {new} room is others are = record {
   each = λ p e.
       let a = set begun (4 * job) true in
@@ -210,7 +192,7 @@ sound_none {l} {lost} are none = record {
         let to : p < 4 * (p / 4) + 4 = omega (arith, lt-div-mul-add {a = p} {b = 4} (omega arith)) in
         let few : p / 4 < 16 = omega (arith, from, low) in
         let bad = ap failed_in is ∙ e in
-        absurd (false≢true (some_is (sym (none.each (p / 4) few) ∙ are.each p (p / 4) low from to bad)))
+        absurd (false≢true (same_Some _ _ (sym (none.each (p / 4) few) ∙ are.each p (p / 4) low from to bad)))
 
 -- where all are lost, the one that a fault names is
 pub all_noted : (f : LoopFault) {lost then : List Bool} → ((job : ℕ) → Loses job lost then) → Notes f lost then
@@ -227,7 +209,7 @@ pub none_begun : {begun : List Bool} {l : Loop} → NoPlaces begun → length be
 none_begun {begun} none size = record {
   each = λ p e.
       let low : p < 64 = subst (λ n. p < n) size (slice_get_within begun p true e) in
-      absurd (false≢true (some_is (sym (none.each p low) ∙ e)));
+      absurd (false≢true (same_Some _ _ (sym (none.each p low) ∙ e)));
 }
 
 -- ---- answers

@@ -2,8 +2,7 @@
 use Rattle.std.proofs.Common.{◌≡◌, ◌≢◌, inl, inr, ℕ, ◌+◌, ◌<◌, ◌≤◌, ◌++◌, List, [], ◌∷◌, length, get_or, set, Some, Bool, true, Result, Ok, arith, refl, sym, ◌∙◌, ap, subst, suc, zero, Option, None, Err}
 use Rattle.std.specs.Prelude.{slice_get, IfOk, IfSome}
 use Rattle.std.proofs.lemmas.Bool.{cases_eq}
-use Rattle.std.proofs.lemmas.Option.{slice_get_within}
-use Rattle.ready_loop.proofs.TableLemmas.{some_is, slice_get-set_other}
+use Rattle.std.proofs.lemmas.Option.{slice_get_within, same_Some}
 use Rattle.job_end.specs.declared.answer.Answer.{Answer}
 use Rattle.job_run.specs.declared.job.Job.{Job}
 use Rattle.batch_run.specs.declared.slot.Slot.{Slot}
@@ -12,12 +11,12 @@ use Rattle.batch_run.specs.Stands.{WaitingFrom, EndedBelow, AllEnded, HasEnded, 
 use Rattle.batch_run.specs.declared.fault.Fault.{Fault}
 use Rattle.batch_run.specs.declared.fault.Fault.TheVariants as fault
 use Rattle.batch_run.specs.Kept.{goes_on}
-use Rattle.batch_run.proofs.JournalLemmas.{has}
+use Rattle.jtext.proofs.Lists.{some_at, slice_get-set_other}
 
 -- what holds of each holds of each with one more
 each_push : (P : Slot → Type 0) (xs : List Slot) (x : Slot) → ((i : ℕ) (slot : Slot) → slice_get xs i ≡ Some slot → P slot) → P x
     → (i : ℕ) (slot : Slot) → slice_get (xs ++ x ∷ []) i ≡ Some slot → P slot
-each_push P [] x all here zero slot e = subst P (some_is e) here
+each_push P [] x all here zero slot e = subst P (same_Some _ _ e) here
 each_push P [] x all here (suc i) slot e = absurd (cc)
 each_push P (y ∷ xs) x all here zero slot e = all zero slot e
 each_push P (y ∷ xs) x all here (suc i) slot e = each_push P xs x (λ j s g. all (suc j) s g) here i slot e
@@ -37,7 +36,7 @@ waiting_set {n} {xs} x w = record {
 
 -- the one at this number
 pub waiting_at : {n : ℕ} {xs : List Slot} → WaitingFrom n xs → n < length xs → slice_get xs n ≡ Some Waiting
-waiting_at {n} {xs} w low = let here = has xs n low in here.1 ∙ ap Some (w.each n here.0 (omega arith) here.1)
+waiting_at {n} {xs} w low = let here = some_at xs n low in here.1 ∙ ap Some (w.each n here.0 (omega arith) here.1)
 
 pub ended_none : AllEnded []
 ended_none = record { each = λ i slot e. absurd (cc) }
@@ -46,7 +45,7 @@ ended_none = record { each = λ i slot e. absurd (cc) }
 pub ended_more : {n : ℕ} {xs : List Slot} {x : Slot} → slice_get xs n ≡ Some x → HasEnded x → EndedBelow n xs → EndedBelow (n + 1) xs
 ended_more {n} {xs} {x} at here b = record {
   each = λ i slot low e. elim (cases_eq i n) [
-    | inl same ↦ subst HasEnded (some_is (sym at ∙ subst (λ j. slice_get xs j ≡ Some slot) same e)) here
+    | inl same ↦ subst HasEnded (same_Some _ _ (sym at ∙ subst (λ j. slice_get xs j ≡ Some slot) same e)) here
     | inr ne ↦ b.each i slot (omega (arith, low, ne)) e
   ];
 }
@@ -105,13 +104,6 @@ each_of (Ended answer ∷ xs) all (suc i) = each_of xs (λ j s e. all (suc j) s 
 
 pub are_answers : {xs : List Slot} → AllEnded xs → AreAnswers xs (answers_of xs)
 are_answers {xs} a = record { size = size_of xs a.each; each = λ i. each_of xs a.each i }
-
--- ---- the items of a list, one after another
-
-pub item_at : {X : Type 0} (xs : List X) (n : ℕ) (x : X) → n < length xs → x ≡ get_or xs n x → slice_get xs n ≡ Some x
-item_at [] n x low e = absurd (omega arith)
-item_at (y ∷ xs) zero x low e = ap Some (sym e)
-item_at (y ∷ xs) (suc n) x low e = item_at xs n x (omega arith) e
 
 -- ---- faults
 

@@ -3,7 +3,7 @@ use Rattle.std.proofs.Common.{◌≡◌, inl, inr, ℕ, ◌+◌, ◌-◌, ◌<�
 use Rattle.std.specs.Prelude.{slice_get, IfSome}
 use Rattle.std.proofs.lemmas.Bool.{cases_eq}
 use Rattle.std.proofs.lemmas.List.{length-set}
-use Rattle.std.proofs.lemmas.Option.{slice_get_within}
+use Rattle.std.proofs.lemmas.Option.{slice_get_within, same_Some}
 use Rattle.words.specs.declared.ask.Ask.{Ask}
 use Rattle.world.specs.declared.entry.Entry.{Entry}
 use Rattle.world.specs.declared.entry.Entry.TheVariants.{Read}
@@ -21,7 +21,6 @@ use Rattle.said_lines.specs.Speech.{Says}
 use Rattle.world.proofs.CountsLemmas.{grow_then}
 use Rattle.world.proofs.MomentsLemmas.{told_start, told_then, told_as, since_then, since_as}
 use Rattle.save_course.specs.Course.{IsRested}
-use Rattle.ready_loop.proofs.TableLemmas.{some_is, slice_get-set_same, slice_get-set_other}
 use Rattle.job_end.specs.declared.answer.Answer.{Answer}
 use Rattle.job_end.specs.Answers.{starved_answer}
 use Rattle.nb_model.specs.declared.notebook.Notebook.{Notebook}
@@ -49,7 +48,9 @@ use Rattle.batch_run.specs.Stands.{Outset, SlotPlays, SlotTells, SlotEnds, SlotR
 use Rattle.batch_run.proofs.CallLemmas.{sole, sole_here, sole_at, calls_wide, calls_spare, loop_spares, loop_keeps_end, loop_quiet, loop_asks_none}
 use Rattle.world.proofs.CountsLemmas.{rose_still}
 use Rattle.batch_run.proofs.CauseLemmas.{cause_still, waited_still, waited_more}
-use Rattle.batch_run.proofs.JournalLemmas.{has, extends, told_back, says_touch}
+use Rattle.batch_run.proofs.JournalLemmas.{told_back, says_touch}
+use Rattle.ready_loop.proofs.LookLemmas.{extends_of}
+use Rattle.jtext.proofs.Lists.{some_at, slice_get-set_same, slice_get-set_other, set_given}
 
 -- ---- calls that touch no path of a job
 
@@ -85,7 +86,7 @@ pass_one : (a : Ask) (from : Counts) (before past after : List Entry) (c d : Cou
 pass_one a from before past after c d slot s g (waits e h) = waits e (since_then h s)
 pass_one a from before past after c d slot s g (spared answer e u h) = spared answer e (unread_pass a answer.status before before past after start s u) (since_then h s)
 pass_one a from before past after c d slot s g (begun bytes n begin then acc h gr ext task kernel r) =
-    begun bytes n begin then acc h gr (since_then ext (extends s)) task (kernel_slot a (first_of a n) slot (Read a.input 33554432 (found.Whole bytes) ∷ begin) past after s kernel) (runs_pass (origin_of a n begin then) (counted_task a (first_of a n)) slot past after c d s g r)
+    begun bytes n begin then acc h gr (since_then ext (extends_of s)) task (kernel_slot a (first_of a n) slot (Read a.input 33554432 (found.Whole bytes) ∷ begin) past after s kernel) (runs_pass (origin_of a n begin then) (counted_task a (first_of a n)) slot past after c d s g r)
 
 -- ---- by the counts alone
 
@@ -144,7 +145,7 @@ calls_pass asks first from slots p q c d most wires few all pass s = record {
   grow = grow_then s.grow pass.grow;
   waits = few;
   waited = all;
-  told = told_then s.told (pass.spares []) (λ x y z a b. since_then a (extends b));
+  told = told_then s.told (pass.spares []) (λ x y z a b. since_then a (extends_of b));
   calls = told_then s.calls pass.calls (λ x y z a b. since_then a b);
   spoken = λ e. pass.spoken e (s.spoken e);
   idle = λ e i a at got. pass.idle i a (s.idle e i a at got);
@@ -242,7 +243,7 @@ change asks first from slots p q c d k was next found work moved spoken calls te
   grow = grow_then s.grow work.grow;
   waits = omega (arith, work.waits, s.waits);
   waited = waited_still from.waits c d work.grow s.waited;
-  told = told_then s.told made (λ x y z a b. since_then a (extends b));
+  told = told_then s.told made (λ x y z a b. since_then a (extends_of b));
   calls = told_then s.calls made (λ x y z a b. since_then a (calls_wide asks from.here from.clean k own.0 own.1 b));
   spoken = spoken;
   idle = λ e i b at got. elim (cases_eq i k) [
@@ -304,7 +305,7 @@ change asks first from slots p q c d k was next found work moved spoken calls te
     low = slice_get_within slots k was found
 
     own : (a : Ask) × (slice_get asks k ≡ Some a)
-    own = has asks k (subst (λ n. k < n) s.size low)
+    own = some_at asks k (subst (λ n. k < n) s.size low)
 
     made : Told p q (Since (IsCall (sole k own.0 from.here true from.clean)))
     made = (calls own.0 own.1 (s.plays k own.0 was own.1 found)).0
@@ -313,19 +314,13 @@ change asks first from slots p q c d k was next found work moved spoken calls te
     others_spared b other = told_as made (λ x y made_so. calls_spare k own.0 from.here b.output true from.clean other made_so)
 
     here : (i : ℕ) (slot : Slot) → i ≡ k → slice_get (set slots k next) i ≡ Some slot → next ≡ slot
-    here i slot e got = some_is (sym (slice_get-set_same slots k next low) ∙ subst (λ m. slice_get (set slots k next) m ≡ Some slot) e got)
+    here i slot e got = same_Some _ _ (sym (slice_get-set_same slots k next low) ∙ subst (λ m. slice_get (set slots k next) m ≡ Some slot) e got)
 
 -- ---- one slot
 
--- a slot that is written back as it was
-same_slot : (slots : List Slot) (k : ℕ) (was : Slot) → slice_get slots k ≡ Some was → set slots k was ≡ slots
-same_slot [] k was e = absurd (cc)
-same_slot (x ∷ slots) zero was e = ap (λ y. y ∷ slots) (sym (some_is e))
-same_slot (x ∷ slots) (suc k) was e = ap (λ ys. x ∷ ys) (same_slot slots k was e)
-
 pub slot_rests : (asks : List Ask) (first : Option (List Entry)) (from : Outset) (slots : List Slot) (k : ℕ) (was : Slot) (p : Option (List Entry)) (c : Counts)
     → slice_get slots k ≡ Some was → AllStand asks first from slots p c → AllStand asks first from (set slots k was) p c
-slot_rests asks first from slots k was p c found s = subst (λ x. AllStand asks first from x p c) (sym (same_slot slots k was found)) s
+slot_rests asks first from slots k was p c found s = subst (λ x. AllStand asks first from x p c) (sym (set_given slots k was found)) s
 
 -- a job that hasn't begun ends
 pub waiting_ends : (asks : List Ask) (first : Option (List Entry)) (from : Outset) (slots : List Slot) (p : Option (List Entry)) (c : Counts) (k : ℕ) (answer : Answer)
@@ -341,7 +336,7 @@ waiting_ends asks first from slots p c k answer is found s =
 
     step : (a : Ask) (before past after : List Entry) → slice_get asks k ≡ Some a → Unit {0} → p ≡ Some past → p ≡ Some after → IsRested a.output before
         → Stands a from.counts before past c Waiting → Stands a from.counts before after c (Ended answer)
-    step a before past after at role e f rested (waits g h) = spared answer refl (subst (λ x. IsUnread a answer.status before x) (some_is (sym e ∙ f)) (unread_pass a answer.status before past past past h start (unread_starved a answer past is)))
-        (subst (λ x. Since (Spares a.output) before x) (some_is (sym e ∙ f)) h)
+    step a before past after at role e f rested (waits g h) = spared answer refl (subst (λ x. IsUnread a answer.status before x) (same_Some _ _ (sym e ∙ f)) (unread_pass a answer.status before past past past h start (unread_starved a answer past is)))
+        (subst (λ x. Since (Spares a.output) before x) (same_Some _ _ (sym e ∙ f)) h)
     step a before past after at role e f rested (spared x g u h) = absurd (cc)
     step a before past after at role e f rested (begun bytes n begin then acc h gr ext of kernel r) = absurd r

@@ -2,7 +2,7 @@
 use Rattle.std.proofs.Common.{◌≡◌, inl, inr, ℕ, ◌+◌, ◌*◌, ◌<◌, ◌≤◌, List, ◌∷◌, Bool, true, false, Option, Some, None, slice_get, arith, refl, sym, ◌∙◌, ap, subst}
 use Rattle.std.specs.Prelude.{IfSome}
 use Rattle.std.proofs.lemmas.Bool.{cases_lt, false≢true}
-use Rattle.ready_loop.proofs.TableLemmas.{some_is}
+use Rattle.std.proofs.lemmas.Option.{same_Some}
 use Rattle.world.specs.declared.conn.Conn.{Conn}
 use Rattle.world.specs.declared.entry.Entry.{Entry}
 use Rattle.world.specs.declared.entry.Entry.TheVariants as made
@@ -115,7 +115,7 @@ wired_begun job ports old new past has others given h = record { each = λ conn 
         record {
           ports = ports;
           given = subst (λ (n : ℕ). ports_of n past ≡ Some ports) (sym same) given;
-          is = some_is (some_is (sym kept_so ∙ has.each conn.chan known));
+          is = same_Some _ _ (same_Some _ _ (sym kept_so ∙ has.each conn.chan known));
         }
 
 pub told_begun : (job : ℕ) (ports : List ℕ) (old new : Loop) (p : Option (List Entry)) → HasPorts job ports new

@@ -71,6 +71,6 @@ pub record Falls (used : Bool) (old new : ℕ) : Type 0 where
   pub below : used ≡ true → new < old
 
 -- the places of the connections that were begun, after those of a job were
-abbrev pub marked : ℕ → Bool → List Bool → List Bool
-marked job heart begun =
+abbrev pub mark_job : ℕ → Bool → List Bool → List Bool
+mark_job job heart begun =
     slice_set (slice_set (slice_set (slice_set begun (4 * job) true) (4 * job + 1) true) (4 * job + 2) true) (4 * job + 3) heart

@@ -3,7 +3,7 @@ ghost use Rattle.std.specs.Prelude.{◌≡◌, ◌<◌, ◌≤◌, ◌+◌, ◌-
 ghost use Rattle.std.specs.List.{AllByRecursion};
 ghost use Rattle.ready_loop.specs.States.{IsDrained, waits_left};
 ghost use Rattle.words.specs.Runnable.{IsRunnable};
-ghost use Rattle.said_lines.specs.Between.{Between};
+ghost use Rattle.world.specs.Told.{Between};
 ghost use Rattle.world.specs.declared.entry.Entry.{Entry};
 ghost use Rattle.world.specs.Counts.{Counts, CountsGrow};
 ghost use Rattle.batch_run.specs.Batch.{AreEnds, CallsOfRun, EndSpent, EndsChildren, LeavesOthers};
@@ -87,7 +87,7 @@ fn answers_of<W: World>(
         (EndSpent limits.now.turns (W.counts w.old) (W.counts w.new)) }
 {
     let mut running = running;
-    match carried_out(w, asks, limits, &mut running) {
+    match carry_out(w, asks, limits, &mut running) {
         Ok(()) => running.into_answers(),
         Err(refused) => {
             running.abandon(w);
@@ -97,7 +97,7 @@ fn answers_of<W: World>(
 }
 
 /// Begins these jobs, and runs them to their ends.
-fn carried_out<W: World>(
+fn carry_out<W: World>(
     w: &mut W,
     asks: Asks,
     limits: &Limits,

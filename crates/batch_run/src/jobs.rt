@@ -6,6 +6,7 @@ use crate::slot::{Slot, say_end};
 use crate::wanted::Wanted;
 use job_begin::begin;
 use job_end::Answer;
+use job_run::earlier;
 use jtext::{List, NoMemory, Text};
 use std::alloc::Global;
 use words::Ask;
@@ -176,14 +177,5 @@ fn push_answer(answers: &mut List<Answer>, slot: Slot) -> Result<(), NoMemory>
         Slot::Ended(answer) => answers.push(answer),
         Slot::Waiting => Ok(()),
         Slot::Running(_) => Ok(()),
-    }
-}
-
-/// The earlier of two moments.
-fn earlier(a: Option<u64>, b: Option<u64>) -> Option<u64> {
-    match (a, b) {
-        (Some(a), Some(b)) => Some(a.min(b)),
-        (Some(a), None) => Some(a),
-        (None, b) => b,
     }
 }

@@ -1,15 +1,15 @@
 //! `Lines`, the connections of the jobs of a run.
 ghost use Rattle.std.specs.Prelude.{◌≡◌, ◌<◌, length};
 ghost use Rattle.world.specs.Places.{place_of};
-ghost use Rattle.batch_run.specs.Kept.{AreBegun, AreLost, NoPlaces, marked};
+ghost use Rattle.batch_run.specs.Kept.{AreBegun, AreLost, NoPlaces, mark_job};
 
 use crate::fault::Fault;
 use crate::losses::Losses;
 use crate::wanted::Wanted;
 use jtext::{Bytes, NoMemory};
-use ready_loop::{Loop, LoopFault, Next};
+use ready_loop::{Loop, LoopFault, Next, place_at};
 use std::alloc::Global;
-use world::{Chan, Conn, World};
+use world::{Conn, World};
 
 /// The connections of the jobs, and what is known of them beside the loop.
 #[derive(Drop)]
@@ -207,7 +207,7 @@ fn no_places() -> [bool; 64]
 /// The connections of a job were begun.
 fn mark(begun: &mut [bool; 64], job: u8, heart: bool)
     requires { job < 16 }
-    ensures begun { begun.new ≡ marked job heart begun.old }
+    ensures begun { begun.new ≡ mark_job job heart begun.old }
     ensures size { length begun.old ≡ 64 }
 {
     let first = 4 * job as usize;
@@ -215,19 +215,4 @@ fn mark(begun: &mut [bool; 64], job: u8, heart: bool)
     begun[first + 1] = true;
     begun[first + 2] = true;
     begun[first + 3] = heart;
-}
-
-/// The place of a connection among the 64.
-fn place_at(conn: Conn) -> usize
-    requires { conn.job < 16 }
-    ensures within { result < 64 }
-    ensures place { result ≡ place_of conn }
-{
-    let chan = match conn.chan {
-        Chan::Shell => 0,
-        Chan::Control => 1,
-        Chan::Iopub => 2,
-        Chan::Heart => 3,
-    };
-    4 * usize::from(conn.job) + chan
 }

@@ -22,12 +22,12 @@ impl Slot {
     ghost use Rattle.batch_run.specs.Stands.{HasEnded, SlotKeeps, SlotStays};
     ghost use Rattle.batch_run.specs.Stands.{IsCutOff, IsOutOfWaits, SlotStaysIf};
 
-    /// What the job has queued on this channel and hasn't handed out.
-    pub(crate) fn queued(&mut self, chan: Chan) -> Option<Bytes>
+    /// Hands out what the job has queued on this channel, where there is anything.
+    pub(crate) fn hand_out(&mut self, chan: Chan) -> Option<Bytes>
         ensures { SlotStays self.old self.new }
     {
         match self {
-            Slot::Running(job) => job.queued(chan),
+            Slot::Running(job) => job.hand_out(chan),
             Slot::Waiting | Slot::Ended(_) => None,
         }
     }
@@ -133,7 +133,7 @@ impl Slot {
         ensures stands { SlotKeeps W.journal W.counts w.old w.new self.old self.new }
     {
         let slot = mem::replace(self, Slot::Waiting);
-        *self = Slot::Ended(ended(alloc, w, slot));
+        *self = Slot::Ended(end_and_say(alloc, w, slot));
     }
 }
 
@@ -149,7 +149,7 @@ fn end_of<W: World>(alloc: Global, w: &mut W, slot: Slot) -> Answer
 }
 
 /// How a job ended: of one that runs the child is ended, and how it ended is said.
-fn ended<W: World>(alloc: Global, w: &mut W, slot: Slot) -> Answer
+fn end_and_say<W: World>(alloc: Global, w: &mut W, slot: Slot) -> Answer
     ensures { SlotKeeps W.journal W.counts w.old w.new slot (Slot.Ended result) }
 {
     match slot {

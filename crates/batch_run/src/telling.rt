@@ -9,14 +9,14 @@ impl Jobs {
     ghost use Rattle.batch_run.specs.Stands.{EndedBelow, KeepsAll, KeepsOthers, StayAll};
     ghost use Rattle.batch_run.specs.Stands.{IsCutOff, IsOutOfWaits, StayAllIf, WaitingFrom};
 
-    /// What a job has queued on this channel and hasn't handed out.
-    pub(crate) fn queued(&mut self, number: usize, chan: Chan) -> Option<Bytes>
+    /// Hands out what a job has queued on this channel, where there is anything.
+    pub(crate) fn hand_out(&mut self, number: usize, chan: Chan) -> Option<Bytes>
         ensures stands { StayAll self.old.slots.items self.new.slots.items }
     {
         if number >= self.slots.len() {
             return None;
         }
-        self.slots[number].queued(chan)
+        self.slots[number].hand_out(chan)
     }
 
     /// So many bytes of this channel were taken.
@@ -103,11 +103,11 @@ impl Jobs {
         ensures stands { StayAll self.old.slots.items self.new.slots.items }
     {
         if was_made {
-            self.waited(number);
+            self.mark_waited(number);
         }
     }
 
-    fn waited(&mut self, number: usize)
+    fn mark_waited(&mut self, number: usize)
         ensures stands { StayAll self.old.slots.items self.new.slots.items }
     {
         if number < self.slots.len() {
@@ -140,13 +140,13 @@ impl Jobs {
             self.new.slots.items }
     {
         if was_made {
-            self.looked(w, number)
+            self.finish_look(w, number)
         } else {
             Ok(())
         }
     }
 
-    fn looked<W: World>(&mut self, w: &mut W, number: usize) -> Result<(), NoMemory>
+    fn finish_look<W: World>(&mut self, w: &mut W, number: usize) -> Result<(), NoMemory>
         ensures stands { KeepsAll W.journal W.counts w.old w.new self.old.slots.items
             self.new.slots.items }
     {

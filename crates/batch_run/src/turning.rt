@@ -155,7 +155,7 @@ impl Running {
         if !self.lines.takes(conn) {
             return Ok(());
         }
-        match self.jobs.queued(usize::from(conn.job), conn.chan) {
+        match self.jobs.hand_out(usize::from(conn.job), conn.chan) {
             Some(bytes) => self.lines.queue(conn, bytes),
             None => Ok(()),
         }

@@ -8,7 +8,7 @@ use Rattle.cell_core.specs.declared.act.Act.TheVariants.{Nothing, Send, Save, St
 use Rattle.cell_core.specs.Task.{Task, cell_of}
 use Rattle.cell_core.specs.Events.{since, since_more}
 use Rattle.cell_core.specs.Requests.{after, both_came, Standing}
-use Rattle.cell_core.specs.Saves.{why, unacked}
+use Rattle.cell_core.specs.Saves.{why, pending_saves}
 use Rattle.cell_core.specs.Acts.{act_at, act_of, answers, heard, has_stopped, is_empty_list}
 use Rattle.cell_core.specs.Laws.{IsAskedFor, StopsBy, ComesToStand}
 use Rattle.cell_core.proofs.Lists.{since_some}
@@ -58,7 +58,7 @@ sends_by task last (Moment t) past e h = absurd (not_by task last.request (Momen
 sends_by task last Looked past e h = absurd (not_by task last.request Looked past (λ same. let clash : Looked ≡ Saved = same in cc) refl h)
 sends_by task last Lost past e h = absurd (not_by task last.request Lost past (λ same. let clash : Lost ≡ Saved = same in cc) refl h)
 
-pub send_due : (task : Task) (event : Event) (past : List Event) (k : ℕ) → has_stopped task (heard task past) ≡ false → unacked task (event ∷ heard task past) ≡ []
+pub send_due : (task : Task) (event : Event) (past : List Event) (k : ℕ) → has_stopped task (heard task past) ≡ false → pending_saves task (event ∷ heard task past) ≡ []
     → why task (event ∷ heard task past) ≡ None → ComesToStand task k (event ∷ heard task past) → act_of task event past ≡ Send (cell_of task k)
 send_due task event past k on u w h =
     let now = event ∷ heard task past in

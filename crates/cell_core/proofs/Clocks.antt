@@ -6,28 +6,28 @@ use Rattle.cell_core.specs.declared.event.Event.TheVariants.{Saved, Ready, Io, R
 use Rattle.cell_core.specs.declared.clock.Clock.{Clock}
 use Rattle.cell_core.specs.declared.clock.Clock.TheVariants.{Unread, Started, Turned}
 use Rattle.cell_core.specs.Task.{Task}
-use Rattle.cell_core.specs.Events.{is_broken, is_moment, is_looked, is_turn_at, came, held, looked, since, time, Rising}
+use Rattle.cell_core.specs.Events.{is_broken, is_moment, is_looked, is_turn_at, came, ever, look_since, since, time, Rising}
 use Rattle.cell_core.specs.Requests.{has_idle, own, reply, Standing}
-use Rattle.cell_core.specs.Deadlines.{reply_age, replied_at, first_deadline, second_deadline, entry_and_more, queued, by_limit, deadline, passed_by}
+use Rattle.cell_core.specs.Deadlines.{reply_age, replied_at, first_deadline, second_deadline, entry_and_more, is_queued, by_limit, deadline, passed_by}
 use Rattle.cell_core.specs.Holds.{now_of, is_read, is_turned, read_again, clock_after, lost_after, is_past}
 use Rattle.cell_core.specs.StandsFor.{Hears, IsAsked}
 use Rattle.cell_core.proofs.Lists.{since_some, since_none, since_now}
 use Rattle.cell_core.proofs.SavesLemmas.{at}
 
-pub looked_none : (test : List Event → Bool) (events : List Event) → held test events ≡ false → looked test events ≡ false
+pub looked_none : (test : List Event → Bool) (events : List Event) → ever test events ≡ false → look_since test events ≡ false
 looked_none test [] h = refl
 looked_none test (event ∷ past) h =
-    let parts = or_parts (test (event ∷ past)) (held test past) h in
-    or_from _ _ (and_right (is_looked event) (held test past) parts.1) (looked_none test past parts.1)
+    let parts = or_parts (test (event ∷ past)) (ever test past) h in
+    or_from _ _ (and_right (is_looked event) (ever test past) parts.1) (looked_none test past parts.1)
 
-pub since_unheld : (test : List Event → Bool) (events : List Event) → held test events ≡ false → since test events ≡ None
+pub since_unheld : (test : List Event → Bool) (events : List Event) → ever test events ≡ false → since test events ≡ None
 since_unheld test [] h = refl
 since_unheld test (event ∷ past) h =
-    let parts = or_parts (test (event ∷ past)) (held test past) h in
+    let parts = or_parts (test (event ∷ past)) (ever test past) h in
     since_none test event past (since_unheld test past parts.1) parts.0
 
-since_held_by : (test : List Event → Bool) (event : Event) (past : List Event) (v : Option (List Event)) → since test past ≡ v → (held test past ≡ true → (b : List Event) × (since test past ≡ Some b))
-    → held test (event ∷ past) ≡ true → (b : List Event) × (since test (event ∷ past) ≡ Some b)
+since_held_by : (test : List Event → Bool) (event : Event) (past : List Event) (v : Option (List Event)) → since test past ≡ v → (ever test past ≡ true → (b : List Event) × (since test past ≡ Some b))
+    → ever test (event ∷ past) ≡ true → (b : List Event) × (since test (event ∷ past) ≡ Some b)
 since_held_by test event past (Some l) e before h = (event ∷ l, since_some test event past l e)
 since_held_by test event past None e before h =
     elim (cases_Bool (test (event ∷ past))) [
@@ -38,11 +38,11 @@ since_held_by test event past None e before h =
           absurd (cc)
     ]
 
-pub since_held : (test : List Event → Bool) (events : List Event) → held test events ≡ true → (b : List Event) × (since test events ≡ Some b)
+pub since_held : (test : List Event → Bool) (events : List Event) → ever test events ≡ true → (b : List Event) × (since test events ≡ Some b)
 since_held test [] h = absurd (true≢false (sym h))
 since_held test (event ∷ past) h = since_held_by test event past (since test past) refl (λ g. since_held test past g) h
 
-pub unread_none : (t : ℕ) (events : List Event) → came is_moment events ≡ false → held (is_turn_at t) events ≡ false
+pub unread_none : (t : ℕ) (events : List Event) → came is_moment events ≡ false → ever (is_turn_at t) events ≡ false
 unread_none t [] h = refl
 unread_none t (Moment now ∷ past) h = absurd (true≢false h)
 unread_none t (Saved ∷ past) h = unread_none t past h
@@ -69,10 +69,10 @@ turn_moment t now before true turned at_t le unread e =
     ]
 
 -- as the clock never falls, its last entry is the latest
-pub turn_held : (t : ℕ) (events : List Event) → Rising events → held (is_turn_at t) events ≡ (held (is_turn_at 0) events && nat_le t (time events))
+pub turn_held : (t : ℕ) (events : List Event) → Rising events → ever (is_turn_at t) events ≡ (ever (is_turn_at 0) events && nat_le t (time events))
 turn_held t [] rising = refl
 turn_held t (Moment now ∷ past) rising =
-    turn_moment t now (time past) (came is_moment past) (held (is_turn_at 0) past) (held (is_turn_at t) past) rising.0 (λ h. unread_none 0 past h) (turn_held t past rising.1)
+    turn_moment t now (time past) (came is_moment past) (ever (is_turn_at 0) past) (ever (is_turn_at t) past) rising.0 (λ h. unread_none 0 past h) (turn_held t past rising.1)
 turn_held t (Saved ∷ past) rising = turn_held t past rising
 turn_held t (Ready ∷ past) rising = turn_held t past rising
 turn_held t (Io m ∷ past) rising = turn_held t past rising
@@ -86,8 +86,8 @@ past_is h None = refl
 past_is {clock} {lost} {events} h (Some t) = turn_held t events h.rising ∙ (rw (h.turned, h.now) refl)
 
 -- a deadline that lies ahead
-pub ahead : {clock : Clock} {lost : Bool} {events : List Event} → Hears clock lost events → (t : ℕ) → time events < t → held (is_turn_at t) events ≡ false
-ahead {clock} {lost} {events} h t lt = turn_held t events h.rising ∙ and_right (held (is_turn_at 0) events) _ (lt-leb t (time events) lt)
+pub ahead : {clock : Clock} {lost : Bool} {events : List Event} → Hears clock lost events → (t : ℕ) → time events < t → ever (is_turn_at t) events ≡ false
+ahead {clock} {lost} {events} h t lt = turn_held t events h.rising ∙ and_right (ever (is_turn_at 0) events) _ (lt-leb t (time events) lt)
 
 -- What one more event adds.
 abbrev pub Rises : Event → List Event → Type 0
@@ -156,10 +156,10 @@ pub time_at : (t : ℕ) (events between : List Event) → since (is_turn_at t) e
 time_at t [] between e none = (let clash : None ≡ Some between = e in absurd (cc))
 time_at t (event ∷ past) between e none = time_at_by t event past between (since (is_turn_at t) past) refl (λ b g n. time_at t past b g n) e none
 
-pub queued_none : (task : Task) (k t : ℕ) (events : List Event) → held (is_turn_at t) events ≡ false → queued task k t events ≡ false
+pub queued_none : (task : Task) (k t : ℕ) (events : List Event) → ever (is_turn_at t) events ≡ false → is_queued task k t events ≡ false
 queued_none task k t [] h = refl
 queued_none task k t (event ∷ past) h =
-    let parts = or_parts (is_turn_at t (event ∷ past)) (held (is_turn_at t) past) h in
+    let parts = or_parts (is_turn_at t (event ∷ past)) (ever (is_turn_at t) past) h in
     or_from _ _ (rw (since_unheld (is_turn_at t) past parts.1) (grind arith)) (queued_none task k t past parts.1)
 
 -- The deadline of a request, one event later.
@@ -188,7 +188,7 @@ second_stays t event past between e =
 
 -- whether the interrupt is queued doesn't change at this event
 pub by_limit_stays : (task : Task) (k : ℕ) (interrupted : Bool) (event : Event) (past : List Event) (o : Option ℕ) → ((first : ℕ) → o ≡ Some first → task.times.interrupt ≡ true → IsAsked task k first interrupted past)
-    → ((first : ℕ) → o ≡ Some first → task.times.interrupt ≡ true → queued task k first (event ∷ past) ≡ interrupted) → by_limit task k o (event ∷ past) ≡ by_limit task k o past
+    → ((first : ℕ) → o ≡ Some first → task.times.interrupt ≡ true → is_queued task k first (event ∷ past) ≡ interrupted) → by_limit task k o (event ∷ past) ≡ by_limit task k o past
 by_limit_stays task k interrupted event past None asked now = refl
 by_limit_stays task k false event past (Some first) asked now =
     elim (cases_Bool task.times.interrupt) [
@@ -202,7 +202,7 @@ by_limit_stays task k true event past (Some first) asked now =
     ]
 
 -- an event that is no look queues nothing
-pub unlooked_queues : (task : Task) (k first : ℕ) (interrupted : Bool) (event : Event) (past : List Event) → is_looked event ≡ false → IsAsked task k first interrupted past → queued task k first (event ∷ past) ≡ interrupted
+pub unlooked_queues : (task : Task) (k first : ℕ) (interrupted : Bool) (event : Event) (past : List Event) → is_looked event ≡ false → IsAsked task k first interrupted past → is_queued task k first (event ∷ past) ≡ interrupted
 unlooked_queues task k first false event past h a = or_from _ _ (rw h refl) a.0
 unlooked_queues task k first true event past h a = or_right _ _ a.0
 
@@ -232,7 +232,7 @@ looked_between : (task : Task) (k first : ℕ) (event : Event) (past : List Even
 looked_between task k first event past a = (or_right _ _ a.0, (event ∷ a.1.0, since_some (is_turn_at first) event past a.1.0 a.1.1, or_right _ _ a.1.2))
 
 -- no late entry was read
-unheld_between : (t : ℕ) (event : Event) (past between : List Event) → held (is_turn_at t) past ≡ false → since (is_turn_at t) (event ∷ past) ≡ Some between → (came is_moment between ≡ false) × (came is_looked between ≡ false)
+unheld_between : (t : ℕ) (event : Event) (past between : List Event) → ever (is_turn_at t) past ≡ false → since (is_turn_at t) (event ∷ past) ≡ Some between → (came is_moment between ≡ false) × (came is_looked between ≡ false)
 unheld_between t event past between h s =
     let e = since_unheld (is_turn_at t) past h in
     elim (cases_Bool (is_turn_at t (event ∷ past))) [
@@ -248,19 +248,19 @@ asked_more task k first false event past m h a =
     (unlooked_queues task k first false event past h a, λ between s. between_more first event past between (since (is_turn_at first) past) refl m h a.1 s)
 
 -- at a clock entry or a look, where no look is called for
-pub asked_unheld : (task : Task) (k first : ℕ) (interrupted : Bool) (event : Event) (past : List Event) → (interrupted ≡ false → held (is_turn_at first) past ≡ false) → IsAsked task k first interrupted past → IsAsked task k first interrupted (event ∷ past)
+pub asked_unheld : (task : Task) (k first : ℕ) (interrupted : Bool) (event : Event) (past : List Event) → (interrupted ≡ false → ever (is_turn_at first) past ≡ false) → IsAsked task k first interrupted past → IsAsked task k first interrupted (event ∷ past)
 asked_unheld task k first true event past h a = looked_between task k first event past a
 asked_unheld task k first false event past h a =
     (or_from _ _ (rw (since_unheld (is_turn_at first) past (h refl)) (grind arith)) a.0, λ between s. unheld_between first event past between (h refl) s)
 
-pub queued_unheld : (task : Task) (k first : ℕ) (interrupted : Bool) (event : Event) (past : List Event) → (interrupted ≡ false → held (is_turn_at first) past ≡ false) → IsAsked task k first interrupted past → queued task k first (event ∷ past) ≡ interrupted
+pub queued_unheld : (task : Task) (k first : ℕ) (interrupted : Bool) (event : Event) (past : List Event) → (interrupted ≡ false → ever (is_turn_at first) past ≡ false) → IsAsked task k first interrupted past → is_queued task k first (event ∷ past) ≡ interrupted
 queued_unheld task k first true event past h a = or_right _ _ a.0
 queued_unheld task k first false event past h a = or_from _ _ (rw (since_unheld (is_turn_at first) past (h refl)) (grind arith)) a.0
 
 pub deadline_stays : (task : Task) (k : ℕ) (fatal : Option Bool) (interrupted : Bool) (event : Event) (later past : List Event) → reply later ≡ fatal → reply (event ∷ later) ≡ fatal
     → (is_some fatal ≡ true → has_idle (own later) ≡ false) → (is_some fatal ≡ true → has_idle (own (event ∷ later)) ≡ false)
     → (fatal ≡ None → (first : ℕ) → first_deadline task (at k later) past ≡ Some first → task.times.interrupt ≡ true → IsAsked task k first interrupted past)
-    → (fatal ≡ None → (first : ℕ) → first_deadline task (at k later) past ≡ Some first → task.times.interrupt ≡ true → queued task k first (event ∷ past) ≡ interrupted)
+    → (fatal ≡ None → (first : ℕ) → first_deadline task (at k later) past ≡ Some first → task.times.interrupt ≡ true → is_queued task k first (event ∷ past) ≡ interrupted)
     → deadline task (at k (event ∷ later)) (event ∷ past) ≡ deadline task (at k later) past
 deadline_stays task k (Some f) interrupted event later past r r' i i' asked now =
     deadline_replied task (at k (event ∷ later)) (event ∷ past) (ap is_some r') (i' refl)

@@ -15,7 +15,7 @@ use Rattle.cell_core.specs.declared.state.State.TheVariants.{Preparing, Starting
 use Rattle.cell_core.specs.declared.moved.Moved.{Moved}
 use Rattle.cell_core.specs.Task.{Task, cell_of}
 use Rattle.cell_core.specs.Events.{is_saved, is_ready}
-use Rattle.cell_core.specs.Saves.{Prefix, prepared, saves}
+use Rattle.cell_core.specs.Saves.{Prefix, after_preparation, saves}
 use Rattle.cell_core.specs.Acts.{has_stopped, heard, act_at}
 use Rattle.cell_core.specs.declared.clock.Clock.{Clock}
 use Rattle.cell_core.specs.declared.clock.Clock.TheVariants.{Unread}
@@ -102,7 +102,7 @@ running_far task clock lost k fatal idle due interrupted Lost events asked e = q
 stops_far : {task : Task} {clock : Clock} {lost : Bool} {due : Option ℕ} {past : List Event} (w : Why) (event : Event) (asked : List ℕ) → IsStarting task clock lost due past → is_saved event ≡ false → is_ready event ≡ false → asked ≡ []
     → Far task (stops w) (event ∷ past) asked
 stops_far {task} {clock} {lost} {due} {past} w event asked a h g e =
-    ap (λ (xs : List ℕ). 0 ∷ xs) (quietly asked [] e) ∙ sym (ap settles (saves_none (reached_waits a.reached event h g a.ready) ∙ ap (λ (xs : List Prefix). prepared ∷ xs) (rest_none task a.planned)))
+    ap (λ (xs : List ℕ). 0 ∷ xs) (quietly asked [] e) ∙ sym (ap settles (saves_none (reached_waits a.reached event h g a.ready) ∙ ap (λ (xs : List Prefix). after_preparation ∷ xs) (rest_none task a.planned)))
 
 starting_far : (task : Task) (clock : Clock) (lost : Bool) (due : Option ℕ) (event : Event) (past : List Event) (asked : List ℕ) → IsStarting task clock lost due past → asked ≡ [] → Far task (in_starting task clock lost due event) (event ∷ past) asked
 starting_far task clock lost due Saved past asked a e = quietly asked [] e
@@ -121,7 +121,7 @@ starting_far task clock lost due Broken past asked a e = stops_far BadPeer Broke
 passed_all : {task : Task} {clock : Clock} {lost : Bool} {k : ℕ} {past : List Event} (a : IsPassing task clock lost k past) (rest : List Prefix) → length task.plan ≤ k + 1 → rest_after task k ≡ rest
     → settles (saves task (Saved ∷ past)) ≡ 0 ∷ (settles (marks task k ++ mark task k ∷ []) ++ settles rest)
 passed_all {task} {clock} {lost} {k} {past} a rest le e =
-    ap settles (saves_more (passed_saved a le) (passed_stays Saved a.later a.passed) ∙ ap (λ (xs : List Prefix). (prepared ∷ marks task k) ++ (mark task k ∷ xs)) e ∙ sym (one_by_one (prepared ∷ marks task k) (mark task k) rest))
+    ap settles (saves_more (passed_saved a le) (passed_stays Saved a.later a.passed) ∙ ap (λ (xs : List Prefix). (after_preparation ∷ marks task k) ++ (mark task k ∷ xs)) e ∙ sym (one_by_one (after_preparation ∷ marks task k) (mark task k) rest))
     ∙ ap (λ (xs : List ℕ). 0 ∷ xs) (map-append (λ (p : Prefix). p.settled) (marks task k ++ mark task k ∷ []) rest)
 
 passed_far : (task : Task) (clock : Clock) (lost : Bool) (k : ℕ) (past : List Event) (asked : List ℕ) → IsPassing task clock lost k past → asked ≡ settles (marks task k ++ mark task k ∷ []) → Far task (on_passed task clock k) (Saved ∷ past) asked
@@ -160,8 +160,8 @@ first_far task =
       | inl lt ↦ rw (lt-ltb 0 (length task.plan) lt) refl
       | inr le ↦ rw (le-ltb 0 (length task.plan) le)
           (elim (cases_lt 0 task.cells) [
-            | inl less ↦ rw (lt-ltb 0 task.cells less) (sym (ap settles (saves_none (reached_prepared task) ∙ ap (λ (xs : List Prefix). prepared ∷ xs) (rest_whole task (omega (arith, le)) less))))
-            | inr more ↦ rw (le-ltb 0 task.cells more) (sym (ap settles (saves_none (reached_prepared task) ∙ ap (λ (xs : List Prefix). prepared ∷ xs) (rest_empty task more))))
+            | inl less ↦ rw (lt-ltb 0 task.cells less) (sym (ap settles (saves_none (reached_prepared task) ∙ ap (λ (xs : List Prefix). after_preparation ∷ xs) (rest_whole task (omega (arith, le)) less))))
+            | inr more ↦ rw (le-ltb 0 task.cells more) (sym (ap settles (saves_none (reached_prepared task) ∙ ap (λ (xs : List Prefix). after_preparation ∷ xs) (rest_empty task more))))
           ])
     ]
 
@@ -240,19 +240,19 @@ order_by task clock lost Preparing events a e =
 order_by task clock lost (Starting due) events a e =
     record {
       rest = [];
-      all = ap settles (saves_none a.reached ∙ ap (λ (xs : List Prefix). prepared ∷ xs) (rest_none task a.planned)) ∙ ap (λ (xs : List ℕ). 0 ∷ (xs ++ [])) (sym e);
+      all = ap settles (saves_none a.reached ∙ ap (λ (xs : List Prefix). after_preparation ∷ xs) (rest_none task a.planned)) ∙ ap (λ (xs : List ℕ). 0 ∷ (xs ++ [])) (sym e);
       whole = λ stopped. refl;
     }
 order_by task clock lost (Running r) events a e =
     record {
       rest = [];
-      all = ap settles (saves_quiet a.stands (over_not_passed a.later a.on) (no_cause_on a) ∙ append-nil (prepared ∷ marks task r.at)) ∙ ap (λ (xs : List ℕ). 0 ∷ xs) (sym (quietly _ _ e));
+      all = ap settles (saves_quiet a.stands (over_not_passed a.later a.on) (no_cause_on a) ∙ append-nil (after_preparation ∷ marks task r.at)) ∙ ap (λ (xs : List ℕ). 0 ∷ xs) (sym (quietly _ _ e));
       whole = λ stopped. refl;
     }
 order_by task clock lost (Passing k) events a e =
     record {
       rest = settles (rest_after task k);
-      all = ap settles (saves_more a.stands a.passed ∙ sym (one_by_one (prepared ∷ marks task k) (mark task k) (rest_after task k)))
+      all = ap settles (saves_more a.stands a.passed ∙ sym (one_by_one (after_preparation ∷ marks task k) (mark task k) (rest_after task k)))
           ∙ ap (λ (xs : List ℕ). 0 ∷ xs) (map-append (λ (p : Prefix). p.settled) (marks task k ++ mark task k ∷ []) (rest_after task k) ∙ ap (λ (xs : List ℕ). xs ++ settles (rest_after task k)) (sym e));
       whole = not_yet task (heard task events) _ (shows task clock lost (Passing k) (heard task events) a refl).goes_on;
     }

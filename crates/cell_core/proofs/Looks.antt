@@ -8,10 +8,10 @@ use Rattle.cell_core.specs.declared.state.State.{State}
 use Rattle.cell_core.specs.declared.state.State.TheVariants.{Preparing, Starting, Running, Passing, Closing, Failing, Stopped}
 use Rattle.cell_core.specs.declared.clock.Clock.{Clock}
 use Rattle.cell_core.specs.Task.{Task}
-use Rattle.cell_core.specs.Events.{is_lost, held, time}
+use Rattle.cell_core.specs.Events.{is_lost, ever, time}
 use Rattle.cell_core.specs.Requests.{Standing}
 use Rattle.cell_core.specs.Deadlines.{passed_by}
-use Rattle.cell_core.specs.Saves.{why, unacked}
+use Rattle.cell_core.specs.Saves.{why, pending_saves}
 use Rattle.cell_core.specs.Holds.{awaits, is_past, looks_in}
 use Rattle.cell_core.specs.Acts.{has_stopped, is_empty, heard, due_at, awaits_saved, calls_for_look, wants_look_of, IsTimely}
 use Rattle.cell_core.specs.Laws.{GoesOn}
@@ -34,7 +34,7 @@ stopped_first false c None e = absurd (true≢false (sym e))
 stopped_first false c (Some w) e = refl
 
 -- what calls for a look, by the clock and the deadline that stands
-called : {clock : Clock} {lost : Bool} {events : List Event} → Hears clock lost events → (o due : Option ℕ) → o ≡ due → (held is_lost events || passed_by o events) ≡ (lost || is_past clock due)
+called : {clock : Clock} {lost : Bool} {events : List Event} → Hears clock lost events → (o due : Option ℕ) → o ≡ due → (ever is_lost events || passed_by o events) ≡ (lost || is_past clock due)
 called {clock} {lost} {events} h o due e = ap₂ (λ a b. a || b) h.lost_is (ap (λ (v : Option ℕ). passed_by v events) e ∙ past_is h due)
 
 pub looks_is : (task : Task) (clock : Clock) (lost : Bool) (state : State) (events : List Event) → IsAt task clock lost state (heard task events) → awaits_saved task events ≡ awaits state
@@ -50,7 +50,7 @@ looks_is task clock lost (Passing k) events a w = saved_first _ _ _ w
 looks_is task clock lost Closing events a w = saved_first _ _ _ w
 looks_is task clock lost (Failing k cause) events a w = saved_first _ _ _ w
 looks_is task clock lost (Stopped failing) events a w =
-    stopped_first _ _ _ (and_parts (is_some (why task (heard task events))) (is_empty (unacked task (heard task events))) a.stopped).0
+    stopped_first _ _ _ (and_parts (is_some (why task (heard task events))) (is_empty (pending_saves task (heard task events))) a.stopped).0
 
 -- ---- the clock
 
@@ -62,7 +62,7 @@ no_call true c (Some w) u g h = absurd (true≢false g)
 -- where no save is awaited and no look is wanted, the clock may be read
 pub timely : (task : Task) (t : ℕ) (events : List Event) → awaits_saved task events ≡ false → wants_look_of task events ≡ false → time (heard task events) ≤ t → IsTimely task (Moment t) events
 timely task t events u h le =
-    λ g. (le, no_call (is_empty (unacked task (heard task events))) (calls_for_look task (heard task events)) (why task (heard task events)) u g h)
+    λ g. (le, no_call (is_empty (pending_saves task (heard task events))) (calls_for_look task (heard task events)) (why task (heard task events)) u g h)
 
 -- ---- without the state
 

@@ -9,7 +9,7 @@ use Rattle.cell_core.specs.declared.state.State.{State}
 use Rattle.cell_core.specs.declared.state.State.TheVariants.{Preparing, Starting, Running, Passing, Closing, Failing, Stopped}
 use Rattle.cell_core.specs.Task.{Task, cell_of}
 use Rattle.cell_core.specs.Requests.{reply, is_over, is_fatal, after, Standing, standing}
-use Rattle.cell_core.specs.Saves.{late_cause, why_not_done, Prefix, prepared, why, unacked, is_done, is_whole}
+use Rattle.cell_core.specs.Saves.{late_cause, why_not_done, Prefix, after_preparation, why, pending_saves, is_done, is_whole}
 use Rattle.cell_core.specs.Acts.{is_empty, has_stopped, failing_at}
 use Rattle.cell_core.specs.declared.clock.Clock.{Clock}
 use Rattle.cell_core.specs.Holds.{running_state, awaits}
@@ -22,22 +22,22 @@ use Rattle.cell_core.proofs.SavesLemmas.{at, over_not_passed, rest_after, rest_o
 -- What a core that isn't stopped shows.
 pub record Shows (task : Task) (state : State) (events : List Event) : Type 0 where
   pub goes_on : has_stopped task events ≡ false
-  pub awaits_it : not (is_empty (unacked task events)) ≡ awaits state
+  pub awaits_it : not (is_empty (pending_saves task events)) ≡ awaits state
   pub names : failing_at task events ≡ failing_in task state
 
 pub no_cause : (task : Task) (events : List Event) → why task events ≡ None → has_stopped task events ≡ false
 no_cause task events e = rw e refl
 
-pub some_due : (task : Task) (events : List Event) (x : Prefix) (xs : List Prefix) → unacked task events ≡ x ∷ xs → has_stopped task events ≡ false
-some_due task events x xs e = and_right (is_some (why task events)) (is_empty (unacked task events)) (ap is_empty e)
+pub some_due : (task : Task) (events : List Event) (x : Prefix) (xs : List Prefix) → pending_saves task events ≡ x ∷ xs → has_stopped task events ≡ false
+some_due task events x xs e = and_right (is_some (why task events)) (is_empty (pending_saves task events)) (ap is_empty e)
 
-pub all_done : (task : Task) (events : List Event) (w : Why) → why task events ≡ Some w → unacked task events ≡ [] → has_stopped task events ≡ true
-all_done task events w e u = and_from (is_some (why task events)) (is_empty (unacked task events)) (ap is_some e) (ap is_empty u)
+pub all_done : (task : Task) (events : List Event) (w : Why) → why task events ≡ Some w → pending_saves task events ≡ [] → has_stopped task events ≡ true
+all_done task events w e u = and_from (is_some (why task events)) (is_empty (pending_saves task events)) (ap is_some e) (ap is_empty u)
 
-pub is_due : (task : Task) (events : List Event) (x : Prefix) (xs : List Prefix) → unacked task events ≡ x ∷ xs → not (is_empty (unacked task events)) ≡ true
+pub is_due : (task : Task) (events : List Event) (x : Prefix) (xs : List Prefix) → pending_saves task events ≡ x ∷ xs → not (is_empty (pending_saves task events)) ≡ true
 is_due task events x xs e = ap (λ (ys : List Prefix). not (is_empty ys)) e
 
-pub none_due : (task : Task) (events : List Event) → unacked task events ≡ [] → not (is_empty (unacked task events)) ≡ false
+pub none_due : (task : Task) (events : List Event) → pending_saves task events ≡ [] → not (is_empty (pending_saves task events)) ≡ false
 none_due task events e = ap (λ (ys : List Prefix). not (is_empty ys)) e
 
 -- no request stands, and the plan isn't empty
@@ -109,7 +109,7 @@ rest_last task k last lt = rw (eq-eqb (k + 1) (length task.plan) last, lt-ltb (c
 pub rest_no_more : (task : Task) (k : ℕ) → task.cells ≤ cell_of task k + 1 → rest_after task k ≡ []
 rest_no_more task k le = rw (and_right (k + 1 == length task.plan) (nat_lt (cell_of task k + 1) task.cells) (le-ltb (cell_of task k + 1) task.cells le)) refl
 
-pub due_closing : {task : Task} {k : ℕ} {events : List Event} (a : IsClosing task k events) → unacked task events ≡ record { settled = task.cells; stopping_cell = None } ∷ []
+pub due_closing : {task : Task} {k : ℕ} {events : List Event} (a : IsClosing task k events) → pending_saves task events ≡ record { settled = task.cells; stopping_cell = None } ∷ []
 due_closing {task} {k} {events} a = unacked_passed a.stands a.passed ∙ rest_last task k a.last a.more
 
 -- before and after the first acknowledged save
@@ -155,7 +155,7 @@ shows_closing task clock lost events (inl a) =
       names = failing_none task (Saved ∷ []) _ (saves_none (reached_prepared task)) (no_stop_none task);
     })
 
-due_first : (task : Task) → unacked task [] ≡ prepared ∷ rest_of_none task
+due_first : (task : Task) → pending_saves task [] ≡ after_preparation ∷ rest_of_none task
 due_first task = saves_none (reached_nothing task)
 
 shows_preparing : (task : Task) (clock : Clock) (lost : Bool) (events : List Event) → IsAt task clock lost Preparing events → Shows task Preparing events

@@ -7,9 +7,9 @@ use Rattle.cell_core.specs.declared.why.Why.{Why}
 use Rattle.cell_core.specs.declared.act.Act.{Act}
 use Rattle.cell_core.specs.declared.act.Act.TheVariants.{Nothing, Start, Send, Look, Interrupt, Save, Stop}
 use Rattle.cell_core.specs.Task.{Task, cell_of}
-use Rattle.cell_core.specs.Events.{is_saved, acked, since}
+use Rattle.cell_core.specs.Events.{is_saved, ack_count, since}
 use Rattle.cell_core.specs.Requests.{after, both_came, is_next, is_over, is_fatal, is_passed_in, or_before, last_below, Standing, standing}
-use Rattle.cell_core.specs.Saves.{Prefix, why, unacked}
+use Rattle.cell_core.specs.Saves.{Prefix, why, pending_saves}
 use Rattle.cell_core.specs.Acts.{is_empty_list, has_stopped, heard, is_late, due_at, is_queued_now, answers, act_by, act_at, act_of}
 use Rattle.cell_core.specs.Deadlines.{first_deadline}
 use Rattle.cell_core.specs.Laws.{IsOpen, IsFree, IsSent, IsAskedFor, StopsBy}
@@ -22,7 +22,7 @@ next_parts : (task : Task) (k : ℕ) (event : Event) (past : List Event) → is_
 next_parts task k event past h =
     let a = and_parts _ (nat_lt (k + 1) (length task.plan)) h in
     let b = and_parts _ (is_passed_in (after task k past)) a.0 in
-    let c = and_parts (is_saved event) (acked past == k + 1) b.0 in
+    let c = and_parts (is_saved event) (ack_count past == k + 1) b.0 in
     (saved_is event c.0, b.1)
 
 next_passed_by : (task : Task) (k : ℕ) (event : Event) (past later : List Event) (v : Option (List Event)) → after task (suc k) past ≡ v → ((l : List Event) → after task (suc k) past ≡ Some l → is_passed_in (after task k past) ≡ true)
@@ -85,7 +85,7 @@ answers_send task (Some r) Ready past i h = (let s = sent_now (cell_of task r.re
 answers_send task (Some r) (Io m) past i h = (let s = sent_now (cell_of task r.request) r.later i h in (r, refl, s.0, s.1))
 answers_send task (Some r) (Reply f) past i h = (let s = sent_now (cell_of task r.request) r.later i h in (r, refl, s.0, s.1))
 answers_send task (Some r) Broken past i h = (let s = sent_now (cell_of task r.request) r.later i h in (r, refl, s.0, s.1))
-answers_send task None Saved past i h = absurd (choice_not (acked past == 0) Start Nothing i (λ e. cc) (λ e. cc) h)
+answers_send task None Saved past i h = absurd (choice_not (ack_count past == 0) Start Nothing i (λ e. cc) (λ e. cc) h)
 answers_send task None (Moment t) past i h = absurd (choice_not (is_late (due_at task None (Moment t ∷ past)) (Moment t ∷ past)) Look Nothing i (λ e. cc) (λ e. cc) h)
 answers_send task None Lost past i h = absurd (cc)
 answers_send task None Ready past i h = absurd (cc)
@@ -130,7 +130,7 @@ sent_where task event past i h =
       | inr on ↦
           let now = event ∷ heard task past in
           let act : act_at task now ≡ Send i = sym (ap (λ (b : Bool). if b then Nothing else act_at task now) on) ∙ h in
-          let r = answers_send task (standing task now) event (heard task past) i (act_send task now (unacked task now) (why task now) i act) in
+          let r = answers_send task (standing task now) event (heard task past) i (act_send task now (pending_saves task now) (why task now) i act) in
           let there : after task r.0.request now ≡ Some [] = standing_after task (length task.plan) now r.0 r.1 ∙ ap Some r.2 in
           record { request = r.0.request; stands = there; cell_is = r.3; free = free_of task r.0.request event (heard task past) there }
     ]
@@ -155,7 +155,7 @@ answers_not_ending task (Some r) (Io m ∷ past) = if_ending (is_empty_list r.la
 answers_not_ending task (Some r) (Reply f ∷ past) = if_ending (is_empty_list r.later) (Send (cell_of task r.request)) Nothing refl refl
 answers_not_ending task (Some r) (Broken ∷ past) = if_ending (is_empty_list r.later) (Send (cell_of task r.request)) Nothing refl refl
 answers_not_ending task (Some r) [] = refl
-answers_not_ending task None (Saved ∷ past) = if_ending (acked past == 0) Start Nothing refl refl
+answers_not_ending task None (Saved ∷ past) = if_ending (ack_count past == 0) Start Nothing refl refl
 answers_not_ending task None (Moment t ∷ past) = if_ending (is_late (due_at task None (Moment t ∷ past)) (Moment t ∷ past)) Look Nothing refl refl
 answers_not_ending task None (Lost ∷ past) = refl
 answers_not_ending task None (Ready ∷ past) = refl
@@ -165,12 +165,12 @@ answers_not_ending task None (Looked ∷ past) = refl
 answers_not_ending task None (Broken ∷ past) = refl
 answers_not_ending task None [] = refl
 
-save_by : (task : Task) (events : List Event) (due : List Prefix) (cause : Option Why) (n : ℕ) → unacked task events ≡ due → act_by task events due cause ≡ Save n → IsAskedFor task n events
+save_by : (task : Task) (events : List Event) (due : List Prefix) (cause : Option Why) (n : ℕ) → pending_saves task events ≡ due → act_by task events due cause ≡ Save n → IsAskedFor task n events
 save_by task events (x ∷ xs) cause n u h = record { first = x; others = xs; due = u; settles_it = (let both : Save x.settled ≡ Save n = h in cc) }
 save_by task events [] (Some w) n u h = absurd (let clash : Stop w ≡ Save n = h in cc)
 save_by task events [] None n u h = absurd (true≢false (sym (ap is_ending h) ∙ answers_not_ending task (standing task events) events))
 
-stop_by : (task : Task) (events : List Event) (due : List Prefix) (cause : Option Why) (w : Why) → unacked task events ≡ due → why task events ≡ cause → act_by task events due cause ≡ Stop w → StopsBy task w events
+stop_by : (task : Task) (events : List Event) (due : List Prefix) (cause : Option Why) (w : Why) → pending_saves task events ≡ due → why task events ≡ cause → act_by task events due cause ≡ Stop w → StopsBy task w events
 stop_by task events (x ∷ xs) cause w u y h = absurd (let clash : Save x.settled ≡ Stop w = h in cc)
 stop_by task events [] (Some v) w u y h = record { cause_is = y ∙ (let same : v ≡ w = (let both : Stop v ≡ Stop w = h in cc) in ap Some same); settled_all = u }
 stop_by task events [] None w u y h = absurd (true≢false (sym (ap is_ending h) ∙ answers_not_ending task (standing task events) events))
@@ -183,7 +183,7 @@ act_live task event past act e h =
     ]
 
 pub saved_where : (task : Task) (event : Event) (past : List Event) (n : ℕ) → act_of task event past ≡ Save n → IsAskedFor task n (event ∷ heard task past)
-saved_where task event past n h = save_by task (event ∷ heard task past) (unacked task (event ∷ heard task past)) (why task (event ∷ heard task past)) n refl (act_live task event past (Save n) refl h)
+saved_where task event past n h = save_by task (event ∷ heard task past) (pending_saves task (event ∷ heard task past)) (why task (event ∷ heard task past)) n refl (act_live task event past (Save n) refl h)
 
 pub stopped_where : (task : Task) (event : Event) (past : List Event) (w : Why) → act_of task event past ≡ Stop w → StopsBy task w (event ∷ heard task past)
-stopped_where task event past w h = stop_by task (event ∷ heard task past) (unacked task (event ∷ heard task past)) (why task (event ∷ heard task past)) w refl refl (act_live task event past (Stop w) refl h)
+stopped_where task event past w h = stop_by task (event ∷ heard task past) (pending_saves task (event ∷ heard task past)) (why task (event ∷ heard task past)) w refl refl (act_live task event past (Stop w) refl h)

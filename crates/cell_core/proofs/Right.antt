@@ -9,7 +9,7 @@ use Rattle.cell_core.specs.declared.moved.Moved.{Moved}
 use Rattle.cell_core.specs.Task.{Task}
 use Rattle.cell_core.specs.Events.{is_looked, is_saved}
 use Rattle.cell_core.specs.Requests.{is_passed, Standing, standing}
-use Rattle.cell_core.specs.Saves.{Prefix, why, unacked}
+use Rattle.cell_core.specs.Saves.{Prefix, why, pending_saves}
 use Rattle.cell_core.specs.Acts.{act_by, act_at, answers, is_used}
 use Rattle.cell_core.specs.declared.clock.Clock.{Clock}
 use Rattle.cell_core.specs.Holds.{clock_after, lost_after}
@@ -25,10 +25,10 @@ pub record Right (task : Task) (clock : Clock) (lost : Bool) (to : Moved) (event
   pub act : to.step.act ≡ act_at task (event ∷ past)
   pub takes : to.step.takes ≡ is_used event (standing task past)
 
-pub act_from : (task : Task) (events : List Event) (due : List Prefix) (cause : Option Why) → unacked task events ≡ due → why task events ≡ cause → act_at task events ≡ act_by task events due cause
+pub act_from : (task : Task) (events : List Event) (due : List Prefix) (cause : Option Why) → pending_saves task events ≡ due → why task events ≡ cause → act_at task events ≡ act_by task events due cause
 act_from task events due cause u w = ap (λ (xs : List Prefix). act_by task events xs (why task events)) u ∙ ap (λ (v : Option Why). act_by task events due v) w
 
-pub act_saves : (task : Task) (events : List Event) (x : Prefix) (xs : List Prefix) → unacked task events ≡ x ∷ xs → act_at task events ≡ Save x.settled
+pub act_saves : (task : Task) (events : List Event) (x : Prefix) (xs : List Prefix) → pending_saves task events ≡ x ∷ xs → act_at task events ≡ Save x.settled
 act_saves task events x xs u = ap (λ (ys : List Prefix). act_by task events ys (why task events)) u
 
 -- a request runs

@@ -10,14 +10,14 @@ use Rattle.cell_core.specs.declared.act.Act.TheVariants.{Start, Save, Stop}
 use Rattle.cell_core.specs.declared.state.State.{State}
 use Rattle.cell_core.specs.declared.state.State.TheVariants.{Preparing, Starting, Running, Passing, Closing, Failing, Stopped}
 use Rattle.cell_core.specs.Task.{Task, cell_of}
-use Rattle.cell_core.specs.Events.{is_turn_at, since, is_saved, is_broken, is_lost, came, looked, acked}
+use Rattle.cell_core.specs.Events.{is_turn_at, since, is_saved, is_broken, is_lost, came, look_since, ack_count}
 use Rattle.cell_core.specs.Requests.{has_idle, own, reply, is_over, is_fatal, is_passed, Standing, standing}
-use Rattle.cell_core.specs.Saves.{late_cause, why_not_done, Prefix, prepared, why, unacked, is_done, is_whole, planned}
+use Rattle.cell_core.specs.Saves.{late_cause, why_not_done, Prefix, after_preparation, why, pending_saves, is_done, is_whole, plan_saves}
 use Rattle.cell_core.specs.Acts.{is_used}
 use Rattle.cell_core.specs.declared.clock.Clock.{Clock}
 use Rattle.cell_core.specs.declared.clock.Clock.TheVariants.{Unread}
 use Rattle.cell_core.specs.Holds.{awaits}
-use Rattle.cell_core.specs.Deadlines.{entry_and_more, deadline, first_deadline, second_deadline, by_limit, looked_by, queued, replied_at}
+use Rattle.cell_core.specs.Deadlines.{entry_and_more, deadline, first_deadline, second_deadline, by_limit, looked_by, is_queued, replied_at}
 use Rattle.cell_core.specs.Moves.{move, sends, stops, in_preparing, on_passed, in_passing, in_closing, in_failing, next_move}
 use Rattle.cell_core.specs.StandsFor.{Hears, Reached, Stands, Fails, IsPassing, IsClosing, IsFailing, HasStopped, IsAt}
 use Rattle.cell_core.proofs.Requests.{reached_next, standing_none}
@@ -43,7 +43,7 @@ second_saved t past None e = ap (entry_and_more (Saved ∷ past)) (since_none (i
 
 pub limit_saved : (task : Task) (k : ℕ) (o : Option ℕ) (past : List Event) → by_limit task k o (Saved ∷ past) ≡ by_limit task k o past
 limit_saved task k None past = refl
-limit_saved task k (Some first) past = ap (λ (x : Option ℕ). if task.times.interrupt && queued task k first past then x else Some first) (second_saved first past (since (is_turn_at first) past) refl)
+limit_saved task k (Some first) past = ap (λ (x : Option ℕ). if task.times.interrupt && is_queued task k first past then x else Some first) (second_saved first past (since (is_turn_at first) past) refl)
 
 pub deadline_saved : (task : Task) (k : ℕ) (later past : List Event) → deadline task (at k (Saved ∷ later)) (Saved ∷ past) ≡ deadline task (at k later) past
 deadline_saved task k later past =
@@ -64,7 +64,7 @@ cause_saved task k later past =
     let asks = interrupt_saved task k (first_deadline task (at k later) past) past in
     let same : late_cause task (Some (at k (Saved ∷ later))) (Saved ∷ past) ≡ late_cause task (Some (at k later)) past =
     late_is task (at k (Saved ∷ later)) (Saved ∷ past) ∙ cause_by _ _ (is_none (reply later) && task.times.interrupt) _ _ (if is_some (reply later) then NoIdle else TimedOut) looks asks ∙ sym (late_is task (at k later) past) in
-    ap (λ (d : Option Why). if is_over later && is_fatal later then Some CellError else if came is_broken past then Some BadPeer else if looked is_lost past then Some KernelLost else d) same
+    ap (λ (d : Option Why). if is_over later && is_fatal later then Some CellError else if came is_broken past then Some BadPeer else if look_since is_lost past then Some KernelLost else d) same
 
 pub fails_saved : {task : Task} {k : ℕ} {later past : List Event} {w : Why} → Fails task k later w past → Fails task k (Saved ∷ later) w (Saved ∷ past)
 fails_saved {task} {k} {later} {past} {w} f = record { not_passed = f.not_passed; cause = cause_saved task k later past ∙ f.cause; stops = f.stops }
@@ -81,7 +81,7 @@ right_failing task clock lost k w past a =
     }
 
 -- the acknowledgement of the last save
-pub stops_done : {task : Task} {k a : ℕ} {later events : List Event} → Stands task k later a events → is_passed later ≡ true → k + 1 ≡ length task.plan → unacked task events ≡ [] → HasStopped task None events
+pub stops_done : {task : Task} {k a : ℕ} {later events : List Event} → Stands task k later a events → is_passed later ≡ true → k + 1 ≡ length task.plan → pending_saves task events ≡ [] → HasStopped task None events
 stops_done {task} {k} {a} {later} {events} s p last u =
     record { stopped = all_done task events Done (why_done s p last) u; names = failing_more s p }
 
@@ -139,12 +139,12 @@ right_passing task clock lost k past a later =
     ]
 
 -- the acknowledgement of the save of the whole notebook
-pub due_closed : {task : Task} {k : ℕ} {later events : List Event} → Stands task k later (k + 3) events → is_passed later ≡ true → k + 1 ≡ length task.plan → cell_of task k + 1 < task.cells → unacked task events ≡ []
+pub due_closed : {task : Task} {k : ℕ} {later events : List Event} → Stands task k later (k + 3) events → is_passed later ≡ true → k + 1 ≡ length task.plan → cell_of task k + 1 < task.cells → pending_saves task events ≡ []
 due_closed {task} {k} {later} {events} s p last lt =
     let whole : Prefix = record { settled = task.cells; stopping_cell = None } in
-    left task events ((prepared ∷ marks task k) ++ (mark task k ∷ whole ∷ [])) [] s.reached.acknowledged
-    (saves_more s p ∙ ap (λ (xs : List Prefix). (prepared ∷ marks task k) ++ (mark task k ∷ xs)) (rest_last task k last lt) ∙ sym (append-nil _))
-    (length-append (prepared ∷ marks task k) (mark task k ∷ whole ∷ []) ∙ (let e = length-marks task k in omega (arith, e)))
+    left task events ((after_preparation ∷ marks task k) ++ (mark task k ∷ whole ∷ [])) [] s.reached.acknowledged
+    (saves_more s p ∙ ap (λ (xs : List Prefix). (after_preparation ∷ marks task k) ++ (mark task k ∷ xs)) (rest_last task k last lt) ∙ sym (append-nil _))
+    (length-append (after_preparation ∷ marks task k) (mark task k ∷ whole ∷ []) ∙ (let e = length-marks task k in omega (arith, e)))
 
 pub right_closed : (task : Task) (clock : Clock) (lost : Bool) (k : ℕ) (past : List Event) → IsClosing task k past → Right task clock lost (in_closing Saved) Saved past
 right_closed task clock lost k past a =
@@ -160,27 +160,27 @@ right_closed task clock lost k past a =
     }
 
 -- an empty plan
-pub planned_by : (p q c d : List Prefix) → p ≡ q → c ≡ d → (prepared ∷ p) ++ c ≡ (prepared ∷ q) ++ d
+pub planned_by : (p q c d : List Prefix) → p ≡ q → c ≡ d → (after_preparation ∷ p) ++ c ≡ (after_preparation ∷ q) ++ d
 planned_by p q c d a b = cc
 
-pub planned_none : {task : Task} {a : ℕ} {events : List Event} → Reached task 0 None a events → planned task events ≡ prepared ∷ rest_of_none task
+pub planned_none : {task : Task} {a : ℕ} {events : List Event} → Reached task 0 None a events → plan_saves task events ≡ after_preparation ∷ rest_of_none task
 planned_none {task} {a} {events} r = planned_by _ _ _ _ (passes_none r (length task.plan)) (closing_at task _ _ _ _ (standing_none r) (passes_none r (length task.plan)))
 
-pub why_empty : {task : Task} {a : ℕ} {events : List Event} → Reached task 0 None a events → length task.plan ≡ 0 → length (prepared ∷ rest_of_none task) ≡ a → why task events ≡ Some Done
+pub why_empty : {task : Task} {a : ℕ} {events : List Event} → Reached task 0 None a events → length task.plan ≡ 0 → length (after_preparation ∷ rest_of_none task) ≡ a → why task events ≡ Some Done
 why_empty {task} {a} {events} r e l =
     let n = r.acknowledged in
-    let all : length (planned task events) ≡ acked events = ap (λ (xs : List Prefix). length xs) (planned_none r) ∙ l ∙ sym n in
+    let all : length (plan_saves task events) ≡ ack_count events = ap (λ (xs : List Prefix). length xs) (planned_none r) ∙ l ∙ sym n in
     let done : is_done task events ≡ true =
     and_from (is_whole task (standing task events)) _ (ap (λ (v : Option Standing). is_whole task v) (standing_none r) ∙ eq-eqb (length task.plan) 0 e)
-    (or_right (nat_lt 0 (length task.plan)) _ (eq-eqb (length (planned task events)) (acked events) all)) in
+    (or_right (nat_lt 0 (length task.plan)) _ (eq-eqb (length (plan_saves task events)) (ack_count events) all)) in
     ap (λ (b : Bool). if b then Some Done else why_not_done task (standing task events) events) done
 
 pub right_empty_closed : (task : Task) (clock : Clock) (lost : Bool) → length task.plan ≡ 0 → 0 < task.cells → Right task clock lost (in_closing Saved) Saved (Saved ∷ [])
 right_empty_closed task clock lost e lt =
     let r = reached_closed task in
     let rest = rest_whole task e lt in
-    let c = why_empty r e (ap (λ (xs : List Prefix). length (prepared ∷ xs)) rest) in
-    let u : unacked task (Saved ∷ Saved ∷ []) ≡ [] = left task (Saved ∷ Saved ∷ []) (prepared ∷ rest_of_none task) [] refl (saves_none r ∙ sym (append-nil _)) (ap (λ (xs : List Prefix). length (prepared ∷ xs)) rest) in
+    let c = why_empty r e (ap (λ (xs : List Prefix). length (after_preparation ∷ xs)) rest) in
+    let u : pending_saves task (Saved ∷ Saved ∷ []) ≡ [] = left task (Saved ∷ Saved ∷ []) (after_preparation ∷ rest_of_none task) [] refl (saves_none r ∙ sym (append-nil _)) (ap (λ (xs : List Prefix). length (after_preparation ∷ xs)) rest) in
     record {
       stands = record { stopped = all_done task (Saved ∷ Saved ∷ []) Done c u; names = failing_none task (Saved ∷ Saved ∷ []) _ (saves_none r) (no_stop_none task) };
       act = sym (act_from task (Saved ∷ Saved ∷ []) [] (Some Done) u c);
@@ -212,7 +212,7 @@ pub stop_first : (task : Task) → length task.plan ≡ 0 → task.cells ≤ 0 �
 stop_first task e le =
     let r = reached_prepared task in
     let u = unacked_none r ∙ rest_empty task le in
-    let c = why_empty r e (ap (λ (xs : List Prefix). length (prepared ∷ xs)) (rest_empty task le)) in
+    let c = why_empty r e (ap (λ (xs : List Prefix). length (after_preparation ∷ xs)) (rest_empty task le)) in
     record {
       stands = stops_none task (Saved ∷ []) Done r (rest_empty task le) c;
       act = sym (act_from task (Saved ∷ []) [] (Some Done) u c);

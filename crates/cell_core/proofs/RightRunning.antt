@@ -10,14 +10,14 @@ use Rattle.cell_core.specs.declared.why.Why.TheVariants.{CellError, KernelLost, 
 use Rattle.cell_core.specs.declared.act.Act.{Act}
 use Rattle.cell_core.specs.declared.act.Act.TheVariants.{Nothing, Look, Interrupt}
 use Rattle.cell_core.specs.Task.{Task}
-use Rattle.cell_core.specs.Events.{is_moment, is_looked, is_turn_at, held, since, time, is_saved, is_broken, is_lost, came, looked}
+use Rattle.cell_core.specs.Events.{is_moment, is_looked, is_turn_at, ever, since, time, is_saved, is_broken, is_lost, came, look_since}
 use Rattle.cell_core.specs.Requests.{has_idle, own, reply, is_over, is_fatal, is_passed, after, Standing, standing}
 use Rattle.cell_core.specs.Saves.{is_stop}
 use Rattle.cell_core.specs.Acts.{due_at, is_late, is_queued_now, calls_for_look, answers, is_used}
 use Rattle.cell_core.specs.declared.clock.Clock.{Clock}
 use Rattle.cell_core.specs.declared.clock.Clock.TheVariants.{Unread, Started, Turned}
 use Rattle.cell_core.specs.Holds.{running_state, now_of, is_read, is_turned, is_past, read_again, clock_after, lost_after}
-use Rattle.cell_core.specs.Deadlines.{entry_and_more, deadline, first_deadline, second_deadline, by_limit, looked_by, passed_by, queued, queues, is_first_look, is_unanswered}
+use Rattle.cell_core.specs.Deadlines.{entry_and_more, deadline, first_deadline, second_deadline, by_limit, looked_by, passed_by, is_queued, queues, is_first_look, is_unanswered}
 use Rattle.cell_core.specs.Moves.{move, stays, ends, fails, look_or, late, in_running}
 use Rattle.cell_core.specs.StandsFor.{Hears, Stands, Fails, IsAsked, IsRunning}
 use Rattle.cell_core.proofs.Requests.{standing_is}
@@ -119,13 +119,13 @@ replies_running {task} {clock} {lost} {k} {due} {interrupted} {past} fatal a =
     }
 
 -- the deadline before its interrupt
-pub first_by : (task : Task) (k first : ℕ) (past : List Event) → queued task k first past ≡ false → by_limit task k (Some first) past ≡ Some first
-first_by task k first past q = ap (λ (b : Bool). if b then second_deadline first past else Some first) (and_right task.times.interrupt (queued task k first past) q)
+pub first_by : (task : Task) (k first : ℕ) (past : List Event) → is_queued task k first past ≡ false → by_limit task k (Some first) past ≡ Some first
+first_by task k first past q = ap (λ (b : Bool). if b then second_deadline first past else Some first) (and_right task.times.interrupt (is_queued task k first past) q)
 
 -- a clock entry while request k stands, where no look is called for
 pub unheld_first : {task : Task} {clock : Clock} {lost : Bool} {k : ℕ} {idle : Bool} {due : Option ℕ} {interrupted : Bool} {past : List Event} (fatal : Option Bool)
     → (a : IsRunning task clock lost k fatal idle due interrupted past) → passed_by due past ≡ false → fatal ≡ None → (first : ℕ) → first_deadline task (at k a.later) past ≡ Some first → task.times.interrupt ≡ true
-    → interrupted ≡ false → held (is_turn_at first) past ≡ false
+    → interrupted ≡ false → ever (is_turn_at first) past ≡ false
 unheld_first {task} {clock} {lost} {k} {idle} {due} {interrupted} {past} fatal a quiet n first f on off =
     let asked = subst (λ (b : Bool). IsAsked task k first b past) off (a.asked n first f on) in
     let none : is_some (reply a.later) ≡ false = ap is_some (a.replied ∙ n) in
@@ -173,7 +173,7 @@ moment_right {task} {clock} {lost} {k} {fatal} {idle} {due} {interrupted} {past}
 -- the deadline stays, where this look queues no interrupt
 pub looked_deadline : {task : Task} {clock : Clock} {lost : Bool} {k : ℕ} {fatal : Option Bool} {idle : Bool} {due : Option ℕ} {interrupted : Bool} {past : List Event}
     → (a : IsRunning task clock lost k fatal idle due interrupted past)
-    → (fatal ≡ None → (first : ℕ) → first_deadline task (at k a.later) past ≡ Some first → task.times.interrupt ≡ true → queued task k first (Looked ∷ past) ≡ interrupted)
+    → (fatal ≡ None → (first : ℕ) → first_deadline task (at k a.later) past ≡ Some first → task.times.interrupt ≡ true → is_queued task k first (Looked ∷ past) ≡ interrupted)
     → deadline task (at k (Looked ∷ a.later)) (Looked ∷ past) ≡ due
 looked_deadline {task} {clock} {lost} {k} {fatal} {idle} {due} {interrupted} {past} a now =
     deadline_stays task k fatal interrupted Looked a.later past a.replied a.replied (idle_before fatal idle a.later a.replied a.idled a.on) (idle_before fatal idle a.later a.replied a.idled a.on) a.asked now ∙ a.until
@@ -209,7 +209,7 @@ not_first_look task k first past h = rw h refl
 pub answered_look : (task : Task) (k first : ℕ) (past : List Event) → is_unanswered (after task k past) ≡ false → queues task k first (Looked ∷ past) ≡ false
 answered_look task k first past h = rw h (grind arith)
 
-pub asked_look : (task : Task) (k first : ℕ) (interrupted : Bool) (past : List Event) → (interrupted ≡ false → held (is_turn_at first) past ≡ false) → IsAsked task k first interrupted past → is_first_look (since (is_turn_at first) past) ≡ false
+pub asked_look : (task : Task) (k first : ℕ) (interrupted : Bool) (past : List Event) → (interrupted ≡ false → ever (is_turn_at first) past ≡ false) → IsAsked task k first interrupted past → is_first_look (since (is_turn_at first) past) ≡ false
 asked_look task k first true past unheld a = ap is_first_look a.1.1 ∙ and_right (not (came is_moment a.1.0)) (not (came is_looked a.1.0)) (ap not a.1.2)
 asked_look task k first false past unheld a = ap is_first_look (since_unheld (is_turn_at first) past (unheld refl))
 
@@ -241,7 +241,7 @@ pub lost_right : {task : Task} {clock : Clock} {k : ℕ} {fatal : Option Bool} {
     → IsRunning task clock true k fatal idle due interrupted past → Right task clock true (fails task k KernelLost) Looked past
 lost_right {task} {clock} {k} {fatal} {idle} {due} {interrupted} {past} a =
     let f : Fails task k (Looked ∷ a.later) KernelLost (Looked ∷ past) =
-    record { not_passed = over_not_passed (Looked ∷ a.later) a.on; cause = lost_cause (is_over a.later) (is_fatal a.later) (came is_broken past) (held is_lost past) (looked is_lost past) _ a.on a.hears.unbroken a.hears.lost_is; stops = refl } in
+    record { not_passed = over_not_passed (Looked ∷ a.later) a.on; cause = lost_cause (is_over a.later) (is_fatal a.later) (came is_broken past) (ever is_lost past) (look_since is_lost past) _ a.on a.hears.unbroken a.hears.lost_is; stops = refl } in
     fails_right Looked KernelLost a.stands refl f refl
 
 pub looked_passed : (due : Option ℕ) (past : List Event) → passed_by due past ≡ true → looked_by due (Looked ∷ past) ≡ true
@@ -266,7 +266,7 @@ late_fails {task} {clock} {k} {fatal} {idle} {due} {interrupted} {past} a passed
     let f : Fails task k (Looked ∷ a.later) w (Looked ∷ past) =
     record {
       not_passed = over_not_passed (Looked ∷ a.later) a.on;
-      cause = cause_from (is_over a.later) (is_fatal a.later) (came is_broken past) (held is_lost past) (looked is_lost past) _ a.on a.hears.unbroken a.hears.lost_is a.hears.unseen
+      cause = cause_from (is_over a.later) (is_fatal a.later) (came is_broken past) (ever is_lost past) (look_since is_lost past) _ a.on a.hears.unbroken a.hears.lost_is a.hears.unseen
           ∙ late_is task (at k (Looked ∷ a.later)) (Looked ∷ past) ∙ late_by_look _ _ _ w there no_interrupt which;
       stops = stop;
     } in
@@ -298,17 +298,17 @@ pub late_interrupted : {task : Task} {clock : Clock} {k : ℕ} {idle : Bool} {du
     → (a : IsRunning task clock false k None idle due true past) → passed_by due past ≡ true → task.times.interrupt ≡ true → Right task clock false (fails task k TimedOut) Looked past
 late_interrupted {task} {clock} {k} {idle} {due} {past} a passed on =
     let l = limited a passed in
-    let q : queued task k l.0 past ≡ true = (a.asked refl l.0 l.1 on).0 in
+    let q : is_queued task k l.0 past ≡ true = (a.asked refl l.0 l.1 on).0 in
     late_fails a passed (looked_deadline a (λ n first f o. or_right _ _ (a.asked n first f o).0))
     (and_right _ _ (ap not (ap (λ (o : Option ℕ). queued_by task k o (Looked ∷ past)) l.1 ∙ or_right _ _ q))) TimedOut refl refl
 
 -- the look queues the interrupt
 pub queues_now : (task : Task) (k first : ℕ) (past between : List Event) → since (is_turn_at first) past ≡ Some between → came is_moment between ≡ false → came is_looked between ≡ false → is_unanswered (after task k past) ≡ true
-    → came is_broken past ≡ false → held is_lost past ≡ false → queues task k first (Looked ∷ past) ≡ true
+    → came is_broken past ≡ false → ever is_lost past ≡ false → queues task k first (Looked ∷ past) ≡ true
 queues_now task k first past between s m l u b h = rw (s, m, l, u, b, h) refl
 
 pub interrupted_until : (task : Task) (clock : Clock) (k : ℕ) (past : List Event) (later : List Event) (first : ℕ) (between : List Event) → reply later ≡ None → first_deadline task (at k later) past ≡ Some first → task.times.interrupt ≡ true
-    → queued task k first (Looked ∷ past) ≡ true → since (is_turn_at first) past ≡ Some between → came is_moment between ≡ false → time past ≡ now_of clock
+    → is_queued task k first (Looked ∷ past) ≡ true → since (is_turn_at first) past ≡ Some between → came is_moment between ≡ false → time past ≡ now_of clock
     → deadline task (at k (Looked ∷ later)) (Looked ∷ past) ≡ Some (now_of clock + 10000)
 interrupted_until task clock k past later first between r f on q s m now =
     deadline_unreplied task (at k (Looked ∷ later)) (Looked ∷ past) (ap is_some r)
@@ -328,9 +328,9 @@ interrupt_right {task} {clock} {k} {idle} {due} {past} a passed on =
     let there = since_held (is_turn_at first) past (subst (λ (o : Option ℕ). passed_by o past ≡ true) e passed) in
     let quiet = asked.1 there.0 there.1 in
     let queues_it = queues_now task k first past there.0 there.1 quiet.0 quiet.1 (ap is_unanswered a.stands.reached.here ∙ ap is_none a.replied) a.hears.unbroken a.hears.lost_is in
-    let queued_it : queued task k first (Looked ∷ past) ≡ true = rw queues_it refl in
+    let queued_it : is_queued task k first (Looked ∷ past) ≡ true = rw queues_it refl in
     let now = a.hears.now in
-    let far : held (is_turn_at (now_of clock + 10000)) past ≡ false = ahead a.hears (now_of clock + 10000) (omega (arith, now)) in
+    let far : ever (is_turn_at (now_of clock + 10000)) past ≡ false = ahead a.hears (now_of clock + 10000) (omega (arith, now)) in
     let b : IsRunning task clock false k None idle (Some (now_of clock + 10000)) true (Looked ∷ past) =
     record {
       later = Looked ∷ a.later;
@@ -388,7 +388,7 @@ Keeps task event past = Unit {0}
 pub quiet_of : {task : Task} {clock : Clock} {lost : Bool} {k : ℕ} {fatal : Option Bool} {idle : Bool} {due : Option ℕ} {interrupted : Bool} {past : List Event}
     → IsRunning task clock lost k fatal idle due interrupted past → calls_for_look task past ≡ false → passed_by due past ≡ false
 quiet_of {task} {clock} {lost} {k} {fatal} {idle} {due} {interrupted} {past} a c =
-    let q = (or_parts (held is_lost past) (passed_by (due_at task (standing task past) past) past) c).1 in
+    let q = (or_parts (ever is_lost past) (passed_by (due_at task (standing task past) past) past) c).1 in
     let e : due_at task (standing task past) past ≡ due = ap (λ (v : Option Standing). due_at task v past) (standing_is a.stands) ∙ a.until in
     subst (λ (o : Option ℕ). passed_by o past ≡ false) e q
 

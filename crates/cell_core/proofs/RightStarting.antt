@@ -10,9 +10,9 @@ use Rattle.cell_core.specs.declared.act.Act.{Act}
 use Rattle.cell_core.specs.declared.act.Act.TheVariants.{Nothing, Send, Look}
 use Rattle.cell_core.specs.declared.state.State.TheVariants.{Starting}
 use Rattle.cell_core.specs.Task.{Task, cell_of}
-use Rattle.cell_core.specs.Events.{is_moment, is_looked, is_turn_at, held, time, started, is_saved, is_ready, is_broken, is_lost, came, looked}
+use Rattle.cell_core.specs.Events.{is_moment, is_looked, is_turn_at, ever, time, start_time, is_saved, is_ready, is_broken, is_lost, came, look_since}
 use Rattle.cell_core.specs.Requests.{Standing, standing}
-use Rattle.cell_core.specs.Saves.{why_not_done, why, planned}
+use Rattle.cell_core.specs.Saves.{why_not_done, why, plan_saves}
 use Rattle.cell_core.specs.Acts.{is_late, answers, is_used}
 use Rattle.cell_core.specs.declared.clock.Clock.{Clock}
 use Rattle.cell_core.specs.declared.clock.Clock.TheVariants.{Unread, Started, Turned}
@@ -28,9 +28,9 @@ use Rattle.cell_core.proofs.Right.{Right, act_from, act_on, unlooked_by}
 use Rattle.cell_core.proofs.RightRunning.{first_by, late_now, looked_calm, looked_passed, Keeps}
 
 -- before readiness
-pub started_read : (events : List Event) → is_some (started events) ≡ came is_moment events
+pub started_read : (events : List Event) → is_some (start_time events) ≡ came is_moment events
 started_read [] = refl
-started_read (Moment t ∷ past) = elim (cases_Bool (is_some (started past))) [ inl e ↦ rw e e | inr e ↦ rw e refl ]
+started_read (Moment t ∷ past) = elim (cases_Bool (is_some (start_time past))) [ inl e ↦ rw e e | inr e ↦ rw e refl ]
 started_read (Saved ∷ past) = started_read past
 started_read (Ready ∷ past) = started_read past
 started_read (Io m ∷ past) = started_read past
@@ -39,7 +39,7 @@ started_read (Looked ∷ past) = started_read past
 started_read (Lost ∷ past) = started_read past
 started_read (Broken ∷ past) = started_read past
 
-pub started_stays : (event : Event) (past : List Event) → is_moment event ≡ false → started (event ∷ past) ≡ started past
+pub started_stays : (event : Event) (past : List Event) → is_moment event ≡ false → start_time (event ∷ past) ≡ start_time past
 started_stays (Moment t) past m = absurd (true≢false m)
 started_stays Saved past m = refl
 started_stays Ready past m = refl
@@ -99,11 +99,11 @@ limit_lies (Some limit) now first e later =
     let more : 0 < limit = later limit refl in
     omega (arith, same, more)
 
-pub limit_all : (task : Task) (k : ℕ) (o : Option ℕ) (events : List Event) → ((first : ℕ) → o ≡ Some first → held (is_turn_at first) events ≡ false) → by_limit task k o events ≡ o
+pub limit_all : (task : Task) (k : ℕ) (o : Option ℕ) (events : List Event) → ((first : ℕ) → o ≡ Some first → ever (is_turn_at first) events ≡ false) → by_limit task k o events ≡ o
 limit_all task k None events far = refl
 limit_all task k (Some first) events far = first_by task k first events (queued_none task k first events (far first refl))
 
-pub calm_all : (o : Option ℕ) (events : List Event) → ((first : ℕ) → o ≡ Some first → held (is_turn_at first) events ≡ false) → looked_by o events ≡ false
+pub calm_all : (o : Option ℕ) (events : List Event) → ((first : ℕ) → o ≡ Some first → ever (is_turn_at first) events ≡ false) → looked_by o events ≡ false
 calm_all None events far = refl
 calm_all (Some first) events far = looked_none (is_turn_at first) events (far first refl)
 
@@ -146,13 +146,13 @@ late_start b h l looks p q r t = rw (p, q, r, t) refl
 
 pub look_starting : (task : Task) (clock : Clock) (lost : Bool) (due : Option ℕ) (past : List Event) → IsStarting task clock lost due past → Right task clock lost (in_starting task clock lost due Looked) Looked past
 look_starting task clock true due past a =
-    stops_right Looked KernelLost a.planned a.reached refl refl a.ready (stopped_by (came is_broken past) (held is_lost past) (looked is_lost past) _ a.hears.unbroken a.hears.lost_is) refl
+    stops_right Looked KernelLost a.planned a.reached refl refl a.ready (stopped_by (came is_broken past) (ever is_lost past) (look_since is_lost past) _ a.hears.unbroken a.hears.lost_is) refl
 look_starting task clock false due past a =
     let same = past_is a.hears due in
     elim (cases_Bool (is_past clock due)) [
       | inl yet ↦ subst (λ (b : Bool). Right task clock false (if b then stops NotReady else stays (Starting due)) Looked past) (sym yet)
           (stops_right Looked NotReady a.planned a.reached refl refl a.ready
-          (late_start (came is_broken past) (held is_lost past) (looked is_lost past) _ a.hears.unbroken a.hears.lost_is a.hears.unseen
+          (late_start (came is_broken past) (ever is_lost past) (look_since is_lost past) _ a.hears.unbroken a.hears.lost_is a.hears.unseen
           (ap (λ (o : Option ℕ). looked_by o (Looked ∷ past)) a.until ∙ looked_passed due past (same ∙ yet))) refl)
       | inr before ↦ subst (λ (b : Bool). Right task clock false (if b then stops NotReady else stays (Starting due)) Looked past) (sym before)
           (waits_right Looked Nothing a.reached (waits Looked a refl refl refl refl tt (λ e. refl) (looked_calm due past (same ∙ before) a.calm)) refl refl)
@@ -163,9 +163,9 @@ start_by task clock due t (Some s) r e = e ∙ (rw (sym r) refl)
 start_by task clock due t None r e = rw (sym r) refl
 
 pub start_moment : {task : Task} {clock : Clock} {lost : Bool} {due : Option ℕ} {past : List Event} (t : ℕ) → IsStarting task clock lost due past → start_deadline task (Moment t ∷ past) ≡ start_due task clock due t
-start_moment {task} {clock} {lost} {due} {past} t a = start_by task clock due t (started past) (started_read past ∙ a.hears.read) a.until
+start_moment {task} {clock} {lost} {due} {past} t a = start_by task clock due t (start_time past) (started_read past ∙ a.hears.read) a.until
 
-pub start_calm : (task : Task) (clock : Clock) (due : Option ℕ) (t : ℕ) (past : List Event) → (is_read clock ≡ false → (d : ℕ) → held (is_turn_at d) past ≡ false) → looked_by due past ≡ false → looked_by (start_due task clock due t) (Moment t ∷ past) ≡ false
+pub start_calm : (task : Task) (clock : Clock) (due : Option ℕ) (t : ℕ) (past : List Event) → (is_read clock ≡ false → (d : ℕ) → ever (is_turn_at d) past ≡ false) → looked_by due past ≡ false → looked_by (start_due task clock due t) (Moment t ∷ past) ≡ false
 start_calm task Unread due t past none calm = looked_none (is_turn_at (t + task.times.start_ms)) past (none refl (t + task.times.start_ms))
 start_calm task (Started s) due t past none calm = unlooked_by due (Moment t) past refl calm
 start_calm task (Turned s) due t past none calm = unlooked_by due (Moment t) past refl calm

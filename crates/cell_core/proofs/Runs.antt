@@ -14,7 +14,7 @@ use Rattle.cell_core.specs.declared.moved.Moved.{Moved}
 use Rattle.cell_core.specs.Task.{Task, cell_of}
 use Rattle.cell_core.specs.Events.{is_saved}
 use Rattle.cell_core.specs.Requests.{has_idle, own, reply, is_over, is_fatal, is_passed, Standing, standing}
-use Rattle.cell_core.specs.Saves.{why, unacked}
+use Rattle.cell_core.specs.Saves.{why, pending_saves}
 use Rattle.cell_core.specs.Acts.{is_empty, has_stopped, heard, act_at, due_at, is_used, awaits_saved}
 use Rattle.cell_core.specs.declared.clock.Clock.{Clock}
 use Rattle.cell_core.specs.declared.clock.Clock.TheVariants.{Unread, Started, Turned}
@@ -85,7 +85,7 @@ failing_is task clock lost (Failing k w) events a = (shows task clock lost (Fail
 -- a save is due exactly where the state awaits its acknowledgement
 pub awaits_is : (task : Task) (clock : Clock) (lost : Bool) (state : State) (events : List Event) → IsAt task clock lost state (heard task events) → awaits_saved task events ≡ awaits state
 awaits_is task clock lost (Stopped failing) events a =
-    ap not (and_parts (is_some (why task (heard task events))) (is_empty (unacked task (heard task events))) a.stopped).1
+    ap not (and_parts (is_some (why task (heard task events))) (is_empty (pending_saves task (heard task events))) a.stopped).1
 awaits_is task clock lost Preparing events a = (shows task clock lost Preparing (heard task events) a refl).awaits_it
 awaits_is task clock lost (Starting due) events a = (shows task clock lost (Starting due) (heard task events) a refl).awaits_it
 awaits_is task clock lost (Running r) events a = (shows task clock lost (Running r) (heard task events) a refl).awaits_it
@@ -274,7 +274,7 @@ due_is task clock lost Closing events (inr a) = due_unless _ _ (over_due a.1.sta
 due_is task clock lost Closing events (inl a) =
     due_unless _ _ (ap (λ (es : List Event). due_at task (standing task es) es) a.2 ∙ ap (λ (v : Option Standing). due_at task v (Saved ∷ [])) (standing_none (reached_prepared task)))
 due_is task clock lost (Failing k w) events a = failed_due task (heard task events) _ (ap is_some (why_fails a.stands a.fails))
-due_is task clock lost (Stopped failing) events a = failed_due task (heard task events) _ (and_parts (is_some (why task (heard task events))) (is_empty (unacked task (heard task events))) a.stopped).0
+due_is task clock lost (Stopped failing) events a = failed_due task (heard task events) _ (and_parts (is_some (why task (heard task events))) (is_empty (pending_saves task (heard task events))) a.stopped).0
 
 read_early : (clock : Clock) (t : ℕ) → t < 2 ^ 47 → now_of (read_again clock t) < 2 ^ 47
 read_early Unread t lt = lt

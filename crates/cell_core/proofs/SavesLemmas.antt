@@ -5,9 +5,9 @@ use Rattle.cell_core.specs.declared.event.Event.{Event}
 use Rattle.cell_core.specs.declared.why.Why.{Why}
 use Rattle.cell_core.specs.declared.why.Why.TheVariants.{Done}
 use Rattle.cell_core.specs.Task.{Task, cell_of}
-use Rattle.cell_core.specs.Events.{acked}
+use Rattle.cell_core.specs.Events.{ack_count}
 use Rattle.cell_core.specs.Requests.{is_over, is_fatal, is_passed, is_passed_in, after, Standing, standing}
-use Rattle.cell_core.specs.Saves.{Prefix, prepared, passes, stopping, is_whole, last_settled, closing_after, closing, is_done, is_stop, why_not_done, why, saves, unacked}
+use Rattle.cell_core.specs.Saves.{Prefix, after_preparation, passes, stopping, is_whole, last_settled, closing_after, closing, is_done, is_stop, why_not_done, why, saves, pending_saves}
 use Rattle.cell_core.specs.Acts.{last_asked, failing_at}
 use Rattle.cell_core.specs.StandsFor.{Reached, Stands, Fails}
 use Rattle.cell_core.proofs.Lists.{seam}
@@ -83,11 +83,11 @@ why_is {task} {k} {a} {later} {events} s no_pass =
     ∙ ap (λ (v : Option Standing). why_not_done task v events) (standing_is s)
 
 joined : (task : Task) (p q : List Prefix) (s t : Option Standing) (v w : Option Why) (c d : List Prefix) → p ≡ q → s ≡ t → v ≡ w → c ≡ d
-    → ((prepared ∷ p) ++ stopping task s v) ++ c ≡ ((prepared ∷ q) ++ stopping task t w) ++ d
+    → ((after_preparation ∷ p) ++ stopping task s v) ++ c ≡ ((after_preparation ∷ q) ++ stopping task t w) ++ d
 joined task p q s t v w c d a b e f = cc
 
 pub saves_on : {task : Task} {k a : ℕ} {later events : List Event} → Stands task k later a events → is_passed later ≡ false
-    → saves task events ≡ (prepared ∷ marks task k) ++ stopping task (Some (record { request = k; later = later })) (why_not_done task (Some (at k later)) events)
+    → saves task events ≡ (after_preparation ∷ marks task k) ++ stopping task (Some (record { request = k; later = later })) (why_not_done task (Some (at k later)) events)
 saves_on {task} {k} {a} {later} {events} s no_pass =
     let w = why_is s no_pass in
     let p = passes_on s no_pass in
@@ -122,26 +122,26 @@ regroup : (x : Prefix) (xs ys : List Prefix) (y : Prefix) → ((x ∷ (xs ++ y �
 regroup x xs ys y = simp (append_assoc, append-nil)
 
 pub saves_more : {task : Task} {k a : ℕ} {later events : List Event} → Stands task k later a events → is_passed later ≡ true
-    → saves task events ≡ (prepared ∷ marks task k) ++ (mark task k ∷ rest_after task k)
+    → saves task events ≡ (after_preparation ∷ marks task k) ++ (mark task k ∷ rest_after task k)
 saves_more {task} {k} {a} {later} {events} s pass =
     joined task _ _ _ _ (why task events) _ _ _ (passes_more s pass) (standing_is s) refl (closing_more s pass)
-    ∙ ap (λ (xs : List Prefix). ((prepared ∷ (marks task k ++ mark task k ∷ [])) ++ xs) ++ rest_after task k) (stopping_none task k later (why task events) pass)
-    ∙ regroup prepared (marks task k) (rest_after task k) (mark task k)
+    ∙ ap (λ (xs : List Prefix). ((after_preparation ∷ (marks task k ++ mark task k ∷ [])) ++ xs) ++ rest_after task k) (stopping_none task k later (why task events) pass)
+    ∙ regroup after_preparation (marks task k) (rest_after task k) (mark task k)
 
-length-prepared : (task : Task) (k : ℕ) → length (prepared ∷ marks task k) ≡ k + 1
+length-prepared : (task : Task) (k : ℕ) → length (after_preparation ∷ marks task k) ≡ k + 1
 length-prepared task k = let e = length-marks task k in omega (arith, e)
 
 pub unacked_on : {task : Task} {k : ℕ} {later events : List Event} → Stands task k later (k + 1) events → is_passed later ≡ false
-    → unacked task events ≡ stopping task (Some (record { request = k; later = later })) (why_not_done task (Some (at k later)) events)
+    → pending_saves task events ≡ stopping task (Some (record { request = k; later = later })) (why_not_done task (Some (at k later)) events)
 unacked_on {task} {k} {later} {events} s no_pass =
     ap (λ (n : ℕ). drop n (saves task events)) s.reached.acknowledged ∙ ap (λ (xs : List Prefix). drop (k + 1) xs) (saves_on s no_pass)
-    ∙ seam (prepared ∷ marks task k) _ (k + 1) (length-prepared task k)
+    ∙ seam (after_preparation ∷ marks task k) _ (k + 1) (length-prepared task k)
 
 pub unacked_more : {task : Task} {k : ℕ} {later events : List Event} → Stands task k later (k + 1) events → is_passed later ≡ true
-    → unacked task events ≡ mark task k ∷ rest_after task k
+    → pending_saves task events ≡ mark task k ∷ rest_after task k
 unacked_more {task} {k} {later} {events} s pass =
     ap (λ (n : ℕ). drop n (saves task events)) s.reached.acknowledged ∙ ap (λ (xs : List Prefix). drop (k + 1) xs) (saves_more s pass)
-    ∙ seam (prepared ∷ marks task k) _ (k + 1) (length-prepared task k)
+    ∙ seam (after_preparation ∷ marks task k) _ (k + 1) (length-prepared task k)
 
 -- No request stands.
 pub passes_none : {task : Task} {a : ℕ} {events : List Event} → Reached task 0 None a events → (n : ℕ) → passes task n events ≡ []
@@ -151,11 +151,11 @@ passes_none {task} {a} {events} r (suc n) = rw (none_all r n) (append-nil (passe
 abbrev pub rest_of_none : Task → List Prefix
 rest_of_none task = closing_after task None []
 
-pub saves_none : {task : Task} {a : ℕ} {events : List Event} → Reached task 0 None a events → saves task events ≡ prepared ∷ rest_of_none task
+pub saves_none : {task : Task} {a : ℕ} {events : List Event} → Reached task 0 None a events → saves task events ≡ after_preparation ∷ rest_of_none task
 saves_none {task} {a} {events} r =
     joined task _ _ _ _ (why task events) _ _ _ (passes_none r (length task.plan)) (standing_none r) refl (closing_at task _ _ _ _ (standing_none r) (passes_none r (length task.plan)))
 
-pub unacked_none : {task : Task} {events : List Event} → Reached task 0 None 1 events → unacked task events ≡ rest_of_none task
+pub unacked_none : {task : Task} {events : List Event} → Reached task 0 None 1 events → pending_saves task events ≡ rest_of_none task
 unacked_none {task} {events} r = ap (λ (n : ℕ). drop n (saves task events)) r.acknowledged ∙ ap (λ (xs : List Prefix). drop 1 xs) (saves_none r)
 
 -- A stop while request k stands, and its save.
@@ -191,15 +191,15 @@ no_stop_if true n = more refl none
 no_stop_if false n = none
 
 pub failing_none : (task : Task) (events : List Event) (xs : List Prefix) → saves task events ≡ xs → NoStop xs → failing_at task events ≡ None
-failing_none task events xs e a = ap (λ (ys : List Prefix). (last_asked ys (acked events) prepared).stopping_cell) e ∙ no_stop_last a (acked events) prepared refl
+failing_none task events xs e a = ap (λ (ys : List Prefix). (last_asked ys (ack_count events) after_preparation).stopping_cell) e ∙ no_stop_last a (ack_count events) after_preparation refl
 
-pub no_stop_none : (task : Task) → NoStop (prepared ∷ rest_of_none task)
+pub no_stop_none : (task : Task) → NoStop (after_preparation ∷ rest_of_none task)
 no_stop_none task = more refl (no_stop_if _ task.cells)
 
-pub no_stop_on : (task : Task) (k : ℕ) → NoStop ((prepared ∷ marks task k) ++ [])
+pub no_stop_on : (task : Task) (k : ℕ) → NoStop ((after_preparation ∷ marks task k) ++ [])
 no_stop_on task k = no_stop_append (more refl (no_stop_marks task k)) none
 
-pub no_stop_more : (task : Task) (k : ℕ) → NoStop ((prepared ∷ marks task k) ++ (mark task k ∷ rest_after task k))
+pub no_stop_more : (task : Task) (k : ℕ) → NoStop ((after_preparation ∷ marks task k) ++ (mark task k ∷ rest_after task k))
 no_stop_more task k = no_stop_append (more refl (no_stop_marks task k)) (more refl (no_stop_if _ task.cells))
 
 -- The cause and the saves in each case.
@@ -212,50 +212,50 @@ fatal_not_passed later h = and_right (is_over later) (not (is_fatal later)) (ap 
 pub why_fails : {task : Task} {k a : ℕ} {later events : List Event} {w : Why} → Stands task k later a events → Fails task k later w events → why task events ≡ Some w
 why_fails s f = why_is s f.not_passed ∙ f.cause
 
-pub saves_fails : {task : Task} {k a : ℕ} {later events : List Event} {w : Why} → Stands task k later a events → Fails task k later w events → saves task events ≡ (prepared ∷ marks task k) ++ stop_mark task k ∷ []
+pub saves_fails : {task : Task} {k a : ℕ} {later events : List Event} {w : Why} → Stands task k later a events → Fails task k later w events → saves task events ≡ (after_preparation ∷ marks task k) ++ stop_mark task k ∷ []
 saves_fails {task} {k} {a} {later} {events} {w} s f =
     let stop : stopping task (Some (at k later)) (Some w) ≡ stop_mark task k ∷ [] = rw (f.stops, f.not_passed) refl in
     saves_on s f.not_passed
-    ∙ ap (λ (v : Option Why). (prepared ∷ marks task k) ++ stopping task (Some (at k later)) v) f.cause
-    ∙ ap (λ (xs : List Prefix). (prepared ∷ marks task k) ++ xs) stop
+    ∙ ap (λ (v : Option Why). (after_preparation ∷ marks task k) ++ stopping task (Some (at k later)) v) f.cause
+    ∙ ap (λ (xs : List Prefix). (after_preparation ∷ marks task k) ++ xs) stop
 
 pub why_none_on : {task : Task} {k a : ℕ} {later events : List Event} → Stands task k later a events → is_passed later ≡ false → why_not_done task (Some (at k later)) events ≡ None → why task events ≡ None
 why_none_on s p n = why_is s p ∙ n
 
-pub saves_quiet : {task : Task} {k a : ℕ} {later events : List Event} → Stands task k later a events → is_passed later ≡ false → why_not_done task (Some (at k later)) events ≡ None → saves task events ≡ (prepared ∷ marks task k) ++ []
+pub saves_quiet : {task : Task} {k a : ℕ} {later events : List Event} → Stands task k later a events → is_passed later ≡ false → why_not_done task (Some (at k later)) events ≡ None → saves task events ≡ (after_preparation ∷ marks task k) ++ []
 saves_quiet {task} {k} {a} {later} {events} s p n =
-    saves_on s p ∙ ap (λ (v : Option Why). (prepared ∷ marks task k) ++ stopping task (Some (at k later)) v) n
+    saves_on s p ∙ ap (λ (v : Option Why). (after_preparation ∷ marks task k) ++ stopping task (Some (at k later)) v) n
 
 -- what is left of the saves after some
-pub left : (task : Task) {a : ℕ} (events : List Event) (xs ys : List Prefix) → acked events ≡ a → saves task events ≡ xs ++ ys → length xs ≡ a → unacked task events ≡ ys
+pub left : (task : Task) {a : ℕ} (events : List Event) (xs ys : List Prefix) → ack_count events ≡ a → saves task events ≡ xs ++ ys → length xs ≡ a → pending_saves task events ≡ ys
 left task {a} events xs ys n e l = ap (λ (i : ℕ). drop i (saves task events)) n ∙ ap (λ (zs : List Prefix). drop a zs) e ∙ seam xs ys a l
 
-pub unacked_quiet : {task : Task} {k : ℕ} {later events : List Event} → Stands task k later (k + 1) events → is_passed later ≡ false → why_not_done task (Some (at k later)) events ≡ None → unacked task events ≡ []
-unacked_quiet {task} {k} {later} {events} s o b = left task events (prepared ∷ marks task k) [] s.reached.acknowledged (saves_quiet s o b) (length-prepared task k)
+pub unacked_quiet : {task : Task} {k : ℕ} {later events : List Event} → Stands task k later (k + 1) events → is_passed later ≡ false → why_not_done task (Some (at k later)) events ≡ None → pending_saves task events ≡ []
+unacked_quiet {task} {k} {later} {events} s o b = left task events (after_preparation ∷ marks task k) [] s.reached.acknowledged (saves_quiet s o b) (length-prepared task k)
 
-pub unacked_fails : {task : Task} {k : ℕ} {later events : List Event} {w : Why} → Stands task k later (k + 1) events → Fails task k later w events → unacked task events ≡ stop_mark task k ∷ []
-unacked_fails {task} {k} {later} {events} {w} s f = left task events (prepared ∷ marks task k) (stop_mark task k ∷ []) s.reached.acknowledged (saves_fails s f) (length-prepared task k)
+pub unacked_fails : {task : Task} {k : ℕ} {later events : List Event} {w : Why} → Stands task k later (k + 1) events → Fails task k later w events → pending_saves task events ≡ stop_mark task k ∷ []
+unacked_fails {task} {k} {later} {events} {w} s f = left task events (after_preparation ∷ marks task k) (stop_mark task k ∷ []) s.reached.acknowledged (saves_fails s f) (length-prepared task k)
 
-one_longer : (task : Task) (k : ℕ) (x : Prefix) → length ((prepared ∷ marks task k) ++ x ∷ []) ≡ k + 2
-one_longer task k x = let e = length-prepared task k in length-append (prepared ∷ marks task k) (x ∷ []) ∙ omega (arith, e)
+one_longer : (task : Task) (k : ℕ) (x : Prefix) → length ((after_preparation ∷ marks task k) ++ x ∷ []) ≡ k + 2
+one_longer task k x = let e = length-prepared task k in length-append (after_preparation ∷ marks task k) (x ∷ []) ∙ omega (arith, e)
 
-pub unacked_failed : {task : Task} {k : ℕ} {later events : List Event} {w : Why} → Stands task k later (k + 2) events → Fails task k later w events → unacked task events ≡ []
+pub unacked_failed : {task : Task} {k : ℕ} {later events : List Event} {w : Why} → Stands task k later (k + 2) events → Fails task k later w events → pending_saves task events ≡ []
 unacked_failed {task} {k} {later} {events} {w} s f =
-    left task events ((prepared ∷ marks task k) ++ stop_mark task k ∷ []) [] s.reached.acknowledged (saves_fails s f ∙ sym (append-nil _)) (one_longer task k (stop_mark task k))
+    left task events ((after_preparation ∷ marks task k) ++ stop_mark task k ∷ []) [] s.reached.acknowledged (saves_fails s f ∙ sym (append-nil _)) (one_longer task k (stop_mark task k))
 
 pub failing_fails : {task : Task} {k a : ℕ} {later events : List Event} {w : Why} → Stands task k later a events → Fails task k later w events → k + 1 ≤ a → failing_at task events ≡ Some (cell_of task k)
 failing_fails {task} {k} {a} {later} {events} {w} s f le =
     let l = length-prepared task k in
     let n = s.reached.acknowledged in
-    ap (λ (ys : List Prefix). (last_asked ys (acked events) prepared).stopping_cell) (saves_fails s f)
-    ∙ ap (λ (p : Prefix). p.stopping_cell) (last_at_end (prepared ∷ marks task k) (stop_mark task k) (acked events) prepared (omega (arith, l, n, le)))
+    ap (λ (ys : List Prefix). (last_asked ys (ack_count events) after_preparation).stopping_cell) (saves_fails s f)
+    ∙ ap (λ (p : Prefix). p.stopping_cell) (last_at_end (after_preparation ∷ marks task k) (stop_mark task k) (ack_count events) after_preparation (omega (arith, l, n, le)))
 
-pub more_is : (task : Task) (k : ℕ) → (prepared ∷ marks task k) ++ (mark task k ∷ rest_after task k) ≡ ((prepared ∷ marks task k) ++ mark task k ∷ []) ++ rest_after task k
+pub more_is : (task : Task) (k : ℕ) → (after_preparation ∷ marks task k) ++ (mark task k ∷ rest_after task k) ≡ ((after_preparation ∷ marks task k) ++ mark task k ∷ []) ++ rest_after task k
 more_is task k = simp append_assoc
 
-pub unacked_passed : {task : Task} {k : ℕ} {later events : List Event} → Stands task k later (k + 2) events → is_passed later ≡ true → unacked task events ≡ rest_after task k
+pub unacked_passed : {task : Task} {k : ℕ} {later events : List Event} → Stands task k later (k + 2) events → is_passed later ≡ true → pending_saves task events ≡ rest_after task k
 unacked_passed {task} {k} {later} {events} s pass =
-    left task events ((prepared ∷ marks task k) ++ mark task k ∷ []) (rest_after task k) s.reached.acknowledged (saves_more s pass ∙ more_is task k) (one_longer task k (mark task k))
+    left task events ((after_preparation ∷ marks task k) ++ mark task k ∷ []) (rest_after task k) s.reached.acknowledged (saves_more s pass ∙ more_is task k) (one_longer task k (mark task k))
 
 pub why_done : {task : Task} {k a : ℕ} {later events : List Event} → Stands task k later a events → is_passed later ≡ true → k + 1 ≡ length task.plan → why task events ≡ Some Done
 why_done {task} {k} {a} {later} {events} s pass last =

@@ -6,10 +6,10 @@ use Rattle.cell_core.specs.declared.why.Why.{Why}
 use Rattle.cell_core.specs.declared.act.Act.{Act}
 use Rattle.cell_core.specs.declared.act.Act.TheVariants.{Nothing, Start, Send, Look, Interrupt, Save, Stop}
 use Rattle.cell_core.specs.Task.{Task, cell_of}
-use Rattle.cell_core.specs.Events.{is_saved, is_lost, is_turn_at, held, time, acked}
+use Rattle.cell_core.specs.Events.{is_saved, is_lost, is_turn_at, ever, time, ack_count}
 use Rattle.cell_core.specs.Deadlines.{start_deadline, deadline, first_deadline, queues, passed_by}
 use Rattle.cell_core.specs.Requests.{has_idle, own, reply, Standing, standing}
-use Rattle.cell_core.specs.Saves.{Prefix, why, saves, unacked, prepared}
+use Rattle.cell_core.specs.Saves.{Prefix, why, saves, pending_saves, after_preparation}
 
 -- no event came
 abbrev pub is_empty_list : List Event → Bool
@@ -23,7 +23,7 @@ is_empty (prefix ∷ rest) = false
 
 -- The job has stopped where there is a cause and each save that is due is acknowledged.
 abbrev pub has_stopped : Task → List Event → Bool
-has_stopped task events = is_some (why task events) && is_empty (unacked task events)
+has_stopped task events = is_some (why task events) && is_empty (pending_saves task events)
 
 -- the events up to the stop, which ends the job's connections
 abbrev pub heard : Task → List Event → List Event
@@ -60,7 +60,7 @@ answers task (Some last) (Looked ∷ past) =
 answers task last (Lost ∷ past) = Look
 answers task last (Moment t ∷ past) = if is_late (due_at task last (Moment t ∷ past)) (Moment t ∷ past) then Look else Nothing
 answers task (Some last) (event ∷ past) = if is_empty_list last.later then Send (cell_of task last.request) else Nothing
-answers task None (Saved ∷ past) = if acked past == 0 then Start else Nothing
+answers task None (Saved ∷ past) = if ack_count past == 0 then Start else Nothing
 answers task last events = Nothing
 
 -- the first save that is due is asked for; once each is acknowledged, a cause stops the job
@@ -71,7 +71,7 @@ act_by task events [] None = answers task (standing task events) events
 
 -- the act at the newest event
 abbrev pub act_at : Task → List Event → Act
-act_at task events = act_by task events (unacked task events) (why task events)
+act_at task events = act_by task events (pending_saves task events) (why task events)
 
 -- The answer to an event that comes after others: none after the stop.
 abbrev pub act_of : Task → Event → List Event → Act
@@ -83,11 +83,11 @@ takes_of task event past = if has_stopped task (heard task past) then false else
 
 -- An acknowledgement comes exactly where a save was asked for: the first event, and the event after each such act.
 abbrev pub awaits_saved : Task → List Event → Bool
-awaits_saved task events = not (is_empty (unacked task (heard task events)))
+awaits_saved task events = not (is_empty (pending_saves task (heard task events)))
 
 -- A last look is called for: the kernel was found lost, or a turn's clock entry at or past the deadline that stands was read.
 abbrev pub calls_for_look : Task → List Event → Bool
-calls_for_look task events = held is_lost events || passed_by (due_at task (standing task events) events) events
+calls_for_look task events = ever is_lost events || passed_by (due_at task (standing task events) events) events
 
 -- A last look is to be made now: one is called for, no save is awaited and nothing stops the job.
 abbrev pub wants_look_of : Task → List Event → Bool
@@ -116,7 +116,7 @@ last_asked (prefix ∷ rest) (suc n) before = last_asked rest n prefix
 
 -- the stopping cell of the save last asked for: none where that save is not a stop's
 abbrev pub failing_at : Task → List Event → Option ℕ
-failing_at task events = (last_asked (saves task events) (acked events) prepared).stopping_cell
+failing_at task events = (last_asked (saves task events) (ack_count events) after_preparation).stopping_cell
 
 -- the same over all events, of which those after the stop count for nothing
 abbrev pub failing_of : Task → List Event → Option ℕ

@@ -3,7 +3,7 @@ use Rattle.std.specs.Prelude.{ℕ, suc, List, [], ◌∷◌, length, drop, Optio
 use Rattle.cell_core.specs.declared.event.Event.{Event}
 use Rattle.cell_core.specs.declared.event.Event.TheVariants.{Reply}
 use Rattle.cell_core.specs.Task.{Task}
-use Rattle.cell_core.specs.Events.{is_moment, is_looked, is_broken, is_lost, is_turn_at, came, held, looked, since, time, started}
+use Rattle.cell_core.specs.Events.{is_moment, is_looked, is_broken, is_lost, is_turn_at, came, ever, look_since, since, time, start_time}
 use Rattle.cell_core.specs.Requests.{after, has_idle, own, reply, Standing}
 
 -- 10,000 ms from the clock entry that brings an interrupt
@@ -56,16 +56,16 @@ is_unanswered (Some later) = is_none (reply later)
 abbrev pub queues : Task → ℕ → ℕ → List Event → Bool
 queues task k deadline [] = false
 queues task k deadline (event ∷ past) =
-    is_looked event && is_first_look (since (is_turn_at deadline) past) && is_unanswered (after task k past) && not (came is_broken past) && not (held is_lost past)
+    is_looked event && is_first_look (since (is_turn_at deadline) past) && is_unanswered (after task k past) && not (came is_broken past) && not (ever is_lost past)
 
 -- the interrupt of request k was queued
-abbrev pub queued : Task → ℕ → ℕ → List Event → Bool
-queued task k deadline events = held (queues task k deadline) events
+abbrev pub is_queued : Task → ℕ → ℕ → List Event → Bool
+is_queued task k deadline events = ever (queues task k deadline) events
 
 -- The deadline that stands. A reply answers that of the request, an idle that of the reply, and a queued interrupt the first.
 abbrev pub by_limit : Task → ℕ → Option ℕ → List Event → Option ℕ
 by_limit task k None events = None
-by_limit task k (Some first) events = if task.times.interrupt && queued task k first events then second_deadline first events else Some first
+by_limit task k (Some first) events = if task.times.interrupt && is_queued task k first events then second_deadline first events else Some first
 
 -- the deadline that stands while a request does
 abbrev pub deadline : Task → Standing → List Event → Option ℕ
@@ -79,14 +79,14 @@ start_from task start = option_map (λ t. t + task.times.start_ms) start
 
 -- the deadline of readiness
 abbrev pub start_deadline : Task → List Event → Option ℕ
-start_deadline task events = start_from task (started events)
+start_deadline task events = start_from task (start_time events)
 
 -- whether a turn's clock entry at or past it was read, and whether a look was done after that
 abbrev pub passed_by : Option ℕ → List Event → Bool
 passed_by None events = false
-passed_by (Some deadline) events = held (is_turn_at deadline) events
+passed_by (Some deadline) events = ever (is_turn_at deadline) events
 
 -- a look was done after a turn's clock entry at or past the deadline
 abbrev pub looked_by : Option ℕ → List Event → Bool
 looked_by None events = false
-looked_by (Some deadline) events = looked (is_turn_at deadline) events
+looked_by (Some deadline) events = look_since (is_turn_at deadline) events

@@ -35,9 +35,9 @@ came test [] = false
 came test (event ∷ past) = test event || came test past
 
 -- how many saves were acknowledged
-abbrev pub acked : List Event → ℕ
-acked [] = 0
-acked (event ∷ past) = if is_saved event then acked past + 1 else acked past
+abbrev pub ack_count : List Event → ℕ
+ack_count [] = 0
+ack_count (event ∷ past) = if is_saved event then ack_count past + 1 else ack_count past
 
 -- what came since, with one more event
 abbrev pub since_more : {A : Type 0} → (List A → Bool) → A → List A → Option (List A) → Option (List A)
@@ -50,14 +50,14 @@ since test [] = None
 since test (event ∷ past) = since_more test event past (since test past)
 
 -- whether the test held at some moment
-abbrev pub held : {A : Type 0} → (List A → Bool) → List A → Bool
-held test [] = false
-held test (event ∷ past) = test (event ∷ past) || held test past
+abbrev pub ever : {A : Type 0} → (List A → Bool) → List A → Bool
+ever test [] = false
+ever test (event ∷ past) = test (event ∷ past) || ever test past
 
 -- whether a last look was done after a moment at which the test held
-abbrev pub looked : (List Event → Bool) → List Event → Bool
-looked test [] = false
-looked test (event ∷ past) = (is_looked event && held test past) || looked test past
+abbrev pub look_since : (List Event → Bool) → List Event → Bool
+look_since test [] = false
+look_since test (event ∷ past) = (is_looked event && ever test past) || look_since test past
 
 -- the kernel was just found lost
 abbrev pub is_lost : List Event → Bool
@@ -76,10 +76,10 @@ is_turn_at t (Moment now ∷ past) = came is_moment past && nat_le t now
 is_turn_at t _ = false
 
 -- the child's start
-abbrev pub started : List Event → Option ℕ
-started [] = None
-started (Moment t ∷ past) = if is_some (started past) then started past else Some t
-started (_ ∷ past) = started past
+abbrev pub start_time : List Event → Option ℕ
+start_time [] = None
+start_time (Moment t ∷ past) = if is_some (start_time past) then start_time past else Some t
+start_time (_ ∷ past) = start_time past
 
 -- the clock never falls
 abbrev pub Rising : List Event → Type 0

@@ -7,8 +7,8 @@ use Rattle.cell_core.specs.declared.act.Act.{Act}
 use Rattle.cell_core.specs.declared.act.Act.TheVariants.{Save}
 use Rattle.cell_core.specs.Task.{Task, cell_of}
 use Rattle.cell_core.specs.Requests.{after, both_came, is_over, is_passed_in, Standing, standing}
-use Rattle.cell_core.specs.Events.{acked}
-use Rattle.cell_core.specs.Saves.{Prefix, saves, unacked, why}
+use Rattle.cell_core.specs.Events.{ack_count}
+use Rattle.cell_core.specs.Saves.{Prefix, saves, pending_saves, why}
 use Rattle.cell_core.specs.Acts.{act_of, heard, has_stopped}
 
 -- Request k stands and isn't over.
@@ -55,8 +55,8 @@ pub record ComesToStand (task : Task) (k : ℕ) (events : List Event) : Type 0 w
 -- over, and each save before it is acknowledged.
 abbrev pub GoesOn : Task → List Event → Type 0
 GoesOn task events =
-    ((standing task events ≡ None) × (acked events ≡ 1))
-    ⊎ ((last : Standing) × (standing task events ≡ Some last) × (is_over last.later ≡ false) × (acked events ≡ last.request + 1))
+    ((standing task events ≡ None) × (ack_count events ≡ 1))
+    ⊎ ((last : Standing) × (standing task events ≡ Some last) × (is_over last.later ≡ false) × (ack_count events ≡ last.request + 1))
 
 -- The saves that were asked for are the first of those that are due, in order, and once the job has stopped they are all.
 -- The first, with no cell settled, is asked for before any event.
@@ -69,10 +69,10 @@ pub record AsksInOrder (task : Task) (events : List Event) : Type 0 where
 pub record IsAskedFor (task : Task) (settled : ℕ) (events : List Event) : Type 0 where
   pub first : Prefix
   pub others : List Prefix
-  pub due : unacked task events ≡ first ∷ others
+  pub due : pending_saves task events ≡ first ∷ others
   pub settles_it : first.settled ≡ settled
 
 -- the cause stands, and each save that is due is acknowledged
 pub record StopsBy (task : Task) (cause : Why) (events : List Event) : Type 0 where
   pub cause_is : why task events ≡ Some cause
-  pub settled_all : unacked task events ≡ []
+  pub settled_all : pending_saves task events ≡ []

@@ -5,7 +5,7 @@ use Rattle.cell_core.specs.declared.event.Event.TheVariants.{Io, Reply}
 use Rattle.cell_core.specs.declared.brief.Brief.{Brief}
 use Rattle.cell_core.specs.declared.brief.Brief.TheVariants.{Idle, Else}
 use Rattle.cell_core.specs.Task.{Task}
-use Rattle.cell_core.specs.Events.{is_saved, is_ready, came, acked, since}
+use Rattle.cell_core.specs.Events.{is_saved, is_ready, came, ack_count, since}
 
 -- First of what came after a request came to stand, and before the next did: all of it has this request as parent.
 
@@ -51,13 +51,13 @@ is_passed_in (Some later) = is_passed later
 
 -- The first request comes to stand at the later of readiness and the first acknowledged save.
 abbrev pub both_came : List Event → Bool
-both_came now = came is_ready now && nat_lt 0 (acked now)
+both_came now = came is_ready now && nat_lt 0 (ack_count now)
 
 -- Request k + 1 comes to stand at the acknowledgement of save number k + 2, where request k, of which this came since
 -- it stood, is over and its reply isn't fatal, and the plan goes on.
 abbrev pub is_next : Task → ℕ → (List Event → Option (List Event)) → List Event → Bool
 is_next task k since_k [] = false
-is_next task k since_k (event ∷ past) = is_saved event && acked past == k + 1 && is_passed_in (since_k past) && nat_lt (k + 1) (length task.plan)
+is_next task k since_k (event ∷ past) = is_saved event && ack_count past == k + 1 && is_passed_in (since_k past) && nat_lt (k + 1) (length task.plan)
 
 -- What came after request k came to stand: none where it doesn't stand.
 abbrev pub after : Task → ℕ → List Event → Option (List Event)

@@ -4,8 +4,8 @@ use Rattle.cell_core.specs.declared.event.Event.{Event}
 use Rattle.cell_core.specs.declared.why.Why.{Why}
 use Rattle.cell_core.specs.declared.why.Why.TheVariants.{Done, CellError, NotReady, KernelLost, TimedOut, NoIdle, BadPeer}
 use Rattle.cell_core.specs.Task.{Task, cell_of}
-use Rattle.cell_core.specs.Events.{is_broken, is_lost, is_turn_at, came, looked, acked}
-use Rattle.cell_core.specs.Deadlines.{idle_ms, replied_at, first_deadline, second_deadline, queued, looked_by, start_deadline}
+use Rattle.cell_core.specs.Events.{is_broken, is_lost, is_turn_at, came, look_since, ack_count}
+use Rattle.cell_core.specs.Deadlines.{idle_ms, replied_at, first_deadline, second_deadline, is_queued, looked_by, start_deadline}
 use Rattle.cell_core.specs.Requests.{after, reply, is_over, is_fatal, is_passed, is_passed_in, Standing, standing}
 
 -- A save settles the cells below an index; that of a stop names the last of them as the stopping cell.
@@ -14,8 +14,8 @@ pub record Prefix : Type 0 where
   pub stopping_cell : Option ℕ
 
 -- after preparation
-abbrev pub prepared : Prefix
-prepared = record { settled = 0; stopping_cell = None }
+abbrev pub after_preparation : Prefix
+after_preparation = record { settled = 0; stopping_cell = None }
 
 -- after each request below k that is over and whose reply isn't fatal, in order
 abbrev pub passes : Task → ℕ → List Event → List Prefix
@@ -58,12 +58,12 @@ abbrev pub closing : Task → List Event → List Prefix
 closing task events = closing_after task (standing task events) (passes task (length task.plan) events)
 
 -- those that come without a stop
-abbrev pub planned : Task → List Event → List Prefix
-planned task events = (prepared ∷ passes task (length task.plan) events) ++ closing task events
+abbrev pub plan_saves : Task → List Event → List Prefix
+plan_saves task events = (after_preparation ∷ passes task (length task.plan) events) ++ closing task events
 
 -- Why the job stops: the first row that holds.
 abbrev pub is_done : Task → List Event → Bool
-is_done task events = is_whole task (standing task events) && (nat_lt 0 (length task.plan) || length (planned task events) == acked events)
+is_done task events = is_whole task (standing task events) && (nat_lt 0 (length task.plan) || length (plan_saves task events) == ack_count events)
 
 -- the last request is over, and its reply is fatal
 abbrev pub is_cell_error : Option Standing → Bool
@@ -78,15 +78,15 @@ is_not_ready task (Some last) events = false
 -- the request has a reply and isn't over, and a look was done after an entry at least 4,000 past the reply
 abbrev pub is_no_idle : Option Standing → List Event → Bool
 is_no_idle None events = false
-is_no_idle (Some last) events = is_some (reply last.later) && not (is_over last.later) && looked (is_turn_at (replied_at last events + idle_ms)) events
+is_no_idle (Some last) events = is_some (reply last.later) && not (is_over last.later) && look_since (is_turn_at (replied_at last events + idle_ms)) events
 
 -- The request has no reply, and a look was done after an entry at or past its deadline; where interrupts are asked for,
 -- its interrupt was queued, and the look was done after an entry 10,000 past the first at or past that deadline.
 abbrev pub is_out_of_time : Task → ℕ → Option ℕ → List Event → Bool
 is_out_of_time task k None events = false
 is_out_of_time task k (Some first) events =
-    if task.times.interrupt then queued task k first events && looked_by (second_deadline first events) events
-    else looked (is_turn_at first) events
+    if task.times.interrupt then is_queued task k first events && looked_by (second_deadline first events) events
+    else look_since (is_turn_at first) events
 
 -- the last request timed out
 abbrev pub is_timed_out : Task → Option Standing → List Event → Bool
@@ -106,7 +106,7 @@ abbrev pub why_not_done : Task → Option Standing → List Event → Option Why
 why_not_done task last events =
     if is_cell_error last then Some CellError
     else if came is_broken events then Some BadPeer
-    else if looked is_lost events then Some KernelLost
+    else if look_since is_lost events then Some KernelLost
     else late_cause task last events
 
 -- why the job stops, if it does
@@ -115,8 +115,8 @@ why task events = if is_done task events then Some Done else why_not_done task (
 
 -- all saves that are due, in order
 abbrev pub saves : Task → List Event → List Prefix
-saves task events = ((prepared ∷ passes task (length task.plan) events) ++ stopping task (standing task events) (why task events)) ++ closing task events
+saves task events = ((after_preparation ∷ passes task (length task.plan) events) ++ stopping task (standing task events) (why task events)) ++ closing task events
 
 -- those that are due and not acknowledged
-abbrev pub unacked : Task → List Event → List Prefix
-unacked task events = drop (acked events) (saves task events)
+abbrev pub pending_saves : Task → List Event → List Prefix
+pending_saves task events = drop (ack_count events) (saves task events)

@@ -10,9 +10,9 @@ use Rattle.cell_core.specs.Task.{Task, cell_of}
 use Rattle.cell_core.specs.declared.clock.Clock.{Clock}
 use Rattle.cell_core.specs.declared.clock.Clock.TheVariants.{Unread}
 use Rattle.cell_core.specs.Holds.{awaits, now_of, is_read, is_turned}
-use Rattle.cell_core.specs.Deadlines.{deadline, first_deadline, start_deadline, looked_by, queued}
+use Rattle.cell_core.specs.Deadlines.{deadline, first_deadline, start_deadline, looked_by, is_queued}
 use Rattle.cell_core.specs.Saves.{is_stop, why_not_done}
-use Rattle.cell_core.specs.Events.{is_ready, is_broken, is_moment, is_looked, is_lost, is_turn_at, came, held, looked, since, time, Rising, acked}
+use Rattle.cell_core.specs.Events.{is_ready, is_broken, is_moment, is_looked, is_lost, is_turn_at, came, ever, look_since, since, time, Rising, ack_count}
 use Rattle.cell_core.specs.Requests.{after, own, reply, has_idle, is_over, is_passed, is_passed_in}
 use Rattle.cell_core.specs.Acts.{has_stopped, heard, failing_at, awaits_saved}
 
@@ -27,7 +27,7 @@ pub record Reached (task : Task) (k : ℕ) (later : Option (List Event)) (acks :
   pub below : (j : ℕ) → j < k → is_passed_in (after task j events) ≡ true
   pub here : after task k events ≡ later
   pub above : (j : ℕ) → k < j → after task j events ≡ None
-  pub acknowledged : acked events ≡ acks
+  pub acknowledged : ack_count events ≡ acks
 
 -- Request k stands, and this came since.
 pub record Stands (task : Task) (k : ℕ) (later : List Event) (acks : ℕ) (events : List Event) : Type 0 where
@@ -39,9 +39,9 @@ pub record Stands (task : Task) (k : ℕ) (later : List Event) (acks : ℕ) (eve
 pub record Hears (clock : Clock) (lost : Bool) (events : List Event) : Type 0 where
   pub now : time events ≡ now_of clock
   pub read : came is_moment events ≡ is_read clock
-  pub turned : held (is_turn_at 0) events ≡ is_turned clock
-  pub lost_is : held is_lost events ≡ lost
-  pub unseen : looked is_lost events ≡ false
+  pub turned : ever (is_turn_at 0) events ≡ is_turned clock
+  pub lost_is : ever is_lost events ≡ lost
+  pub unseen : look_since is_lost events ≡ false
   pub rising : Rising events
   pub unbroken : came is_broken events ≡ false
 
@@ -56,8 +56,8 @@ pub record IsStarting (task : Task) (clock : Clock) (lost : Bool) (due : Option 
 
 -- Before the interrupt the deadline's look is still to come, and after it that look came.
 abbrev pub IsAsked : Task → ℕ → ℕ → Bool → List Event → Type 0
-IsAsked task k first false events = (queued task k first events ≡ false) × ((between : List Event) → since (is_turn_at first) events ≡ Some between → (came is_moment between ≡ false) × (came is_looked between ≡ false))
-IsAsked task k first true events = (queued task k first events ≡ true) × ((between : List Event) × (since (is_turn_at first) events ≡ Some between) × (came is_looked between ≡ true))
+IsAsked task k first false events = (is_queued task k first events ≡ false) × ((between : List Event) → since (is_turn_at first) events ≡ Some between → (came is_moment between ≡ false) × (came is_looked between ≡ false))
+IsAsked task k first true events = (is_queued task k first events ≡ true) × ((between : List Event) × (since (is_turn_at first) events ≡ Some between) × (came is_looked between ≡ true))
 
 -- Request k stands and isn't over.
 pub record IsRunning (task : Task) (clock : Clock) (lost : Bool) (k : ℕ) (fatal : Option Bool) (idle : Bool) (due : Option ℕ) (interrupted : Bool) (events : List Event) : Type 0 where

@@ -10,7 +10,7 @@ ghost use Rattle.cell_core.specs.Task.{Task, cell_of};
 ghost use Rattle.cell_core.specs.Acts.{act_of, heard, has_stopped, awaits_saved, wants_look_of, IsTimely, Meets};
 ghost use Rattle.cell_core.specs.LastLooks.{TakesTurns};
 ghost use Rattle.cell_core.specs.Laws.{IsOpen, IsSent, IsAskedFor, StopsBy, ComesToStand, GoesOn, AsksInOrder};
-ghost use Rattle.cell_core.specs.Saves.{unacked, why};
+ghost use Rattle.cell_core.specs.Saves.{pending_saves, why};
 ghost use Rattle.cell_core.specs.StandsFor.{StandsFor, task_of};
 
 use crate::Core;
@@ -51,7 +51,7 @@ pub fn asked_where_due()
         → act_of task event past ≡ Stop cause }
     ensures sends { (task : Task) (event : Event) (past : List Event) (k : ℕ)
         → has_stopped task (heard task past) ≡ false
-        → unacked task (event ∷ heard task past) ≡ []
+        → pending_saves task (event ∷ heard task past) ≡ []
         → why task (event ∷ heard task past) ≡ None
         → ComesToStand task k (event ∷ heard task past)
         → act_of task event past ≡ Send (cell_of task k) }

@@ -7,18 +7,13 @@ use Rattle.std.proofs.lemmas.List.{take_more}
 use Rattle.std.proofs.lemmas.Slice.Eq.{bytes_eq-Decides}
 use Rattle.std.proofs.lemmas.Bool.{and_parts, and_from, or_left, or_right, eq-eqb, false≢true}
 use Rattle.std.proofs.Math.Bool.{or-false, or_assoc}
+use Rattle.jtext.proofs.Lists.{all_more}
 use Rattle.display_index.specs.declared.place.Place.{Place}
 use Rattle.display_index.specs.declared.by_id.ById.{ById}
 use Rattle.display_index.specs.declared.by_cell.ByCell.{ByCell}
 use Rattle.display_index.specs.Listed.{places_at, ids_at, is_listed, AreListed, outside}
 
 -- ---- tests over lists
-
-pub all-more : {A : Type 0} (f g : A → Bool) → ((x : A) → f x ≡ true → g x ≡ true) → (xs : List A) → list_all f xs ≡ true → list_all g xs ≡ true
-all-more f g h [] e = refl
-all-more f g h (x ∷ xs) e =
-    let parts = and_parts (f x) (list_all f xs) e in
-    and_from (g x) (list_all g xs) (h x parts.0) (all-more f g h xs parts.1)
 
 all-snoc : {A : Type 0} (f : A → Bool) (xs : List A) (x : A) → list_all f xs ≡ true → f x ≡ true → list_all f (xs ++ x ∷ []) ≡ true
 all-snoc f [] x e h = and_from (f x) true h refl
@@ -74,7 +69,7 @@ more_by cells id place other false e ps here h = h
 pub listed-more : (cells cells' : ByCell) (ids : ById) → ((other : List ℕ) (p : Place) → is_listed cells other p ≡ true → is_listed cells' other p ≡ true)
     → AreListed cells ids → AreListed cells' ids
 listed-more cells cells' ids more h other =
-    all-more (λ p. is_listed cells other p) (λ p. is_listed cells' other p) (more other) (places_at ids other) (h other)
+    all_more (λ p. is_listed cells other p) (λ p. is_listed cells' other p) (more other) (places_at ids other) (h other)
 
 -- and one more place
 pub listed-added : (cells : ByCell) (ids ids' : ById) (id : List ℕ) (place : Place)

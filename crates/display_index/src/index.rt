@@ -1,5 +1,5 @@
 //! The index.
-ghost use Rattle.std.specs.Prelude.{◌≡◌, true, IsTrue, List as Plain, ℕ, ◌==◌, ◌⊎◌, OnOk, if◌then◌else◌};
+ghost use Rattle.std.specs.Prelude.{◌≡◌, true, List as Plain, ℕ, ◌==◌, ◌⊎◌, OnOk, if◌then◌else◌};
 ghost use Rattle.std.specs.List.{list_any};
 ghost use Rattle.std.specs.Str.{bytes_eq};
 ghost use Rattle.display_index.specs.declared.place.Place.{Place};
@@ -7,7 +7,7 @@ ghost use Rattle.display_index.specs.Listed.{AreListed, is_listed, ids_at, place
 
 use crate::by_cell::ByCell;
 use crate::by_id::ById;
-use crate::place::{Place, Places};
+use crate::place::{Place, Places, last_is_in};
 use jtext::{NoMemory, Text, Texts};
 use std::alloc::Global;
 
@@ -63,16 +63,6 @@ impl Index {
             → result.now ≡ standing id.now calls }
     {
         self.by_id.get(id)
-    }
-}
-
-/// Whether the last of the places is in the cell.
-fn last_is_in(places: &Places, cell: u32) -> bool
-    ensures { IsTrue result → list_any (λ p. p.cell == cell) places.now ≡ true }
-{
-    match places.as_slice().last() {
-        Some(place) => place.cell == cell,
-        None => false,
     }
 }
 

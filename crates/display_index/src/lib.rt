@@ -8,4 +8,4 @@ mod index;
 mod place;
 
 pub use index::Index;
-pub use place::{Place, Places};
+pub use place::{Place, Places, last_is_in};

@@ -1,5 +1,7 @@
 //! The place of an output.
-ghost use Rattle.std.specs.Prelude.{◌≡◌, ◌==◌, filter, not};
+ghost use Rattle.std.specs.Prelude.{◌≡◌, ◌==◌, ◌-◌, filter, length, not, true, IsTrue};
+ghost use Rattle.std.specs.List.{list_any, slice_get};
+ghost use Rattle.jtext.specs.Look.{there_and};
 
 use jtext::List;
 
@@ -14,6 +16,18 @@ pub struct Place {
 
 /// Places in their order.
 pub type Places = List<Place>;
+
+/// Whether the last of the places is in the cell.
+pub fn last_is_in(places: &Places, cell: u32) -> bool
+    ensures last { result ≡ there_and (λ p. p.cell == cell)
+        (slice_get places.now (length places.now - 1)) }
+    ensures has_one { IsTrue result → list_any (λ p. p.cell == cell) places.now ≡ true }
+{
+    match places.as_slice().last() {
+        Some(place) => place.cell == cell,
+        None => false,
+    }
+}
 
 /// The places that aren't in the cell. It takes no memory.
 pub(crate) fn outside_of(places: Places, cell: u32) -> Places

@@ -13,7 +13,7 @@ use Rattle.jtext.specs.Depth.{depth}
 use Rattle.jtext.specs.Find.{field, fields}
 use Rattle.jtext.specs.Keyed as keyed
 use Rattle.jtext.specs.Keyed.{Keyed}
-use Rattle.jtext.specs.Look.{is_object, is_object_layer, is_strings, items, string, string_at, is_whole_text, number_at}
+use Rattle.jtext.specs.Look.{is_object, is_object_layer, is_strings, items, text_of, string, string_at, is_whole_text, number_at, is_true_at}
 use Rattle.jtext.specs.Sound as sound
 use Rattle.jtext.specs.Sound.{Sound}
 use Rattle.jtext.proofs.Depths.{depth-Obj}
@@ -25,7 +25,7 @@ use Rattle.jcontent.specs.declared.shown.Shown.{Shown}
 use Rattle.jcontent.specs.Bundle.{pairs, bundle, bundle_at}
 use Rattle.jcontent.specs.Contents.{status, status_of, stream, stream_of, object, object_or_empty, metadata, display_id_in, display_id, shown_of, shown_data, display, display_of, update, update_of, outcome, outcome_of, error, error_of, named_by, error_reply, raised_by, reply_of, execute_reply, output, content_of}
 use Rattle.jcontent.specs.IsRead.{IsInner, IsShown, IsCount, IsRead}
-use Rattle.jcontent.specs.Texts.{text_of, texts, texts_at, whole_number, count, is_true_at}
+use Rattle.jcontent.specs.Texts.{texts, texts_at, whole_number, count}
 use Rattle.jcontent.proofs.ReadTrees.{string_utf8, items_utf8, inner_field}
 
 -- ---- parts

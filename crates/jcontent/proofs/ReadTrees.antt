@@ -12,13 +12,12 @@ use Rattle.jtext.specs.declared.json.Json.TheVariants as json
 use Rattle.jtext.specs.Depth.{depth}
 use Rattle.jtext.specs.Find.{find, field, fields}
 use Rattle.jtext.specs.Keyed.{Keyed, PairsKeyed}
-use Rattle.jtext.specs.Look.{is_object, is_list, items, string}
+use Rattle.jtext.specs.Look.{is_object, is_list, items, string, text_of}
 use Rattle.jtext.specs.Sound as sound
 use Rattle.jtext.specs.Sound.{Sound, AllSound, PairsSound}
 use Rattle.jtext.proofs.Depths.{depth-Obj, pairs-all}
 use Rattle.jtext.proofs.Trees.{object_is, list_is, text_is, open_Null, open_Bool, open_Num, open_Str, open_Arr, open_Obj, as_array, as_object, same_items, same_pairs, pairs_keyed, pair_keyed, no_items, no_fields}
 use Rattle.jcontent.specs.IsRead.{IsInner}
-use Rattle.jcontent.specs.Texts.{text_of}
 
 -- ---- parts of sound trees
 

@@ -10,8 +10,8 @@ use Rattle.jcontent.specs.declared.state.State.{State}
 use Rattle.jcontent.specs.declared.state.State.TheVariants as state
 use Rattle.jcontent.specs.declared.reply.ReplyIs.TheVariants as reply
 use Rattle.jcontent.specs.declared.shown.Shown.{Shown}
-use Rattle.jtext.specs.Look.{is_object, string, string_at}
-use Rattle.jcontent.specs.Texts.{is_true_at, texts_at, count}
+use Rattle.jtext.specs.Look.{is_object, string, string_at, is_true_at}
+use Rattle.jcontent.specs.Texts.{texts_at, count}
 use Rattle.jcontent.specs.Bundle.{bundle_at}
 
 -- the execution state of that name

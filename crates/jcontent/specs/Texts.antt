@@ -1,20 +1,8 @@
--- Texts, flags and counts in the content of a message (Jupyter messaging 5.3).
-use Rattle.std.specs.Prelude.{ℕ, Bool, List, [], map, Option, Some, None, if◌then◌else◌, codes, unwrap_or, option_and_then}
-use Rattle.jtext.specs.declared.json.Json.{Json, out-Json}
+-- Lists of texts and counts in the content of a message (Jupyter messaging 5.3).
+use Rattle.std.specs.Prelude.{ℕ, List, map, Option, Some, None, if◌then◌else◌, codes, option_and_then}
+use Rattle.jtext.specs.declared.json.Json.{Json}
 use Rattle.jtext.specs.Find.{field}
-use Rattle.jtext.specs.Look.{string, items, is_strings, is_whole_text, there_and, number_at, is_true_layer}
-
--- the value is `true`
-abbrev pub is_true : Json → Bool
-is_true t = is_true_layer (out-Json t)
-
--- `true` stands under the key
-abbrev pub is_true_at : Json → List ℕ → Bool
-is_true_at t key = there_and is_true (field t key)
-
--- the text of a string, empty for another value
-abbrev pub text_of : Json → List ℕ
-text_of v = unwrap_or (string v) []
+use Rattle.jtext.specs.Look.{items, text_of, is_strings, is_whole_text, number_at}
 
 -- the texts of a list of strings
 abbrev pub texts : Json → Option (List (List ℕ))

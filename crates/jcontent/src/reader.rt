@@ -3,9 +3,9 @@ ghost use Rattle.std.specs.Prelude.{◌≡◌, IfOk};
 ghost use Rattle.jcontent.specs.Contents as contents;
 
 use crate::reply::execute_reply;
-use crate::texts::{count, is_true_at, texts_at};
+use crate::texts::{count, texts_at};
 use crate::{Content, Shown, State};
-use jtext::{Json, NoMemory, Text, text_at};
+use jtext::{Json, NoMemory, Text, is_true_at, text_at};
 use std::alloc::Global;
 
 /// What a message of that type says by its content. Keys that the type doesn't need are passed

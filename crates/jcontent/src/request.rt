@@ -3,7 +3,7 @@ ghost use Rattle.std.specs.Prelude.{◌≡◌, IfOk};
 ghost use Rattle.jtext.specs.declared.json.Json.TheVariants as json;
 ghost use Rattle.jcontent.specs.Requests as requests;
 
-use jtext::{Fields, Json, NoMemory, Text};
+use jtext::{Fields, Json, NoMemory, Text, pair};
 use std::alloc::Global;
 
 /// The content of an `execute_request` for this code: it is kept in the history, asks for no input
@@ -38,10 +38,4 @@ pub fn shutdown_content(alloc: Global) -> Result<Json, NoMemory>
     let restart = pair(alloc, "restart", Json::Bool(false))?;
     let pairs = vec![in alloc; restart]?;
     Ok(Json::Obj(Fields::of_vec(pairs)))
-}
-
-fn pair(alloc: Global, key: &str, value: Json) -> Result<(Text, Json), NoMemory>
-    ensures { IfOk result (λ p. p ≡ (key.now, value)) }
-{
-    Ok((Text::of(alloc, key)?, value))
 }

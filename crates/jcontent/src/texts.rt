@@ -1,26 +1,10 @@
-//! Texts, flags and counts in a content.
-ghost use Rattle.std.specs.Prelude.{◌≡◌, IfOk, option_map, map};
+//! Lists of texts and counts in a content.
+ghost use Rattle.std.specs.Prelude.{◌≡◌, IfOk, option_map};
 ghost use Rattle.jtext.specs.Look as look;
 ghost use Rattle.jcontent.specs.Texts as texts;
 
-use jtext::{Json, NoMemory, NumText, Text, Texts, field, is_whole_text};
+use jtext::{Json, NoMemory, NumText, Texts, field, is_whole_text, texts_of};
 use std::alloc::Global;
-
-/// Whether `true` stands under the key.
-pub(crate) fn is_true_at(t: &Json, key: &str) -> bool
-    ensures { result ≡ texts.is_true_at t.now key.now }
-{
-    field(t, key).is_some_and(|v| is_true(v))
-}
-
-fn is_true(v: &Json) -> bool
-    ensures { result ≡ texts.is_true v.now }
-{
-    match v {
-        Json::Bool(is) => *is,
-        _ => false,
-    }
-}
 
 /// A copy of the list of strings at the key; `None` where there is none.
 pub(crate) fn texts_at(alloc: Global, t: &Json, key: &str) -> Result<Option<Texts>, NoMemory>
@@ -36,28 +20,9 @@ fn texts(alloc: Global, v: &Json) -> Result<Option<Texts>, NoMemory>
     ensures { IfOk result (λ r. r ≡ texts.texts v.now) }
 {
     if v.is_strings() {
-        Ok(Some(copies(alloc, v.items())?))
+        Ok(Some(texts_of(alloc, v.items())?))
     } else {
         Ok(None)
-    }
-}
-
-fn copies(alloc: Global, items: &[Json]) -> Result<Texts, NoMemory>
-    ensures { IfOk result (λ r. r ≡ map texts.text_of items.now) }
-{
-    let mut texts = Texts::new(alloc);
-    for item in items {
-        texts.push(text_of(alloc, item)?)?;
-    }
-    Ok(texts)
-}
-
-fn text_of(alloc: Global, v: &Json) -> Result<Text, NoMemory>
-    ensures { IfOk result (λ r. r ≡ texts.text_of v.now) }
-{
-    match v.as_text() {
-        Some(text) => Text::of(alloc, text.as_str()),
-        None => Ok(Text::new(alloc)),
     }
 }
 

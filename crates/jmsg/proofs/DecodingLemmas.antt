@@ -2,6 +2,7 @@
 use Rattle.std.proofs.Common.{◌≡◌, ℕ, ◌<◌, Bool, true, false, cond, ◌&&◌, List, [], ◌∷◌, length, Option, Some, None, Result, Ok, Err, codes, refl, sym, ◌∙◌, ap, subst, arith}
 use Rattle.std.specs.Prelude.{option_and_then}
 use Rattle.std.specs.Str.{bytes_eq, is_utf8}
+use Rattle.std.proofs.lemmas.Option.{cond_some, none-some, same_Some}
 use Rattle.std.proofs.lemmas.Str.{IsUtf8-from_is_utf8, is_utf8-from_IsUtf8}
 use Rattle.std.proofs.lemmas.Slice.Eq.{bytes_eq-Decides}
 use Rattle.zmtp_wire.proofs.ShakenLemmas.{is_true, true_is}
@@ -13,25 +14,21 @@ use Rattle.jtext.proofs.Documents.{document_complete, document_spells}
 use Rattle.jmsg.specs.Dictionary.{IsDictionary}
 use Rattle.jmsg.specs.Header.{header_of}
 use Rattle.jmsg.specs.Signed.{delimiter, AreRouting, Follow, Give, Signed, Decodes}
-use Rattle.jmsg.specs.Decoding.{object_read, dictionary_in, after_delimiter, message_of, message_given, json_verdict, frames_verdict, parts_verdict, verdict_on, message_in, decoded}
+use Rattle.jmsg.specs.Decoding.{object_read, dictionary_in, after_delimiter, message_of, message_given, json_verdict, frames_verdict, parts_verdict, verdict_on, message_in, decode}
 use Rattle.jmsg.specs.declared.header.Header.{Header}
 use Rattle.jmsg.specs.declared.message.Message.{Message}
 use Rattle.jmsg.specs.declared.decoded.Decoded.{Decoded}
 use Rattle.jmsg.specs.declared.decoded.Decoded.TheVariants.{Good, NoDelimiter, Short, Unsigned, NotJson}
 use Rattle.jmsg.proofs.FrameLemmas.{follow_here, follow_more, same_frame, other_frame}
-use Rattle.jmsg.proofs.MessageLemmas.{built, same_message, same_some, none_some}
+use Rattle.jmsg.proofs.MessageLemmas.{built, same_message}
 use Rattle.jmsg.proofs.VerdictLemmas.{framed, only_no_delimiter, only_short, only_unsigned, only_not_json, only_good}
 
 -- ---- dictionaries
 
-object_chosen : (b : Bool) (t u : Json) → cond b (Some t) None ≡ Some u → (b ≡ true) × (t ≡ u)
-object_chosen true t u e = (refl, same_some t u (Some t) refl e)
-object_chosen false t u e = absurd (none_some u None refl e)
-
 object_by : {E : Type 0} (utf8 : Bool) (r : Result Json E) (t : Json) → object_read utf8 r ≡ Some t → (utf8 ≡ true) × (r ≡ Ok t) × (is_object t ≡ true)
-object_by utf8 (Err e) t h = absurd (none_some t None refl h)
-object_by false (Ok x) t h = absurd (none_some t None refl h)
-object_by true (Ok x) t h = let k = object_chosen (is_object x) x t h in (refl, ap Ok k.1, ap is_object (sym k.1) ∙ k.0)
+object_by utf8 (Err e) t h = absurd (none-some t h)
+object_by false (Ok x) t h = absurd (none-some t h)
+object_by true (Ok x) t h = let k = cond_some (is_object x) x t h in (refl, ap Ok k.1, ap is_object (sym k.1) ∙ k.0)
 
 pub dictionary_sound : (b : List ℕ) (t : Json) → dictionary_in b ≡ Some t → IsDictionary t b
 unfolding dictionary_in
@@ -52,13 +49,13 @@ dictionary_complete b t d =
 give_by : (h p m c : List ℕ) (bs : List (List ℕ)) (x : Message) (named : Option Json) (header : Option Header) (parent metadata content : Option Json)
     → dictionary_in h ≡ named → option_and_then header_of named ≡ header → dictionary_in p ≡ parent → dictionary_in m ≡ metadata → dictionary_in c ≡ content
     → message_of header parent metadata content bs ≡ Some x → Give h p m c bs x
-give_by h p m c bs x named None parent metadata content e1 e2 e3 e4 e5 e = absurd (none_some x None refl e)
-give_by h p m c bs x named (Some hd) None metadata content e1 e2 e3 e4 e5 e = absurd (none_some x None refl e)
-give_by h p m c bs x named (Some hd) (Some pt) None content e1 e2 e3 e4 e5 e = absurd (none_some x None refl e)
-give_by h p m c bs x named (Some hd) (Some pt) (Some md) None e1 e2 e3 e4 e5 e = absurd (none_some x None refl e)
-give_by h p m c bs x None (Some hd) (Some pt) (Some md) (Some ct) e1 e2 e3 e4 e5 e = absurd (none_some hd None refl e2)
+give_by h p m c bs x named None parent metadata content e1 e2 e3 e4 e5 e = absurd (none-some x e)
+give_by h p m c bs x named (Some hd) None metadata content e1 e2 e3 e4 e5 e = absurd (none-some x e)
+give_by h p m c bs x named (Some hd) (Some pt) None content e1 e2 e3 e4 e5 e = absurd (none-some x e)
+give_by h p m c bs x named (Some hd) (Some pt) (Some md) None e1 e2 e3 e4 e5 e = absurd (none-some x e)
+give_by h p m c bs x None (Some hd) (Some pt) (Some md) (Some ct) e1 e2 e3 e4 e5 e = absurd (none-some hd e2)
 give_by h p m c bs x (Some t) (Some hd) (Some pt) (Some md) (Some ct) e1 e2 e3 e4 e5 e =
-    let all : built hd (string_at pt (codes "msg_id")) pt md ct bs ≡ x = same_some _ x (Some (built hd (string_at pt (codes "msg_id")) pt md ct bs)) refl e in
+    let all : built hd (string_at pt (codes "msg_id")) pt md ct bs ≡ x = same_Some _ x e in
     subst (λ (y : Message). Give h p m c bs y) all (record {
       named = t;
       is_header = dictionary_sound h t e1;
@@ -89,16 +86,16 @@ give_complete h p m c bs x g =
 
 follow_by : (b : Bool) (frame : List ℕ) (frames after : List (List ℕ)) → bytes_eq delimiter frame ≡ b → cond b (Some frames) (after_delimiter frames) ≡ Some after
     → (after_delimiter frames ≡ Some after → Follow frames after) → Follow (frame ∷ frames) after
-follow_by true frame frames after e h on = subst (Follow (frame ∷ frames)) (same_some frames after (Some frames) refl h) (follow_here frame frames (same_frame frame e))
+follow_by true frame frames after e h on = subst (Follow (frame ∷ frames)) (same_Some frames after h) (follow_here frame frames (same_frame frame e))
 follow_by false frame frames after e h on = follow_more frame frames after (other_frame frame e) (on h)
 
 follow_after : (parts after : List (List ℕ)) → after_delimiter parts ≡ Some after → Follow parts after
-follow_after [] after h = absurd (none_some after None refl h)
+follow_after [] after h = absurd (none-some after h)
 follow_after (frame ∷ frames) after h = follow_by (bytes_eq delimiter frame) frame frames after refl h (follow_after frames after)
 
 routing_by : (b : Bool) (frame : List ℕ) (frames : List (List ℕ)) → bytes_eq delimiter frame ≡ b → cond b (Some frames) (after_delimiter frames) ≡ None
     → (after_delimiter frames ≡ None → AreRouting frames) → AreRouting (frame ∷ frames)
-routing_by true frame frames e h on = absurd (none_some frames _ h refl)
+routing_by true frame frames e h on = absurd (none-some frames (sym h))
 routing_by false frame frames e h on = (other_frame frame e, on h)
 
 routing_after : (parts : List (List ℕ)) → after_delimiter parts ≡ None → AreRouting parts
@@ -115,11 +112,11 @@ record IsVerdict (key : List ℕ) (parts : List (List ℕ)) (v : Decoded) : Type
 json_verdict_by : (key : List ℕ) (parts : List (List ℕ)) (s h p m c : List ℕ) (bs : List (List ℕ)) → Follow parts (s ∷ h ∷ p ∷ m ∷ c ∷ bs) → s ≡ hmac.signature key h p m c
     → (o : Option Message) → message_given h p m c bs ≡ o → IsVerdict key parts (json_verdict o)
 json_verdict_by key parts s h p m c bs follow signed None e =
-    let none : (x : Message) → Give h p m c bs x → ⊥ = λ x g. none_some x _ e (give_complete h p m c bs x g) in
+    let none : (x : Message) → Give h p m c bs x → ⊥ = λ x g. none-some x (sym e ∙ give_complete h p m c bs x g) in
     record { is = (framed parts s h p m c bs follow, signed, λ given. none given.0 given.1); only = only_not_json key parts s h p m c bs follow signed none }
 json_verdict_by key parts s h p m c bs follow signed (Some x) e =
     let given = give_sound h p m c bs x e in
-    let once : (y : Message) → Give h p m c bs y → x ≡ y = λ y g. same_some x y _ e (give_complete h p m c bs y g) in
+    let once : (y : Message) → Give h p m c bs y → x ≡ y = λ y g. same_Some x y (sym e ∙ give_complete h p m c bs y g) in
     record { is = (framed parts s h p m c bs follow, signed, given); only = only_good key parts s h p m c bs follow signed x given once }
 
 signed_verdict_by : (key : List ℕ) (parts : List (List ℕ)) (s h p m c : List ℕ) (bs : List (List ℕ)) → Follow parts (s ∷ h ∷ p ∷ m ∷ c ∷ bs)
@@ -158,16 +155,16 @@ verdict_alone key parts d h = sym ((verdict_is key parts).only d h)
 -- ---- the message
 
 good_by : (d : Decoded) (m : Message) → message_in d ≡ Some m → d ≡ Good m
-good_by (Good x) m e = ap Good (same_some x m (Some x) refl e)
-good_by NoDelimiter m e = absurd (none_some m None refl e)
-good_by Short m e = absurd (none_some m None refl e)
-good_by Unsigned m e = absurd (none_some m None refl e)
-good_by NotJson m e = absurd (none_some m None refl e)
+good_by (Good x) m e = ap Good (same_Some x m e)
+good_by NoDelimiter m e = absurd (none-some m e)
+good_by Short m e = absurd (none-some m e)
+good_by Unsigned m e = absurd (none-some m e)
+good_by NotJson m e = absurd (none-some m e)
 
-pub decoded_signed : (key : List ℕ) (parts : List (List ℕ)) (m : Message) → decoded key parts ≡ Some m → Signed key parts m
-unfolding decoded
+pub decoded_signed : (key : List ℕ) (parts : List (List ℕ)) (m : Message) → decode key parts ≡ Some m → Signed key parts m
+unfolding decode
 decoded_signed key parts m e = subst (Decodes key parts) (good_by (verdict_on key parts) m e) (verdict_true key parts)
 
-pub signed_decoded : (key : List ℕ) (parts : List (List ℕ)) (m : Message) → Signed key parts m → decoded key parts ≡ Some m
-unfolding decoded
+pub signed_decoded : (key : List ℕ) (parts : List (List ℕ)) (m : Message) → Signed key parts m → decode key parts ≡ Some m
+unfolding decode
 signed_decoded key parts m s = ap message_in (sym (verdict_alone key parts (Good m) s))

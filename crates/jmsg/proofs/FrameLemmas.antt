@@ -7,6 +7,8 @@ use Rattle.std.specs.Result.{result_ok, MatchResult}
 use Rattle.std.specs.Str.{bytes_eq}
 use Rattle.std.proofs.lemmas.Bool.{ltb-true, ltb-false}
 use Rattle.std.proofs.lemmas.Slice.Eq.{bytes_eq-Decides}
+use Rattle.std.proofs.lemmas.Option.{cond_some}
+use Rattle.jtext.proofs.Lists.{none_chosen}
 use Rattle.jmsg.specs.Signed.{delimiter, AreRouting, Follow, Frames}
 
 -- ---- the first delimiter
@@ -46,24 +48,16 @@ no_first (f ∷ parts) past = step (bytes_eq delimiter f) refl past (λ w. no_fi
     step true e p more = absurd (omega arith)
     step false e p more = (other_frame f e, more (omega arith))
 
-chosen : (b : Bool) (n place : ℕ) → cond b (Some n) None ≡ Some place → (b ≡ true) × (n ≡ place)
-chosen true n place e = (refl, cc)
-chosen false n place e = absurd (cc)
-
 pub follow_place : (parts : List (List ℕ)) (place : ℕ) → position (bytes_eq delimiter) parts ≡ Some place → Follow parts (drop (place + 1) parts)
 follow_place parts place found =
     let p : ℕ = position_or_len (bytes_eq delimiter) parts in
-    let given = chosen (nat_lt p (length parts)) p place found in
+    let given = cond_some (nat_lt p (length parts)) p place found in
     subst (λ (n : ℕ). Follow parts (drop (n + 1) parts)) given.1 (follow_first parts (ltb-true p (length parts) given.0))
-
-refused : (b : Bool) (n : ℕ) → cond b (Some n) None ≡ None → b ≡ false
-refused true n e = absurd (cc)
-refused false n e = refl
 
 pub routing_alone : (parts : List (List ℕ)) → position (bytes_eq delimiter) parts ≡ None → AreRouting parts
 routing_alone parts e =
     let p : ℕ = position_or_len (bytes_eq delimiter) parts in
-    no_first parts (ltb-false p (length parts) (refused (nat_lt p (length parts)) p e))
+    no_first parts (ltb-false p (length parts) (none_chosen (nat_lt p (length parts)) p e))
 
 -- ---- one delimiter is the first
 
@@ -116,10 +110,6 @@ array_some (Err x) o b n e h = rw e tt
 pub array_only : {E : Type 0} (r : Result (List ℕ) E) (o : Option (List ℕ)) (b : List ℕ) (n : ℕ) → o ≡ result_ok r → MatchResult r (λ y. IsWholeChunk b y n) (λ x. length b ≢ n) → length b ≡ n → o ≡ Some b
 array_only (Ok y) o b n e h long = e ∙ ap Some h.same
 array_only (Err x) o b n e h long = absurd (h long)
-
-pub IfSome-weaker : {X : Type 0} (o : Option X) (P Q : X → Type 0) → ((x : X) → P x → Q x) → IfSome o P → IfSome o Q
-IfSome-weaker None P Q w h = tt
-IfSome-weaker (Some x) P Q w h = w x h
 
 pub opened : (parts after : List (List ℕ)) (s h p m c : List ℕ) → Follow parts after → 5 ≤ length after → s ≡ get_or after 0 s → h ≡ get_or after 1 h → p ≡ get_or after 2 p → m ≡ get_or after 3 m → c ≡ get_or after 4 c
     → Follow parts (s ∷ h ∷ p ∷ m ∷ c ∷ drop 5 after)

@@ -5,8 +5,8 @@ use Rattle.std.specs.Option.{IfSome, unwrap_or}
 use Rattle.std.specs.Prelude.{option_and_then}
 use Rattle.std.specs.Str.{IsUtf8, bytes_eq}
 use Rattle.std.proofs.lemmas.Bool.{and_parts, ltb-true}
-use Rattle.std.proofs.lemmas.Slice.Eq.{bytes_eq-Decides}
 use Rattle.std.proofs.lemmas.Str.{IsUtf8-from_ascii}
+use Rattle.jtext.proofs.Equals.{apart_bytes}
 use Rattle.jtext.specs.Depth.{depth}
 use Rattle.jtext.specs.Find.{find, fields_of}
 use Rattle.jtext.proofs.Depths.{depth-Obj, depth-Str, pairs-le}
@@ -71,12 +71,9 @@ pairs_flat i s u (Some d) t v = (at_most i, (at_most s, (at_most u, (at_most d, 
 
 -- ---- its keys are distinct
 
-pub apart : (a b : List ℕ) → bytes_eq a b ≡ false → a ≢ b
-apart a b h e = let same = (bytes_eq-Decides a b).1 e in cc
-
 distinct : (i s u : List ℕ) (d : Option (List ℕ)) (t v : List ℕ) → Distinct (pairs_of (header i s u d t v))
-distinct i s u None t v = ((apart _ _ refl, (apart _ _ refl, (apart _ _ refl, (apart _ _ refl, tt)))), ((apart _ _ refl, (apart _ _ refl, (apart _ _ refl, tt))), ((apart _ _ refl, (apart _ _ refl, tt)), ((apart _ _ refl, tt), (tt, tt)))))
-distinct i s u (Some d) t v = ((apart _ _ refl, (apart _ _ refl, (apart _ _ refl, (apart _ _ refl, (apart _ _ refl, tt))))), ((apart _ _ refl, (apart _ _ refl, (apart _ _ refl, (apart _ _ refl, tt)))), ((apart _ _ refl, (apart _ _ refl, (apart _ _ refl, tt))), ((apart _ _ refl, (apart _ _ refl, tt)), ((apart _ _ refl, tt), (tt, tt))))))
+distinct i s u None t v = ((apart_bytes _ _ refl, (apart_bytes _ _ refl, (apart_bytes _ _ refl, (apart_bytes _ _ refl, tt)))), ((apart_bytes _ _ refl, (apart_bytes _ _ refl, (apart_bytes _ _ refl, tt))), ((apart_bytes _ _ refl, (apart_bytes _ _ refl, tt)), ((apart_bytes _ _ refl, tt), (tt, tt)))))
+distinct i s u (Some d) t v = ((apart_bytes _ _ refl, (apart_bytes _ _ refl, (apart_bytes _ _ refl, (apart_bytes _ _ refl, (apart_bytes _ _ refl, tt))))), ((apart_bytes _ _ refl, (apart_bytes _ _ refl, (apart_bytes _ _ refl, (apart_bytes _ _ refl, tt)))), ((apart_bytes _ _ refl, (apart_bytes _ _ refl, (apart_bytes _ _ refl, tt))), ((apart_bytes _ _ refl, (apart_bytes _ _ refl, tt)), ((apart_bytes _ _ refl, tt), (tt, tt))))))
 
 keyed_text : (key text : List ℕ) (ps : List (List ℕ × Json)) → PairsKeyed ps → PairsKeyed (text_pair key text ∷ ps)
 keyed_text key text ps rest = keyed.pair key (json.Str text) ps (keyed.text text) rest

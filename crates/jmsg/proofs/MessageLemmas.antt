@@ -10,7 +10,7 @@ use Rattle.jmsg.specs.declared.header.Header.{Header}
 use Rattle.jmsg.specs.declared.message.Message.{Message}
 use Rattle.jmsg.specs.Dictionary.{IsDictionary}
 use Rattle.jmsg.specs.Header.{tree_of}
-use Rattle.jmsg.specs.Encoded.{encoded, header_text, IsSendable, IsSendableTree}
+use Rattle.jmsg.specs.Encoded.{encode, header_text, IsSendable, IsSendableTree}
 use Rattle.jmsg.specs.Signed.{Signed}
 use Rattle.jmsg.proofs.HeaderLemmas.{header_again, header_sendable}
 
@@ -24,18 +24,12 @@ same_message h id p md ct bs m eh ei ep em ec eb =
     ∙ ap (λ x. built m.header m.parent_id m.parent x ct bs) em ∙ ap (λ x. built m.header m.parent_id m.parent m.metadata x bs) ec
     ∙ ap (λ x. built m.header m.parent_id m.parent m.metadata m.content x) eb
 
-pub same_some : {X : Type 0} (x y : X) (o : Option X) → o ≡ Some x → o ≡ Some y → x ≡ y
-same_some x y o e f = let same : Some x ≡ Some y = sym e ∙ f in cc
-
-pub none_some : {X : Type 0} (x : X) (o : Option X) → o ≡ None → o ≡ Some x → ⊥
-none_some {X} x o e f = let same : ◌≡◌ {A = Option X} None (Some x) = sym e ∙ f in cc
-
 -- ---- what is sent
 
 sent : ((t : Json) → Sound t → Keyed t → Spells t (compact t)) → (t : Json) → IsSendableTree t → IsDictionary t (compact t)
 sent spells t s = record { spelled = spells t s.sound s.keyed; object = s.object; nests = s.nests }
 
-pub sent_message : (key : List ℕ) (m : Message) → ((t : Json) → Sound t → Keyed t → Spells t (compact t)) → IsSendable m → Signed key (encoded key m) m
+pub sent_message : (key : List ℕ) (m : Message) → ((t : Json) → Sound t → Keyed t → Spells t (compact t)) → IsSendable m → Signed key (encode key m) m
 sent_message key m spells s = (
   record { signature = hmac.signature key (header_text m) (compact m.parent) (compact m.metadata) (compact m.content); header = header_text m; parent = compact m.parent; metadata = compact m.metadata; content = compact m.content; buffers = m.buffers; follow = record { routing = []; are_routing = tt; parts_are = refl } },
   refl,

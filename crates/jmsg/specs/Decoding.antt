@@ -88,5 +88,5 @@ message_in Unsigned = None
 message_in NotJson = None
 
 -- the message that the parts are, signed under the key; None where they are none
-unfoldable pub decoded : List ℕ → List (List ℕ) → Option Message
-decoded key parts = message_in (verdict_on key parts)
+unfoldable pub decode : List ℕ → List (List ℕ) → Option Message
+decode key parts = message_in (verdict_on key parts)

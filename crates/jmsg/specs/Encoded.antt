@@ -19,8 +19,8 @@ abbrev pub header_text : Message → List ℕ
 header_text m = compact (tree_of m.header)
 
 -- the parts of the message, signed under the key
-abbrev pub encoded : List ℕ → Message → List (List ℕ)
-encoded key m =
+abbrev pub encode : List ℕ → Message → List (List ℕ)
+encode key m =
     delimiter ∷ hmac.signature key (header_text m) (compact m.parent) (compact m.metadata) (compact m.content)
     ∷ header_text m ∷ compact m.parent ∷ compact m.metadata ∷ compact m.content ∷ m.buffers
 

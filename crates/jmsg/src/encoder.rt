@@ -1,7 +1,7 @@
 //! From a message to parts.
 ghost use Rattle.std.specs.Prelude.{◌≡◌, ℕ, List, IfOk};
 ghost use Rattle.jsign.specs.Signer.{SignsUnder};
-ghost use Rattle.jmsg.specs.Encoded.{encoded};
+ghost use Rattle.jmsg.specs.Encoded.{encode};
 
 use crate::Message;
 use crate::frames::{DELIMITER, append_copies};
@@ -12,7 +12,7 @@ use zmtp_wire::Parts;
 
 /// The parts of the message, signed under the key: no routing frames, dictionaries as compact text.
 pub fn encode(alloc: Global, key: &[u8], m: &Message) -> Result<Parts, NoMemory>
-    ensures { IfOk result (λ parts. parts ≡ encoded key.now m.now) }
+    ensures { IfOk result (λ parts. parts ≡ encode key.now m.now) }
 {
     encode_under(alloc, &Signer::new(key), m)
 }
@@ -20,7 +20,7 @@ pub fn encode(alloc: Global, key: &[u8], m: &Message) -> Result<Parts, NoMemory>
 /// Encodes as `encode` does under the signer's key, which isn't hashed again.
 pub fn encode_under(alloc: Global, signer: &Signer, m: &Message) -> Result<Parts, NoMemory>
     ensures { (key : List ℕ) → SignsUnder signer.now key →
-        IfOk result (λ parts. parts ≡ encoded key m.now) }
+        IfOk result (λ parts. parts ≡ encode key m.now) }
 {
     let header = write_compact(alloc, &m.header.tree(alloc)?)?;
     let parent = write_compact(alloc, &m.parent)?;

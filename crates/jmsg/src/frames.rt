@@ -20,8 +20,9 @@ pub(crate) fn after_delimiter(parts: &[Bytes]) -> Option<&[Bytes]>
     Some(&parts[place + 1..])
 }
 
-/// The place of the first delimiter.
-fn delimiter_place(parts: &[Bytes]) -> Option<usize>
+/// The place of the first delimiter among the parts of a message, counted from 0; `None` where there
+/// is none.
+pub fn delimiter_place(parts: &[Bytes]) -> Option<usize>
     ensures place { result ≡ position (bytes_eq delimiter) parts.now }
     ensures within { IfSome result (λ place. place < length parts.now) }
 {

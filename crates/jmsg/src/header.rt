@@ -3,7 +3,7 @@ ghost use Rattle.std.specs.Prelude.{◌≡◌, [], ◌∷◌, ◌++◌, IfOk, On
 ghost use Rattle.std.specs.Option.{unwrap_or};
 ghost use Rattle.jmsg.specs.Header as header;
 
-use crate::dictionary::pairs_of;
+use crate::dictionaries::pairs_of;
 use crate::told::Told;
 use jtext::{Fields, Json, NoMemory, Text};
 use std::alloc::Global;

@@ -3,8 +3,8 @@ ghost use Rattle.std.specs.Prelude.{◌≡◌, ℕ, List as Plain, Some};
 ghost use Rattle.jmsg.specs.declared.message.Message as message;
 ghost use Rattle.jmsg.specs.declared.decoded.Decoded as verdict;
 ghost use Rattle.jmsg.specs.Date.{IsDateText, date_of};
-ghost use Rattle.jmsg.specs.Decoding.{decoded, verdict_on};
-ghost use Rattle.jmsg.specs.Encoded.{encoded, IsSendable};
+ghost use Rattle.jmsg.specs.Decoding.{decode, verdict_on};
+ghost use Rattle.jmsg.specs.Encoded.{encode, IsSendable};
 ghost use Rattle.jmsg.specs.Signed.{Signed, Decodes};
 
 use jtext::laws::compact_spells;
@@ -13,7 +13,7 @@ use jtext::laws::compact_spells;
 /// `decode` gives it again. Its dictionaries are objects with distinct keys nested at most 100
 /// deep, and its parent's id is the one in its parent header.
 pub fn encoded_is_signed()
-    ensures { (key : Plain ℕ) (m : message.Message) → IsSendable m → Signed key (encoded key m) m }
+    ensures { (key : Plain ℕ) (m : message.Message) → IsSendable m → Signed key (encode key m) m }
 {
     compact_spells();
 }
@@ -25,9 +25,9 @@ pub fn decoded_is_signed()
     ensures only_verdict { (key : Plain ℕ) (parts : Plain (Plain ℕ)) (d : verdict.Decoded) →
         Decodes key parts d → d ≡ verdict_on key parts }
     ensures message { (key : Plain ℕ) (parts : Plain (Plain ℕ)) (m : message.Message) →
-        decoded key parts ≡ Some m → Signed key parts m }
+        decode key parts ≡ Some m → Signed key parts m }
     ensures only_message { (key : Plain ℕ) (parts : Plain (Plain ℕ)) (m : message.Message) →
-        Signed key parts m → decoded key parts ≡ Some m }
+        Signed key parts m → decode key parts ≡ Some m }
 {}
 
 /// A moment has one text, and it is a function of the moment.

@@ -4,7 +4,7 @@
 
 mod date;
 mod decoded;
-mod dictionary;
+mod dictionaries;
 mod encoder;
 mod frames;
 mod header;
@@ -15,8 +15,9 @@ mod told;
 
 pub use date::date_text;
 pub use decoded::Decoded;
+pub use dictionaries::dictionary;
 pub use encoder::{encode, encode_under};
-pub use frames::signature;
+pub use frames::{delimiter_place, signature};
 pub use header::Header;
 pub use message::Message;
 pub use reader::{decode, decode_under};

@@ -5,7 +5,7 @@ ghost use Rattle.jmsg.specs.declared.decoded.Decoded as verdict;
 ghost use Rattle.jmsg.specs.declared.message.Message as message;
 ghost use Rattle.jmsg.specs.Signed.{Decodes, Give};
 
-use crate::dictionary::dictionary;
+use crate::dictionaries::dictionary;
 use crate::frames::{after_delimiter, append_copies};
 use crate::{Decoded, Header, Message};
 use jsign::Signer;

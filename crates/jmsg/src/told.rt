@@ -3,7 +3,7 @@ ghost use Rattle.std.specs.Prelude.{◌≡◌, ◌∷◌, ℕ, List};
 ghost use Rattle.jtext.specs.Look.{string};
 ghost use Rattle.jtext.specs.declared.json.Json.{Json as Tree};
 
-use crate::dictionary::string_of;
+use crate::dictionaries::string_of;
 use jtext::{Fields, Text};
 
 /// The strings under the keys of a header.

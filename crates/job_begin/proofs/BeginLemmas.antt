@@ -20,9 +20,6 @@ use Rattle.kernel_start.specs.Finding.{HasGoodName, Finds, no_name, bad_name, no
 use Rattle.save_course.specs.Course.{begins, IsRested}
 use Rattle.job_end.specs.declared.answer.Answer.{Answer}
 use Rattle.job_end.specs.declared.end.End.{End}
-use Rattle.job_end.specs.declared.end.End.TheVariants as end
-use Rattle.job_end.specs.Answers.{Answers, said, starved}
-use Rattle.job_end.specs.Statuses.{status_of}
 use Rattle.job_saves.specs.Course.{Origin, IsFor, IsSaved, HasSaved, HasCalled, LacksSaves, HasOnlyRead, CountsWork, Begins, Ends, keeps_open}
 use Rattle.job_saves.specs.Calls.{Cast, IsCallBy, IsCall}
 use Rattle.job_saves.specs.Children.{KeepsEnd, AsksNone}
@@ -37,7 +34,8 @@ use Rattle.job_saves.proofs.CourseLemmas.{told_as, told_on, calls_on, begins_pas
 use Rattle.job_run.specs.declared.job.Job.{Job}
 use Rattle.cell_core.specs.Task.{Task}
 use Rattle.job_run.proofs.TurnLemmas.{new_passes, begins_rested}
-use Rattle.job_run.specs.Run.{StartsAs, BeginsAs, BeginsNew, Runs, IsUnsaved, IsCastAs, HasNoChild, HasNoPorts, HasNoSave, OnlyReads, StartsInRole, HasRole}
+use Rattle.job_run.specs.Run.{StartsAs, BeginsAs, BeginsNew, Runs, IsCastAs, HasNoChild, HasNoPorts, HasNoSave, OnlyReads, StartsInRole, HasRole}
+use Rattle.job_run.proofs.OutcomeLemmas.{shut_by}
 use Rattle.job_begin.specs.Causes.{HasCause}
 use Rattle.job_begin.proofs.CountLemmas.{answer_counts}
 use Rattle.job_begin.specs.Steps.{EndsCounted}
@@ -88,10 +86,10 @@ appends (later {entry = entry} since p) = let a = appends since in record { adde
 not_longer : (entry : Entry) (y : List Entry) → Appends (entry ∷ y) y → ⊥
 not_longer entry y a = omega (arith, ap length a.is, length-append a.added (entry ∷ y))
 
-called : {E : Type 0} (cast : Cast) (since : List Entry) (from : Counts) (result : Result Job E) (k : Option (List Entry)) (d : Counts)
+pub starts_called : {E : Type 0} (cast : Cast) (since : List Entry) (from : Counts) (result : Result Job E) (k : Option (List Entry)) (d : Counts)
     → StartsInRole cast since from result k d → HasCalled cast since from k d
-called cast since from (Ok j) k d h = h.part.so
-called cast since from (Err e) k d h = h
+starts_called cast since from (Ok j) k d h = h.part.so
+starts_called cast since from (Err e) k d h = h
 
 -- the job that is asked for alone
 abbrev pub sole : Ask → List ℕ → Bool → Cast
@@ -112,7 +110,7 @@ module _ {E : Type 0} (a : Ask) (number : ℕ) (here : List ℕ) (result : Resul
   told_appends j k calls =
       let cast : Cast = sole a here true in
       told_adds (told_by (IsCall cast) j k (λ since held.
-      (called cast since c result k d (calls cast since c (record { has = refl; folder = refl; starts = refl }) (λ e. absurd (cc)) (λ e. absurd (cc)) (λ e. absurd (cc)) (sole_calls a here true since j c held))).told))
+      (starts_called cast since c result k d (calls cast since c (record { has = refl; folder = refl; starts = refl }) (λ e. absurd (cc)) (λ e. absurd (cc)) (λ e. absurd (cc)) (sole_calls a here true since j c held))).told))
     where
       told_adds : {i m : Option (List Entry)} {P : List Entry → Type 0} → Told i m (Since P) → Told i m Appends
       told_adds told = moments_as told (λ x y s. appends s)
@@ -211,38 +209,13 @@ kernel_told a n result (Ok kernel) j k same told own =
 
 -- ---- the answer of an end
 
-unsaved_status : (e : End) → keeps_open e ≡ false → status_of e ≡ 10
-unsaved_status end.Done h = absurd (cc)
-unsaved_status (end.CellError cell name) h = absurd (cc)
-unsaved_status (end.NotRead path) h = absurd (cc)
-unsaved_status end.TooLarge h = absurd (cc)
-unsaved_status (end.NotLoaded f) h = absurd (cc)
-unsaved_status end.NoKernelName h = absurd (cc)
-unsaved_status end.BadKernelName h = absurd (cc)
-unsaved_status (end.BadSpec f) h = absurd (cc)
-unsaved_status end.NotStarted h = absurd (cc)
-unsaved_status end.NotReady h = absurd (cc)
-unsaved_status end.KernelLost h = absurd (cc)
-unsaved_status (end.TimedOut cell) h = absurd (cc)
-unsaved_status (end.NotSaved f) h = refl
-unsaved_status end.NoConnectionFile h = absurd (cc)
-unsaved_status end.NoMemory h = absurd (cc)
-unsaved_status (end.NoIdle cell) h = absurd (cc)
-unsaved_status end.NetFault h = absurd (cc)
-unsaved_status (end.BadPeer chan f) h = absurd (cc)
-unsaved_status end.Spent h = absurd (cc)
-
-answer_shuts : (output : List ℕ) (e : End) (answer : Answer) → Answers output e answer → keeps_open e ≡ false → IsUnsaved answer.status
-answer_shuts output e answer said h = inl (unsaved_status e h)
-answer_shuts output e answer starved h = inr refl
-
 pub answered : (output : List ℕ) (begun : Result Job End) (result : Result Job Answer) → AnswersAs output begun result
     → (o : Origin) (task : Option Task) (j : Option (List Entry)) (c : Counts) → IfErr begun (EndsCounted o task j) → IfErr result (λ answer. HasCause o.counts c answer.status) → StartsAs o begun j c → BeginsAs o task result j c
 answered output (Ok j) (Ok k) same o task journal c count caused h = subst (λ x. Runs o x journal c) (sym same) h
 answered output (Err e) (Err answer) answers o task journal c count caused h = record {
   is_open = keeps_open e;
   ends = h;
-  shut = answer_shuts output e answer answers;
+  shut = shut_by output e answer answers;
   fails = λ s. elim s [
     | inl read ↦ caused.read read
     | inr save ↦ caused.save save

@@ -2,6 +2,7 @@
 use Rattle.std.proofs.Common.{◌≡◌, ℕ, zero, suc, ◌+◌, ◌<◌, Bool, true, false, List, [], ◌∷◌, length, Option, Some, None, Result, Ok, Err, if◌then◌else◌, refl, sym, ap, subst, ◌∙◌, arith}
 use Rattle.std.specs.Prelude.{◌==◌, ◌&&◌, not, nat_lt, drop, is_some, IfSome, IfErr, OnOk}
 use Rattle.std.proofs.lemmas.Bool.{lt-ltb}
+use Rattle.std.proofs.lemmas.List.{nil_from_length}
 use Rattle.nb_model.specs.declared.notebook.Notebook.{Notebook}
 use Rattle.nb_model.specs.Planned.{plan}
 use Rattle.words.specs.declared.ask.Ask.{Ask}
@@ -10,11 +11,11 @@ use Rattle.world.specs.Counts.{Counts}
 use Rattle.world.specs.Moments.{Told}
 use Rattle.world.proofs.MomentsLemmas.{told_start, told_then}
 use Rattle.world.proofs.CountsLemmas.{grow_start}
-use Rattle.save_disk.specs.Places.{acknowledged}
+use Rattle.save_disk.specs.Places.{save_count}
 use Rattle.cell_core.specs.declared.event.Event.TheVariants.{Saved}
 use Rattle.cell_core.specs.declared.act.Act.TheVariants.{Nothing, Stop}
 use Rattle.cell_core.specs.Acts.{act_of, act_at, act_by, awaits_saved, has_stopped, heard, is_empty}
-use Rattle.cell_core.specs.Saves.{Prefix, prepared, unacked}
+use Rattle.cell_core.specs.Saves.{Prefix, after_preparation, pending_saves}
 use Rattle.cell_core.specs.declared.times.Times.{Times}
 use Rattle.cell_core.specs.declared.why.Why.{Why}
 use Rattle.cell_core.specs.declared.why.Why.TheVariants as why
@@ -50,7 +51,7 @@ only_task a first t is = by_mode a.prepare (task_for a first) t is
 -- ---- ends that no event brings
 
 pub prepared_counts : (a : Ask) (first : Notebook) (o : Origin) (k : Option (List Entry)) (e : End) → a.prepare ≡ true → EndsCounted o (counted_task a first) k e
-prepared_counts a first o k e on t is = none_told (IsNew o → IfSome k (λ past. IsCausedAfter (acknowledged o.output past) t (status_of e))) (sym (ap (λ b. if b then None else Some (task_for a first)) on) ∙ is)
+prepared_counts a first o k e on t is = none_told (IsNew o → IfSome k (λ past. IsCausedAfter (save_count o.output past) t (status_of e))) (sym (ap (λ b. if b then None else Some (task_for a first)) on) ∙ is)
   where
     none_told : (P : Type 0) {t : Task} → None ≡ Some t → P
     none_told P is = absurd (cc)
@@ -60,14 +61,14 @@ no_cause n t status none cause is = let no : Some cause ≡ None = sym is ∙ no
 
 pub uncaused_counts : (o : Origin) (task : Option Task) (k : Option (List Entry)) (e : End) → IsUncaused (status_of e) → EndsCounted o task k e
 uncaused_counts o task None e none t is fresh = tt
-uncaused_counts o task (Some past) e none t is fresh = no_cause (acknowledged o.output past) t (status_of e) none
+uncaused_counts o task (Some past) e none t is fresh = no_cause (save_count o.output past) t (status_of e) none
 
 -- ---- the end of a start
 
 started_counts : (a : Ask) (first : Notebook) (o : Origin) (k : Option (List Entry)) (e : End) → StartsCounted o (task_for a first) k e → EndsCounted o (counted_task a first) k e
 started_counts a first o None e h t is fresh = tt
 started_counts a first o (Some past) e h t is fresh =
-    subst (λ q. IsCausedAfter (acknowledged o.output past) q (status_of e)) (only_task a first t is) (start_after (acknowledged o.output past) (task_for a first) [] e _ said (h fresh))
+    subst (λ q. IsCausedAfter (save_count o.output past) q (status_of e)) (only_task a first t is) (start_after (save_count o.output past) (task_for a first) [] e _ said (h fresh))
 
 pub start_counts : (a : Ask) (first : Notebook) (o : Origin) (k : Option (List Entry)) (r : Result Job End) → IfErr r (StartsCounted o (task_for a first) k)
     → IfErr r (EndsCounted o (counted_task a first) k)
@@ -90,10 +91,10 @@ module _ (n : ℕ) (times : Times) where
 
   -- the cause after k saves, where this save closes it, whether it has stopped, and the saves that are due
   abbrev due : List Prefix → ℕ → List Prefix
-  due closing k = drop k (prepared ∷ closing)
+  due closing k = drop k (after_preparation ∷ closing)
 
   abbrev cause : List Prefix → ℕ → Option Why
-  cause closing k = if length (prepared ∷ closing) == k then Some why.Done else None
+  cause closing k = if length (after_preparation ∷ closing) == k then Some why.Done else None
 
   abbrev ends : List Prefix → ℕ → Bool
   ends closing k = is_some (cause closing k) && is_empty (due closing k)
@@ -103,8 +104,8 @@ module _ (n : ℕ) (times : Times) where
 
   awaits_second : true ≡ awaits_saved idle (Saved ∷ [])
   awaits_second =
-      let due_at : awaits_saved idle (Saved ∷ []) ≡ not (is_empty (unacked idle (Saved ∷ []))) = ap (λ events. not (is_empty (unacked idle events))) heard_first in
-      let one : not (is_empty (unacked idle (Saved ∷ []))) ≡ true = ap (λ xs. not (is_empty (due xs 1))) is_closing in
+      let due_at : awaits_saved idle (Saved ∷ []) ≡ not (is_empty (pending_saves idle (Saved ∷ []))) = ap (λ events. not (is_empty (pending_saves idle events))) heard_first in
+      let one : not (is_empty (pending_saves idle (Saved ∷ []))) ≡ true = ap (λ xs. not (is_empty (due xs 1))) is_closing in
       sym (due_at ∙ one)
 
   stops_second : act_of idle Saved (Saved ∷ []) ≡ Stop why.Done
@@ -123,14 +124,10 @@ none_stops (suc n) times = ∣ record {
   count = refl;
 } ∣₁
 
-no_cells : (xs : List ℕ) → length xs ≡ 0 → xs ≡ []
-no_cells [] e = refl
-no_cells (x ∷ xs) e = absurd (omega (arith, e))
-
 plan_stops : (a : Ask) (first : Notebook) → length (plan first) ≡ 0 → StopsAfter (1 + closing_saves (length first.cells)) (task_for a first) why.Done
 plan_stops a first none =
     let m = length first.cells in
-    subst (λ xs. StopsAfter (1 + closing_saves m) (record { plan = xs; cells = m; times = times_of a }) why.Done) (sym (no_cells (plan first) none)) (none_stops m (times_of a))
+    subst (λ xs. StopsAfter (1 + closing_saves m) (record { plan = xs; cells = m; times = times_of a }) why.Done) (sym (nil_from_length (plan first) none)) (none_stops m (times_of a))
 
 save_uncaused : (e : End) → IsEndOfSave e → IsUncaused (status_of e)
 save_uncaused (end.NotSaved f) own = refl
@@ -155,21 +152,21 @@ save_uncaused end.Spent own = absurd own
 
 module _ (a : Ask) (first : Notebook) (o : Origin) (none : length (plan first) ≡ 0) (to : o.output ≡ a.output) where
   abbrev Saves : Option (List Entry) → Option (List Entry) → Type 0
-  Saves j k = Told j k (λ before after. acknowledged a.output after ≡ acknowledged a.output before + (1 + closing_saves (length first.cells)))
+  Saves j k = Told j k (λ before after. save_count a.output after ≡ save_count a.output before + (1 + closing_saves (length first.cells)))
 
-  done_at : (before after : List Entry) (t : Task) → task_for a first ≡ t → acknowledged o.output before ≡ 0
-      → acknowledged a.output after ≡ acknowledged a.output before + (1 + closing_saves (length first.cells)) → IsCausedAfter (acknowledged o.output after) t 0
+  done_at : (before after : List Entry) (t : Task) → task_for a first ≡ t → save_count o.output before ≡ 0
+      → save_count a.output after ≡ save_count a.output before + (1 + closing_saves (length first.cells)) → IsCausedAfter (save_count o.output after) t 0
   done_at before after t at zero_saves more =
-      let from : acknowledged a.output before ≡ 0 = subst (λ out. acknowledged out before ≡ 0) to zero_saves in
-      let count : 1 + closing_saves (length first.cells) ≡ acknowledged o.output after = omega (arith, ap (λ out. acknowledged out after) to, more, from) in
-      subst (λ q. IsCausedAfter (acknowledged o.output after) q 0) at
+      let from : save_count a.output before ≡ 0 = subst (λ out. save_count out before ≡ 0) to zero_saves in
+      let count : 1 + closing_saves (length first.cells) ≡ save_count o.output after = omega (arith, ap (λ out. save_count out after) to, more, from) in
+      subst (λ q. IsCausedAfter (save_count o.output after) q 0) at
       (subst (λ n. IsCausedAfter n (task_for a first) 0) count (end_caused (1 + closing_saves (length first.cells)) (task_for a first) end.Done (plan_stops a first none)))
 
   pub saves_count : (j k : Option (List Entry)) (saved : Result (Unit {0}) End) → BeginsNew o j → OnOk saved (Saves j k) → IfErr saved IsEndOfSave
       → EndsCounted o (counted_task a first) k (end_by saved)
   saves_count j k (Ok u) begins told kind t is fresh =
-      told_on j k (λ before after. acknowledged a.output after ≡ acknowledged a.output before + (1 + closing_saves (length first.cells))) (λ past. acknowledged o.output past ≡ 0)
-      (λ past. IsCausedAfter (acknowledged o.output past) t 0) told (begins fresh) (λ x y none more. done_at x y t (only_task a first t is) none more)
+      told_on j k (λ before after. save_count a.output after ≡ save_count a.output before + (1 + closing_saves (length first.cells))) (λ past. save_count o.output past ≡ 0)
+      (λ past. IsCausedAfter (save_count o.output past) t 0) told (begins fresh) (λ x y none more. done_at x y t (only_task a first t is) none more)
   saves_count j k (Err e) begins told kind t is fresh = uncaused_counts o (counted_task a first) k e (save_uncaused e kind) t is fresh
 
 -- ---- its saves
@@ -187,30 +184,30 @@ some_closing zero some = absurd (omega (arith, some))
 some_closing (suc n) some = refl
 
 -- no cell waits: nothing more is saved
-pub none_closing : (output : List ℕ) (j : Option (List Entry)) (n : ℕ) → n ≡ 0 → Told j j (λ before after. acknowledged output after ≡ acknowledged output before + closing_saves n)
-none_closing output j n none = told_start (λ x. subst (λ m. acknowledged output x ≡ acknowledged output x + closing_saves m) (sym none) (omega arith))
+pub none_closing : (output : List ℕ) (j : Option (List Entry)) (n : ℕ) → n ≡ 0 → Told j j (λ before after. save_count output after ≡ save_count output before + closing_saves n)
+none_closing output j n none = told_start (λ x. subst (λ m. save_count output x ≡ save_count output x + closing_saves m) (sym none) (omega arith))
 
 pub closing_acked : (output : List ℕ) (j k : Option (List Entry)) (n : ℕ) (saved : Result (Unit {0}) End) → 0 < n
-    → OnOk saved (Told j k (λ before after. acknowledged output after ≡ acknowledged output before + 1))
-    → OnOk saved (Told j k (λ before after. acknowledged output after ≡ acknowledged output before + closing_saves n))
+    → OnOk saved (Told j k (λ before after. save_count output after ≡ save_count output before + 1))
+    → OnOk saved (Told j k (λ before after. save_count output after ≡ save_count output before + closing_saves n))
 closing_acked output j k n saved some h =
-    subst (λ m. OnOk saved (Told j k (λ before after. acknowledged output after ≡ acknowledged output before + m))) (sym (some_closing n some)) h
+    subst (λ m. OnOk saved (Told j k (λ before after. save_count output after ≡ save_count output before + m))) (sym (some_closing n some)) h
 
 -- the save of the notebook as it waits, and what follows
 pub both_acked : (output : List ℕ) (was mid : JobNotebook) (is_open : Bool) (h i j : Option (List Entry)) (c d : Counts) (m n : ℕ) (saved : Result (Unit {0}) End) → output_of was ≡ output → n ≡ m
-    → ((o : Origin) → Stands o was true h c → Stands o mid is_open i d) → Told h i (λ before after. acknowledged (output_of was) after ≡ acknowledged (output_of was) before + 1)
-    → OnOk saved (Told i j (λ before after. acknowledged (output_of mid) after ≡ acknowledged (output_of mid) before + closing_saves n))
-    → OnOk saved (Told h j (λ before after. acknowledged output after ≡ acknowledged output before + (1 + closing_saves m)))
+    → ((o : Origin) → Stands o was true h c → Stands o mid is_open i d) → Told h i (λ before after. save_count (output_of was) after ≡ save_count (output_of was) before + 1)
+    → OnOk saved (Told i j (λ before after. save_count (output_of mid) after ≡ save_count (output_of mid) before + closing_saves n))
+    → OnOk saved (Told h j (λ before after. save_count output after ≡ save_count output before + (1 + closing_saves m)))
 both_acked output was mid is_open h i j c d m n (Err e) at same goes first more = tt
 both_acked output was mid is_open h i j c d m n (Ok u) at same goes first more =
     let to : output_of mid ≡ output = saved_output was mid is_open h i c d goes ∙ at in
-    told_then (subst (λ out. Told h i (λ before after. acknowledged out after ≡ acknowledged out before + 1)) at first)
-    (subst (λ out. Told i j (λ before after. acknowledged out after ≡ acknowledged out before + closing_saves n)) to more)
+    told_then (subst (λ out. Told h i (λ before after. save_count out after ≡ save_count out before + 1)) at first)
+    (subst (λ out. Told i j (λ before after. save_count out after ≡ save_count out before + closing_saves n)) to more)
     (λ x y z p q. let r : closing_saves n ≡ closing_saves m = ap closing_saves same in omega (arith, p, q, r))
 
 -- ---- the answer
 
 pub answer_counts : (output : List ℕ) (e : End) (answer : Answer) (o : Origin) (task : Option Task) (k : Option (List Entry)) → Answers output e answer → EndsCounted o task k e
-    → (t : Task) → task ≡ Some t → IsNew o → IfSome k (λ past. IsCausedAfter (acknowledged o.output past) t answer.status)
+    → (t : Task) → task ≡ Some t → IsNew o → IfSome k (λ past. IsCausedAfter (save_count o.output past) t answer.status)
 answer_counts output e _ o task k said h t is fresh = h t is fresh
 answer_counts output e _ o task k starved h t is fresh = starved_count o.output starved_answer t k refl

@@ -1,4 +1,4 @@
-mod BeginLemmas
+pub mod BeginLemmas
 pub mod CauseLemmas
 mod CellCounts
 mod CountLemmas

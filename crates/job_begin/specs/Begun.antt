@@ -127,6 +127,10 @@ pub data Begun (a : Ask) (result : Result Job Answer) (old new : Counts) (before
       → BeginsWith a (first_of a n) result → FindsKernel a (first_of a n) result (Read a.input 33554432 (found.Whole bytes) ∷ before) after
       → BeginsAs (origin_of a n before old) (counted_task a (first_of a n)) result (Some after) new → Begun a result old new before after
 
+-- the notebook of an input that was read so
+abbrev pub IsGivenBy : Ask → ReadFile → Notebook → Type 0
+IsGivenBy a read n = (bytes : List ℕ) × (read ≡ found.Whole bytes) × Accepts a bytes n
+
 -- the input was read, and its bytes give this notebook with its parameters
 pub record HasRead (a : Ask) (n : Notebook) (before after : List Entry) : Type 0 where
   pub bytes : List ℕ

@@ -5,7 +5,7 @@ use Rattle.words.specs.declared.ask.Ask.{Ask}
 use Rattle.world.specs.declared.entry.Entry.{Entry}
 use Rattle.world.specs.Counts.{Counts}
 use Rattle.world.specs.Moments.{Told}
-use Rattle.save_disk.specs.Places.{acknowledged}
+use Rattle.save_disk.specs.Places.{save_count}
 use Rattle.cell_core.specs.Task.{Task}
 use Rattle.job_end.specs.declared.end.End.{End}
 use Rattle.job_end.specs.declared.end.End.TheVariants as end
@@ -30,7 +30,7 @@ StartsFor journal counts old new a first result = (o : Origin) → IsFor a.outpu
 
 -- a job ended so: of the events of this task that brought the end as many are saves as were acknowledged
 abbrev pub EndsCounted : Origin → Option Task → Option (List Entry) → End → Type 0
-EndsCounted o task journal e = (t : Task) → task ≡ Some t → IsNew o → IfSome journal (λ past. IsCausedAfter (acknowledged o.output past) t (status_of e))
+EndsCounted o task journal e = (t : Task) → task ≡ Some t → IsNew o → IfSome journal (λ past. IsCausedAfter (save_count o.output past) t (status_of e))
 
 -- the same of calls of a job of which nothing was saved before, where they end it
 abbrev pub CountsEnd : {W : Type 0} → (W → Option (List Entry)) → (W → Counts) → W → W → Ask → Notebook → Result Job End → Type 0
@@ -44,7 +44,7 @@ closing_saves (suc n) = 1
 
 -- calls by which so many saves of this output are acknowledged
 abbrev pub Acknowledges : {W : Type 0} → (W → Option (List Entry)) → W → W → List ℕ → ℕ → Type 0
-Acknowledges journal old new output n = Told (journal old) (journal new) (λ before after. acknowledged output after ≡ acknowledged output before + n)
+Acknowledges journal old new output n = Told (journal old) (journal new) (λ before after. save_count output after ≡ save_count output before + n)
 
 -- the end of a job that was to save its notebook, and nothing more
 abbrev pub end_by : {U : Type 0} → Result U End → End

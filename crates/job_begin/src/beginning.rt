@@ -1,8 +1,9 @@
 //! `begin`, the begin of a job.
-ghost use Rattle.std.specs.Prelude.{◌≡◌, ◌⊎◌, ◌<◌, ◌^◌, ◌+◌, ℕ, List, false, length, None, Ok, Err};
+ghost use Rattle.std.specs.Prelude.{◌≡◌, ◌⊎◌, ◌<◌, ◌^◌, ◌+◌, ◌∷◌, ℕ, List, false, length, None, Ok};
+ghost use Rattle.std.specs.Prelude.{Err};
 ghost use Rattle.std.specs.Prelude.{IfSome, IfOk, IfErr, OnOk};
 ghost use Rattle.std.specs.Str.{bytes_eq};
-ghost use Rattle.job_begin.specs.Begun.{Begun, HasRead, AnswersAs, IsOpen};
+ghost use Rattle.job_begin.specs.Begun.{Begun, HasRead, IsGivenBy, AnswersAs, IsOpen};
 ghost use Rattle.job_begin.specs.Begun.{StartsWith, IsUncaused, IsEndOfSaving};
 ghost use Rattle.job_begin.specs.Begun.{GivesNone, KernelEnds, status_by};
 ghost use Rattle.job_end.specs.declared.end.End.TheVariants as ending;
@@ -23,6 +24,9 @@ ghost use Rattle.job_run.specs.Task.{output_of_job, ports_of_job};
 ghost use Rattle.save_course.specs.Course.{IsRested};
 ghost use Rattle.kernel_start.specs.Finding.{IsNotRead};
 ghost use Rattle.words.specs.Runnable.{IsRunnable};
+ghost use Rattle.world.specs.declared.entry.Entry.{Entry};
+ghost use Rattle.world.specs.declared.read_file.ReadFile.TheVariants as file;
+ghost use Rattle.world.specs.Told.{FoundWithin};
 ghost use Rattle.world.specs.Counts.{Counts, CountsGrow, Rose};
 ghost use Rattle.world.specs.Moments.{Told, Since};
 ghost use Rattle.world.specs.Parts.{IsOf, OnDisk};
@@ -122,7 +126,23 @@ fn input_of<W: Disk>(alloc: Global, w: &mut W, ask: &Ask) -> Result<Notebook, En
         Told (W.journal w.old) (W.journal w.new) (λ before. GivesNone ask.now before end)) }
     ensures uncaused { IfErr result (λ end. IsUncaused (status_of end)) }
 {
-    match w.read_file(alloc, &ask.input, MOST) {
+    let read = w.read_file(alloc, &ask.input, MOST);
+    notebook_in(alloc, ask, read)
+}
+
+/// The notebook of an input that was read so, with its parameters.
+fn notebook_in(alloc: Global, ask: &Ask, read: ReadFile) -> Result<Notebook, End>
+    requires { FoundWithin read 33554432 }
+    ensures read { IfOk result (IsGivenBy ask.now read) }
+    ensures few { IfOk result (λ notebook. length notebook.cells < 2 ^ 32) }
+    ensures none { IfErr result (λ end. (before : List Entry) →
+        GivesNone ask.now before end (Entry.Read ask.now.input 33554432 read ∷ before)) }
+    ensures cause { (old new : Counts) → (read ≡ file.Failed → Rose old.disk new.disk) →
+        IfErr result (EndCause old new) }
+    ensures unsaved { IfErr result IsOpen }
+    ensures uncaused { IfErr result (λ end. IsUncaused (status_of end)) }
+{
+    match read {
         ReadFile::Whole(bytes) => match load(alloc, bytes, ask) {
             Ok(notebook) => Ok(notebook),
             Err(fault) => Err(End::NotLoaded(fault)),

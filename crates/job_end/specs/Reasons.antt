@@ -1,7 +1,7 @@
 -- What is said of the end of a job. A cell has its index in the notebook, counted from 0.
 use Rattle.std.specs.Prelude.{ℕ, List, [], ◌++◌, codes}
 use Rattle.std.specs.Fmt.{decimal}
-use Rattle.jtext.specs.Print.{quoted}
+use Rattle.jtext.specs.Print.{quote}
 use Rattle.world.specs.declared.chan.Chan.{Chan}
 use Rattle.world.specs.declared.chan.Chan.TheVariants as chan
 use Rattle.zmtp_wire.specs.Fault.{number_of, place_of}
@@ -27,7 +27,7 @@ name_of chan.Heart = codes "heart"
 -- why the job ended; a broken stream has the number of its fault and the place of the octet that breaks it
 abbrev pub reason_of : End → List ℕ
 reason_of end.Done = codes "done"
-reason_of (end.CellError cell name) = of_cell cell (codes "error " ++ quoted name)
+reason_of (end.CellError cell name) = of_cell cell (codes "error " ++ quote name)
 reason_of (end.NotRead path) = codes "cannot read " ++ path
 reason_of end.TooLarge = codes "too large"
 reason_of (end.NotLoaded f) = reason f

@@ -1,7 +1,7 @@
 //! What is said of an end that names something.
 ghost use Rattle.std.specs.Prelude.{◌≡◌, ◌++◌, codes, string_bytes, IfOk};
 ghost use Rattle.std.specs.Fmt.{decimal};
-ghost use Rattle.jtext.specs.Print.{quoted};
+ghost use Rattle.jtext.specs.Print.{quote};
 ghost use Rattle.kspec.specs.Messages as spec_fault;
 ghost use Rattle.save_disk.specs.Messages as save_fault;
 ghost use Rattle.job_end.specs.Reasons.{reason_of, of_cell as reason_of_cell, name_of};
@@ -25,7 +25,7 @@ fn join(alloc: Global, first: &[u8], second: &[u8]) -> Result<Bytes, NoMemory>
 
 /// The name of an exception as a JSON string.
 pub(crate) fn error_of(alloc: Global, name: &Text) -> Result<Bytes, NoMemory>
-    ensures { IfOk result (λ b. b ≡ codes "error " ++ quoted name.now) }
+    ensures { IfOk result (λ b. b ≡ codes "error " ++ quote name.now) }
 {
     let name = Json::Str(Text::of(alloc, name.as_str())?);
     let name = write_compact(alloc, &name)?;

@@ -7,7 +7,7 @@ use Rattle.nb_model.specs.declared.cell.Cell.{Cell}
 use Rattle.nb_model.specs.declared.notebook.Notebook.{Notebook}
 use Rattle.nb_text.specs.Cells.{cell_text}
 use Rattle.out_fold.specs.declared.fold.Fold.{Fold}
-use Rattle.out_fold.specs.Cells.{begun}
+use Rattle.out_fold.specs.Cells.{begin}
 use Rattle.out_fold.specs.declared.used.Used.{Used}
 use Rattle.out_fold.specs.Plans.{is_in}
 use Rattle.out_fold.specs.Stands.{StandsFor, Rested, SameCell, merge_of, next_of, touched_of}
@@ -108,14 +108,14 @@ module _ (f g : Fold) (merge : merge_of g ≡ merge_of f) (n : Notebook) (settle
   }
 
   -- a cell begins
-  module _ (cell : ℕ) (stands : (us : List Used) → StandsFor f us → StandsFor g (us ++ begun cell ∷ []))
-      (rested : (was us : List Used) → Rested f was us → Rested g was (us ++ begun cell ∷ [])) where
-    pub begun_kept : (first : Notebook) (us : List Used) → IsKept f n settled p first us → IsKept g n settled p first (us ++ begun cell ∷ [])
+  module _ (cell : ℕ) (stands : (us : List Used) → StandsFor f us → StandsFor g (us ++ begin cell ∷ []))
+      (rested : (was us : List Used) → Rested f was us → Rested g was (us ++ begin cell ∷ [])) where
+    pub begun_kept : (first : Notebook) (us : List Used) → IsKept f n settled p first us → IsKept g n settled p first (us ++ begin cell ∷ [])
     begun_kept first us k =
-        moved first us (us ++ begun cell ∷ []) (stands us k.stands) (λ was. rested was us) (λ lt. record { before = us; current = begun cell; split = refl }) k
+        moved first us (us ++ begin cell ∷ []) (stands us k.stands) (λ was. rested was us) (λ lt. record { before = us; current = begin cell; split = refl }) k
 
     pub begun_for_some : IsKeptForSome f n settled p → IsKeptForSome g n settled p
-    begun_for_some s = record { first = s.first; us = s.us ++ begun cell ∷ []; kept = begun_kept s.first s.us s.kept }
+    begun_for_some s = record { first = s.first; us = s.us ++ begin cell ∷ []; kept = begun_kept s.first s.us s.kept }
 
   -- what was used for the last request becomes more
   module _ (turn : Used → Used) (stands : (us : List Used) (u : Used) → StandsFor f (us ++ u ∷ []) → StandsFor g (us ++ turn u ∷ []))

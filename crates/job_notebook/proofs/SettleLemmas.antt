@@ -1,5 +1,5 @@
 -- The next prefix, and which of its cells have the texts that are kept.
-use Rattle.std.proofs.Common.{◌≡◌, ◌⊎◌, inl, inr, ℕ, ◌<◌, ◌≤◌, List, Bool, true, false, Option, Some, None, refl, sym, ◌∙◌, ap, ap₂, subst, arith, option_map}
+use Rattle.std.proofs.Common.{◌≡◌, ◌⊎◌, inl, inr, ℕ, ◌<◌, ◌≤◌, List, Bool, true, false, Option, None, sym, ◌∙◌, ap, ap₂, subst, arith, option_map}
 use Rattle.std.specs.Prelude.{slice_get}
 use Rattle.std.proofs.lemmas.Bool.{cases_Bool, cases_lt}
 use Rattle.nb_model.specs.declared.cell.Cell.{Cell}
@@ -12,6 +12,7 @@ use Rattle.progress_save.specs.declared.progress.Progress.{Progress}
 use Rattle.progress_save.specs.Prefix.{prefix, saved_cell, stops_at}
 use Rattle.progress_save.specs.State.{Fits, kept_text}
 use Rattle.job_notebook.specs.Kept.{IsKept, ForgetsSome}
+use Rattle.jtext.proofs.Lists.{option_map_alike}
 
 -- the laws of prefixes and of kept texts
 pub record PrefixLaws : Type 0 where
@@ -21,10 +22,6 @@ pub record PrefixLaws : Type 0 where
   pub again : (merge : Bool) (was us : List Used) (p q : ℕ) (stop : Option ℕ) (n : Notebook) → p ≤ q → prefix merge us q stop (prefix merge was p None n) ≡ prefix merge us q stop n
   pub fewer : (p q : Progress) (cs : List Cell) → ForgetsSome p q → Fits p cs → Fits q cs
   pub others : (p : Progress) (old new : List Cell) → ((i : ℕ) → (kept_text p i ≡ None) ⊎ (slice_get new i ≡ slice_get old i)) → Fits p old → Fits p new
-
-alike : (g h : Cell → Cell) → ((c : Cell) → g c ≡ h c) → (o : Option Cell) → option_map g o ≡ option_map h o
-alike g h e None = refl
-alike g h e (Some c) = ap (λ x. Some x) (e c)
 
 -- the notebook becomes that prefix, and the texts of the cells are forgotten that may be others in it
 pub record Settles (f : Fold) (n m : Notebook) (settled q : ℕ) (stop : Option ℕ) (p r : Progress) : Type 0 where
@@ -48,7 +45,7 @@ module _ (laws : PrefixLaws) (f : Fold) (n m : Notebook) (settled q : ℕ) (stop
       by_cells i e =
           ap (λ x. slice_get x.cells i) (settled_is first us k)
           ∙ laws.each (merge_of f) us q stop first i
-          ∙ alike (saved_cell (merge_of f) us q stop i) (saved_cell (merge_of f) k.was settled None i) e (slice_get first.cells i)
+          ∙ option_map_alike (saved_cell (merge_of f) us q stop i) (saved_cell (merge_of f) k.was settled None i) e (slice_get first.cells i)
           ∙ sym (ap (λ x. slice_get x.cells i) k.is ∙ laws.each (merge_of f) k.was settled None first i)
 
       untouched : (i : ℕ) → is_in (touched_of f) i ≡ false → stops_at stop i ≡ false → i < settled → slice_get m.cells i ≡ slice_get n.cells i

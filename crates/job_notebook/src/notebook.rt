@@ -34,12 +34,13 @@ impl JobNotebook {
     ghost use Rattle.std.specs.Str.{bytes_eq};
     ghost use Rattle.jcontent.specs.IsRead.{IsRead};
     ghost use Rattle.nb_model.specs.declared.notebook.Notebook as whole;
-    ghost use Rattle.out_fold.specs.Cells.{begun, with_message, with_reply};
+    ghost use Rattle.out_fold.specs.Cells.{begin, with_message, with_reply};
     ghost use Rattle.out_fold.specs.declared.used.Used.{Used};
     ghost use Rattle.progress_save.specs.declared.progress_fault.ProgressFault.TheVariants as fault;
     ghost use Rattle.progress_save.specs.Prefix.{prefix};
     ghost use Rattle.progress_save.specs.Safe.{IsSafe, IsNext, StaysSafe};
-    ghost use Rattle.progress_save.specs.Saved.{text_of, line_of, SavesAs, SavesSilently, EndsAs, IsOfSave, OnRefusal, IsSaveFault, SaveCause};
+    ghost use Rattle.progress_save.specs.Saved.{line_of, SavesAs, SavesSilently, EndsAs, IsOfSave, OnRefusal, IsSaveFault, SaveCause};
+    ghost use Rattle.nb_text.specs.Notebooks.{text_of};
     ghost use Rattle.progress_save.specs.State.{has_failed};
     ghost use Rattle.said_lines.specs.Between.{SayFailed};
     ghost use Rattle.world.specs.Save.{temporary_of};
@@ -92,7 +93,7 @@ impl JobNotebook {
         requires below { cell < length (notebook_of self.old).cells }
         requires above { begun_of self.old ≤ cell }
         ensures keeps { (first : whole.Notebook) (us : Plain Used) → Keeps self.old first us
-            → Keeps self.new first (us ++ begun cell ∷ []) }
+            → Keeps self.new first (us ++ begin cell ∷ []) }
         ensures read { (first : whole.Notebook) → KeepsRead self.old first
             → KeepsRead self.new first }
         ensures begun { begun_of self.new ≡ cell + 1 }

@@ -1,6 +1,6 @@
 -- How a job begins with its course.
-use Rattle.std.proofs.Common.{◌≡◌, ℕ, ◌<◌, Bool, true, false, List, ◌++◌, length, Option, Some, Result, Ok, sym, ap, subst, ◌∙◌, arith, length-append}
-use Rattle.std.specs.Prelude.{codes, IfOk}
+use Rattle.std.proofs.Common.{◌≡◌, ℕ, ◌<◌, Bool, true, false, List, ◌++◌, length, Option, Some, sym, ap, ◌∙◌, arith, length-append}
+use Rattle.std.specs.Prelude.{codes}
 use Rattle.std.specs.Str.{bytes_eq}
 use Rattle.std.proofs.lemmas.Bool.{false_from_ne_true}
 use Rattle.std.proofs.lemmas.Slice.Eq.{bytes_eq-Decides}
@@ -21,10 +21,6 @@ use Rattle.job_run.specs.declared.execution.Execution.{Execution}
 use Rattle.job_run.specs.Held.{IsFirst}
 use Rattle.job_run.specs.Run.{OnlyReads}
 use Rattle.job_run.specs.Task.{task_for}
-
--- what holds of an answer where it is Ok
-pub on_ok : {A E : Type 0} (r : Result A E) (a : A) (P : A → Type 0) → r ≡ Ok a → IfOk r P → P a
-on_ok r a P is h = subst (λ q. IfOk q P) is h
 
 pub ends_unsaved : (o : Origin) (journal : Option (List Entry)) (counts : Counts) → Begins o journal counts → Ends o true journal counts
 ends_unsaved o journal counts b = record {

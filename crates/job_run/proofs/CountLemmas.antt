@@ -2,11 +2,11 @@
 use Rattle.std.proofs.Common.{◌≡◌, ℕ, ◌+◌, ◌≤◌, true, false, List, ◌∷◌, Option, Some, None, Result, Err, if◌then◌else◌, refl, sym, ap, subst, ◌∙◌}
 use Rattle.std.proofs.Math.Logic.{∥∥₁_map}
 use Rattle.std.proofs.lemmas.Result.{err_from_is_err_and}
-use Rattle.std.specs.Prelude.{is_some, IfSome}
+use Rattle.std.specs.Prelude.{is_some}
 use Rattle.std.specs.Result.{IsErrAnd}
 use Rattle.world.specs.declared.entry.Entry.{Entry}
 use Rattle.world.specs.Moments.{Told, Tells as TellsEntry}
-use Rattle.save_disk.specs.Places.{acknowledged}
+use Rattle.save_disk.specs.Places.{save_count}
 use Rattle.cell_core.specs.declared.act.Act.{Act}
 use Rattle.cell_core.specs.declared.act.Act.TheVariants.{Nothing, Save}
 use Rattle.cell_core.specs.declared.event.Event.{Event}
@@ -14,7 +14,7 @@ use Rattle.cell_core.specs.declared.machine.Core.{Core}
 use Rattle.cell_core.specs.declared.why.Why.{Why}
 use Rattle.cell_core.specs.declared.why.Why.TheVariants as why
 use Rattle.cell_core.specs.Task.{Task}
-use Rattle.cell_core.specs.Events.{acked, is_saved}
+use Rattle.cell_core.specs.Events.{ack_count, is_saved}
 use Rattle.cell_core.specs.StandsFor.{task_of}
 use Rattle.job_end.specs.declared.answer.Answer.{Answer}
 use Rattle.job_end.specs.declared.end.End.{End}
@@ -38,9 +38,8 @@ quiet_at x act None h = tt
 quiet_at x act (Some past) h = quiet x act (saves_of x past) h
 
 -- an act that doesn't stop the job
-pub to_save : (x : Execution) (settled : ℕ) (j : Option (List Entry)) → IsCountedAt x Nothing j → IsCountedAt x (Save settled) j
-to_save x settled None h = tt
-to_save x settled (Some past) h = record { heard = h.heard; stops = λ cause is. absurd (cc) }
+pub to_save : (x : Execution) (settled n : ℕ) → IsCounted x Nothing n → IsCounted x (Save settled) n
+to_save x settled n i = record { heard = i.heard; stops = λ cause is. absurd (cc) }
 
 -- ---- what leaves the core alone
 
@@ -57,19 +56,19 @@ told_counted x y act n k i = record {
 pub counts_by : (x y : Execution) (a b : Act) (j : Option (List Entry)) → output_of y.book ≡ output_of x.book → ((n : ℕ) → IsCounted x a n → IsCounted y b n) → IsCountedAt x a j
     → IsCountedAt y b j
 counts_by x y a b None same on h = tt
-counts_by x y a b (Some past) same on h = on (saves_of y past) (subst (λ o. IsCounted x a (acknowledged o past)) (sym same) h)
+counts_by x y a b (Some past) same on h = on (saves_of y past) (subst (λ o. IsCounted x a (save_count o past)) (sym same) h)
 
 pub counts_on : {U : Type 0} (x y : Execution) (a : Act) (r : Result U End) (j : Option (List Entry)) → output_of y.book ≡ output_of x.book
     → ((n : ℕ) → IsCounted x a n → IsCountedOn y r n) → IsCountedAt x a j → CountsOn y r j
 counts_on x y a r None same on h = tt
-counts_on x y a r (Some past) same on h = on (saves_of y past) (subst (λ o. IsCounted x a (acknowledged o past)) (sym same) h)
+counts_on x y a r (Some past) same on h = on (saves_of y past) (subst (λ o. IsCounted x a (save_count o past)) (sym same) h)
 
 -- what leaves the core and the output alone
 pub counts_kept : (x y : Execution) (a : Act) (j : Option (List Entry)) → KeepsTold x y → output_of y.book ≡ output_of x.book → IsCountedAt x a j → IsCountedAt y a j
 counts_kept x y a j k same h = counts_by x y a a j same (λ n i. told_counted x y a n k i) h
 
 -- one entry that acknowledges no save
-pub counts_passed : (x : Execution) (a : Act) (j k : Option (List Entry)) (entry : Entry) → ((past : List Entry) → acknowledged (output_of x.book) (entry ∷ past) ≡ acknowledged (output_of x.book) past)
+pub counts_passed : (x : Execution) (a : Act) (j k : Option (List Entry)) (entry : Entry) → ((past : List Entry) → save_count (output_of x.book) (entry ∷ past) ≡ save_count (output_of x.book) past)
     → TellsEntry j k entry → IsCountedAt x a j → IsCountedAt x a k
 counts_passed x a j None entry none told h = tt
 counts_passed x a None (Some after) entry none told h = absurd told.so
@@ -78,12 +77,12 @@ counts_passed x a (Some before) (Some after) entry none told h =
 
 -- a save that was acknowledged, of which the core is then told
 pub counts_saved : (x y : Execution) (b : Act) (j k : Option (List Entry))
-    → Told j k (λ before after. acknowledged (output_of x.book) after ≡ acknowledged (output_of x.book) before + 1)
+    → Told j k (λ before after. save_count (output_of x.book) after ≡ save_count (output_of x.book) before + 1)
     → output_of y.book ≡ output_of x.book → ((n : ℕ) → IsCounted x Nothing n → IsCounted y b (n + 1)) → IsCountedAt x Nothing j → IsCountedAt y b k
 counts_saved x y b j None told same on h = tt
 counts_saved x y b None (Some after) told same on h = absurd told.so
 counts_saved x y b (Some before) (Some after) told same on h =
-    subst (λ o. IsCounted y b (acknowledged o after)) (sym same) (subst (λ n. IsCounted y b n) (sym told.so) (on (saves_of x before) h))
+    subst (λ o. IsCounted y b (save_count o after)) (sym same) (subst (λ n. IsCounted y b n) (sym told.so) (on (saves_of x before) h))
 
 -- ---- the ends that need no events
 
@@ -116,22 +115,18 @@ pub unsaved_for : (x : Execution) (e : End) (j : Option (List Entry)) → IsEndO
 unsaved_for x e None kind = tt
 unsaved_for x e (Some past) kind = save_after (saves_of x past) x e kind
 
--- the exit of a `?`
-pub residual_on : {U : Type 0} (x : Execution) (r : Result U End) (e : End) (j : Option (List Entry)) → IsErrAnd r (λ y. y ≡ e) → IfSome j (λ past. EndsAfter (saves_of x past) (task_of x.core) e)
-    → CountsOn x r j
-residual_on x r e j is h = let p = err_from_is_err_and r is in subst (λ q. CountsOn x q j) (sym (p.1 ∙ ap Err p.2)) h
-
+-- an end that is passed on
 pub residual_for : (x : Execution) (r : Result Act End) (e : End) (j : Option (List Entry)) → IsErrAnd r (λ y. y ≡ e) → CountsFor x (Err e) j → CountsFor x r j
 residual_for x r e j is h = let p = err_from_is_err_and r is in subst (λ q. CountsFor x q j) (sym (p.1 ∙ ap Err p.2)) h
 
 -- ---- the events
 
-pub other_counts : (e : Event) (n : ℕ) → is_saved e ≡ false → (past : List Event) → acked past ≡ n → acked (e ∷ past) ≡ n
-other_counts e n other past is = ap (λ b. if b then acked past + 1 else acked past) other ∙ is
+pub other_counts : (e : Event) (n : ℕ) → is_saved e ≡ false → (past : List Event) → ack_count past ≡ n → ack_count (e ∷ past) ≡ n
+other_counts e n other past is = ap (λ b. if b then ack_count past + 1 else ack_count past) other ∙ is
 
 -- an event more, of which this is the act
 pub event_counts : (x : Execution) (core : Core) (e : Event) (act : Act) (n m : ℕ) → Steps x.core core e act → MayCome x.core x.clock (is_some x.broken) e
-    → ((past : List Event) → acked past ≡ n → acked (e ∷ past) ≡ m) → IsCounted x Nothing n → IsCounted (record x { core = core }) act m
+    → ((past : List Event) → ack_count past ≡ n → ack_count (e ∷ past) ≡ m) → IsCounted x Nothing n → IsCounted (record x { core = core }) act m
 event_counts x core e act n m steps may more i = record {
   heard = counts_more x.core core x.clock (is_some x.broken) e act steps may n m more i.heard;
   stops = stops_after x.core core x.clock (is_some x.broken) e act steps may n m more i.heard;

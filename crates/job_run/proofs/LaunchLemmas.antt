@@ -1,6 +1,7 @@
 -- The start of a job's kernel is a call of that job.
-use Rattle.std.proofs.Common.{◌≡◌, ◌≢◌, ℕ, true, List, Option, Some, None, Result, Ok, Err, refl, ap, sym, subst, ◌∙◌}
+use Rattle.std.proofs.Common.{◌≡◌, ◌≢◌, ℕ, true, List, Option, Some, None, Result, Ok, Err, refl, sym, subst, ◌∙◌}
 use Rattle.std.specs.Prelude.{IfErr, IfOk, IfSome}
+use Rattle.std.proofs.lemmas.Option.{same_Some}
 use Rattle.words.specs.declared.ask.Ask.{Ask}
 use Rattle.words.specs.Paths.{connection_of}
 use Rattle.world.specs.declared.entry.Entry.{Entry}
@@ -52,13 +53,6 @@ may_run cast number job kernel here x j number_is run_is may =
 
 -- ---- the role of the job, by what is asked of the one that may start the child
 
-abbrev ask_in : Ask → Option Ask → Ask
-ask_in other None = other
-ask_in other (Some a) = a
-
-same_ask : (a b : Ask) → Some a ≡ Some b → a ≡ b
-same_ask a b e = ap (ask_in a) e
-
 -- its paths
 pub record Role (a : Ask) (paths : Paths) : Type 0 where
   pub file : paths.connection ≡ connection_of a.output
@@ -66,7 +60,7 @@ pub record Role (a : Ask) (paths : Paths) : Type 0 where
 
 pub role_of : (cast : Cast) (number : ℕ) (paths : Paths) (a : Ask) → cast.job number ≡ Some a → IsRole cast number paths → Role a paths
 role_of cast number paths a has r =
-    subst (λ x. Role x paths) (same_ask r.ask a (sym r.has ∙ has)) (record { file = r.connection; folder = r.folder })
+    subst (λ x. Role x paths) (same_Some r.ask a (sym r.has ∙ has)) (record { file = r.connection; folder = r.folder })
 
 -- ---- one entry
 

@@ -8,6 +8,7 @@ pub mod LaunchLemmas
 pub mod OutcomeLemmas
 pub mod PartLemmas
 pub mod RunLemmas
+pub mod StepLemmas
 pub mod StopLemmas
 pub mod ToldLemmas
 pub mod TurnLemmas

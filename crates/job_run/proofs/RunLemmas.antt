@@ -24,7 +24,7 @@ use Rattle.job_run.specs.declared.job.Job.{Job}
 use Rattle.job_run.specs.declared.paths.Paths.{Paths}
 use Rattle.cell_core.specs.declared.act.Act.TheVariants.{Nothing}
 use Rattle.job_notebook.specs.State.{output_of}
-use Rattle.save_disk.specs.Places.{acknowledged}
+use Rattle.save_disk.specs.Places.{save_count}
 use Rattle.job_run.specs.Counted.{IsCounted, IsCountedIn}
 use Rattle.cell_core.specs.Task.{Task}
 use Rattle.job_run.specs.Task.{task_of_job}
@@ -50,8 +50,8 @@ pub turns : (o : Origin) (was now : Job) (mid : JobNotebook) (j k : Option (List
     → now.paths.connection ≡ was.paths.connection
     → (is_open ≡ false → HasEnded now.outcome)
     → (HasFailed now.outcome → is_open ≡ false)
-    → (IsNew o → output_of was.run.book ≡ o.output → output_of now.run.book ≡ o.output → IfSome j (λ past. IsCounted was.run Nothing (acknowledged o.output past))
-    → IfSome k (λ past. IsCountedIn now.outcome now.run (acknowledged o.output past)))
+    → (IsNew o → output_of was.run.book ≡ o.output → output_of now.run.book ≡ o.output → IfSome j (λ past. IsCounted was.run Nothing (save_count o.output past))
+    → IfSome k (λ past. IsCountedIn now.outcome now.run (save_count o.output past)))
     → Runs o was j c → Runs o now k d
 turns o was now mid j k c d is_open running goes stays path shut fails counts r =
     let stands = stays o is_open k d (goes (runs_open o was j c running r)) in
@@ -88,8 +88,8 @@ passes o was now i k c d run path outcome told grow r = record {
   apart = subst (λ (p : Paths). bytes_eq p.connection o.output ≡ false) (sym path) r.apart;
   shut = λ e. subst HasEnded (sym outcome) (r.shut e);
   fails = λ f. r.fails (subst HasFailed outcome f);
-  counted = λ fresh. subst (λ (x : Execution). IfSome k (λ past. IsCountedIn now.outcome x (acknowledged o.output past))) (sym run)
-      (subst (λ a. IfSome k (λ past. IsCountedIn a was.run (acknowledged o.output past))) (sym outcome)
+  counted = λ fresh. subst (λ (x : Execution). IfSome k (λ past. IsCountedIn now.outcome x (save_count o.output past))) (sym run)
+      (subst (λ a. IfSome k (λ past. IsCountedIn a was.run (save_count o.output past))) (sym outcome)
       (count_passes o was.run.book r.is_open was.run was.outcome i k told (r.stands.told fresh.watched) (r.counted fresh)));
 }
 
@@ -143,7 +143,7 @@ ends_with o j a journal counts is r = record {
   ends = job_ends o j.run.book r.is_open journal counts r.stands;
   shut = λ e. subst HasEnded is (r.shut e);
   fails = λ f. r.stands.cause (r.fails (subst HasFailed (sym is) f));
-  counted = λ t same fresh. ended_count o.output j.run a (task_of_job j) t journal refl same (subst (λ out. IfSome journal (λ past. IsCountedIn out j.run (acknowledged o.output past))) is (r.counted fresh));
+  counted = λ t same fresh. ended_count o.output j.run a (task_of_job j) t journal refl same (subst (λ out. IfSome journal (λ past. IsCountedIn out j.run (save_count o.output past))) is (r.counted fresh));
 }
 
 pub ends_starved : (o : Origin) (j : Job) (a : Answer) (journal : Option (List Entry)) (counts : Counts) → j.outcome ≡ None → a ≡ starved_answer → Runs o j journal counts
@@ -171,8 +171,8 @@ begun o j x paths journal counts run path outcome s apart counted = record {
   apart = subst (λ (p : Paths). bytes_eq p.connection o.output ≡ false) (sym path) apart;
   shut = λ e. absurd (cc);
   fails = λ f. let none : HasFailed None = subst HasFailed outcome f in absurd none;
-  counted = λ fresh. subst (λ (y : Execution). IfSome journal (λ past. IsCountedIn j.outcome y (acknowledged o.output past))) (sym run)
-      (subst (λ out. IfSome journal (λ past. IsCountedIn out x (acknowledged o.output past))) (sym outcome) (counted fresh));
+  counted = λ fresh. subst (λ (y : Execution). IfSome journal (λ past. IsCountedIn j.outcome y (save_count o.output past))) (sym run)
+      (subst (λ out. IfSome journal (λ past. IsCountedIn out x (save_count o.output past))) (sym outcome) (counted fresh));
 }
 
 pub begun_role : (cast : Cast) (since : List Entry) (from : Counts) (j : Job) (x : Execution) (number : ℕ) (paths : Paths) (journal : Option (List Entry)) (counts : Counts)

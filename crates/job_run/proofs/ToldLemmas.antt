@@ -2,6 +2,7 @@
 use Rattle.std.proofs.Common.{◌≡◌, ℕ, ◌≤◌, Bool, true, false, ◌||◌, List, [], ◌∷◌, Some, None, if◌then◌else◌, refl, sym, subst, ◌∙◌, arith}
 use Rattle.std.proofs.Math.Bool.{Bool-set}
 use Rattle.std.proofs.Math.Logic.{∥∥₁_map, ∥∥₁_elim}
+use Rattle.std.proofs.lemmas.Bool.{or_right}
 use Rattle.cell_core.specs.declared.event.Event.{Event}
 use Rattle.cell_core.specs.declared.event.Event.TheVariants.{Saved, Ready, Io, Reply, Moment, Looked, Lost, Broken}
 use Rattle.cell_core.specs.declared.machine.Core.{Core}
@@ -10,7 +11,7 @@ use Rattle.cell_core.specs.declared.why.Why.TheVariants as why
 use Rattle.cell_core.specs.declared.act.Act.{Act}
 use Rattle.cell_core.specs.declared.act.Act.TheVariants.{Stop}
 use Rattle.cell_core.specs.Acts.{Meets, IsTimely, act_of, heard, has_stopped, wants_look_of}
-use Rattle.cell_core.specs.Events.{acked, came, is_broken, is_saved, is_lost, looked, time}
+use Rattle.cell_core.specs.Events.{ack_count, came, is_broken, is_saved, is_lost, look_since, time}
 use Rattle.cell_core.specs.Requests.{standing}
 use Rattle.cell_core.specs.Saves.{is_done, is_cell_error, is_not_ready, is_no_idle, is_timed_out}
 use Rattle.cell_core.specs.Saves.{why as why_of}
@@ -61,10 +62,6 @@ named_by core clock is_named Looked past may named h = named h
 named_by core clock is_named Lost past may named h = named h
 named_by core clock is_named Broken past may named h = may
 
-or_right : (a b : Bool) → b ≡ true → (a || b) ≡ true
-or_right true b h = refl
-or_right false b h = h
-
 or_more : (a b c : Bool) → (b ≡ true → c ≡ true) → (a || b) ≡ true → (a || c) ≡ true
 or_more true b c more h = refl
 or_more false b c more h = more h
@@ -93,7 +90,7 @@ by_cases false false false false false false false h = absurd (cc)
 peer_came : (task : Task) (events : List Event) → why_of task events ≡ Some why.BadPeer → came is_broken events ≡ true
 peer_came task events h =
     let last = standing task events in
-    by_cases (is_done task events) (is_cell_error last) (came is_broken events) (looked is_lost events) (is_not_ready task last events) (is_no_idle last events) (is_timed_out task last events) h
+    by_cases (is_done task events) (is_cell_error last) (came is_broken events) (look_since is_lost events) (is_not_ready task last events) (is_no_idle last events) (is_timed_out task last events) h
 
 -- a job stops for a broken stream only where one broke
 pub peer_broke : (task : Task) (event : Event) (past : List Event) → act_of task event past ≡ Stop why.BadPeer → came is_broken (event ∷ past) ≡ true
@@ -143,11 +140,11 @@ module _ (old new : Core) (clock : ℕ) (is_named : Bool) (e : Event) (act : Act
   stops_more h cause is = ∥∥₁_map h (λ t. stopping t cause is)
 
   -- so many of the events are saves
-  pub counts_more : (n m : ℕ) → ((past : List Event) → acked past ≡ n → acked (e ∷ past) ≡ m) → ∥ TellsOf old clock is_named n ∥₁ → ∥ TellsOf new clock is_named m ∥₁
+  pub counts_more : (n m : ℕ) → ((past : List Event) → ack_count past ≡ n → ack_count (e ∷ past) ≡ m) → ∥ TellsOf old clock is_named n ∥₁ → ∥ TellsOf new clock is_named m ∥₁
   unfolding tells_more
   counts_more n m more h = ∥∥₁_map h (λ t. record { tells = tells_more t.tells; count = more t.tells.events t.count })
 
-  pub stops_after : (n m : ℕ) → ((past : List Event) → acked past ≡ n → acked (e ∷ past) ≡ m) → ∥ TellsOf old clock is_named n ∥₁ → (cause : Why) → act ≡ Stop cause
+  pub stops_after : (n m : ℕ) → ((past : List Event) → ack_count past ≡ n → ack_count (e ∷ past) ≡ m) → ∥ TellsOf old clock is_named n ∥₁ → (cause : Why) → act ≡ Stop cause
       → StopsAfter m (task_of new) cause
   unfolding stopping
   stops_after n m more h cause is = ∥∥₁_map h (λ t. record { stopping = stopping t.tells cause is; count = more t.tells.events t.count })

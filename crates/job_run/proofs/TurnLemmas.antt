@@ -4,7 +4,7 @@ use Rattle.std.specs.Prelude.{is_some, IfSome, IfErr}
 use Rattle.world.specs.declared.entry.Entry.{Entry}
 use Rattle.world.specs.Moments.{Since, Told}
 use Rattle.world.specs.Touched.{Spares}
-use Rattle.save_disk.specs.Places.{acknowledged}
+use Rattle.save_disk.specs.Places.{save_count}
 use Rattle.save_course.specs.Course.{IsRested}
 use Rattle.cell_core.specs.declared.act.Act.TheVariants.{Nothing}
 use Rattle.cell_core.specs.StandsFor.{task_of}
@@ -29,7 +29,7 @@ use Rattle.job_run.specs.declared.execution.Execution.{Execution}
 -- ---- calls that don't touch the output
 
 pub count_passes : (o : Origin) (b : JobNotebook) (is_open : Bool) (x : Execution) (out : Option Answer) (i k : Option (List Entry)) → Told i k (Since (Spares o.output))
-    → IfSome i (IsOnCourse o b is_open) → IfSome i (λ past. IsCountedIn out x (acknowledged o.output past)) → IfSome k (λ past. IsCountedIn out x (acknowledged o.output past))
+    → IfSome i (IsOnCourse o b is_open) → IfSome i (λ past. IsCountedIn out x (save_count o.output past)) → IfSome k (λ past. IsCountedIn out x (save_count o.output past))
 count_passes o b is_open x out i None told on h = tt
 count_passes o b is_open x out None (Some q) told on h = absurd told.so
 count_passes o b is_open x out (Some p) (Some q) told on h = subst (λ n. IsCountedIn out x n) (sym (spared_count o.output on.is.rested told.so)) h
@@ -49,10 +49,10 @@ runs_count : (out : Option Answer) (x : Execution) (n : ℕ) → is_some out ≡
 runs_count None x n running h = h
 runs_count (Some a) x n running h = absurd (cc)
 
-pub running_count : (out : Option Answer) (x : Execution) (output : List ℕ) (j : Option (List Entry)) → is_some out ≡ false → IfSome j (λ past. IsCountedIn out x (acknowledged output past))
-    → IfSome j (λ past. IsCounted x Nothing (acknowledged output past))
+pub running_count : (out : Option Answer) (x : Execution) (output : List ℕ) (j : Option (List Entry)) → is_some out ≡ false → IfSome j (λ past. IsCountedIn out x (save_count output past))
+    → IfSome j (λ past. IsCounted x Nothing (save_count output past))
 running_count out x output None running h = tt
-running_count out x output (Some past) running h = runs_count out x (acknowledged output past) running h
+running_count out x output (Some past) running h = runs_count out x (save_count output past) running h
 
 -- what ends a run ends its job
 job_after : (n : ℕ) (task : Task) (e : End) → EndsAfter n task e → EndsJobAfter n task e
@@ -80,18 +80,18 @@ by_run : (x : Execution) (r : Result (Unit {0}) End) (n : ℕ) → IsCountedOn x
 by_run x (Ok u) n h = h
 by_run x (Err e) n h = job_after n (task_of x.core) e h
 
-at_own : (x : Execution) (output : List ℕ) (j : Option (List Entry)) → output_of x.book ≡ output → IfSome j (λ past. IsCounted x Nothing (acknowledged output past)) → IsCountedAt x Nothing j
-at_own x output j same h = subst (λ o. IfSome j (λ past. IsCounted x Nothing (acknowledged o past))) (sym same) h
+at_own : (x : Execution) (output : List ℕ) (j : Option (List Entry)) → output_of x.book ≡ output → IfSome j (λ past. IsCounted x Nothing (save_count output past)) → IsCountedAt x Nothing j
+at_own x output j same h = subst (λ o. IfSome j (λ past. IsCounted x Nothing (save_count o past))) (sym same) h
 
 -- calls of its execution, and what is made of their answer
 pub turn_counts : (output : List ℕ) (was mid now : Execution) (r : Result (Unit {0}) End) (out : Option Answer) (j k : Option (List Entry)) → output_of was.book ≡ output
     → output_of now.book ≡ output → output_of now.book ≡ output_of mid.book → (IsCountedAt was Nothing j → CountsOn mid r k)
-    → ((n : ℕ) → IsCountedBy mid r n → IsCountedIn out now n) → IfSome j (λ past. IsCounted was Nothing (acknowledged output past))
-    → IfSome k (λ past. IsCountedIn out now (acknowledged output past))
+    → ((n : ℕ) → IsCountedBy mid r n → IsCountedIn out now n) → IfSome j (λ past. IsCounted was Nothing (save_count output past))
+    → IfSome k (λ past. IsCountedIn out now (save_count output past))
 turn_counts output was mid now r out j k at to same goes ends h =
-    subst (λ o. IfSome k (λ past. IsCountedIn out now (acknowledged o past))) (sym same ∙ to)
-    (told_as k (λ past. IsCountedOn mid r (acknowledged (output_of mid.book) past)) (λ past. IsCountedIn out now (acknowledged (output_of mid.book) past))
-    (λ past i. ends (acknowledged (output_of mid.book) past) (by_run mid r (acknowledged (output_of mid.book) past) i)) (goes (at_own was output j at h)))
+    subst (λ o. IfSome k (λ past. IsCountedIn out now (save_count o past))) (sym same ∙ to)
+    (told_as k (λ past. IsCountedOn mid r (save_count (output_of mid.book) past)) (λ past. IsCountedIn out now (save_count (output_of mid.book) past))
+    (λ past i. ends (save_count (output_of mid.book) past) (by_run mid r (save_count (output_of mid.book) past) i)) (goes (at_own was output j at h)))
 
 -- ---- an end from outside
 
@@ -139,10 +139,10 @@ outside_after n task end.Spent h = tt
 
 pub end_counts : (output : List ℕ) (was now : Execution) (e : End) (out : Option Answer) (j : Option (List Entry)) → output_of was.book ≡ output → output_of now.book ≡ output
     → output_of now.book ≡ output_of was.book → IsOutside e → ((n : ℕ) → EndsJobAfter n (task_of was.core) e → IsCountedIn out now n)
-    → IfSome j (λ past. IsCounted was Nothing (acknowledged output past)) → IfSome j (λ past. IsCountedIn out now (acknowledged output past))
+    → IfSome j (λ past. IsCounted was Nothing (save_count output past)) → IfSome j (λ past. IsCountedIn out now (save_count output past))
 end_counts output was now e out j at to same outside ends h =
-    told_as j (λ past. IsCounted was Nothing (acknowledged output past)) (λ past. IsCountedIn out now (acknowledged output past))
-    (λ past i. ends (acknowledged output past) (outside_after (acknowledged output past) (task_of was.core) e outside)) h
+    told_as j (λ past. IsCounted was Nothing (save_count output past)) (λ past. IsCountedIn out now (save_count output past))
+    (λ past i. ends (save_count output past) (outside_after (save_count output past) (task_of was.core) e outside)) h
 
 -- ---- the end
 
@@ -151,24 +151,24 @@ task_in other None = other
 task_in other (Some t) = t
 
 pub ended_count : (output : List ℕ) (x : Execution) (a : Answer) (own t : Task) (j : Option (List Entry)) → own ≡ task_of x.core → Some own ≡ Some t
-    → IfSome j (λ past. IsCountedIn (Some a) x (acknowledged output past)) → IfSome j (λ past. IsCausedAfter (acknowledged output past) t a.status)
+    → IfSome j (λ past. IsCountedIn (Some a) x (save_count output past)) → IfSome j (λ past. IsCausedAfter (save_count output past) t a.status)
 ended_count output x a own t j at same h =
-    subst (λ q. IfSome j (λ past. IsCausedAfter (acknowledged output past) q a.status)) (sym at ∙ ap (task_in own) same) h
+    subst (λ q. IfSome j (λ past. IsCausedAfter (save_count output past) q a.status)) (sym at ∙ ap (task_in own) same) h
 
-pub starved_count : (output : List ℕ) (a : Answer) (t : Task) (j : Option (List Entry)) → a ≡ starved_answer → IfSome j (λ past. IsCausedAfter (acknowledged output past) t a.status)
+pub starved_count : (output : List ℕ) (a : Answer) (t : Task) (j : Option (List Entry)) → a ≡ starved_answer → IfSome j (λ past. IsCausedAfter (save_count output past) t a.status)
 starved_count output a t None is = tt
-starved_count output a t (Some past) is = starved_after (acknowledged output past) t a is
+starved_count output a t (Some past) is = starved_after (save_count output past) t a is
 
-at_new : (o : Origin) (x : Execution) (j : Option (List Entry)) → output_of x.book ≡ o.output → IsCounted x Nothing 0 → IfSome j (λ past. acknowledged o.output past ≡ 0) → IsCountedAt x Nothing j
+at_new : (o : Origin) (x : Execution) (j : Option (List Entry)) → output_of x.book ≡ o.output → IsCounted x Nothing 0 → IfSome j (λ past. save_count o.output past ≡ 0) → IsCountedAt x Nothing j
 at_new o x j from counted none =
-    at_own x o.output j from (told_as j (λ past. acknowledged o.output past ≡ 0) (λ past. IsCounted x Nothing (acknowledged o.output past))
+    at_own x o.output j from (told_as j (λ past. save_count o.output past ≡ 0) (λ past. IsCounted x Nothing (save_count o.output past))
     (λ past is. subst (λ n. IsCounted x Nothing n) (sym is) counted) none)
 
 -- the first save of a job, of which nothing was told before
 pub first_counts : (o : Origin) (x y : Execution) (j k : Option (List Entry)) → output_of x.book ≡ o.output → output_of y.book ≡ o.output → IsCounted x Nothing 0 → BeginsNew o j
     → (IsCountedAt x Nothing j → IsCountedAt y Nothing k) → CountsAll o None y k
 first_counts o x y j k from to counted begins goes fresh =
-    subst (λ out. IfSome k (λ past. IsCounted y Nothing (acknowledged out past))) to (goes (at_new o x j from counted (begins fresh)))
+    subst (λ out. IfSome k (λ past. IsCounted y Nothing (save_count out past))) to (goes (at_new o x j from counted (begins fresh)))
 
 -- ---- the end of a start
 
@@ -195,7 +195,7 @@ launch_after n task end.Spent h = absurd h
 
 pub launch_counted : (o : Origin) (task : Task) (j : Option (List Entry)) (e : End) → IsEndOfLaunch e → StartsCounted o task j e
 launch_counted o task None e h fresh = tt
-launch_counted o task (Some past) e h fresh = launch_after (acknowledged o.output past) task e h
+launch_counted o task (Some past) e h fresh = launch_after (save_count o.output past) task e h
 
 pub launches_counted : {A : Type 0} (o : Origin) (task : Task) (j : Option (List Entry)) (r : Result A End) → IfErr r IsEndOfLaunch → IfErr r (StartsCounted o task j)
 launches_counted o task j (Ok a) h = tt
@@ -226,9 +226,9 @@ run_after n task end.Spent s = s
 pub first_ends : (o : Origin) (x y : Execution) (task : Task) (j k : Option (List Entry)) (e : End) → output_of x.book ≡ o.output → output_of y.book ≡ o.output → task_of y.core ≡ task
     → IsCounted x Nothing 0 → BeginsNew o j → (IsCountedAt x Nothing j → IfSome k (λ past. EndsAfter (saves_of y past) (task_of y.core) e)) → StartsCounted o task k e
 first_ends o x y task j k e from to at counted begins goes fresh =
-    told_as k (λ past. EndsAfter (acknowledged o.output past) task e) (λ past. StartsAfter (acknowledged o.output past) task e) (λ past s. run_after (acknowledged o.output past) task e s)
-    (subst (λ t. IfSome k (λ past. EndsAfter (acknowledged o.output past) t e)) at
-    (subst (λ out. IfSome k (λ past. EndsAfter (acknowledged out past) (task_of y.core) e)) to
+    told_as k (λ past. EndsAfter (save_count o.output past) task e) (λ past. StartsAfter (save_count o.output past) task e) (λ past s. run_after (save_count o.output past) task e s)
+    (subst (λ t. IfSome k (λ past. EndsAfter (save_count o.output past) t e)) at
+    (subst (λ out. IfSome k (λ past. EndsAfter (save_count out past) (task_of y.core) e)) to
     (goes (at_new o x j from counted (begins fresh)))))
 
 -- the answer of a start that ended so

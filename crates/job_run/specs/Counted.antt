@@ -1,12 +1,12 @@
 -- How many saves the core of a job was told of: as many as were acknowledged at its output.
 use Rattle.std.specs.Prelude.{◌≡◌, ℕ, List, ◌∷◌, Bool, Option, Some, None, IfSome, Result, Ok, Err, is_some}
 use Rattle.world.specs.declared.entry.Entry.{Entry}
-use Rattle.save_disk.specs.Places.{acknowledged}
+use Rattle.save_disk.specs.Places.{save_count}
 use Rattle.cell_core.specs.declared.act.Act.{Act}
 use Rattle.cell_core.specs.declared.act.Act.TheVariants.{Nothing, Stop}
 use Rattle.cell_core.specs.declared.machine.Core.{Core}
 use Rattle.cell_core.specs.declared.why.Why.{Why}
-use Rattle.cell_core.specs.Events.{acked}
+use Rattle.cell_core.specs.Events.{ack_count}
 use Rattle.cell_core.specs.StandsFor.{task_of}
 use Rattle.cell_core.specs.Task.{Task}
 use Rattle.job_end.specs.declared.answer.Answer.{Answer}
@@ -19,12 +19,12 @@ use Rattle.job_run.specs.declared.execution.Execution.{Execution}
 -- the core was told such events, and so many of them are saves
 pub record TellsOf (core : Core) (clock : ℕ) (is_named : Bool) (n : ℕ) : Type 0 where
   pub tells : Tells core clock is_named
-  pub count : acked tells.events ≡ n
+  pub count : ack_count tells.events ≡ n
 
 -- some events, of which so many are saves, stop the job for this cause
 pub record StoppingAfter (n : ℕ) (task : Task) (cause : Why) : Type 0 where
   pub stopping : Stopping task cause
-  pub count : acked (stopping.event ∷ stopping.past) ≡ n
+  pub count : ack_count (stopping.event ∷ stopping.past) ≡ n
 
 -- there are such events
 abbrev pub StopsAfter : ℕ → Task → Why → Type 0
@@ -65,7 +65,7 @@ IsCountedFor x (Err e) n = EndsAfter n (task_of x.core) e
 
 -- how many saves of its output were acknowledged
 abbrev pub saves_of : Execution → List Entry → ℕ
-saves_of x past = acknowledged (output_of x.book) past
+saves_of x past = save_count (output_of x.book) past
 
 -- the core was told of as many saves as were acknowledged
 abbrev pub IsCountedAt : Execution → Act → Option (List Entry) → Type 0
@@ -78,10 +78,6 @@ CountsOn x result journal = IfSome journal (λ past. IsCountedOn x result (saves
 -- and before the next act
 abbrev pub CountsFor : Execution → Result Act End → Option (List Entry) → Type 0
 CountsFor x result journal = IfSome journal (λ past. IsCountedFor x result (saves_of x past))
-
--- calls keep that
-abbrev pub KeepsCounting : {W U : Type 0} → (W → Option (List Entry)) → W → W → Execution → Execution → Result U End → Type 0
-KeepsCounting journal old new was now result = IsCountedAt was Nothing (journal old) → CountsOn now result (journal new)
 
 -- a job ends so after so many saves, or from outside
 abbrev pub EndsJobAfter : ℕ → Task → End → Type 0

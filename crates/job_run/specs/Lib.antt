@@ -1,7 +1,9 @@
 pub mod Counted
+pub mod Due
 pub mod Heard
 pub mod Held
 pub mod Pings
 pub mod Run
+pub mod Steps
 pub mod Task
 pub mod Told

@@ -1,9 +1,9 @@
 -- What a job makes of the world while it runs.
-use Rattle.std.specs.Prelude.{◌≡◌, ◌⊎◌, ℕ, List, Bool, true, false, Option, Some, None, IfSome, Result, Ok, Err}
+use Rattle.std.specs.Prelude.{◌≡◌, ◌⊎◌, ℕ, List, Bool, true, false, Option, Some, None, IfSome, IfErr, Result, Ok, Err}
 use Rattle.std.specs.Str.{bytes_eq}
 use Rattle.world.specs.declared.entry.Entry.{Entry}
 use Rattle.world.specs.Counts.{Counts, CountsGrow, Rose}
-use Rattle.save_disk.specs.Temporary.{temporary_of}
+use Rattle.world.specs.Save.{temporary_of}
 use Rattle.words.specs.declared.ask.Ask.{Ask}
 use Rattle.words.specs.Paths.{connection_of}
 use Rattle.kernel_start.specs.declared.kernel.Kernel.{Kernel}
@@ -11,16 +11,17 @@ use Rattle.kernel_start.specs.declared.random_words.RandomPairs.{RandomPairs}
 use Rattle.job_end.specs.declared.answer.Answer.{Answer}
 use Rattle.job_end.specs.declared.end.End.{End}
 use Rattle.job_end.specs.declared.end.End.TheVariants as end
-use Rattle.job_saves.specs.Course.{Origin, Stands, Ends, HasCalled, LacksSaves, HasOnlyRead, HasPart, keeps_open}
+use Rattle.job_saves.specs.Course.{Origin, Stands, Ends, HasCalled, LacksSaves, HasOnlyRead, HasPart, keeps_open, stays_open}
 use Rattle.nb_model.specs.declared.notebook.Notebook.{Notebook}
 use Rattle.job_saves.specs.Calls.{Cast, IsReady}
 use Rattle.job_saves.specs.Children.{HasEnd, AsksNone, ports_of}
 use Rattle.job_saves.specs.Reads.{IsKernelOf}
 use Rattle.job_saves.specs.Sessions.{HasDrawn, HasAsked, key_of}
 use Rattle.job_notebook.specs.State.{output_of}
-use Rattle.save_disk.specs.Places.{acknowledged}
+use Rattle.save_disk.specs.Places.{save_count}
 use Rattle.cell_core.specs.Task.{Task}
 use Rattle.job_run.specs.Counted.{IsCountedIn, IsCausedAfter, StartsAfter}
+use Rattle.job_run.specs.Told.{IsEndOfLaunch}
 use Rattle.job_run.specs.declared.execution.Execution.{Execution}
 use Rattle.job_run.specs.declared.job.Job.{Job}
 use Rattle.job_run.specs.declared.paths.Paths.{Paths}
@@ -69,19 +70,19 @@ outcome_of j = j.outcome
 -- its journal is told, and no save of its output was acknowledged before its begin
 pub record IsNew (o : Origin) : Type 0 where
   pub watched : o.is_watched ≡ true
-  pub none : acknowledged o.output o.before ≡ 0
+  pub none : save_count o.output o.before ≡ 0
 
 -- a job that hasn't saved yet: none was acknowledged since either
 abbrev pub BeginsNew : Origin → Option (List Entry) → Type 0
-BeginsNew o journal = IsNew o → IfSome journal (λ past. acknowledged o.output past ≡ 0)
+BeginsNew o journal = IsNew o → IfSome journal (λ past. save_count o.output past ≡ 0)
 
 -- a start that ended so: of the events that brought the end as many are saves as were acknowledged
 abbrev pub StartsCounted : Origin → Task → Option (List Entry) → End → Type 0
-StartsCounted o task journal e = IsNew o → IfSome journal (λ past. StartsAfter (acknowledged o.output past) task e)
+StartsCounted o task journal e = IsNew o → IfSome journal (λ past. StartsAfter (save_count o.output past) task e)
 
 -- of the events that a job was told, or that brought its end, as many are saves as were acknowledged
 abbrev pub CountsAll : Origin → Option Answer → Execution → Option (List Entry) → Type 0
-CountsAll o outcome x journal = IsNew o → IfSome journal (λ past. IsCountedIn outcome x (acknowledged o.output past))
+CountsAll o outcome x journal = IsNew o → IfSome journal (λ past. IsCountedIn outcome x (save_count o.output past))
 
 -- a job that began so stands on its course; where a save has failed it has ended, and by that status only there
 pub record Runs (o : Origin) (j : Job) (journal : Option (List Entry)) (counts : Counts) : Type 0 where
@@ -107,7 +108,7 @@ pub record EndsWith (o : Origin) (task : Option Task) (answer : Answer) (journal
   pub ends : Ends o is_open journal counts
   pub shut : is_open ≡ false → IsUnsaved answer.status
   pub fails : IsFileStatus answer.status → Rose o.counts.disk counts.disk
-  pub counted : (t : Task) → task ≡ Some t → IsNew o → IfSome journal (λ past. IsCausedAfter (acknowledged o.output past) t answer.status)
+  pub counted : (t : Task) → task ≡ Some t → IsNew o → IfSome journal (λ past. IsCausedAfter (save_count o.output past) t answer.status)
 
 -- a job of this number and these paths is one of a cast
 pub record IsRole (c : Cast) (number : ℕ) (paths : Paths) : Type 0 where
@@ -251,6 +252,17 @@ EndCause old new end.NoConnectionFile = Rose old.disk new.disk
 EndCause old new end.NetFault = Rose old.net new.net
 EndCause old new end.Spent = ⊥
 EndCause old new _ = Unit {0}
+
+-- calls that start the kernel of a job were answered so
+pub record EndsLaunch {U : Type 0} (old new : Counts) (result : Result U End) : Type 0 where
+  -- no save has failed in them
+  pub saved : stays_open result ≡ true
+  -- no count has fallen
+  pub grow : CountsGrow old new
+  -- where the job ends, such a cause stands
+  pub cause : IfErr result (EndCause old new)
+  -- and it ends as a start does
+  pub own : IfErr result IsEndOfLaunch
 
 -- what stands of a job by the counts alone, since they were so, whatever its world tells
 pub record RunsCounted (from : Counts) (j : Job) (journal : Option (List Entry)) (counts : Counts) : Type 0 where

@@ -1,4 +1,6 @@
 //! `Execution`, the execution of a notebook by a kernel.
+ghost use Rattle.std.specs.Prelude.{◌≡◌};
+ghost use Rattle.job_run.specs.Due.{earlier_of};
 
 use crate::request::Request;
 use crate::terms::Terms;
@@ -48,8 +50,10 @@ impl Execution {
     }
 }
 
-/// The earlier of two moments.
-fn earlier(a: Option<u64>, b: Option<u64>) -> Option<u64> {
+/// The earlier of two moments, of which each may be absent.
+pub fn earlier(a: Option<u64>, b: Option<u64>) -> Option<u64>
+    ensures { result ≡ earlier_of a b }
+{
     match (a, b) {
         (Some(a), Some(b)) => Some(a.min(b)),
         (Some(a), None) => Some(a),

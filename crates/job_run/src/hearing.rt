@@ -11,15 +11,14 @@ use world::{Chan, Disk, Say};
 use zmtp_wire::{Parts, WireFault};
 
 impl Execution {
-    ghost use Rattle.std.specs.Prelude.{◌≡◌, ◌<◌, true, is_some, IfOk, IfErr, IfSome, OnOk};
-    ghost use Rattle.job_notebook.specs.State.{begun_of};
+    ghost use Rattle.std.specs.Prelude.{◌≡◌, ◌<◌, true, is_some, IfOk, IfSome, OnOk};
     ghost use Rattle.job_run.specs.Heard.{IsContent, IsFrom};
     ghost use Rattle.job_run.specs.Held.{Holds, IsCalm, KeepsToDo, AsksOnce};
-    ghost use Rattle.job_run.specs.Told.{EndsBy};
-    ghost use Rattle.job_run.specs.Counted.{KeepsCounting, KeepsTold};
+    ghost use Rattle.job_run.specs.Counted.{KeepsTold};
     ghost use Rattle.jcontent.specs.IsRead.{IsRead};
-    ghost use Rattle.cell_core.specs.StandsFor.{task_of};
-    ghost use Rattle.job_saves.specs.Course.{GoesOn, CallsOwn, StaysOn, KeepsPart, stays_open};
+    ghost use Rattle.job_saves.specs.Course.{StaysOn, KeepsPart};
+    ghost use Rattle.cell_core.specs.declared.act.Act.TheVariants.{Nothing};
+    ghost use Rattle.job_run.specs.Steps.{Proceeds};
 
     /// A piece came on this channel.
     pub(crate) fn on_piece<W: Disk + Say>(
@@ -30,14 +29,7 @@ impl Execution {
     ) -> Result<(), End>
         requires holds { Holds self.old }
         requires calm { IsCalm self.old }
-        ensures holds { Holds self.new }
-        ensures calm { OnOk result (IsCalm self.new) }
-        ensures course { GoesOn W.journal W.counts w.old w.new self.old.book self.new.book
-            (stays_open result) }
-        ensures calls { CallsOwn W.journal W.counts w.old w.new self.old.book self.new.book }
-        ensures task { task_of self.new.core ≡ task_of self.old.core }
-        ensures own { IfErr result (EndsBy (task_of self.new.core)) }
-        ensures counts { KeepsCounting W.journal w.old w.new self.old self.new result }
+        ensures { Proceeds W.journal W.counts w.old w.new self.old self.new Nothing result }
     {
         let (messages, fault) = self.lines.feed(chan, piece)?;
         // What came with the end of a request is no part of the one that follows.
@@ -58,14 +50,7 @@ impl Execution {
     ) -> Result<(), End>
         requires holds { Holds self.old }
         requires calm { IsCalm self.old }
-        ensures holds { Holds self.new }
-        ensures calm { OnOk result (IsCalm self.new) }
-        ensures course { GoesOn W.journal W.counts w.old w.new self.old.book self.new.book
-            (stays_open result) }
-        ensures calls { CallsOwn W.journal W.counts w.old w.new self.old.book self.new.book }
-        ensures task { task_of self.new.core ≡ task_of self.old.core }
-        ensures own { IfErr result (EndsBy (task_of self.new.core)) }
-        ensures counts { KeepsCounting W.journal w.old w.new self.old self.new result }
+        ensures { Proceeds W.journal W.counts w.old w.new self.old self.new Nothing result }
     {
         for message in messages.into_vec() {
             self.on_message(w, chan, &message, standing)?;
@@ -81,14 +66,7 @@ impl Execution {
     ) -> Result<(), End>
         requires holds { Holds self.old }
         requires calm { IsCalm self.old }
-        ensures holds { Holds self.new }
-        ensures calm { OnOk result (IsCalm self.new) }
-        ensures course { GoesOn W.journal W.counts w.old w.new self.old.book self.new.book
-            (stays_open result) }
-        ensures calls { CallsOwn W.journal W.counts w.old w.new self.old.book self.new.book }
-        ensures task { task_of self.new.core ≡ task_of self.old.core }
-        ensures own { IfErr result (EndsBy (task_of self.new.core)) }
-        ensures counts { KeepsCounting W.journal w.old w.new self.old self.new result }
+        ensures { Proceeds W.journal W.counts w.old w.new self.old self.new Nothing result }
     {
         self.note_broken(chan, fault);
         self.step(w, Event::Broken)
@@ -115,14 +93,7 @@ impl Execution {
     ) -> Result<(), End>
         requires holds { Holds self.old }
         requires calm { IsCalm self.old }
-        ensures holds { Holds self.new }
-        ensures calm { OnOk result (IsCalm self.new) }
-        ensures course { GoesOn W.journal W.counts w.old w.new self.old.book self.new.book
-            (stays_open result) }
-        ensures calls { CallsOwn W.journal W.counts w.old w.new self.old.book self.new.book }
-        ensures task { task_of self.new.core ≡ task_of self.old.core }
-        ensures own { IfErr result (EndsBy (task_of self.new.core)) }
-        ensures counts { KeepsCounting W.journal w.old w.new self.old self.new result }
+        ensures { Proceeds W.journal W.counts w.old w.new self.old self.new Nothing result }
     {
         if chan == Chan::Heart {
             self.pings.on_echo();
@@ -144,14 +115,7 @@ impl Execution {
         requires holds { Holds self.old }
         requires calm { IsCalm self.old }
         requires signed { IsFrom self.old.session.key message.now }
-        ensures holds { Holds self.new }
-        ensures calm { OnOk result (IsCalm self.new) }
-        ensures course { GoesOn W.journal W.counts w.old w.new self.old.book self.new.book
-            (stays_open result) }
-        ensures calls { CallsOwn W.journal W.counts w.old w.new self.old.book self.new.book }
-        ensures task { task_of self.new.core ≡ task_of self.old.core }
-        ensures own { IfErr result (EndsBy (task_of self.new.core)) }
-        ensures counts { KeepsCounting W.journal w.old w.new self.old self.new result }
+        ensures { Proceeds W.journal W.counts w.old w.new self.old self.new Nothing result }
     {
         match chan {
             Chan::Iopub => self.on_iopub(w, message, standing),
@@ -203,14 +167,7 @@ impl Execution {
         requires holds { Holds self.old }
         requires calm { IsCalm self.old }
         requires signed { IsFrom self.old.session.key message.now }
-        ensures holds { Holds self.new }
-        ensures calm { OnOk result (IsCalm self.new) }
-        ensures course { GoesOn W.journal W.counts w.old w.new self.old.book self.new.book
-            (stays_open result) }
-        ensures calls { CallsOwn W.journal W.counts w.old w.new self.old.book self.new.book }
-        ensures task { task_of self.new.core ≡ task_of self.old.core }
-        ensures own { IfErr result (EndsBy (task_of self.new.core)) }
-        ensures counts { KeepsCounting W.journal w.old w.new self.old self.new result }
+        ensures { Proceeds W.journal W.counts w.old w.new self.old self.new Nothing result }
     {
         self.asking.on_iopub();
         match self.note_ready(w) {
@@ -229,14 +186,7 @@ impl Execution {
         requires holds { Holds self.old }
         requires calm { IsCalm self.old }
         requires signed { IsFrom self.old.session.key message.now }
-        ensures holds { Holds self.new }
-        ensures calm { OnOk result (IsCalm self.new) }
-        ensures course { GoesOn W.journal W.counts w.old w.new self.old.book self.new.book
-            (stays_open result) }
-        ensures calls { CallsOwn W.journal W.counts w.old w.new self.old.book self.new.book }
-        ensures task { task_of self.new.core ≡ task_of self.old.core }
-        ensures own { IfErr result (EndsBy (task_of self.new.core)) }
-        ensures counts { KeepsCounting W.journal w.old w.new self.old self.new result }
+        ensures { Proceeds W.journal W.counts w.old w.new self.old self.new Nothing result }
     {
         if !self.is_of_request(message, standing) {
             return Ok(());
@@ -258,14 +208,7 @@ impl Execution {
         requires calm { IsCalm self.old }
         requires asked { is_some self.old.request ≡ true }
         requires read { IsRead content.now }
-        ensures holds { Holds self.new }
-        ensures calm { OnOk result (IsCalm self.new) }
-        ensures course { GoesOn W.journal W.counts w.old w.new self.old.book self.new.book
-            (stays_open result) }
-        ensures calls { CallsOwn W.journal W.counts w.old w.new self.old.book self.new.book }
-        ensures task { task_of self.new.core ≡ task_of self.old.core }
-        ensures own { IfErr result (EndsBy (task_of self.new.core)) }
-        ensures counts { KeepsCounting W.journal w.old w.new self.old self.new result }
+        ensures { Proceeds W.journal W.counts w.old w.new self.old self.new Nothing result }
     {
         let step = self.tell(Event::Io(brief_of(content)));
         match self.take(step.takes, content, date) {
@@ -311,14 +254,7 @@ impl Execution {
         requires holds { Holds self.old }
         requires calm { IsCalm self.old }
         requires signed { IsFrom self.old.session.key message.now }
-        ensures holds { Holds self.new }
-        ensures calm { OnOk result (IsCalm self.new) }
-        ensures course { GoesOn W.journal W.counts w.old w.new self.old.book self.new.book
-            (stays_open result) }
-        ensures calls { CallsOwn W.journal W.counts w.old w.new self.old.book self.new.book }
-        ensures task { task_of self.new.core ≡ task_of self.old.core }
-        ensures own { IfErr result (EndsBy (task_of self.new.core)) }
-        ensures counts { KeepsCounting W.journal w.old w.new self.old self.new result }
+        ensures { Proceeds W.journal W.counts w.old w.new self.old self.new Nothing result }
     {
         match read(self.alloc, &message.header.msg_type, &message.content)? {
             Content::InfoReply => {
@@ -360,14 +296,7 @@ impl Execution {
         requires asked { is_some self.old.request ≡ true }
         requires holds { Holds self.old }
         requires calm { IsCalm self.old }
-        ensures holds { Holds self.new }
-        ensures calm { OnOk result (IsCalm self.new) }
-        ensures course { GoesOn W.journal W.counts w.old w.new self.old.book self.new.book
-            (stays_open result) }
-        ensures calls { CallsOwn W.journal W.counts w.old w.new self.old.book self.new.book }
-        ensures task { task_of self.new.core ≡ task_of self.old.core }
-        ensures own { IfErr result (EndsBy (task_of self.new.core)) }
-        ensures counts { KeepsCounting W.journal w.old w.new self.old self.new result }
+        ensures { Proceeds W.journal W.counts w.old w.new self.old self.new Nothing result }
     {
         let fatal = !allowed(
             &reply,
@@ -449,14 +378,7 @@ impl Execution {
     fn note_ready<W: Disk + Say>(&mut self, w: &mut W) -> Result<(), End>
         requires holds { Holds self.old }
         requires calm { IsCalm self.old }
-        ensures holds { Holds self.new }
-        ensures calm { OnOk result (IsCalm self.new) }
-        ensures course { GoesOn W.journal W.counts w.old w.new self.old.book self.new.book
-            (stays_open result) }
-        ensures calls { CallsOwn W.journal W.counts w.old w.new self.old.book self.new.book }
-        ensures task { task_of self.new.core ≡ task_of self.old.core }
-        ensures own { IfErr result (EndsBy (task_of self.new.core)) }
-        ensures counts { KeepsCounting W.journal w.old w.new self.old self.new result }
+        ensures goes { Proceeds W.journal W.counts w.old w.new self.old self.new Nothing result }
         ensures asks { OnOk result (AsksOnce self.old self.new) }
     {
         if self.is_ready || !self.asking.is_ready() {

@@ -19,4 +19,5 @@ mod terms;
 mod turning;
 
 pub use agenda::Agenda;
+pub use execution::earlier;
 pub use job::Job;

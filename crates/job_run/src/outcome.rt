@@ -1,18 +1,23 @@
 //! How a job has ended.
-ghost use Rattle.std.specs.Prelude.{◌≡◌, ℕ, List, false, is_some, Err, IfErr, IfSome, OnOk};
+ghost use Rattle.std.specs.Prelude.{◌≡◌, ℕ, List, true, false, is_some, Ok, Err, IfOk, IfErr, IfSome, OnOk};
 ghost use Rattle.cell_core.specs.StandsFor.{task_of};
 ghost use Rattle.cell_core.specs.Task.{Task};
 ghost use Rattle.job_saves.specs.Course.{StaysOn, KeepsPart, stays_open, keeps_open};
 ghost use Rattle.job_run.specs.Held.{Holds, IsCalm, AsksOnce};
 ghost use Rattle.job_end.specs.declared.end.End.TheVariants as ending;
 ghost use Rattle.job_run.specs.Run.{HasEnded, HasFailed, IsUnsaved, IsFileStatus, IsLost, IsSpent};
-ghost use Rattle.job_run.specs.Told.{EndsJob, IsEnding};
+ghost use Rattle.job_run.specs.Run.{EndCause};
+ghost use Rattle.kernel_start.specs.declared.connection_fault.ConnectionFault.TheVariants as file;
+ghost use Rattle.kernel_start.specs.declared.launch_fault.LaunchFault.TheVariants as launch;
+ghost use Rattle.world.specs.Counts.{Counts, Rose};
+ghost use Rattle.job_run.specs.Told.{EndsJob, IsEnding, IsEndOfLaunch};
 ghost use Rattle.job_run.specs.Counted.{IsCausedAfter, EndsJobAfter, IsCountedBy, IsCountedIn};
 ghost use Rattle.job_notebook.specs.State.{output_of};
 
 use crate::execution::Execution;
 use job_end::{Answer, End};
 use jtext::Text;
+use kernel_start::{ConnectionFault, LaunchFault};
 use std::alloc::Global;
 
 /// How a job on this output has ended, where what was done ended it: its kernel is asked to shut down
@@ -65,12 +70,12 @@ fn farewell(alloc: Global, output: &Text, run: &mut Execution, end: &End) -> Ans
 {
     let answer = answer_for(alloc, output, end);
     if answer.status != 12 && run.shut_down().is_err() {
-        return starved(alloc);
+        return memory_answer(alloc);
     }
     answer
 }
 
-fn starved(alloc: Global) -> Answer
+fn memory_answer(alloc: Global) -> Answer
     ensures shut { IsUnsaved result.status }
     ensures fails { IsFileStatus result.status → ⊥ }
     ensures lost { result.status ≡ 14 → ⊥ }
@@ -92,4 +97,33 @@ fn answer_for(alloc: Global, output: &Text, end: &End) -> Answer
     ensures end { (task : Task) → EndsJob task end.now → IsEnding output.now task result }
 {
     end.answer(alloc, output)
+}
+
+/// How a start goes on whose connection file was to be written.
+pub(crate) fn end_of_file(written: Result<(), ConnectionFault>) -> Result<(), End>
+    ensures done { IfOk result (λ u. written ≡ Ok u) }
+    ensures saved { stays_open result ≡ true }
+    ensures cause { (old new : Counts) → (written ≡ Err file.Failed → Rose old.disk new.disk) →
+        IfErr result (EndCause old new) }
+    ensures own { IfErr result IsEndOfLaunch }
+{
+    match written {
+        Ok(()) => Ok(()),
+        Err(ConnectionFault::Failed) => Err(End::NoConnectionFile),
+        Err(ConnectionFault::NoMemory) => Err(End::NoMemory),
+    }
+}
+
+/// How a start goes on whose child was to be started.
+pub(crate) fn end_of_start(started: Result<(), LaunchFault>) -> Result<(), End>
+    ensures saved { stays_open result ≡ true }
+    ensures cause { (old new : Counts) → (started ≡ Err launch.Failed → Rose old.child new.child) →
+        IfErr result (EndCause old new) }
+    ensures own { IfErr result IsEndOfLaunch }
+{
+    match started {
+        Ok(()) => Ok(()),
+        Err(LaunchFault::Failed) => Err(End::NotStarted),
+        Err(LaunchFault::NoMemory) => Err(End::NoMemory),
+    }
 }

@@ -2,7 +2,7 @@
 ghost use Rattle.std.specs.Prelude.{◌≡◌, ◌<◌, ℕ, List, true, false, None, Some, IfOk, IfErr};
 ghost use Rattle.std.specs.Str.{bytes_eq};
 ghost use Rattle.world.specs.declared.entry.Entry.{Entry};
-ghost use Rattle.world.specs.Counts.{Counts, CountsGrow};
+ghost use Rattle.world.specs.Counts.{Counts};
 ghost use Rattle.world.specs.Moments.{Told, Since};
 ghost use Rattle.world.specs.Parts.{IsOf, OnRand};
 ghost use Rattle.world.specs.Touched.{Spares};
@@ -25,6 +25,7 @@ ghost use Rattle.job_run.specs.Run.{number_of, outcome_of};
 
 use crate::execution::Execution;
 use crate::look::Look;
+use crate::outcome::{end_of_file, end_of_start};
 use crate::paths::Paths;
 use crate::terms::Terms;
 use crate::{Agenda, Job};
@@ -35,20 +36,17 @@ use job_saves::laws;
 use jsign::Seen;
 use jtext::{NoMemory, Text};
 use kernel_lines::Lines;
-use kernel_start::{
-    ConnectionFault, Kernel, LaunchFault, RandomPairs, connection_path, random_pairs,
-    write_connection,
-};
+use kernel_start::{Kernel, RandomPairs, connection_path, random_pairs, write_connection};
 use kernel_talk::{Asking, Pings, Session};
 use std::alloc::Global;
 use words::Ask;
 use world::World;
 
 impl Job {
-    ghost use Rattle.std.specs.Prelude.{◌≡◌, ◌<◌, ℕ, List, true, None, IfOk, IfErr, IfSome};
+    ghost use Rattle.std.specs.Prelude.{◌≡◌, ◌<◌, List, None, IfOk, IfErr, IfSome};
     ghost use Rattle.world.specs.declared.entry.Entry.{Entry};
-    ghost use Rattle.world.specs.Counts.{Counts, CountsGrow};
-    ghost use Rattle.job_saves.specs.Course.{Origin, IsFor, HasCalled, Begins, stays_open};
+    ghost use Rattle.world.specs.Counts.{Counts};
+    ghost use Rattle.job_saves.specs.Course.{Origin, IsFor, HasCalled, Begins};
     ghost use Rattle.job_saves.specs.Calls.{Cast};
     ghost use Rattle.job_saves.specs.Reads.{IsKernelOf};
     ghost use Rattle.job_saves.specs.Children.{KeepsEnd};
@@ -57,10 +55,10 @@ impl Job {
     ghost use Rattle.job_run.specs.Run.{RunsOn};
     ghost use Rattle.job_run.specs.Run.{LaunchesInRole, LaunchesOnPorts, RunsInRole, WritesInRole};
     ghost use Rattle.job_run.specs.Run.{ReadiesIn, HasNoChild, HasNoPorts, EndCause, number_of};
-    ghost use Rattle.job_run.specs.Run.{OnlyReads};
+    ghost use Rattle.job_run.specs.Run.{EndsLaunch, OnlyReads};
     ghost use Rattle.job_run.specs.Run.{HasPorts, KeepsPorts, outcome_of};
     ghost use Rattle.job_run.specs.Task.{task_of_job, output_of_job, ports_of_job, task_for};
-    ghost use Rattle.job_run.specs.Told.{StartsBy, IsEndOfLaunch};
+    ghost use Rattle.job_run.specs.Told.{StartsBy};
 
     /// Saves the notebook with no cell settled and starts the kernel that was found for it. Where
     /// the start fails nothing is left of the kernel. `here` is the working folder.
@@ -107,7 +105,7 @@ impl Job {
             Begins o (W.journal w.old) (W.counts w.old) → BeginsNew o (W.journal w.old) →
             IfErr result (StartsCounted o (task_for ask agenda.notebook) (W.journal w.new)) }
     {
-        match drawn(w) {
+        match draw_pairs(w) {
             Ok(pairs) => Job::start_session(alloc, w, number, ask, agenda, pairs, kernel, here),
             Err(end) => Err(end),
         }
@@ -149,7 +147,7 @@ impl Job {
         ensures ports { IfOk result (λ j. HasPorts number (ports_of_job j) (W.journal w.new)) }
     {
         match parts_of(alloc, ask, agenda, pairs) {
-            Ok((paths, run)) => started(alloc, w, number, paths, run, kernel, here),
+            Ok((paths, run)) => start_saved(alloc, w, number, paths, run, kernel, here),
             Err(NoMemory) => Err(End::NoMemory),
         }
     }
@@ -165,10 +163,7 @@ impl Job {
         ensures output { output_of_job self.new ≡ output_of_job self.old }
         ensures ports { IfOk result (λ _.
             HasPorts (number_of self.new) (ports_of_job self.new) (W.journal w.new)) }
-        ensures saved { stays_open result ≡ true }
-        ensures grow { CountsGrow (W.counts w.old) (W.counts w.new) }
-        ensures cause { IfErr result (EndCause (W.counts w.old) (W.counts w.new)) }
-        ensures own { IfErr result IsEndOfLaunch }
+        ensures ends { EndsLaunch (W.counts w.old) (W.counts w.new) result }
     {
         match w.free_ports(self.number) {
             Some(ports) => {
@@ -185,10 +180,7 @@ impl Job {
         ensures calls { LaunchesOnPorts W.journal W.counts w.old w.new kernel.now here.now
             self.now }
         ensures given { KeepsPorts W.journal w.old w.new }
-        ensures saved { stays_open result ≡ true }
-        ensures grow { CountsGrow (W.counts w.old) (W.counts w.new) }
-        ensures cause { IfErr result (EndCause (W.counts w.old) (W.counts w.new)) }
-        ensures own { IfErr result IsEndOfLaunch }
+        ensures ends { EndsLaunch (W.counts w.old) (W.counts w.new) result }
     {
         match self.write_file(w) {
             Ok(()) => self.start_child(w, kernel, here),
@@ -202,61 +194,35 @@ impl Job {
         ensures ready { IfOk result (λ _. ReadiesIn W.journal w.old w.new self.now) }
         ensures left { KeepsEnd (number_of self.now) (W.journal w.old) (W.journal w.new) }
         ensures given { KeepsPorts W.journal w.old w.new }
-        ensures saved { stays_open result ≡ true }
-        ensures grow { CountsGrow (W.counts w.old) (W.counts w.new) }
-        ensures cause { IfErr result (EndCause (W.counts w.old) (W.counts w.new)) }
-        ensures own { IfErr result IsEndOfLaunch }
+        ensures ends { EndsLaunch (W.counts w.old) (W.counts w.new) result }
     {
         let key = self.run.session.key();
-        match write_connection(self.alloc, w, &self.paths.connection, self.ports, key) {
-            Ok(()) => Ok(()),
-            Err(ConnectionFault::Failed) => Err(End::NoConnectionFile),
-            Err(ConnectionFault::NoMemory) => Err(End::NoMemory),
-        }
+        let path = &self.paths.connection;
+        end_of_file(write_connection(self.alloc, w, path, self.ports, key))
     }
 
     fn start_child<W: World>(&self, w: &mut W, kernel: &Kernel, here: &Text) -> Result<(), End>
         ensures course { RunsOn W.journal W.counts w.old w.new self.now self.now }
         ensures calls { RunsInRole W.journal W.counts w.old w.new kernel.now here.now self.now }
         ensures given { KeepsPorts W.journal w.old w.new }
-        ensures saved { stays_open result ≡ true }
-        ensures grow { CountsGrow (W.counts w.old) (W.counts w.new) }
-        ensures cause { IfErr result (EndCause (W.counts w.old) (W.counts w.new)) }
-        ensures own { IfErr result IsEndOfLaunch }
+        ensures ends { EndsLaunch (W.counts w.old) (W.counts w.new) result }
     {
         let path = &self.paths.connection;
-        match kernel.start(self.alloc, w, self.number, here, path, &self.paths.cwd) {
-            Ok(()) => Ok(()),
-            Err(LaunchFault::Failed) => Err(End::NotStarted),
-            Err(LaunchFault::NoMemory) => Err(End::NoMemory),
-        }
+        end_of_start(kernel.start(self.alloc, w, self.number, here, path, &self.paths.cwd))
     }
 }
 
 impl Execution {
-    ghost use Rattle.std.specs.Prelude.{◌≡◌, IfErr, OnOk};
-    ghost use Rattle.world.specs.Moments.{Told, Since};
-    ghost use Rattle.cell_core.specs.StandsFor.{task_of};
-    ghost use Rattle.job_notebook.specs.State.{output_of};
-    ghost use Rattle.job_saves.specs.Sessions.{IsSaveCall};
-    ghost use Rattle.job_saves.specs.Course.{GoesOn, CallsOwn, stays_open};
+    ghost use Rattle.std.specs.Prelude.{◌≡◌, OnOk};
     ghost use Rattle.job_run.specs.Held.{Holds, IsCalm, IsFirst};
-    ghost use Rattle.job_run.specs.Told.{EndsBy};
-    ghost use Rattle.job_run.specs.Counted.{KeepsCounting};
+    ghost use Rattle.cell_core.specs.declared.act.Act.TheVariants.{Nothing};
+    ghost use Rattle.job_run.specs.Steps.{Proceeds, OnlySaves};
 
     /// Saves the notebook with no cell settled, and reads the clock once.
     fn save_first<W: World>(&mut self, w: &mut W) -> Result<(), End>
         requires first { IsFirst self.old }
-        ensures holds { Holds self.new }
-        ensures calm { OnOk result (IsCalm self.new) }
-        ensures course { GoesOn W.journal W.counts w.old w.new self.old.book self.new.book
-            (stays_open result) }
-        ensures calls { CallsOwn W.journal W.counts w.old w.new self.old.book self.new.book }
-        ensures saves { Told (W.journal w.old) (W.journal w.new)
-            (Since (IsSaveCall (output_of self.old.book))) }
-        ensures task { task_of self.new.core ≡ task_of self.old.core }
-        ensures own { IfErr result (EndsBy (task_of self.new.core)) }
-        ensures counts { KeepsCounting W.journal w.old w.new self.old self.new result }
+        ensures goes { Proceeds W.journal W.counts w.old w.new self.old self.new Nothing result }
+        ensures saves { OnlySaves W.journal w.old w.new self.old.book }
         ensures key { OnOk result (self.new.session.key ≡ self.old.session.key) }
     {
         self.act(w, Act::Save(0))?;
@@ -266,16 +232,8 @@ impl Execution {
     fn read_clock<W: World>(&mut self, w: &mut W) -> Result<(), End>
         requires holds { Holds self.old }
         requires calm { IsCalm self.old }
-        ensures holds { Holds self.new }
-        ensures calm { OnOk result (IsCalm self.new) }
-        ensures course { GoesOn W.journal W.counts w.old w.new self.old.book self.new.book
-            (stays_open result) }
-        ensures calls { CallsOwn W.journal W.counts w.old w.new self.old.book self.new.book }
-        ensures saves { Told (W.journal w.old) (W.journal w.new)
-            (Since (IsSaveCall (output_of self.old.book))) }
-        ensures task { task_of self.new.core ≡ task_of self.old.core }
-        ensures own { IfErr result (EndsBy (task_of self.new.core)) }
-        ensures counts { KeepsCounting W.journal w.old w.new self.old self.new result }
+        ensures goes { Proceeds W.journal W.counts w.old w.new self.old self.new Nothing result }
+        ensures saves { OnlySaves W.journal w.old w.new self.old.book }
         ensures key { OnOk result (self.new.session.key ≡ self.old.session.key) }
     {
         laws::other_calls_pass();
@@ -286,7 +244,7 @@ impl Execution {
 }
 
 /// The job whose notebook is saved first, and whose kernel is then started.
-fn started<W: World>(
+fn start_saved<W: World>(
     alloc: Global,
     w: &mut W,
     number: u8,
@@ -375,7 +333,7 @@ fn with_kernel<W: World>(job: Job, w: &mut W, kernel: &Kernel, here: &Text) -> R
     }
 }
 
-fn drawn<W: World>(w: &mut W) -> Result<RandomPairs, End>
+fn draw_pairs<W: World>(w: &mut W) -> Result<RandomPairs, End>
     ensures others { (path : List ℕ) →
         Told (W.journal w.old) (W.journal w.new) (Since (Spares path)) }
     ensures part { Told (W.journal w.old) (W.journal w.new) (Since (IsOf OnRand)) }

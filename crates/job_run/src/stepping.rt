@@ -21,18 +21,19 @@ impl Execution {
     ghost use Rattle.cell_core.specs.Sending.{next_of, saves_ahead};
     ghost use Rattle.cell_core.specs.StandsFor.{task_of};
     ghost use Rattle.cell_core.specs.declared.why.Why.TheVariants as cause;
-    ghost use Rattle.world.specs.Moments.{Told, Since};
-    ghost use Rattle.save_disk.specs.Places.{acknowledged};
+    ghost use Rattle.world.specs.Moments.{Told};
+    ghost use Rattle.save_disk.specs.Places.{save_count};
     ghost use Rattle.job_notebook.specs.State.{settled_of, begun_of, output_of};
     ghost use Rattle.job_run.specs.Held.{Holds, IsToDo, IsCalm, IsSaid};
     ghost use Rattle.job_run.specs.Held.{Asks, AsksOnce, requests_of};
     ghost use Rattle.job_run.specs.Told.{MayCome, StopsFor, EndsBy};
-    ghost use Rattle.job_run.specs.Counted.{IsCounted, IsCountedOn, IsCountedAt, CountsOn};
-    ghost use Rattle.job_run.specs.Counted.{CountsFor, KeepsCounting, KeepsTold};
+    ghost use Rattle.job_run.specs.Counted.{IsCounted, IsCountedOn, IsCountedAt};
+    ghost use Rattle.job_run.specs.Counted.{CountsFor, KeepsTold};
     ghost use Rattle.job_run.specs.Counted.{StopsAfter, EndsAfter};
     ghost use Rattle.job_saves.specs.Course.{GoesOn, CallsOwn, StaysOn, KeepsPart, IsEndOfSave};
     ghost use Rattle.job_saves.specs.Course.{stays_open, keeps_open};
-    ghost use Rattle.job_saves.specs.Sessions.{IsSaveCall};
+    ghost use Rattle.cell_core.specs.declared.act.Act.TheVariants.{Nothing};
+    ghost use Rattle.job_run.specs.Steps.{Proceeds, OnlySaves};
 
     /// Tells the core of one event, and does what it answers. `Err` where the job ends so.
     pub(crate) fn step<W: Disk + Say>(&mut self, w: &mut W, e: Event) -> Result<(), End>
@@ -41,16 +42,8 @@ impl Execution {
         requires other { is_saved e ≡ false }
         requires small { IsSmall e }
         requires may { MayCome self.old.core self.old.clock (is_some self.old.broken) e }
-        ensures holds { Holds self.new }
-        ensures calm { OnOk result (IsCalm self.new) }
-        ensures course { GoesOn W.journal W.counts w.old w.new self.old.book self.new.book
-            (stays_open result) }
-        ensures calls { CallsOwn W.journal W.counts w.old w.new self.old.book self.new.book }
-        ensures saves { Told (W.journal w.old) (W.journal w.new)
-            (Since (IsSaveCall (output_of self.old.book))) }
-        ensures task { task_of self.new.core ≡ task_of self.old.core }
-        ensures own { IfErr result (EndsBy (task_of self.new.core)) }
-        ensures counts { KeepsCounting W.journal w.old w.new self.old self.new result }
+        ensures goes { Proceeds W.journal W.counts w.old w.new self.old self.new Nothing result }
+        ensures saves { OnlySaves W.journal w.old w.new self.old.book }
         ensures asks { OnOk result (AsksOnce self.old self.new) }
     {
         let step = self.tell(e);
@@ -80,17 +73,8 @@ impl Execution {
     pub(crate) fn act<W: Disk + Say>(&mut self, w: &mut W, act: Act) -> Result<(), End>
         requires holds { Holds self.old }
         requires todo { IsToDo self.old act }
-        ensures holds { Holds self.new }
-        ensures calm { OnOk result (IsCalm self.new) }
-        ensures course { GoesOn W.journal W.counts w.old w.new self.old.book self.new.book
-            (stays_open result) }
-        ensures calls { CallsOwn W.journal W.counts w.old w.new self.old.book self.new.book }
-        ensures saves { Told (W.journal w.old) (W.journal w.new)
-            (Since (IsSaveCall (output_of self.old.book))) }
-        ensures task { task_of self.new.core ≡ task_of self.old.core }
-        ensures own { IfErr result (EndsBy (task_of self.new.core)) }
-        ensures counts { IsCountedAt self.old act (W.journal w.old) →
-            CountsOn self.new result (W.journal w.new) }
+        ensures goes { Proceeds W.journal W.counts w.old w.new self.old self.new act result }
+        ensures saves { OnlySaves W.journal w.old w.new self.old.book }
         ensures asks { OnOk result (AsksOnce self.old self.new) }
     {
         let mut act = act;
@@ -111,8 +95,7 @@ impl Execution {
         ensures course { GoesOn W.journal W.counts w.old w.new self.old.book self.new.book
             (stays_open result) }
         ensures calls { CallsOwn W.journal W.counts w.old w.new self.old.book self.new.book }
-        ensures saves { Told (W.journal w.old) (W.journal w.new)
-            (Since (IsSaveCall (output_of self.old.book))) }
+        ensures saves { OnlySaves W.journal w.old w.new self.old.book }
         ensures task { task_of self.new.core ≡ task_of self.old.core }
         ensures own { IfErr result (EndsBy (task_of self.new.core)) }
         ensures counts { IsCountedAt self.old Act.Nothing (W.journal w.old) →
@@ -162,16 +145,15 @@ impl Execution {
         ensures course { GoesOn W.journal W.counts w.old w.new self.old.book self.new.book
             (stays_open result) }
         ensures calls { CallsOwn W.journal W.counts w.old w.new self.old.book self.new.book }
-        ensures saves { Told (W.journal w.old) (W.journal w.new)
-            (Since (IsSaveCall (output_of self.old.book))) }
+        ensures saves { OnlySaves W.journal w.old w.new self.old.book }
         ensures task { task_of self.new.core ≡ task_of self.old.core }
         ensures own { IfErr result (EndsBy (task_of self.new.core)) }
         ensures told { KeepsTold self.old self.new }
         ensures kind { IfErr result IsEndOfSave }
         ensures output { output_of self.new.book ≡ output_of self.old.book }
         ensures acked { OnOk result (Told (W.journal w.old) (W.journal w.new) (λ before after.
-            acknowledged (output_of self.old.book) after ≡
-            acknowledged (output_of self.old.book) before + 1)) }
+            save_count (output_of self.old.book) after ≡
+            save_count (output_of self.old.book) before + 1)) }
         ensures asks { self.new.session ≡ self.old.session }
     {
         let stop = self.core.failing();

@@ -18,9 +18,10 @@ impl Job {
     ghost use Rattle.job_run.specs.Task.{task_of_job, output_of_job, ports_of_job};
     ghost use Rattle.job_end.specs.declared.end.End.TheVariants as ending;
     ghost use Rattle.job_run.specs.Told.{IsOutside, IsEnding};
-    ghost use Rattle.job_run.specs.Run.{Runs, RunsOn, KeepsRun, EndsWith, EndsNot, IsLost, IsSpent};
+    ghost use Rattle.job_run.specs.Run.{Runs, RunsOn, KeepsRun, EndsWith, IsLost, IsSpent};
     ghost use Rattle.job_run.specs.Run.{HasRole, CallsInRole, KeepsRole};
     ghost use Rattle.job_run.specs.Run.{number_of, outcome_of as outcome};
+    ghost use Rattle.job_run.specs.Steps.{JobStays, JobGoesOn};
 
     /// Its number among the jobs of the run.
     pub fn number(&self) -> u8 {
@@ -52,24 +53,16 @@ impl Job {
         self.outcome.is_some()
     }
 
-    /// What is queued on this channel and wasn't handed out, where there is anything.
-    pub fn queued(&mut self, chan: Chan) -> Option<Bytes>
-        ensures course { KeepsRun self.old self.new }
-        ensures calls { KeepsRole self.old self.new }
-        ensures task { task_of_job self.new ≡ task_of_job self.old }
-        ensures output { output_of_job self.new ≡ output_of_job self.old }
-        ensures still { EndsNot self.old self.new }
+    /// Hands out what is queued on this channel, where there is anything.
+    pub fn hand_out(&mut self, chan: Chan) -> Option<Bytes>
+        ensures { JobStays self.old self.new }
     {
         self.run.lines.take(chan)
     }
 
     /// So many octets of this channel were taken since its connection was begun.
     pub fn on_taken(&mut self, chan: Chan, taken: u64)
-        ensures course { KeepsRun self.old self.new }
-        ensures calls { KeepsRole self.old self.new }
-        ensures task { task_of_job self.new ≡ task_of_job self.old }
-        ensures output { output_of_job self.new ≡ output_of_job self.old }
-        ensures still { EndsNot self.old self.new }
+        ensures { JobStays self.old self.new }
     {
         self.run.lines.on_taken(chan, taken);
     }
@@ -94,11 +87,7 @@ impl Job {
         chan: Chan,
         piece: &[u8],
     ) -> Result<(), NoMemory>
-        ensures course { RunsOn W.journal W.counts w.old w.new self.old self.new }
-        ensures calls { CallsInRole W.journal W.counts w.old w.new self.old self.new }
-        ensures task { task_of_job self.new ≡ task_of_job self.old }
-        ensures output { output_of_job self.new ≡ output_of_job self.old }
-        ensures still { EndsNot self.old self.new }
+        ensures { JobGoesOn W.journal W.counts w.old w.new self.old self.new }
     {
         if self.is_over() {
             return Ok(());
@@ -110,11 +99,7 @@ impl Job {
 
     /// A connection has ended.
     pub fn on_ended(&mut self)
-        ensures course { KeepsRun self.old self.new }
-        ensures calls { KeepsRole self.old self.new }
-        ensures task { task_of_job self.new ≡ task_of_job self.old }
-        ensures output { output_of_job self.new ≡ output_of_job self.old }
-        ensures still { EndsNot self.old self.new }
+        ensures { JobStays self.old self.new }
     {
         if self.is_over() {
             return;
@@ -128,11 +113,7 @@ impl Job {
     /// The clock of a turn was read; the child is looked at.
     pub fn on_moment<W: Disk + Kids + Say>(&mut self, w: &mut W, ms: u64) -> Result<(), NoMemory>
         requires { ms < 2 ^ 47 }
-        ensures course { RunsOn W.journal W.counts w.old w.new self.old self.new }
-        ensures calls { CallsInRole W.journal W.counts w.old w.new self.old self.new }
-        ensures task { task_of_job self.new ≡ task_of_job self.old }
-        ensures output { output_of_job self.new ≡ output_of_job self.old }
-        ensures still { EndsNot self.old self.new }
+        ensures { JobGoesOn W.journal W.counts w.old w.new self.old self.new }
     {
         if self.is_over() {
             return Ok(());
@@ -146,22 +127,14 @@ impl Job {
 
     /// The wait of a last look was made.
     pub fn on_waited(&mut self)
-        ensures course { KeepsRun self.old self.new }
-        ensures calls { KeepsRole self.old self.new }
-        ensures task { task_of_job self.new ≡ task_of_job self.old }
-        ensures output { output_of_job self.new ≡ output_of_job self.old }
-        ensures still { EndsNot self.old self.new }
+        ensures { JobStays self.old self.new }
     {
         self.look = Look::Waited { late: false };
     }
 
     /// The reads of a last look are done.
     pub fn on_looked<W: Disk + Say>(&mut self, w: &mut W) -> Result<(), NoMemory>
-        ensures course { RunsOn W.journal W.counts w.old w.new self.old self.new }
-        ensures calls { CallsInRole W.journal W.counts w.old w.new self.old self.new }
-        ensures task { task_of_job self.new ≡ task_of_job self.old }
-        ensures output { output_of_job self.new ≡ output_of_job self.old }
-        ensures still { EndsNot self.old self.new }
+        ensures { JobGoesOn W.journal W.counts w.old w.new self.old self.new }
     {
         let late = self.is_late();
         self.look = Look::Still;

@@ -16,12 +16,10 @@ impl Execution {
     ghost use Rattle.cell_core.specs.StandsFor.{task_of};
     ghost use Rattle.job_run.specs.Held.{Holds, IsCalm, IsAsked};
     ghost use Rattle.job_run.specs.Told.{EndsBy};
-    ghost use Rattle.job_run.specs.Counted.{IsCounted, IsCountedOn, KeepsCounting};
+    ghost use Rattle.job_run.specs.Counted.{IsCounted, IsCountedOn};
     ghost use Rattle.cell_core.specs.declared.act.Act.TheVariants.{Nothing};
-    ghost use Rattle.job_saves.specs.Course.{GoesOn, CallsOwn, stays_open};
-    ghost use Rattle.job_saves.specs.Sessions.{IsSaveCall};
-    ghost use Rattle.job_notebook.specs.State.{output_of};
-    ghost use Rattle.world.specs.Moments.{Told, Since};
+    ghost use Rattle.job_saves.specs.Course.{stays_open};
+    ghost use Rattle.job_run.specs.Steps.{Proceeds, OnlySaves};
 
     /// The clock was read in a turn, and the child was found ended or not.
     pub(crate) fn on_moment<W: Disk + Say>(
@@ -33,14 +31,7 @@ impl Execution {
         requires early { ms < 2 ^ 47 }
         requires holds { Holds self.old }
         requires calm { IsCalm self.old }
-        ensures holds { Holds self.new }
-        ensures calm { OnOk result (IsCalm self.new) }
-        ensures course { GoesOn W.journal W.counts w.old w.new self.old.book self.new.book
-            (stays_open result) }
-        ensures calls { CallsOwn W.journal W.counts w.old w.new self.old.book self.new.book }
-        ensures task { task_of self.new.core ≡ task_of self.old.core }
-        ensures own { IfErr result (EndsBy (task_of self.new.core)) }
-        ensures counts { KeepsCounting W.journal w.old w.new self.old self.new result }
+        ensures { Proceeds W.journal W.counts w.old w.new self.old self.new Nothing result }
     {
         self.turn_clock(ms);
         match self.hear_clock(w) {
@@ -53,14 +44,7 @@ impl Execution {
     fn lose_or_ask<W: Disk + Say>(&mut self, w: &mut W, ms: u64, has_ended: bool) -> Result<(), End>
         requires holds { Holds self.old }
         requires calm { IsCalm self.old }
-        ensures holds { Holds self.new }
-        ensures calm { OnOk result (IsCalm self.new) }
-        ensures course { GoesOn W.journal W.counts w.old w.new self.old.book self.new.book
-            (stays_open result) }
-        ensures calls { CallsOwn W.journal W.counts w.old w.new self.old.book self.new.book }
-        ensures task { task_of self.new.core ≡ task_of self.old.core }
-        ensures own { IfErr result (EndsBy (task_of self.new.core)) }
-        ensures counts { KeepsCounting W.journal w.old w.new self.old self.new result }
+        ensures { Proceeds W.journal W.counts w.old w.new self.old self.new Nothing result }
     {
         let is_lost = self.is_lost(ms, has_ended);
         match self.lose(w, is_lost) {
@@ -109,16 +93,8 @@ impl Execution {
     pub(crate) fn hear_clock<W: Disk + Say>(&mut self, w: &mut W) -> Result<(), End>
         requires holds { Holds self.old }
         requires calm { IsCalm self.old }
-        ensures holds { Holds self.new }
-        ensures calm { OnOk result (IsCalm self.new) }
-        ensures course { GoesOn W.journal W.counts w.old w.new self.old.book self.new.book
-            (stays_open result) }
-        ensures calls { CallsOwn W.journal W.counts w.old w.new self.old.book self.new.book }
-        ensures saves { Told (W.journal w.old) (W.journal w.new)
-            (Since (IsSaveCall (output_of self.old.book))) }
-        ensures task { task_of self.new.core ≡ task_of self.old.core }
-        ensures own { IfErr result (EndsBy (task_of self.new.core)) }
-        ensures counts { KeepsCounting W.journal w.old w.new self.old self.new result }
+        ensures goes { Proceeds W.journal W.counts w.old w.new self.old self.new Nothing result }
+        ensures saves { OnlySaves W.journal w.old w.new self.old.book }
         ensures key { OnOk result (self.new.session.key ≡ self.old.session.key) }
     {
         if self.core.wants_look() {
@@ -144,14 +120,7 @@ impl Execution {
     fn lose<W: Disk + Say>(&mut self, w: &mut W, is_lost: bool) -> Result<(), End>
         requires holds { Holds self.old }
         requires calm { IsCalm self.old }
-        ensures holds { Holds self.new }
-        ensures calm { OnOk result (IsCalm self.new) }
-        ensures course { GoesOn W.journal W.counts w.old w.new self.old.book self.new.book
-            (stays_open result) }
-        ensures calls { CallsOwn W.journal W.counts w.old w.new self.old.book self.new.book }
-        ensures task { task_of self.new.core ≡ task_of self.old.core }
-        ensures own { IfErr result (EndsBy (task_of self.new.core)) }
-        ensures counts { KeepsCounting W.journal w.old w.new self.old self.new result }
+        ensures { Proceeds W.journal W.counts w.old w.new self.old self.new Nothing result }
     {
         if is_lost {
             self.step(w, Event::Lost)
@@ -205,14 +174,7 @@ impl Execution {
     pub(crate) fn on_looked<W: Disk + Say>(&mut self, w: &mut W, late: bool) -> Result<(), End>
         requires holds { Holds self.old }
         requires calm { IsCalm self.old }
-        ensures holds { Holds self.new }
-        ensures calm { OnOk result (IsCalm self.new) }
-        ensures course { GoesOn W.journal W.counts w.old w.new self.old.book self.new.book
-            (stays_open result) }
-        ensures calls { CallsOwn W.journal W.counts w.old w.new self.old.book self.new.book }
-        ensures task { task_of self.new.core ≡ task_of self.old.core }
-        ensures own { IfErr result (EndsBy (task_of self.new.core)) }
-        ensures counts { KeepsCounting W.journal w.old w.new self.old self.new result }
+        ensures { Proceeds W.journal W.counts w.old w.new self.old self.new Nothing result }
     {
         self.step(w, Event::Looked)?;
         self.lose(w, late)

@@ -13,13 +13,12 @@ use Rattle.world.specs.Disk.{folder_of}
 use Rattle.world.specs.Moments.{Since, start, more as later, Told}
 use Rattle.world.specs.Parts.{OnDisk, OnSay}
 use Rattle.world.proofs.MomentsLemmas.{since_then, told_start, told_as as moments_as}
-use Rattle.world.proofs.PlaceLemmas.{same_bytes}
 use Rattle.said_lines.specs.Lines.{saved_line}
 use Rattle.said_lines.specs.Speech.{Speech, Says, heard}
 use Rattle.said_lines.specs.Speech as said
 use Rattle.save_disk.specs.Entries.{Writes, WriteFails, SaveOf}
 use Rattle.save_disk.specs.Entries as disk
-use Rattle.save_disk.specs.Temporary.{temporary_of}
+use Rattle.world.specs.Save.{temporary_of}
 use Rattle.save_disk.proofs.Laws.{each_entry, part_of_save}
 use Rattle.progress_save.specs.declared.progress_fault.ProgressFault.{ProgressFault}
 use Rattle.progress_save.specs.declared.progress_fault.ProgressFault.TheVariants as fault
@@ -29,6 +28,7 @@ use Rattle.job_saves.specs.Speaking.{ends_line, IsWhole, SpeaksWhole, IsLine}
 use Rattle.job_saves.proofs.KeptLemmas.{heard_since}
 use Rattle.job_saves.proofs.SpeakingLemmas.{saved_ends, said_whole}
 use Rattle.job_saves.proofs.TellingLemmas.{SaysLine}
+use Rattle.jtext.proofs.Equals.{same_bytes}
 
 -- a file that is written stays one that the job may write
 pub own_still : (clean : Bool) (number : ℕ) (a : Ask) {path text : List ℕ} {before : List Entry} {rest : List ℕ} {after : List Entry} → IsOwnFile clean number a before path

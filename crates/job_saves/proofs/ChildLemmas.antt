@@ -1,6 +1,7 @@
 -- Children and their ends.
-use Rattle.std.proofs.Common.{◌≡◌, ◌≢◌, ℕ, ◌==◌, List, ◌∷◌, Bool, true, false, Option, Some, None, refl, sym, ◌∙◌, arith, subst}
+use Rattle.std.proofs.Common.{◌≡◌, ◌≢◌, ℕ, ◌==◌, List, ◌∷◌, Bool, true, false, Option, Some, None, refl, sym, ◌∙◌, subst}
 use Rattle.std.specs.Prelude.{if◌then◌else◌}
+use Rattle.std.proofs.lemmas.Bool.{eq-eqb, eqb-true, ne_eqb}
 use Rattle.words.specs.declared.ask.Ask.{Ask}
 use Rattle.world.specs.declared.entry.Entry.{Entry}
 use Rattle.world.specs.declared.entry.Entry.TheVariants as made
@@ -9,15 +10,6 @@ use Rattle.world.specs.Moments.{Since, start, more as later, Told, Tells}
 use Rattle.job_saves.specs.Calls.{Cast, IsCallOf, IsCall}
 use Rattle.job_saves.specs.Children.{ends_child, has_child, ports_of, HasEnd, KeepsEnd, AsksNone}
 use Rattle.job_saves.proofs.KeptLemmas.{ended_still}
-
-pub same_number : (n : ℕ) → (n == n) ≡ true
-same_number n = grind arith
-
-other_number : (m n : ℕ) → m ≢ n → (m == n) ≡ false
-other_number m n ne = grind (arith, ne)
-
-numbers_same : (m n : ℕ) → (m == n) ≡ true → m ≡ n
-numbers_same m n e = grind (arith, e)
 
 ended_first : (b : Bool) (rest : Bool) → b ≡ true → (if b then false else rest) ≡ false
 ended_first true rest e = refl
@@ -29,7 +21,7 @@ started_other false rest e f = f
 
 -- the end of a child that was called last, and then its file removed
 has_ended : (number : ℕ) (path : List ℕ) (did : Did) (past : List Entry) → has_child number (made.Removed path did ∷ made.Killed number ∷ past) ≡ false
-has_ended number path did past = ended_first (number == number) (has_child number past) (same_number number)
+has_ended number path did past = ended_first (number == number) (has_child number past) (eq-eqb number number refl)
 
 -- the jobs of this cast start no child of this number
 abbrev pub StartsNone : Cast → ℕ → Type 0
@@ -38,7 +30,7 @@ StartsNone c n = (number : ℕ) (a : Ask) → c.job number ≡ Some a → c.star
 one_keeps : (c : Cast) (n number : ℕ) (a : Ask) (entry : Entry) (past : List Entry) → StartsNone c n → c.job number ≡ Some a → IsCallOf c.here c.starts c.clean number a past entry
     → has_child n past ≡ false → has_child n (entry ∷ past) ≡ false
 one_keeps c n number a (made.Started job argv env dir did) past away has is h =
-    started_other (job == n) (has_child n past) (other_number job n (subst (λ m. m ≢ n) (sym is.0) (away number a has is.3))) h
+    started_other (job == n) (has_child n past) (ne_eqb job n (subst (λ m. m ≢ n) (sym is.0) (away number a has is.3))) h
 one_keeps c n number a (made.Killed job) past away has is h = h
 one_keeps c n number a (made.Read path most found) past away has is h = h
 one_keeps c n number a (made.Created path did) past away has is h = h
@@ -72,7 +64,7 @@ other_ports false ports rest e = refl
 one_asks : (c : Cast) (n number : ℕ) (a : Ask) (entry : Entry) (past : List Entry) → StartsNone c n → c.job number ≡ Some a → IsCallOf c.here c.starts c.clean number a past entry
     → ports_of n (entry ∷ past) ≡ ports_of n past
 one_asks c n number a (made.Ports job ports) past away has is =
-    other_ports (job == n) ports (ports_of n past) (other_number job n (subst (λ m. m ≢ n) (sym is.0) (away number a has is.2)))
+    other_ports (job == n) ports (ports_of n past) (ne_eqb job n (subst (λ m. m ≢ n) (sym is.0) (away number a has is.2)))
 one_asks c n number a (made.Started job argv env dir did) past away has is = refl
 one_asks c n number a (made.Killed job) past away has is = refl
 one_asks c n number a (made.Read path most found) past away has is = refl
@@ -138,7 +130,7 @@ ports_again : (number n : ℕ) (ports rest : Option (List ℕ)) (kept : List ℕ
 ports_again number n ports rest kept none some = by (number == n) refl
   where
     by : (b : Bool) → (number == n) ≡ b → (if b then ports else rest) ≡ rest
-    by true e = let wrong : None ≡ Some kept = sym (none (numbers_same number n e)) ∙ some in absurd (cc)
+    by true e = let wrong : None ≡ Some kept = sym (none (eqb-true number n e)) ∙ some in absurd (cc)
     by false e = refl
 
 one_keeps_ports : (c : Cast) (n number : ℕ) (a : Ask) (entry : Entry) (past : List Entry) (kept : List ℕ) → c.clean ≡ true → c.job number ≡ Some a

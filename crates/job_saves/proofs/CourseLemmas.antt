@@ -1,6 +1,7 @@
 -- Saves and other calls go on with a job's course.
-use Rattle.std.proofs.Common.{◌≡◌, ℕ, ◌+◌, ◌<◌, ◌≤◌, Bool, true, false, List, Option, Some, None, Result, Ok, Err, length, refl, sym, ap, subst, ◌∙◌, arith}
+use Rattle.std.proofs.Common.{◌≡◌, inl, inr, ℕ, ◌+◌, ◌<◌, ◌≤◌, Bool, true, false, List, Option, Some, None, Result, Ok, Err, length, refl, sym, ap, subst, ◌∙◌, arith}
 use Rattle.std.specs.Prelude.{IfSome, OnOk}
+use Rattle.std.proofs.lemmas.Bool.{cases_Bool}
 use Rattle.nb_model.specs.declared.notebook.Notebook.{Notebook}
 use Rattle.out_fold.specs.declared.used.Used.{Used}
 use Rattle.world.specs.declared.entry.Entry.{Entry}
@@ -11,16 +12,16 @@ use Rattle.words.specs.declared.ask.Ask.{Ask}
 use Rattle.said_lines.specs.Lines.{saved_line}
 use Rattle.said_lines.specs.Speech.{Says, heard}
 use Rattle.world.specs.Touched.{Spares}
-use Rattle.world.proofs.MomentsLemmas.{told_as as moments_as}
-use Rattle.save_disk.specs.Places.{durable_place, acknowledged}
+use Rattle.world.proofs.MomentsLemmas.{told_as as moments_as, since_then}
+use Rattle.save_disk.specs.Places.{durable_place, save_count}
 use Rattle.job_end.specs.declared.end.End.{End}
 use Rattle.job_end.specs.declared.end.End.TheVariants as end
 use Rattle.world.proofs.CountsLemmas.{grow_start, grow_then, rose_since, rose_still}
-use Rattle.world.proofs.MomentsLemmas.{since_then}
 use Rattle.progress_save.specs.declared.progress_fault.ProgressFault.{ProgressFault}
 use Rattle.progress_save.specs.declared.progress_fault.ProgressFault.TheVariants as fault
 use Rattle.progress_save.specs.Prefix.{prefix}
-use Rattle.progress_save.specs.Saved.{text_of, line_of, SavesAs, SavesSilently, EndsAs, OnRefusal, SaveCause, IsSaveFault}
+use Rattle.progress_save.specs.Saved.{line_of, SavesAs, SavesSilently, EndsAs, OnRefusal, SaveCause, IsSaveFault}
+use Rattle.nb_text.specs.Notebooks.{text_of}
 use Rattle.save_course.specs.Course.{PrefixSave, prefix_text}
 use Rattle.save_course.proofs.CourseLemmas.{saved_goes_on}
 use Rattle.save_course.proofs.RestLemmas.{spared_go_on, spared_rest, saved_rests}
@@ -60,10 +61,6 @@ save_grows old new failed c =
 
 -- ---- a save
 
-is_open_or : (b : Bool) (A : Type 0) → (b ≡ true → A) → (b ≡ false → A) → A
-is_open_or true A t f = t refl
-is_open_or false A t f = f refl
-
 module _ (o : Origin) (was now : JobNotebook) (p : ℕ) (stop : Option ℕ) (line : List ℕ) (failed : Type 0) (past after : List Entry) (h : IsOnCourse o was true past)
     (merge : merge_of was ≡ o.merge) (above : settled_of was ≤ p) where
   -- the save that it would be
@@ -94,37 +91,39 @@ module _ (o : Origin) (was now : JobNotebook) (p : ℕ) (stop : Option ℕ) (lin
       → SavesAs o.output (text_of (notebook_of now)) line failed result past after
       → IsOnCourse o now (stays_open (answer_of result)) after
   save_goes_on (Ok u) is keeps settles closes shut did =
-      is_open_or (is_closed was) _
-      (λ closed. let no = shut closed in absurd (cc))
-      (λ on.
-      let k : KeepsRead was o.first = h.keeps refl on in
-      let more : h.settled ≤ p = omega (arith, h.above refl on, above) in
-      let saved = went (Ok u) k more (is o.first k.us k.keeps) did in
-      record {
-        settled = p;
-        is = record {
-          course = saved_goes_on o.output o.merge o.first 0 o.before line failed h.settled (Ok u) (next_save k.us) past after h.is.course more k.read saved;
-          rested = saved_rests o.output (prefix_text o.merge o.first (next_save k.us)) line failed (Ok u) past after h.is.rested saved;
-        };
-        above = λ e f. omega (arith, settles);
-        keeps = λ e f. keeps (not_stopped stop (Ok u) u refl (sym closes ∙ f)) o.first k;
-      })
+      elim (cases_Bool (is_closed was)) [
+        | inl closed ↦ let no = shut closed in absurd (cc)
+        | inr on ↦
+            let k : KeepsRead was o.first = h.keeps refl on in
+            let more : h.settled ≤ p = omega (arith, h.above refl on, above) in
+            let saved = went (Ok u) k more (is o.first k.us k.keeps) did in
+            record {
+              settled = p;
+              is = record {
+                course = saved_goes_on o.output o.merge o.first 0 o.before line failed h.settled (Ok u) (next_save k.us) past after h.is.course more k.read saved;
+                rested = saved_rests o.output (prefix_text o.merge o.first (next_save k.us)) line failed (Ok u) past after h.is.rested saved;
+              };
+              above = λ e f. omega (arith, settles);
+              keeps = λ e f. keeps (not_stopped stop (Ok u) u refl (sym closes ∙ f)) o.first k;
+            }
+      ]
   save_goes_on (Err (fault.Save f)) is keeps settles closes shut did =
-      is_open_or (is_closed was) _
-      (λ closed. let no = shut closed in absurd (cc))
-      (λ on.
-      let k : KeepsRead was o.first = h.keeps refl on in
-      let more : h.settled ≤ p = omega (arith, h.above refl on, above) in
-      let saved = went (Err (fault.Save f)) k more (is o.first k.us k.keeps) did in
-      record {
-        settled = p;
-        is = record {
-          course = saved_goes_on o.output o.merge o.first 0 o.before line failed h.settled (Err (fault.Save f)) (next_save k.us) past after h.is.course more k.read saved;
-          rested = saved_rests o.output (prefix_text o.merge o.first (next_save k.us)) line failed (Err (fault.Save f)) past after h.is.rested saved;
-        };
-        above = λ e f. absurd (cc);
-        keeps = λ e f. absurd (cc);
-      })
+      elim (cases_Bool (is_closed was)) [
+        | inl closed ↦ let no = shut closed in absurd (cc)
+        | inr on ↦
+            let k : KeepsRead was o.first = h.keeps refl on in
+            let more : h.settled ≤ p = omega (arith, h.above refl on, above) in
+            let saved = went (Err (fault.Save f)) k more (is o.first k.us k.keeps) did in
+            record {
+              settled = p;
+              is = record {
+                course = saved_goes_on o.output o.merge o.first 0 o.before line failed h.settled (Err (fault.Save f)) (next_save k.us) past after h.is.course more k.read saved;
+                rested = saved_rests o.output (prefix_text o.merge o.first (next_save k.us)) line failed (Err (fault.Save f)) past after h.is.rested saved;
+              };
+              above = λ e f. absurd (cc);
+              keeps = λ e f. absurd (cc);
+            }
+      ]
   save_goes_on (Err fault.Closed) is keeps settles closes shut did = still closes did
   save_goes_on (Err fault.NoMemory) is keeps settles closes shut did = still closes did
 
@@ -360,16 +359,16 @@ durable_answer r q output text j k is told = subst (λ s. OnOk s (Told j k (λ b
 
 -- and one save more is acknowledged
 made_acknowledged : (r : Result (Unit {0}) ProgressFault) (output text : List ℕ) (j k : Option (List Entry)) → Told j k (EndsAs output text r)
-    → OnOk (answer_of r) (Told j k (λ before after. acknowledged output after ≡ acknowledged output before + 1))
+    → OnOk (answer_of r) (Told j k (λ before after. save_count output after ≡ save_count output before + 1))
 made_acknowledged (Ok u) output text j k told = moments_as told (λ x y e. e.count_is)
 made_acknowledged (Err (fault.Save f)) output text j k told = tt
 made_acknowledged (Err fault.Closed) output text j k told = tt
 made_acknowledged (Err fault.NoMemory) output text j k told = tt
 
 pub acknowledged_answer : (r : Result (Unit {0}) ProgressFault) (q : Result (Unit {0}) End) (output text : List ℕ) (j k : Option (List Entry)) → q ≡ answer_of r
-    → Told j k (EndsAs output text r) → OnOk q (Told j k (λ before after. acknowledged output after ≡ acknowledged output before + 1))
+    → Told j k (EndsAs output text r) → OnOk q (Told j k (λ before after. save_count output after ≡ save_count output before + 1))
 acknowledged_answer r q output text j k is told =
-    subst (λ s. OnOk s (Told j k (λ before after. acknowledged output after ≡ acknowledged output before + 1))) (sym is) (made_acknowledged r output text j k told)
+    subst (λ s. OnOk s (Told j k (λ before after. save_count output after ≡ save_count output before + 1))) (sym is) (made_acknowledged r output text j k told)
 
 pub left_alone : (r : Result (Unit {0}) ProgressFault) (A : Type 0) → OnRefusal r A → answer_of r ≡ Err end.NoMemory → A
 left_alone (Ok u) A h e = absurd (cc)

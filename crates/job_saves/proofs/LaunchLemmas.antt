@@ -1,6 +1,7 @@
 -- The start of a job's kernel, from the words that are drawn to the child, is calls of that job.
 use Rattle.std.proofs.Common.{◌≡◌, inr, ℕ, ◌==◌, List, [], ◌∷◌, Bool, true, false, Option, Some, None, Result, Ok, Err, refl, sym, ◌∙◌, subst}
 use Rattle.std.specs.Prelude.{IfSome, if◌then◌else◌}
+use Rattle.std.proofs.lemmas.Bool.{eq-eqb}
 use Rattle.words.specs.declared.ask.Ask.{Ask}
 use Rattle.words.specs.Paths.{connection_of}
 use Rattle.kspec.specs.Arguments.{AreFilled}
@@ -25,7 +26,6 @@ use Rattle.job_saves.specs.Children.{ports_of, HasEnd}
 use Rattle.job_saves.specs.Reads.{IsKernelOf}
 use Rattle.job_saves.specs.Sessions.{HasAsked, key_of}
 use Rattle.job_saves.proofs.CallLemmas.{by_job, one_more, own_still, writes_called, write_fails_called}
-use Rattle.job_saves.proofs.ChildLemmas.{same_number}
 use Rattle.job_saves.proofs.KeptLemmas.{ports_since}
 use Rattle.job_saves.proofs.ReadLemmas.{kernel_later}
 use Rattle.job_saves.proofs.SessionLemmas.{asked_later}
@@ -77,7 +77,7 @@ pub ports_given : (number : ℕ) (ports : List ℕ) (j k : Option (List Entry)) 
 ports_given number ports j None tells = tt
 ports_given number ports None (Some y) tells = absurd tells.so
 ports_given number ports (Some x) (Some y) tells =
-    subst (λ past. ports_of number past ≡ Some ports) (sym tells.so) (given_by (number == number) (Some ports) (ports_of number x) (same_number number))
+    subst (λ past. ports_of number past ≡ Some ports) (sym tells.so) (given_by (number == number) (Some ports) (ports_of number x) (eq-eqb number number refl))
 
 -- ---- the connection file
 

@@ -24,13 +24,14 @@ use Rattle.save_disk.specs.declared.save_fault.SaveFault.{SaveFault}
 use Rattle.save_disk.specs.declared.save_fault.SaveFault.TheVariants as failed_at
 use Rattle.save_disk.specs.Entries.{Writes, SaveOf}
 use Rattle.save_disk.specs.Entries as disk
-use Rattle.save_disk.specs.Places.{acknowledged, durable_place}
-use Rattle.save_disk.specs.Temporary.{temporary_of}
+use Rattle.save_disk.specs.Places.{save_count, durable_place}
+use Rattle.world.specs.Save.{temporary_of}
 use Rattle.save_disk.proofs.Laws.{end_of, part_of_save}
 use Rattle.progress_save.specs.declared.progress_fault.ProgressFault.{ProgressFault}
 use Rattle.progress_save.specs.declared.progress_fault.ProgressFault.TheVariants as fault
 use Rattle.progress_save.specs.Prefix.{prefix}
-use Rattle.progress_save.specs.Saved.{text_of, done, failure, SavesAs}
+use Rattle.progress_save.specs.Saved.{done, failure, SavesAs}
+use Rattle.nb_text.specs.Notebooks.{text_of}
 use Rattle.kernel_start.specs.declared.connection_fault.ConnectionFault.{ConnectionFault}
 use Rattle.kernel_start.specs.declared.connection_fault.ConnectionFault.TheVariants as file
 use Rattle.kernel_start.specs.ConnectionFile.{WritesAndSyncs, FailsAtFile, not_created, not_written, not_synced, WritesFile}
@@ -185,7 +186,7 @@ file_saves_none path text result told = moments_as told (λ x y w. file_none pat
 
 -- ---- before the first save
 
-pub spared_count : (output : List ℕ) {past after : List Entry} → IsRested output past → Since (Spares output) past after → acknowledged output after ≡ acknowledged output past
+pub spared_count : (output : List ℕ) {past after : List Entry} → IsRested output past → Since (Spares output) past after → save_count output after ≡ save_count output past
 spared_count output rested start = refl
 spared_count output rested (later {past} {entry} since spared) =
     none_waits (temporary_of output) output entry past (spared_rest output rested since) ∙ spared_count output rested since
@@ -234,16 +235,16 @@ one_less true n e = absurd (omega (arith, e))
 one_less false n e = (refl, e)
 
 -- a journal with no acknowledged save has no acknowledgment
-none_acknowledges : (output : List ℕ) (past begin front : List Entry) → acknowledged output past ≡ 0 → past ≡ front ++ begin
+none_acknowledges : (output : List ℕ) (past begin front : List Entry) → save_count output past ≡ 0 → past ≡ front ++ begin
     → is_acknowledging (temporary_of output) output begin ≡ true → ⊥
 none_acknowledges output past [] [] none is one = absurd (cc)
 none_acknowledges output past (entry ∷ begin) [] none is one =
-    let here : acknowledged output (entry ∷ begin) ≡ 0 = subst (λ x. acknowledged output x ≡ 0) is none in
-    let no : true ≡ false = sym one ∙ (one_less (is_acknowledging (temporary_of output) output (entry ∷ begin)) (acknowledged output begin) here).0 in absurd (cc)
+    let here : save_count output (entry ∷ begin) ≡ 0 = subst (λ x. save_count output x ≡ 0) is none in
+    let no : true ≡ false = sym one ∙ (one_less (is_acknowledging (temporary_of output) output (entry ∷ begin)) (save_count output begin) here).0 in absurd (cc)
 none_acknowledges output past begin (entry ∷ front) none is one =
-    let here : acknowledged output (entry ∷ (front ++ begin)) ≡ 0 = subst (λ x. acknowledged output x ≡ 0) is none in
+    let here : save_count output (entry ∷ (front ++ begin)) ≡ 0 = subst (λ x. save_count output x ≡ 0) is none in
     none_acknowledges output (front ++ begin) begin front
-    (one_less (is_acknowledging (temporary_of output) output (entry ∷ (front ++ begin))) (acknowledged output (front ++ begin)) here).1 refl one
+    (one_less (is_acknowledging (temporary_of output) output (entry ∷ (front ++ begin))) (save_count output (front ++ begin)) here).1 refl one
 
 pub told_first : (a : Ask) (b : JobNotebook) (first : Notebook) (past : List Entry) → length (notebook_of b).cells ≡ length first.cells → merge_of b ≡ a.merge → KeepsRead b first
     → HasOnlyRead a first past → IsTold a b past

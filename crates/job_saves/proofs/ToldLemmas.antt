@@ -3,14 +3,10 @@ use Rattle.std.proofs.Common.{◌≤◌, List, ◌∷◌, length, Option, Some, 
 use Rattle.std.specs.Prelude.{IfSome}
 use Rattle.world.specs.declared.entry.Entry.{Entry}
 use Rattle.world.specs.declared.entry.Entry.TheVariants as made
-use Rattle.world.specs.Moments.{Since, start, more as later, Told}
+use Rattle.world.specs.Moments.{Since, start, Told}
+use Rattle.world.proofs.MomentsLemmas.{since_length}
 
--- entries are only added
-since_length : {P : List Entry → Type 0} {x y : List Entry} → Since P x y → length x ≤ length y
-since_length start = omega arith
-since_length (later {past} {entry} s p) = let less = since_length s in omega (arith, less)
-
--- so that no journal is longer than what it became
+-- no journal is longer than what it became
 pub too_long : {P : List Entry → Type 0} {entry : Entry} {y : List Entry} → Since P (entry ∷ y) y → ⊥
 too_long {P} {entry} {y} s =
     let less : length (entry ∷ y) ≤ length y = since_length s in

@@ -7,7 +7,7 @@ use Rattle.kspec.specs.Arguments.{AreFilled}
 use Rattle.world.specs.declared.entry.Entry.{Entry}
 use Rattle.world.specs.declared.entry.Entry.TheVariants as made
 use Rattle.world.specs.Disk.{folder_of, place}
-use Rattle.save_disk.specs.Temporary.{temporary_of}
+use Rattle.world.specs.Save.{temporary_of}
 use Rattle.kernel_start.specs.declared.kernel.Kernel.{Kernel}
 use Rattle.kernel_start.specs.declared.random_words.RandomPairs.{RandomPairs}
 use Rattle.kernel_start.specs.ConnectionFile.{file_text, synced_text}

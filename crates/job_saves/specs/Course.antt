@@ -8,7 +8,7 @@ use Rattle.world.specs.Moments.{Since}
 use Rattle.progress_save.specs.declared.progress_fault.ProgressFault.{ProgressFault}
 use Rattle.progress_save.specs.declared.progress_fault.ProgressFault.TheVariants as fault
 use Rattle.save_course.specs.Course.{Course, IsRested}
-use Rattle.save_disk.specs.Places.{acknowledged}
+use Rattle.save_disk.specs.Places.{save_count}
 use Rattle.job_notebook.specs.declared.notebook.JobNotebook.{JobNotebook}
 use Rattle.job_notebook.specs.State.{notebook_of, settled_of, merge_of, output_of, is_closed, KeepsRead}
 use Rattle.words.specs.declared.ask.Ask.{Ask}
@@ -73,7 +73,7 @@ pub record HasCalled (c : Cast) (since : List Entry) (from : Counts) (journal : 
 -- no save of this output was acknowledged, and no rename onto it waits for the sync of its folder
 pub record LacksSaves (output : List ℕ) (past : List Entry) : Type 0 where
   pub rested : IsRested output past
-  pub none : acknowledged output past ≡ 0
+  pub none : save_count output past ≡ 0
 
 -- a job has read the notebook that it saves first, and has not saved yet
 pub record HasOnlyRead (a : Ask) (first : Notebook) (past : List Entry) : Type 0 where

@@ -6,7 +6,7 @@ use Rattle.world.specs.declared.entry.Entry.{Entry}
 use Rattle.world.specs.declared.entry.Entry.TheVariants as made
 use Rattle.world.specs.Disk.{folder_of}
 use Rattle.world.specs.Moments.{Since}
-use Rattle.save_disk.specs.Temporary.{temporary_of}
+use Rattle.world.specs.Save.{temporary_of}
 use Rattle.kernel_start.specs.declared.random_words.RandomPairs.{RandomPairs}
 use Rattle.kernel_start.specs.RandomWords.{Draws}
 use Rattle.kernel_talk.specs.Requests.{identifier}

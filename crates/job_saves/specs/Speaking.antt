@@ -14,7 +14,7 @@ use Rattle.world.specs.Disk.{place}
 use Rattle.said_lines.specs.Lines.{saved_line}
 use Rattle.said_lines.specs.Speech.{Speech, heard}
 use Rattle.save_disk.specs.Places.{durable_place}
-use Rattle.save_disk.specs.Temporary.{temporary_of}
+use Rattle.world.specs.Save.{temporary_of}
 use Rattle.save_course.specs.Course.{prefix_text}
 use Rattle.job_end.specs.declared.answer.Answer.{Answer}
 use Rattle.job_end.specs.declared.end.End.{End}

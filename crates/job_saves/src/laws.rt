@@ -7,7 +7,7 @@ ghost use Rattle.world.specs.Disk.{place, untouched_place};
 ghost use Rattle.world.specs.Moments.{Told, Since};
 ghost use Rattle.world.specs.Touched.{Spares};
 ghost use Rattle.said_lines.specs.Speech.{heard};
-ghost use Rattle.save_disk.specs.Places.{acknowledged};
+ghost use Rattle.save_disk.specs.Places.{save_count};
 ghost use Rattle.save_course.specs.Course.{IsSavedSo};
 ghost use Rattle.job_notebook.specs.declared.notebook.JobNotebook.{JobNotebook};
 ghost use Rattle.job_notebook.specs.State.{merge_of, output_of, KeepsParts, KeepsRead};
@@ -62,7 +62,7 @@ pub fn other_calls_pass()
 /// was acknowledged last, or the next one, where nothing had touched the output before.
 pub fn saves_are_safe()
     ensures { (o : Origin) (is_open : Bool) (settled : ℕ) (past : List Entry) →
-        place o.before o.output ≡ untouched_place → acknowledged o.output o.before ≡ 0 →
+        place o.before o.output ≡ untouched_place → save_count o.output o.before ≡ 0 →
         IsSaved o is_open settled past →
         IsSavedSo o.output o.merge o.first 0 is_open o.before past }
 {}

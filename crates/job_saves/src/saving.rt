@@ -4,9 +4,9 @@ ghost use Rattle.nb_model.specs.declared.notebook.Notebook as whole;
 ghost use Rattle.out_fold.specs.declared.used.Used.{Used};
 ghost use Rattle.world.specs.Disk.{place};
 ghost use Rattle.world.specs.Moments.{Told, Since};
-ghost use Rattle.save_disk.specs.Places.{acknowledged, durable_place};
+ghost use Rattle.save_disk.specs.Places.{save_count, durable_place};
 ghost use Rattle.progress_save.specs.Prefix.{prefix};
-ghost use Rattle.progress_save.specs.Saved.{text_of};
+ghost use Rattle.nb_text.specs.Notebooks.{text_of};
 ghost use Rattle.job_end.specs.declared.end.End.TheVariants as ending;
 ghost use Rattle.job_notebook.specs.State.{notebook_of, settled_of, begun_of, merge_of, output_of};
 ghost use Rattle.job_notebook.specs.State.{Keeps};
@@ -45,8 +45,8 @@ pub fn save_next<W: Disk + Say>(
     ensures durable { OnOk result (Told (W.journal w.old) (W.journal w.new) (λ _ after.
         place after (output_of book.old) ≡ durable_place (text_of (notebook_of book.new)))) }
     ensures acked { OnOk result (Told (W.journal w.old) (W.journal w.new) (λ before after.
-        acknowledged (output_of book.old) after ≡
-        acknowledged (output_of book.old) before + 1)) }
+        save_count (output_of book.old) after ≡
+        save_count (output_of book.old) before + 1)) }
     // Where memory is refused nothing is asked of the world.
     ensures idle { result ≡ Err ending.NoMemory →
         (W.journal w.new ≡ W.journal w.old) × (W.counts w.new ≡ W.counts w.old) }

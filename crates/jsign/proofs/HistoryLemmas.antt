@@ -2,9 +2,6 @@
 use Rattle.std.proofs.Common.{◌≡◌, ℕ, ◌+◌, ◌-◌, ◌<◌, ◌≤◌, ◌↔◌, Bool, true, false, cond, ◌||◌, List, [], ◌∷◌, ◌++◌, length, drop, refl, sym, ◌∙◌, ap, subst, IsTrue, arith, slice_get, Option, Some, None, nat_lt, length-append, length-drop, add-one}
 use Rattle.std.specs.List.{Contains}
 use Rattle.std.specs.Str.{bytes_eq}
-use Rattle.std.specs.Ordering.{nat_cmp}
-use Rattle.std.specs.declared.cmp.Ordering.{Ordering}
-use Rattle.std.specs.Cmp.Lexicographic.{slice_cmp}
 use Rattle.std.specs.BTreeSet.{BTreeSet, contains, Updates, UpdatesBy}
 use Rattle.std.proofs.lemmas.Bool.Decides.{nat_tests}
 use Rattle.std.proofs.lemmas.Cmp.{nat_list_eq_equiv}
@@ -14,18 +11,16 @@ use Rattle.std.proofs.lemmas.List.Folds.{list_any-append}
 use Rattle.std.proofs.lemmas.List.Sums.{fold-append}
 use Rattle.std.proofs.lemmas.Map.Text.{is_eq-slice_cmp}
 use Rattle.std.proofs.lemmas.Map.Views.{Contains-from_any, list_any-from_Contains}
-use Rattle.std.proofs.lemmas.Slice.Eq.{bytes_eq-Decides}
 use Rattle.std.proofs.lemmas.Bool.{or_parts}
+use Rattle.jtext.specs.Sorting.{byte_order}
+use Rattle.jtext.proofs.Equals.{equal_bytes, turned_bytes}
 use Rattle.circular_buffer.specs.Buffer.{Buffer, buffer, keep_last}
 use Rattle.jsign.specs.History.{recent, is_among, with_offered, fresh_of, IsFresh, StandsFor, AreDistinct, AreHeld}
 
 -- ---- membership by a test and by a place
 
-same_bytes : (xs ys : List ℕ) → bytes_eq xs ys ≡ true → xs ≡ ys
-same_bytes xs ys h = (bytes_eq-Decides xs ys).0 h
-
 pub contained : (sig : List ℕ) (sigs : List (List ℕ)) → is_among sig sigs ≡ true → Contains sigs sig
-contained sig sigs h = Contains-from_any {eq = bytes_eq} same_bytes sig sigs h
+contained sig sigs h = Contains-from_any {eq = bytes_eq} equal_bytes sig sigs h
 
 pub not_contained : (sig : List ℕ) (sigs : List (List ℕ)) → is_among sig sigs ≡ false → ¬ (Contains sigs sig)
 not_contained sig sigs h at =
@@ -66,9 +61,6 @@ offered_first held offered sig stands fresh =
 
 -- ---- the ring beside the set
 
-abbrev pub cmp : List ℕ → List ℕ → Ordering
-cmp = slice_cmp nat_cmp
-
 at_end : (sig other : List ℕ) (sigs : List (List ℕ)) → is_among sig (sigs ++ other ∷ []) ≡ (is_among sig sigs || bytes_eq sig other)
 at_end sig other sigs = list_any-append (bytes_eq sig) sigs (other ∷ []) ∙ last (is_among sig sigs) (bytes_eq sig other)
   where
@@ -77,14 +69,11 @@ at_end sig other sigs = list_any-append (bytes_eq sig) sigs (other ∷ []) ∙ l
     last false true = refl
     last false false = refl
 
-turned : (xs ys : List ℕ) → bytes_eq xs ys ≡ bytes_eq ys xs
-turned xs ys = nat_list_eq_equiv.symm xs ys
-
 AreDistinct-push : (sigs : List (List ℕ)) (sig : List ℕ) → AreDistinct sigs → is_among sig sigs ≡ false → AreDistinct (sigs ++ sig ∷ [])
 AreDistinct-push [] sig d fresh = (refl, tt)
 AreDistinct-push (x ∷ xs) sig d fresh =
     let parts = or_parts (bytes_eq sig x) (is_among sig xs) fresh in
-    let other : bytes_eq x sig ≡ false = turned x sig ∙ parts.0 in
+    let other : bytes_eq x sig ≡ false = turned_bytes x sig ∙ parts.0 in
     let new : (is_among x xs || bytes_eq x sig) ≡ false = ap (λ b. b || bytes_eq x sig) d.0 ∙ other in
     (at_end x sig xs ∙ new, AreDistinct-push xs sig d.1 parts.1)
 
@@ -95,26 +84,26 @@ either true false = refl
 either false true = refl
 either false false = refl
 
-inserted : (known now : BTreeSet (List ℕ)) (sigs : List (List ℕ)) (sig : List ℕ) → ((q : List ℕ) → contains cmp known q ≡ is_among q sigs) → Updates cmp known now sig true
-    → (q : List ℕ) → contains cmp now q ≡ is_among q (sigs ++ sig ∷ [])
+inserted : (known now : BTreeSet (List ℕ)) (sigs : List (List ℕ)) (sig : List ℕ) → ((q : List ℕ) → contains byte_order known q ≡ is_among q sigs) → Updates byte_order known now sig true
+    → (q : List ℕ) → contains byte_order now q ≡ is_among q (sigs ++ sig ∷ [])
 inserted known now sigs sig same updates q =
-    updates.0 q ∙ ap (λ b. cond b true (contains cmp known q)) (is_eq-slice_cmp sig q ∙ turned sig q) ∙ ap (λ b. cond (bytes_eq q sig) true b) (same q)
+    updates.0 q ∙ ap (λ b. cond b true (contains byte_order known q)) (is_eq-slice_cmp sig q ∙ turned_bytes sig q) ∙ ap (λ b. cond (bytes_eq q sig) true b) (same q)
     ∙ either (bytes_eq q sig) (is_among q sigs) ∙ sym (at_end q sig sigs)
 
 -- and after the removal of the oldest
-removed : (now rest : BTreeSet (List ℕ)) (x : List ℕ) (sigs : List (List ℕ)) → ((q : List ℕ) → contains cmp now q ≡ is_among q (x ∷ sigs)) → is_among x sigs ≡ false
-    → UpdatesBy cmp (cmp x) now rest false → (q : List ℕ) → contains cmp rest q ≡ is_among q sigs
+removed : (now rest : BTreeSet (List ℕ)) (x : List ℕ) (sigs : List (List ℕ)) → ((q : List ℕ) → contains byte_order now q ≡ is_among q (x ∷ sigs)) → is_among x sigs ≡ false
+    → UpdatesBy byte_order (byte_order x) now rest false → (q : List ℕ) → contains byte_order rest q ≡ is_among q sigs
 removed now rest x sigs same once updates q =
-    updates.0 q ∙ ap (λ b. cond b false (contains cmp now q)) (is_eq-slice_cmp x q) ∙ ap (λ b. cond (bytes_eq x q) false b) (same q)
+    updates.0 q ∙ ap (λ b. cond b false (contains byte_order now q)) (is_eq-slice_cmp x q) ∙ ap (λ b. cond (bytes_eq x q) false b) (same q)
     ∙ by_cases (bytes_eq x q) refl
   where
     by_cases : (b : Bool) → bytes_eq x q ≡ b → cond b false (is_among q (x ∷ sigs)) ≡ is_among q sigs
-    by_cases true e = let same_sig : x ≡ q = same_bytes x q e in sym (subst (λ (z : List ℕ). is_among z sigs ≡ false) same_sig once)
-    by_cases false e = ap (λ b. b || is_among q sigs) (turned q x ∙ e)
+    by_cases true e = let same_sig : x ≡ q = equal_bytes x q e in sym (subst (λ (z : List ℕ). is_among z sigs ≡ false) same_sig once)
+    by_cases false e = ap (λ b. b || is_among q sigs) (turned_bytes q x ∙ e)
 
 -- ---- a fresh signature at the end of the ring
 
-pub held_with_room : (known now : BTreeSet (List ℕ)) (ring : Buffer (List ℕ)) (sig : List ℕ) → AreHeld known ring → contains cmp known sig ≡ false → Updates cmp known now sig true → length ring.items < 65536
+pub held_with_room : (known now : BTreeSet (List ℕ)) (ring : Buffer (List ℕ)) (sig : List ℕ) → AreHeld known ring → contains byte_order known sig ≡ false → Updates byte_order known now sig true → length ring.items < 65536
     → AreHeld now (buffer (keep_last ring.capacity (ring.items ++ sig ∷ [])) ring.capacity)
 held_with_room known now ring sig held fresh updates room =
     let all : List (List ℕ) = ring.items ++ sig ∷ [] in
@@ -127,8 +116,8 @@ held_with_room known now ring sig held fresh updates room =
       distinct = AreDistinct-push ring.items sig held.distinct (sym (held.same sig) ∙ fresh);
     })
 
-evicted : (items : List (List ℕ)) (capacity : ℕ) (known now rest : BTreeSet (List ℕ)) (sig oldest : List ℕ) → AreHeld known (buffer items capacity) → contains cmp known sig ≡ false → Updates cmp known now sig true
-    → 65536 ≤ length items → slice_get (items ++ sig ∷ []) 0 ≡ Some oldest → UpdatesBy cmp (cmp oldest) now rest false
+evicted : (items : List (List ℕ)) (capacity : ℕ) (known now rest : BTreeSet (List ℕ)) (sig oldest : List ℕ) → AreHeld known (buffer items capacity) → contains byte_order known sig ≡ false → Updates byte_order known now sig true
+    → 65536 ≤ length items → slice_get (items ++ sig ∷ []) 0 ≡ Some oldest → UpdatesBy byte_order (byte_order oldest) now rest false
     → AreHeld rest (buffer (keep_last capacity (items ++ sig ∷ [])) capacity)
 evicted [] capacity known now rest sig oldest held fresh updates full front updated = absurd (omega arith)
 evicted (x ∷ sigs) capacity known now rest sig oldest held fresh updates full front updated =
@@ -144,31 +133,31 @@ evicted (x ∷ sigs) capacity known now rest sig oldest held fresh updates full 
     rw cut (record {
       capacity = held.capacity;
       within = omega (arith, held.within, long, more);
-      same = removed now rest x all (inserted known now (x ∷ sigs) sig held.same updates) distinct.0 (subst (λ (z : List ℕ). UpdatesBy cmp (cmp z) now rest false) (sym is_oldest) updated);
+      same = removed now rest x all (inserted known now (x ∷ sigs) sig held.same updates) distinct.0 (subst (λ (z : List ℕ). UpdatesBy byte_order (byte_order z) now rest false) (sym is_oldest) updated);
       distinct = distinct.1;
     })
 
-pub held_without_room : (known now rest : BTreeSet (List ℕ)) (ring : Buffer (List ℕ)) (sig oldest : List ℕ) → AreHeld known ring → contains cmp known sig ≡ false → Updates cmp known now sig true
-    → 65536 ≤ length ring.items → slice_get (ring.items ++ sig ∷ []) 0 ≡ Some oldest → UpdatesBy cmp (cmp oldest) now rest false
+pub held_without_room : (known now rest : BTreeSet (List ℕ)) (ring : Buffer (List ℕ)) (sig oldest : List ℕ) → AreHeld known ring → contains byte_order known sig ≡ false → Updates byte_order known now sig true
+    → 65536 ≤ length ring.items → slice_get (ring.items ++ sig ∷ []) 0 ≡ Some oldest → UpdatesBy byte_order (byte_order oldest) now rest false
     → AreHeld rest (buffer (keep_last ring.capacity (ring.items ++ sig ∷ [])) ring.capacity)
 held_without_room known now rest ring sig oldest held fresh updates full front updated = evicted ring.items ring.capacity known now rest sig oldest held fresh updates full front updated
 
 -- ---- the answers
 
 -- where the set has the signature
-pub answer_known : (known : BTreeSet (List ℕ)) (ring : Buffer (List ℕ)) (sig : List ℕ) → AreHeld known ring → contains cmp known sig ≡ true → IsTrue false ↔ ¬ (Contains ring.items sig)
+pub answer_known : (known : BTreeSet (List ℕ)) (ring : Buffer (List ℕ)) (sig : List ℕ) → AreHeld known ring → contains byte_order known sig ≡ true → IsTrue false ↔ ¬ (Contains ring.items sig)
 answer_known known ring sig held has = (λ h. absurd (cc), λ absent. absurd (absent (contained sig ring.items (sym (held.same sig) ∙ has))))
 
-pub answer_new : (known : BTreeSet (List ℕ)) (ring : Buffer (List ℕ)) (sig : List ℕ) → AreHeld known ring → contains cmp known sig ≡ false → IsTrue true ↔ ¬ (Contains ring.items sig)
+pub answer_new : (known : BTreeSet (List ℕ)) (ring : Buffer (List ℕ)) (sig : List ℕ) → AreHeld known ring → contains byte_order known sig ≡ false → IsTrue true ↔ ¬ (Contains ring.items sig)
 answer_new known ring sig held lacks = (λ _. not_contained sig ring.items (sym (held.same sig) ∙ lacks), λ _. refl)
 
-pub history_known : (known : BTreeSet (List ℕ)) (ring : Buffer (List ℕ)) (sig : List ℕ) → AreHeld known ring → contains cmp known sig ≡ true
+pub history_known : (known : BTreeSet (List ℕ)) (ring : Buffer (List ℕ)) (sig : List ℕ) → AreHeld known ring → contains byte_order known sig ≡ true
     → (offered : List (List ℕ)) → StandsFor ring.items offered → (IsTrue false ↔ IsFresh offered sig) × StandsFor ring.items (offered ++ sig ∷ [])
 history_known known ring sig held has offered stands =
     let answer : IsTrue false ↔ ¬ (Contains ring.items sig) = answer_known known ring sig held has in
     (subst (λ (items : List (List ℕ)). IsTrue false ↔ ¬ (Contains items sig)) stands answer, offered_again ring.items offered sig stands (sym (held.same sig) ∙ has))
 
-pub history_new : (known : BTreeSet (List ℕ)) (ring : Buffer (List ℕ)) (sig : List ℕ) → AreHeld known ring → contains cmp known sig ≡ false
+pub history_new : (known : BTreeSet (List ℕ)) (ring : Buffer (List ℕ)) (sig : List ℕ) → AreHeld known ring → contains byte_order known sig ≡ false
     → (offered : List (List ℕ)) → StandsFor ring.items offered → (IsTrue true ↔ IsFresh offered sig) × StandsFor (recent (ring.items ++ sig ∷ [])) (offered ++ sig ∷ [])
 history_new known ring sig held lacks offered stands =
     let answer : IsTrue true ↔ ¬ (Contains ring.items sig) = answer_new known ring sig held lacks in

@@ -10,15 +10,17 @@ use Rattle.jtext.specs.declared.json.Json.{Json}
 use Rattle.jtext.specs.declared.json.Json.TheVariants as json
 use Rattle.jtext.specs.Find.{find}
 use Rattle.jtext.specs.Edit.{set_pair}
+use Rattle.jtext.proofs.Equals.{same_bytes}
 
-nothing : List ℕ × Json
-nothing = ([], json.Null)
+-- the pair that stands for one beyond the end
+pub no_pair : List ℕ × Json
+no_pair = ([], json.Null)
 
 -- ---- the key is there
 
 value_at : (key : List ℕ) (ps : List (List ℕ × Json)) (i : ℕ) (p : List ℕ × Json)
-    → bytes_eq (get_or ps i nothing).0 key ≡ true
-    → ((k : ℕ) → k < i → bytes_eq (get_or ps k nothing).0 key ≡ false)
+    → bytes_eq (get_or ps i no_pair).0 key ≡ true
+    → ((k : ℕ) → k < i → bytes_eq (get_or ps k no_pair).0 key ≡ false)
     → slice_get ps i ≡ Some p → find key ps ≡ Some p.1
 value_at key [] i p here none e = cc
 value_at key (q ∷ qs) zero p here none e =
@@ -29,8 +31,8 @@ value_at key (q ∷ qs) (suc i) p here none e =
     ∙ value_at key qs i p here (λ k below. none (suc k) (omega arith)) e
 
 set_at : (key : List ℕ) (v : Json) (ps : List (List ℕ × Json)) (i : ℕ) → i < length ps
-    → bytes_eq (get_or ps i nothing).0 key ≡ true
-    → ((k : ℕ) → k < i → bytes_eq (get_or ps k nothing).0 key ≡ false)
+    → bytes_eq (get_or ps i no_pair).0 key ≡ true
+    → ((k : ℕ) → k < i → bytes_eq (get_or ps k no_pair).0 key ≡ false)
     → set ps i (key, v) ≡ set_pair key v ps
 set_at key v [] i lt here none = absurd (omega arith)
 set_at key v (q ∷ qs) zero lt here none =
@@ -45,13 +47,13 @@ pub find-at : (key : List ℕ) (ps : List (List ℕ × Json)) (i : ℕ) (p : Lis
     → position (λ q. bytes_eq q.0 key) ps ≡ Some i → slice_get ps i ≡ Some p
     → find key ps ≡ Some p.1
 find-at key ps i p e at =
-    let is = position-Some (λ q. bytes_eq q.0 key) ps i nothing e in value_at key ps i p is.1 is.2 at
+    let is = position-Some (λ q. bytes_eq q.0 key) ps i no_pair e in value_at key ps i p is.1 is.2 at
 
 -- to put the pair at the place of the key is to set its value
 pub set_pair-at : (key : List ℕ) (v : Json) (ps : List (List ℕ × Json)) (i : ℕ)
     → position (λ q. bytes_eq q.0 key) ps ≡ Some i → set ps i (key, v) ≡ set_pair key v ps
 set_pair-at key v ps i e =
-    let is = position-Some (λ q. bytes_eq q.0 key) ps i nothing e in set_at key v ps i is.0 is.1 is.2
+    let is = position-Some (λ q. bytes_eq q.0 key) ps i no_pair e in set_at key v ps i is.0 is.1 is.2
 
 -- ---- the key is absent
 
@@ -84,14 +86,10 @@ set_pair-none key v ps e = (absent_from key v ps 0 (sym (position_from-zero (λ 
 
 -- ---- set twice
 
--- the key equals itself
-pub same_key : (key : List ℕ) → bytes_eq key key ≡ true
-same_key key = (bytes_eq-Decides key key).1 refl
-
 -- of two values set under one key the last one stands
 pub set_pair-twice : (key : List ℕ) (v w : Json) (ps : List (List ℕ × Json))
     → set_pair key v (set_pair key w ps) ≡ set_pair key v ps
-set_pair-twice key v w [] = cond-true (bytes_eq key key) ((key, v) ∷ []) ((key, w) ∷ set_pair key v []) (same_key key)
+set_pair-twice key v w [] = cond-true (bytes_eq key key) ((key, v) ∷ []) ((key, w) ∷ set_pair key v []) (same_bytes key)
 set_pair-twice key v w (p ∷ ps) =
     elim (cases_Bool (bytes_eq p.0 key)) [
       | inl t ↦ ap (set_pair key v) (cond-true (bytes_eq p.0 key) ((p.0, w) ∷ ps) (p ∷ set_pair key w ps) t)

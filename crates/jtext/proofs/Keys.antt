@@ -37,15 +37,12 @@ pub distinct-free : (ps : List (List ℕ × Json)) (p : List ℕ × Json) (qs : 
 distinct-free [] p qs d = refl
 distinct-free (r ∷ rs) p qs d = ap₂ (λ a b. a || b) (not_equal r.0 p.0 (all-at (λ q. q.0 ≢ r.0) rs p qs d.0)) (distinct-free rs p qs d.1)
 
-take_drop : (n : ℕ) (s : List ℕ) → s ≡ take n s ++ drop n s
-take_drop n s = sym (take-append-drop n s)
-
 pub strip_sound : (name s rest : List ℕ) → strip_word name s ≡ Some rest → s ≡ name ++ rest
 strip_sound name s rest e =
     elim (chosen (starts_with nat_eq s name) (Some (drop (length name) s)) None (Some rest) e) [
       | inl h ↦
           let front : name ≡ take (length name) s = (bytes_eq-Decides name (take (length name) s)).0 h.0 in
-          take_drop (length name) s ∙ ap₂ (λ a b. a ++ b) (sym front) (inside _ rest h.1)
+          sym (take-append-drop (length name) s) ∙ ap₂ (λ a b. a ++ b) (sym front) (inside _ rest h.1)
       | inr h ↦ absurd (never rest h.1)
     ]
   where

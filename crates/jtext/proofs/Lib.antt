@@ -2,6 +2,8 @@ pub mod Machine
 pub mod Fronts
 pub mod Numbers
 pub mod Depths
+pub mod Equals
+pub mod Lists
 pub mod Edits
 pub mod Trees
 pub mod SortedTrees

@@ -15,7 +15,7 @@ use Rattle.jtext.specs.Loose.{Characters, IsString, Value, Values, Members}
 use Rattle.jtext.proofs.Machine as machine
 use Rattle.jtext.proofs.Machine.{Frame, Mode, State, at, value, first, first_key, key, colon, after, text, escape, unit, word, minus, zero_, whole, point, fraction, power, sign, exponent, string_end, step, run, start}
 use Rattle.jtext.proofs.Binds.{test}
-use Rattle.jtext.proofs.Follows.{Bare, Loops, loops, after_loops}
+use Rattle.jtext.proofs.Follows.{Bare, Loops, loops, after_loops, modes}
 use Rattle.jtext.proofs.Fronts.{all-append}
 use Rattle.jtext.proofs.NumberRuns.{number_first}
 use Rattle.jtext.proofs.Series.{space_of}
@@ -33,15 +33,8 @@ by_step None cs e = cc
 stuck : (cs : List ℕ) → option_and_then (λ τ. run τ cs) None ≡ Some (at after []) → ⊥
 stuck cs e = cc
 
--- no text ends in another mode
-ended : (m : Mode) (fs : List Frame) → ◌≡◌ {A = Option State} (Some (at m fs)) (Some (at after [])) → m ≡ after
-ended m fs e = let same : at m fs ≡ at after [] = cc in ap (λ p. p.0) same
-
 frames_ended : (m : Mode) (f : Frame) (fs : List Frame) → ◌≡◌ {A = Option State} (Some (at m (f ∷ fs))) (Some (at after [])) → ⊥
 frames_ended m f fs e = let same : at m (f ∷ fs) ≡ at after [] = cc in let frames : f ∷ fs ≡ [] = ap (λ p. p.1) same in cc
-
-equal : (c n : ℕ) → (c == n) ≡ true → c ≡ n
-equal c n e = eqb-true c n e
 
 module _ (fs : List Frame) where
   -- ---- words and numbers: a part, and what follows it
@@ -50,23 +43,23 @@ module _ (fs : List Frame) where
   Then P s = (b : List ℕ) × (r : ℕ) × (rs : List ℕ) × P b × (s ≡ b ++ r ∷ rs) × Reaches (at after fs) (r ∷ rs)
 
   word_splits : (ls s : List ℕ) → Reaches (at (word ls) fs) s → Then (λ b. b ≡ ls) s
-  word_splits [] [] e = let m : word [] ≡ after = ended (word []) fs e in cc
+  word_splits [] [] e = let m : word [] ≡ after = modes (word []) fs e in cc
   word_splits [] (c ∷ cs) e = ([], c, cs, refl, refl, e)
-  word_splits (l ∷ ls) [] e = let m : word (l ∷ ls) ≡ after = ended (word (l ∷ ls)) fs e in cc
+  word_splits (l ∷ ls) [] e = let m : word (l ∷ ls) ≡ after = modes (word (l ∷ ls)) fs e in cc
   word_splits (l ∷ ls) (c ∷ cs) e =
       test (λ t. (c == l) ≡ t → option_and_then (λ τ. run τ cs) (cond t (Some (at (word ls) fs)) None) ≡ Some (at after []) → Then (λ b. b ≡ l ∷ ls) (c ∷ cs)) (c == l)
-      (λ t _ h. let (b, r, rs, is, split, more) = word_splits ls cs h in (l ∷ b, r, rs, ap (λ x. l ∷ x) is, ap₂ (λ x xs. x ∷ xs) (equal c l t) split, more))
+      (λ t _ h. let (b, r, rs, is, split, more) = word_splits ls cs h in (l ∷ b, r, rs, ap (λ x. l ∷ x) is, ap₂ (λ x xs. x ∷ xs) (eqb-true c l t) split, more))
       (λ t _ h. absurd (stuck cs h)) refl e
 
   exponent_splits : (s : List ℕ) → Reaches (at exponent fs) s → Then AreAllDigits s
-  exponent_splits [] e = let m : exponent ≡ after = ended exponent fs e in cc
+  exponent_splits [] e = let m : exponent ≡ after = modes exponent fs e in cc
   exponent_splits (c ∷ cs) e =
       test (λ t. option_and_then (λ τ. run τ cs) (cond t (Some (at exponent fs)) (machine.step_after fs c)) ≡ Some (at after []) → Then AreAllDigits (c ∷ cs)) (is_ascii_digit c)
       (λ t h. let (b, r, rs, is, split, more) = exponent_splits cs h in (c ∷ b, r, rs, (digit_of c t, is), ap (λ x. c ∷ x) split, more))
       (λ t h. ([], c, cs, tt, refl, h)) e
 
   sign_splits : (s : List ℕ) → Reaches (at sign fs) s → Then AreDigits s
-  sign_splits [] e = let m : sign ≡ after = ended sign fs e in cc
+  sign_splits [] e = let m : sign ≡ after = modes sign fs e in cc
   sign_splits (c ∷ cs) e =
       test (λ t. option_and_then (λ τ. run τ cs) (cond t (Some (at exponent fs)) None) ≡ Some (at after []) → Then AreDigits (c ∷ cs)) (is_ascii_digit c)
       (λ t h. let (b, r, rs, is, split, more) = exponent_splits cs h in (c ∷ b, r, rs, (omega arith, (digit_of c t, is)), ap (λ x. c ∷ x) split, more))
@@ -82,7 +75,7 @@ module _ (fs : List Frame) where
       elim which [ inl h ↦ inr (inl (ap (λ x. x ∷ []) h)) | inr h ↦ inr (inr (ap (λ x. x ∷ []) h)) ]
 
   power_splits : (s : List ℕ) → Reaches (at power fs) s → Then Signed s
-  power_splits [] e = let m : power ≡ after = ended power fs e in cc
+  power_splits [] e = let m : power ≡ after = modes power fs e in cc
   power_splits (c ∷ cs) e =
       test (λ t. option_and_then (λ τ. run τ cs) (cond t (Some (at sign fs)) (machine.step_digit exponent fs c)) ≡ Some (at after []) → Then Signed (c ∷ cs)) ((c == 45) || (c == 43))
       (λ t h. let (b, r, rs, is, split, more) = sign_splits cs h in (c ∷ b, r, rs, (c ∷ [], b, a_sign c t, is, refl), ap (λ x. c ∷ x) split, more))
@@ -105,7 +98,7 @@ module _ (fs : List Frame) where
   Digits b = (ds : List ℕ) × (e : List ℕ) × AreAllDigits ds × IsExponent e × (b ≡ ds ++ e)
 
   fraction_splits : (s : List ℕ) → Reaches (at fraction fs) s → Then Digits s
-  fraction_splits [] e = let m : fraction ≡ after = ended fraction fs e in cc
+  fraction_splits [] e = let m : fraction ≡ after = modes fraction fs e in cc
   fraction_splits (c ∷ cs) e =
       test (λ t. option_and_then (λ τ. run τ cs) (cond t (Some (at fraction fs)) (machine.step_tail fs c)) ≡ Some (at after []) → Then Digits (c ∷ cs)) (is_ascii_digit c)
       (λ t h. let (b, r, rs, (ds, x, is_ds, is_x, parts), split, more) = fraction_splits cs h in (c ∷ b, r, rs, (c ∷ ds, x, (digit_of c t, is_ds), is_x, ap (λ y. c ∷ y) parts), ap (λ y. c ∷ y) split, more))
@@ -116,7 +109,7 @@ module _ (fs : List Frame) where
   Tail b = (f : List ℕ) × (e : List ℕ) × IsFraction f × IsExponent e × (b ≡ f ++ e)
 
   point_splits : (s : List ℕ) → Reaches (at point fs) s → Then (λ b. Tail (46 ∷ b)) s
-  point_splits [] e = let m : point ≡ after = ended point fs e in cc
+  point_splits [] e = let m : point ≡ after = modes point fs e in cc
   point_splits (c ∷ cs) e =
       test (λ t. option_and_then (λ τ. run τ cs) (cond t (Some (at fraction fs)) None) ≡ Some (at after []) → Then (λ b. Tail (46 ∷ b)) (c ∷ cs)) (is_ascii_digit c)
       (λ t h.
@@ -127,11 +120,11 @@ module _ (fs : List Frame) where
   part_splits : (c : ℕ) (cs : List ℕ) → option_and_then (λ τ. run τ cs) (machine.step_part fs c) ≡ Some (at after []) → Then Tail (c ∷ cs)
   part_splits c cs e =
       test (λ t. (c == 46) ≡ t → option_and_then (λ τ. run τ cs) (cond t (Some (at point fs)) (machine.step_tail fs c)) ≡ Some (at after []) → Then Tail (c ∷ cs)) (c == 46)
-      (λ t _ h. let (b, r, rs, is, split, more) = point_splits cs h in (46 ∷ b, r, rs, is, ap₂ (λ x xs. x ∷ xs) (equal c 46 t) split, more))
+      (λ t _ h. let (b, r, rs, is, split, more) = point_splits cs h in (46 ∷ b, r, rs, is, ap₂ (λ x xs. x ∷ xs) (eqb-true c 46 t) split, more))
       (λ t _ h. let (b, r, rs, is, split, more) = tail_splits c cs h in (b, r, rs, ([], b, inl refl, is, refl), split, more)) refl e
 
   zero_splits : (s : List ℕ) → Reaches (at zero_ fs) s → Then Tail s
-  zero_splits [] e = let m : zero_ ≡ after = ended zero_ fs e in cc
+  zero_splits [] e = let m : zero_ ≡ after = modes zero_ fs e in cc
   zero_splits (c ∷ cs) e = part_splits c cs e
 
   -- digits of a whole part, and what may follow them
@@ -139,7 +132,7 @@ module _ (fs : List Frame) where
   Rest b = (ds : List ℕ) × (t : List ℕ) × AreAllDigits ds × Tail t × (b ≡ ds ++ t)
 
   whole_splits : (s : List ℕ) → Reaches (at whole fs) s → Then Rest s
-  whole_splits [] e = let m : whole ≡ after = ended whole fs e in cc
+  whole_splits [] e = let m : whole ≡ after = modes whole fs e in cc
   whole_splits (c ∷ cs) e =
       test (λ t. option_and_then (λ τ. run τ cs) (cond t (Some (at whole fs)) (machine.step_part fs c)) ≡ Some (at after []) → Then Rest (c ∷ cs)) (is_ascii_digit c)
       (λ t h. let (b, r, rs, (ds, x, is_ds, is_x, parts), split, more) = whole_splits cs h in (c ∷ b, r, rs, (c ∷ ds, x, (digit_of c t, is_ds), is_x, ap (λ y. c ∷ y) parts), ap (λ y. c ∷ y) split, more))
@@ -156,7 +149,7 @@ module _ (fs : List Frame) where
   minus_splits : (m : List ℕ) → IsMinus m → (c : ℕ) (cs : List ℕ) → option_and_then (λ τ. run τ cs) (machine.step_minus fs c) ≡ Some (at after []) → Then (λ b. IsNumber (m ++ b)) (c ∷ cs)
   minus_splits m is_m c cs e =
       test (λ t. (c == 48) ≡ t → option_and_then (λ τ. run τ cs) (cond t (Some (at zero_ fs)) (cond (is_ascii_digit c) (Some (at whole fs)) None)) ≡ Some (at after []) → Then (λ b. IsNumber (m ++ b)) (c ∷ cs)) (c == 48)
-      (λ t _ h. let (b, r, rs, is, split, more) = zero_splits cs h in (48 ∷ b, r, rs, number_is m (48 ∷ []) b _ is_m (inl refl) is refl, ap₂ (λ x xs. x ∷ xs) (equal c 48 t) split, more))
+      (λ t _ h. let (b, r, rs, is, split, more) = zero_splits cs h in (48 ∷ b, r, rs, number_is m (48 ∷ []) b _ is_m (inl refl) is refl, ap₂ (λ x xs. x ∷ xs) (eqb-true c 48 t) split, more))
       (λ t _ h. test (λ u. is_ascii_digit c ≡ u → option_and_then (λ τ. run τ cs) (cond u (Some (at whole fs)) None) ≡ Some (at after []) → Then (λ b. IsNumber (m ++ b)) (c ∷ cs)) (is_ascii_digit c)
       (λ u _ g.
       let (b, r, rs, (ds, x, is_ds, is_x, parts), split, more) = whole_splits cs g in
@@ -165,7 +158,7 @@ module _ (fs : List Frame) where
       (λ u _ g. absurd (stuck cs g)) refl h) refl e
 
   sign_number : (s : List ℕ) → Reaches (at minus fs) s → Then (λ b. IsNumber (45 ∷ b)) s
-  sign_number [] e = let m : minus ≡ after = ended minus fs e in cc
+  sign_number [] e = let m : minus ≡ after = modes minus fs e in cc
   sign_number (c ∷ cs) e = minus_splits (45 ∷ []) (inr refl) c cs e
 
 -- ---- strings
@@ -183,7 +176,7 @@ module _ (k : Bool) (fs : List Frame) where
   hex c e = grind (arith, nat_tests)
 
   unit_step : (n : ℕ) (τ : State) (s : List ℕ) → Reaches (at (unit k n) fs) s → machine.step_unit k n fs ≡ Some τ → (c : ℕ) × (cs : List ℕ) × (s ≡ c ∷ cs) × (digit_value c ≤ 15) × Reaches τ cs
-  unit_step n τ [] e is = let m : unit k n ≡ after = ended (unit k n) fs e in cc
+  unit_step n τ [] e is = let m : unit k n ≡ after = modes (unit k n) fs e in cc
   unit_step n τ (c ∷ cs) e is =
       test (λ t. option_and_then (λ σ. run σ cs) (cond t (machine.step_unit k n fs) None) ≡ Some (at after []) → (d : ℕ) × (ds : List ℕ) × (c ∷ cs ≡ d ∷ ds) × (digit_value d ≤ 15) × Reaches τ ds) (is_digit c 16)
       (λ t h. (c, cs, refl, hex c t, ap (option_and_then (λ σ. run σ cs)) (sym is) ∙ h))
@@ -218,19 +211,19 @@ module _ (k : Bool) (fs : List Frame) where
     more : Reaches (at (text k) fs) rest
 
   escape_splits : (s : List ℕ) → Reaches (at (escape k) fs) s → Escaped s
-  escape_splits [] e = let m : escape k ≡ after = ended (escape k) fs e in cc
+  escape_splits [] e = let m : escape k ≡ after = modes (escape k) fs e in cc
   escape_splits (c ∷ cs) e =
       test (λ t. (c == 117) ≡ t → option_and_then (λ τ. run τ cs) (cond t (Some (at (unit k 3) fs)) (machine.step_escape k fs c (short c))) ≡ Some (at after []) → Escaped (c ∷ cs)) (c == 117)
       (λ t _ h.
       let (n, four, rest, is, split, more) = four_splits cs h in
-      record { front = 117 ∷ four; rest = rest; split = ap₂ (λ x xs. x ∷ xs) (equal c 117 t) split; some = omega arith; adds = λ inner chars. loose.digits n four inner _ is chars refl; more = more })
+      record { front = 117 ∷ four; rest = rest; split = ap₂ (λ x xs. x ∷ xs) (eqb-true c 117 t) split; some = omega arith; adds = λ inner chars. loose.digits n four inner _ is chars refl; more = more })
       (λ t _ h.
       let (d, is, more) = short_splits c cs (short c) refl h in
       record { front = c ∷ []; rest = cs; split = refl; some = omega arith; adds = λ inner chars. loose.letter c d inner _ is chars refl; more = more }) refl e
 
   text_splits : (n : ℕ) (s : List ℕ) → length s < n → Reaches (at (text k) fs) s → Quote s
   text_splits zero s room e = absurd (omega arith)
-  text_splits (suc n) [] room e = let m : text k ≡ after = ended (text k) fs e in cc
+  text_splits (suc n) [] room e = let m : text k ≡ after = modes (text k) fs e in cc
   text_splits (suc n) (c ∷ cs) room e =
       let s2 = cond (c == 92) (Some (at (escape k) fs)) None in
       let s1 = cond (c == 34) (Some (at (string_end k) fs)) s2 in
@@ -239,7 +232,7 @@ module _ (k : Bool) (fs : List Frame) where
       let q = text_splits n cs (omega arith) h in
       record { inner = c ∷ q.inner; rest = q.rest; characters = loose.itself c q.inner (plain_of c t) q.characters; split = ap (λ x. c ∷ x) q.split; more = q.more })
       (λ t h. test (λ u. (c == 34) ≡ u → option_and_then (λ τ. run τ cs) (cond u (Some (at (string_end k) fs)) s2) ≡ Some (at after []) → Quote (c ∷ cs)) (c == 34)
-      (λ u _ g. record { inner = []; rest = cs; characters = loose.no_more; split = ap (λ x. x ∷ cs) (equal c 34 u); more = g })
+      (λ u _ g. record { inner = []; rest = cs; characters = loose.no_more; split = ap (λ x. x ∷ cs) (eqb-true c 34 u); more = g })
       (λ u _ g. test (λ v. (c == 92) ≡ v → option_and_then (λ τ. run τ cs) (cond v (Some (at (escape k) fs)) None) ≡ Some (at after []) → Quote (c ∷ cs)) (c == 92)
       (λ v _ i.
       let x = escape_splits cs i in
@@ -248,7 +241,7 @@ module _ (k : Bool) (fs : List Frame) where
         inner = 92 ∷ (x.front ++ q.inner);
         rest = q.rest;
         characters = x.adds q.inner q.characters;
-        split = ap₂ (λ y ys. y ∷ ys) (equal c 92 v) (x.split ∙ ap (λ y. x.front ++ y) q.split ∙ sym (append_assoc x.front q.inner (34 ∷ q.rest)));
+        split = ap₂ (λ y ys. y ∷ ys) (eqb-true c 92 v) (x.split ∙ ap (λ y. x.front ++ y) q.split ∙ sym (append_assoc x.front q.inner (34 ∷ q.rest)));
         more = q.more;
       })
       (λ v _ i. absurd (stuck cs i)) refl g) refl h) e
@@ -311,7 +304,7 @@ record Closed (P : List ℕ → Type 0) (close : ℕ) (fs : List Frame) (s : Lis
   more : Reaches (at after fs) rest
 
 none_begins : (fs : List Frame) → Reaches (at value fs) [] → ⊥
-none_begins fs e = let m : value ≡ after = ended value fs e in cc
+none_begins fs e = let m : value ≡ after = modes value fs e in cc
 
 module _ (n : ℕ) (values : (fs : List Frame) (s : List ℕ) → length s < n → Bare s → Reaches (at value fs) s → Valued fs s) where
   -- after an item of a list
@@ -332,9 +325,9 @@ module _ (n : ℕ) (values : (fs : List Frame) (s : List ℕ) → length s < n �
           let h : option_and_then (λ τ. run τ cs) (cond (c == 93) (Some (at after fs)) (cond (c == 44) (Some (at value (machine.list ∷ fs))) None)) ≡ Some (at after []) =
           sym (ap (λ b. option_and_then (λ τ. run τ cs) (cond b (Some (at after (machine.list ∷ fs))) (cond (c == 93) (Some (at after fs)) (cond (c == 44) (Some (at value (machine.list ∷ fs))) None)))) bare) ∙ more in
           test (λ t. (c == 93) ≡ t → option_and_then (λ τ. run τ cs) (cond t (Some (at after fs)) (cond (c == 44) (Some (at value (machine.list ∷ fs))) None)) ≡ Some (at after []) → Behind 93 value machine.list fs s) (c == 93)
-          (λ t _ g. record { w = w; rest = cs; spaces = is; which = inl (split ∙ ap (λ x. w ++ x ∷ cs) (equal c 93 t), g) })
+          (λ t _ g. record { w = w; rest = cs; spaces = is; which = inl (split ∙ ap (λ x. w ++ x ∷ cs) (eqb-true c 93 t), g) })
           (λ t _ g. test (λ u. (c == 44) ≡ u → option_and_then (λ τ. run τ cs) (cond u (Some (at value (machine.list ∷ fs))) None) ≡ Some (at after []) → Behind 93 value machine.list fs s) (c == 44)
-          (λ u _ i. record { w = w; rest = cs; spaces = is; which = inr (split ∙ ap (λ x. w ++ x ∷ cs) (equal c 44 u), i) })
+          (λ u _ i. record { w = w; rest = cs; spaces = is; which = inr (split ∙ ap (λ x. w ++ x ∷ cs) (eqb-true c 44 u), i) })
           (λ u _ i. absurd (stuck cs i)) refl g) refl h
 
   object_behind : (fs : List Frame) (s : List ℕ) → Reaches (at after (machine.object ∷ fs)) s → Behind 125 key machine.object fs s
@@ -348,9 +341,9 @@ module _ (n : ℕ) (values : (fs : List Frame) (s : List ℕ) → length s < n �
           let h : option_and_then (λ τ. run τ cs) (cond (c == 125) (Some (at after fs)) (cond (c == 44) (Some (at key (machine.object ∷ fs))) None)) ≡ Some (at after []) =
           sym (ap (λ b. option_and_then (λ τ. run τ cs) (cond b (Some (at after (machine.object ∷ fs))) (cond (c == 125) (Some (at after fs)) (cond (c == 44) (Some (at key (machine.object ∷ fs))) None)))) bare) ∙ more in
           test (λ t. (c == 125) ≡ t → option_and_then (λ τ. run τ cs) (cond t (Some (at after fs)) (cond (c == 44) (Some (at key (machine.object ∷ fs))) None)) ≡ Some (at after []) → Behind 125 key machine.object fs s) (c == 125)
-          (λ t _ g. record { w = w; rest = cs; spaces = is; which = inl (split ∙ ap (λ x. w ++ x ∷ cs) (equal c 125 t), g) })
+          (λ t _ g. record { w = w; rest = cs; spaces = is; which = inl (split ∙ ap (λ x. w ++ x ∷ cs) (eqb-true c 125 t), g) })
           (λ t _ g. test (λ u. (c == 44) ≡ u → option_and_then (λ τ. run τ cs) (cond u (Some (at key (machine.object ∷ fs))) None) ≡ Some (at after []) → Behind 125 key machine.object fs s) (c == 44)
-          (λ u _ i. record { w = w; rest = cs; spaces = is; which = inr (split ∙ ap (λ x. w ++ x ∷ cs) (equal c 44 u), i) })
+          (λ u _ i. record { w = w; rest = cs; spaces = is; which = inr (split ∙ ap (λ x. w ++ x ∷ cs) (eqb-true c 44 u), i) })
           (λ u _ i. absurd (stuck cs i)) refl g) refl h
 
   value_loops : (fs : List Frame) → Loops (at value fs)
@@ -407,16 +400,16 @@ module _ (n : ℕ) (values : (fs : List Frame) (s : List ℕ) → length s < n �
     bare : Bare rest
 
   colon_splits : (fs : List Frame) (s : List ℕ) → Reaches (at colon fs) s → (left : List ℕ) × (rest : List ℕ) × AreSpaces left × (s ≡ left ++ 58 ∷ rest) × Reaches (at value fs) rest
-  colon_splits fs [] e = let m : colon ≡ after = ended colon fs e in cc
+  colon_splits fs [] e = let m : colon ≡ after = modes colon fs e in cc
   colon_splits fs (c ∷ cs) e =
       test (λ t. (c == 58) ≡ t → option_and_then (λ τ. run τ cs) (cond t (Some (at value fs)) (cond (is_space c) (Some (at colon fs)) None)) ≡ Some (at after []) → (left : List ℕ) × (rest : List ℕ) × AreSpaces left × (c ∷ cs ≡ left ++ 58 ∷ rest) × Reaches (at value fs) rest) (c == 58)
-      (λ t _ h. ([], cs, tt, ap (λ x. x ∷ cs) (equal c 58 t), h))
+      (λ t _ h. ([], cs, tt, ap (λ x. x ∷ cs) (eqb-true c 58 t), h))
       (λ t _ h. test (λ u. option_and_then (λ τ. run τ cs) (cond u (Some (at colon fs)) None) ≡ Some (at after []) → (left : List ℕ) × (rest : List ℕ) × AreSpaces left × (c ∷ cs ≡ left ++ 58 ∷ rest) × Reaches (at value fs) rest) (is_space c)
       (λ u g. let (left, rest, is, split, more) = colon_splits fs cs g in (c ∷ left, rest, (space_of c u, is), ap (λ x. c ∷ x) split, more))
       (λ u g. absurd (stuck cs g)) h) refl e
 
   key_splits : (fs : List Frame) (s : List ℕ) → Bare s → Reaches (at key fs) s → Keyed fs s
-  key_splits fs [] bare e = let m : key ≡ after = ended key fs e in cc
+  key_splits fs [] bare e = let m : key ≡ after = modes key fs e in cc
   key_splits fs (c ∷ cs) bare e =
       test (λ t. (c == 34) ≡ t → option_and_then (λ τ. run τ cs) (cond t (Some (at (text true) fs)) (cond (is_space c) (Some (at key fs)) None)) ≡ Some (at after []) → Keyed fs (c ∷ cs)) (c == 34)
       (λ t _ h.
@@ -431,7 +424,7 @@ module _ (n : ℕ) (values : (fs : List Frame) (s : List ℕ) → length s < n �
         is_name = is_name;
         is_left = is_left;
         is_right = is_right;
-        split = ap (λ x. x ∷ cs) (equal c 34 t) ∙ split ∙ ap (λ y. name ++ y) (split_u ∙ ap (λ y. left ++ 58 ∷ y) split_r);
+        split = ap (λ x. x ∷ cs) (eqb-true c 34 t) ∙ split ∙ ap (λ y. name ++ y) (split_u ∙ ap (λ y. left ++ 58 ∷ y) split_r);
         more = more_r;
         bare = bare_r;
       })
@@ -507,7 +500,7 @@ module _ (n : ℕ) (values : (fs : List Frame) (s : List ℕ) → length s < n �
       go w (c ∷ cs) is split more bare =
           let gs = machine.list ∷ fs in
           test (λ t. (c == 93) ≡ t → option_and_then (λ τ. run τ cs) (cond t (Some (at after fs)) (cond (is_space c) (Some (at first gs)) (machine.step_value gs c))) ≡ Some (at after []) → Closed Values 93 fs s) (c == 93)
-          (λ t _ h. record { inner = w; rest = cs; is = inl is; split = split ∙ ap (λ x. w ++ x ∷ cs) (equal c 93 t); more = h })
+          (λ t _ h. record { inner = w; rest = cs; is = inl is; split = split ∙ ap (λ x. w ++ x ∷ cs) (eqb-true c 93 t); more = h })
           (λ t _ h.
           let item : Reaches (at value gs) (c ∷ cs) = sym (ap (λ b. option_and_then (λ τ. run τ cs) (cond b (Some (at first gs)) (machine.step_value gs c))) bare) ∙ h in
           let len : length s ≡ length w + suc (length cs) = ap length split ∙ length-append w (c ∷ cs) in
@@ -525,7 +518,7 @@ module _ (n : ℕ) (values : (fs : List Frame) (s : List ℕ) → length s < n �
       go w (c ∷ cs) is split more bare =
           let gs = machine.object ∷ fs in
           test (λ t. (c == 125) ≡ t → option_and_then (λ τ. run τ cs) (cond t (Some (at after fs)) (cond (is_space c) (Some (at first_key gs)) (machine.step_key gs c))) ≡ Some (at after []) → Closed Members 125 fs s) (c == 125)
-          (λ t _ h. record { inner = w; rest = cs; is = inl is; split = split ∙ ap (λ x. w ++ x ∷ cs) (equal c 125 t); more = h })
+          (λ t _ h. record { inner = w; rest = cs; is = inl is; split = split ∙ ap (λ x. w ++ x ∷ cs) (eqb-true c 125 t); more = h })
           (λ t _ h.
           let item : Reaches (at key gs) (c ∷ cs) = sym (ap (λ b. option_and_then (λ τ. run τ cs) (cond b (Some (at first_key gs)) (machine.step_key gs c))) bare) ∙ h in
           let len : length s ≡ length w + suc (length cs) = ap length split ∙ length-append w (c ∷ cs) in
@@ -564,18 +557,18 @@ module _ (n : ℕ) (values : (fs : List Frame) (s : List ℕ) → length s < n �
       let s1 = λ (b : Bool). cond b (Some (at (word (codes "alse")) fs)) (s2 (c == 34)) in
       let s0 = λ (b : Bool). cond b (Some (at (word (codes "rue")) fs)) (s1 (c == 102)) in
       let s = λ (b : Bool). cond b (Some (at (word (codes "ull")) fs)) (s0 (c == 116)) in
-      (test (λ b. F (s b)) (c == 110) (λ t h. a_word fs c 110 (codes "ull") cs (equal c 110 t) (inl refl) h)
-      (λ _. test (λ b. F (s0 b)) (c == 116) (λ t h. a_word fs c 116 (codes "rue") cs (equal c 116 t) (inr (inl refl)) h)
-      (λ _. test (λ b. F (s1 b)) (c == 102) (λ t h. a_word fs c 102 (codes "alse") cs (equal c 102 t) (inr (inr refl)) h)
+      (test (λ b. F (s b)) (c == 110) (λ t h. a_word fs c 110 (codes "ull") cs (eqb-true c 110 t) (inl refl) h)
+      (λ _. test (λ b. F (s0 b)) (c == 116) (λ t h. a_word fs c 116 (codes "rue") cs (eqb-true c 116 t) (inr (inl refl)) h)
+      (λ _. test (λ b. F (s1 b)) (c == 102) (λ t h. a_word fs c 102 (codes "alse") cs (eqb-true c 102 t) (inr (inr refl)) h)
       (λ _. test (λ b. F (s2 b)) (c == 34)
       (λ t h.
       let (b, rest, is, split, more) = string_splits false fs cs h in
-      record { inner = b; rest = rest; value = loose.string b is; split = ap (λ x. x ∷ cs) (equal c 34 t) ∙ split; some = omega (arith, ap length is.2); last = inl (34 ∷ is.0, 34, is.2, λ h. absurd (omega (arith, h))); more = more })
-      (λ _. test (λ b. F (s3 b)) (c == 91) (λ t h. an_array fs c cs (equal c 91 t) (first_splits fs cs room h))
-      (λ _. test (λ b. F (s4 b)) (c == 123) (λ t h. an_object fs c cs (equal c 123 t) (first_key_splits fs cs room h))
+      record { inner = b; rest = rest; value = loose.string b is; split = ap (λ x. x ∷ cs) (eqb-true c 34 t) ∙ split; some = omega (arith, ap length is.2); last = inl (34 ∷ is.0, 34, is.2, λ h. absurd (omega (arith, h))); more = more })
+      (λ _. test (λ b. F (s3 b)) (c == 91) (λ t h. an_array fs c cs (eqb-true c 91 t) (first_splits fs cs room h))
+      (λ _. test (λ b. F (s4 b)) (c == 123) (λ t h. an_object fs c cs (eqb-true c 123 t) (first_key_splits fs cs room h))
       (λ _. test (λ b. is_space c ≡ b → F (s5 b)) (is_space c) (λ t same h. let both : true ≡ false = sym same ∙ bare in cc)
       (λ _ _. test (λ b. F (s6 b)) (c == 45)
-      (λ t h. let (b, r, rs, is, split, more) = sign_number fs cs h in a_number fs (45 ∷ b) r rs (c ∷ cs) is (ap₂ (λ x xs. x ∷ xs) (equal c 45 t) split) more)
+      (λ t h. let (b, r, rs, is, split, more) = sign_number fs cs h in a_number fs (45 ∷ b) r rs (c ∷ cs) is (ap₂ (λ x xs. x ∷ xs) (eqb-true c 45 t) split) more)
       (λ _ h. let (b, r, rs, is, split, more) = minus_splits fs [] (inl refl) c cs h in a_number fs b r rs (c ∷ cs) is split more)) refl))))))) e
 
 value_splits : (n : ℕ) (fs : List Frame) (s : List ℕ) → length s < n → Bare s → Reaches (at value fs) s → Valued fs s

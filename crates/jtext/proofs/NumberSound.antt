@@ -9,12 +9,10 @@ use Rattle.jtext.specs.Reading.{skip_digits, after_digits, after_minus, after_si
 use Rattle.jtext.proofs.Binds.{chosen, test, and_then_some, some_is, no_some}
 use Rattle.jtext.proofs.NumberRuns.{number_ends}
 use Rattle.jtext.proofs.Numbers.{digits_of, whole_of, number_of}
+use Rattle.std.proofs.lemmas.Bool.{eqb-true}
 
 pub digit_of : (c : ℕ) → is_ascii_digit c ≡ true → IsDigit c
 digit_of c e = grind (arith, nat_tests)
-
-equal_of : (c n : ℕ) → (c == n) ≡ true → c ≡ n
-equal_of c n e = grind (arith, nat_tests)
 
 all_sound : (s : List ℕ) → Passes AreAllDigits s (skip_digits s)
 all_sound [] = ([], tt, refl)
@@ -38,7 +36,7 @@ minus_sound : (s : List ℕ) → Passes IsMinus s (after_minus s)
 minus_sound [] = ([], inl refl, refl)
 minus_sound (c ∷ cs) =
     test (λ b. Passes IsMinus (c ∷ cs) (cond b cs (c ∷ cs))) (c == 45)
-    (λ e. (45 ∷ [], inr refl, ap (λ x. x ∷ cs) (equal_of c 45 e)))
+    (λ e. (45 ∷ [], inr refl, ap (λ x. x ∷ cs) (eqb-true c 45 e)))
     (λ e. ([], inl refl, refl))
 
 sign_sound : (s : List ℕ) → Passes IsSign s (after_sign s)
@@ -57,7 +55,7 @@ whole_sound : (s t : List ℕ) → after_whole s ≡ Some t → Passes IsWhole s
 whole_sound [] t e = absurd (no_some t e)
 whole_sound (c ∷ cs) t e =
     elim (chosen (c == 48) (Some cs) _ (Some t) e) [
-      | inl h ↦ (48 ∷ [], inl refl, ap (λ x. x ∷ cs) (equal_of c 48 h.0) ∙ ap (λ x. 48 ∷ x) (some_is cs t h.1))
+      | inl h ↦ (48 ∷ [], inl refl, ap (λ x. x ∷ cs) (eqb-true c 48 h.0) ∙ ap (λ x. 48 ∷ x) (some_is cs t h.1))
       | inr h ↦
           elim (chosen (is_ascii_digit c) (Some (skip_digits cs)) None (Some t) h.1) [
             | inl g ↦ whole_of (c ∷ cs) cs t c refl (above c h.0 g.0) (digit_of c g.0).1 (all_to cs t g.1)
@@ -74,7 +72,7 @@ fraction_sound (c ∷ cs) t e =
     elim (chosen (c == 46) (after_digits cs) (Some (c ∷ cs)) (Some t) e) [
       | inl h ↦
           let p = digits_sound cs t h.1 in
-          (46 ∷ p.0, inr (p.0, p.1, refl), ap (λ x. x ∷ cs) (equal_of c 46 h.0) ∙ ap (λ x. 46 ∷ x) p.2)
+          (46 ∷ p.0, inr (p.0, p.1, refl), ap (λ x. x ∷ cs) (eqb-true c 46 h.0) ∙ ap (λ x. 46 ∷ x) p.2)
       | inr h ↦ ([], inl refl, some_is (c ∷ cs) t h.1)
     ]
 

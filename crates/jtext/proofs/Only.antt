@@ -16,7 +16,7 @@ reads t b s n e is deep = ap (document_at n) e ∙ document_complete t b n is de
 pub ok_only : (t x : Json) (b s : List ℕ) (n : ℕ) → s ≡ b → Spells t b → depth t ≤ n → document_at n s ≡ Ok x → x ≡ t
 ok_only t x b s n e is deep exact = let same : Ok x ≡ Ok t = sym exact ∙ reads t b s n e is deep in cc
 
-never : (t : Json) (f : Fault) (r : Result Json Fault) → r ≡ Ok t → r ≡ Err f → ⊥
+pub never : (t : Json) (f : Fault) (r : Result Json Fault) → r ≡ Ok t → r ≡ Err f → ⊥
 never t f r p q = cc
 
 pub err_only : (t : Json) (f : Fault) (g : JsonFault) (len : ℕ) (b s : List ℕ) (n : ℕ) → s ≡ b → Spells t b → depth t ≤ n → Fails f (document_at n s) → g ≡ fault_within f len → ReadsAs (Err g) t

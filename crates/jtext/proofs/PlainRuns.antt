@@ -1,5 +1,5 @@
 -- Plain bytes are written as they stand.
-use Rattle.std.proofs.Common.{◌≡◌, ℕ, true, false, inl, inr, suc, ◌+◌, List, [], ◌∷◌, ◌++◌, length, take, drop, refl, sym, ap, ap₂, ◌∙◌, append_assoc, arith}
+use Rattle.std.proofs.Common.{◌≡◌, ℕ, true, false, inl, inr, suc, ◌+◌, List, [], ◌∷◌, ◌++◌, take, drop, refl, sym, ap, ap₂, ◌∙◌, append_assoc, arith}
 use Rattle.std.proofs.lemmas.Bool.{cases_Bool}
 use Rattle.std.proofs.lemmas.Bool.Decides.{nat_tests}
 use Rattle.std.proofs.lemmas.List.{append-nil}
@@ -35,7 +35,3 @@ pub runs_end : (out o1 rest plain after whole : List ℕ) → plain ≡ take (pr
 runs_end out o1 rest plain after whole p a e so_far b =
     let step : flat_map escape_byte rest ≡ plain = run_first rest ∙ ap₂ (λ x y. x ++ flat_map escape_byte y) (sym p) (sym a ∙ e) ∙ append-nil plain in
     b ∙ ap (λ x. out ++ x) (sym step) ∙ so_far
-
-pub no_items : (s : List ℕ) → length s ≡ 0 → s ≡ []
-no_items [] e = refl
-no_items (c ∷ cs) e = absurd (omega (arith, e))

@@ -13,7 +13,7 @@ use Rattle.jtext.specs.declared.json.Json.TheVariants as json
 use Rattle.jtext.specs.Strings.{Letters, done, plain, escaped, IsPlain, IsEscape, IsFour, short, Quoted}
 use Rattle.jtext.specs.Grammar as grammar
 use Rattle.jtext.specs.Grammar.{Spells, Spelled, Items, last_item, next_item, Pairs, last_pair, next_pair, Pair, AreSpaces}
-use Rattle.jtext.specs.Print.{escape_letter, escape_byte, quoted, joined, pair, word, compact}
+use Rattle.jtext.specs.Print.{escape_letter, escape_byte, quote, join, pair, word, compact}
 use Rattle.jtext.proofs.Propers as proper
 use Rattle.jtext.proofs.Propers.{Proper, AllProper, PairsProper, proper_of}
 use Rattle.std.specs.Str.{IsUtf8}
@@ -66,7 +66,7 @@ letters_of : (s : List ℕ) → Letters s (flat_map escape_byte s)
 letters_of [] = done
 letters_of (c ∷ cs) = byte_spelled c cs (flat_map escape_byte cs) (letters_of cs)
 
-pub quoted_spelled : (s : List ℕ) → Quoted s (quoted s)
+pub quoted_spelled : (s : List ℕ) → Quoted s (quote s)
 quoted_spelled s = (flat_map escape_byte s, letters_of s, refl)
 
 -- ---- trees
@@ -80,25 +80,25 @@ compact-Bool b = search (rules, the_lemmas)
 compact-Num : (s : List ℕ) → compact (json.Num s) ≡ s
 compact-Num s = search (rules, the_lemmas)
 
-compact-Str : (s : List ℕ) → compact (json.Str s) ≡ quoted s
+compact-Str : (s : List ℕ) → compact (json.Str s) ≡ quote s
 compact-Str s = search (rules, the_lemmas)
 
-compact-Arr : (xs : List Json) → compact (json.Arr xs) ≡ 91 ∷ (joined (map compact xs) ++ 93 ∷ [])
+compact-Arr : (xs : List Json) → compact (json.Arr xs) ≡ 91 ∷ (join (map compact xs) ++ 93 ∷ [])
 compact-Arr xs = search (rules, the_lemmas)
 
-compact-Obj : (ps : List (List ℕ × Json)) → compact (json.Obj ps) ≡ 123 ∷ (joined (map pair (map (λ p. (p.0, compact p.1)) ps)) ++ 125 ∷ [])
+compact-Obj : (ps : List (List ℕ × Json)) → compact (json.Obj ps) ≡ 123 ∷ (join (map pair (map (λ p. (p.0, compact p.1)) ps)) ++ 125 ∷ [])
 compact-Obj ps = search (rules, the_lemmas)
 
 pair_spell : (key : List ℕ) (value : Json) → Spelled value (compact value) → Pair (key, value) (pair (key, compact value))
-pair_spell key value is = grammar.pair key value (quoted key) [] [] (compact value) (pair (key, compact value)) (quoted_spelled key) tt tt is refl
+pair_spell key value is = grammar.pair key value (quote key) [] [] (compact value) (pair (key, compact value)) (quoted_spelled key) tt tt is refl
 
 abbrev ItemsSpelled : List Json → Type 0
 ItemsSpelled [] = Unit {0}
-ItemsSpelled (x ∷ xs) = Items (x ∷ xs) (joined (map compact (x ∷ xs)))
+ItemsSpelled (x ∷ xs) = Items (x ∷ xs) (join (map compact (x ∷ xs)))
 
 abbrev PairsSpelled : List (List ℕ × Json) → Type 0
 PairsSpelled [] = Unit {0}
-PairsSpelled (p ∷ ps) = Pairs (p ∷ ps) (joined (map pair (map (λ q. (q.0, compact q.1)) (p ∷ ps))))
+PairsSpelled (p ∷ ps) = Pairs (p ∷ ps) (join (map pair (map (λ q. (q.0, compact q.1)) (p ∷ ps))))
 
 mutual
   pub compact_spells : (t : Json) → Proper t → Spelled t (compact t)
@@ -106,22 +106,22 @@ mutual
   compact_spells _ (proper.boolean true) = grammar.yes (compact (json.Bool true)) (compact-Bool true)
   compact_spells _ (proper.boolean false) = grammar.no (compact (json.Bool false)) (compact-Bool false)
   compact_spells _ (proper.number s is) = subst (Spelled (json.Num s)) (sym (compact-Num s)) (grammar.number s is)
-  compact_spells _ (proper.text s u) = subst (Spelled (json.Str s)) (sym (compact-Str s)) (grammar.string s (quoted s) (quoted_spelled s))
+  compact_spells _ (proper.text s u) = subst (Spelled (json.Str s)) (sym (compact-Str s)) (grammar.string s (quote s) (quoted_spelled s))
   compact_spells _ (proper.array [] all) = grammar.no_items [] (compact (json.Arr [])) tt (compact-Arr [])
-  compact_spells _ (proper.array (x ∷ xs) all) = grammar.array (x ∷ xs) (joined (map compact (x ∷ xs))) (compact (json.Arr (x ∷ xs))) (items_spell (x ∷ xs) all) (compact-Arr (x ∷ xs))
+  compact_spells _ (proper.array (x ∷ xs) all) = grammar.array (x ∷ xs) (join (map compact (x ∷ xs))) (compact (json.Arr (x ∷ xs))) (items_spell (x ∷ xs) all) (compact-Arr (x ∷ xs))
   compact_spells _ (proper.object [] all d) = grammar.no_pairs [] (compact (json.Obj [])) tt (compact-Obj [])
-  compact_spells _ (proper.object (p ∷ ps) all d) = grammar.object (p ∷ ps) (joined (map pair (map (λ q. (q.0, compact q.1)) (p ∷ ps)))) (compact (json.Obj (p ∷ ps))) (pairs_spell (p ∷ ps) all) d (compact-Obj (p ∷ ps))
+  compact_spells _ (proper.object (p ∷ ps) all d) = grammar.object (p ∷ ps) (join (map pair (map (λ q. (q.0, compact q.1)) (p ∷ ps)))) (compact (json.Obj (p ∷ ps))) (pairs_spell (p ∷ ps) all) d (compact-Obj (p ∷ ps))
 
   items_spell : (xs : List Json) → AllProper xs → ItemsSpelled xs
   items_spell _ proper.none = tt
-  items_spell _ (proper.more x [] is all) = last_item x [] (compact x) [] (joined (compact x ∷ [])) tt (compact_spells x is) tt refl
-  items_spell _ (proper.more x (y ∷ ys) is all) = next_item x (y ∷ ys) [] (compact x) [] (joined (map compact (y ∷ ys))) _ tt (compact_spells x is) tt (items_spell (y ∷ ys) all) refl
+  items_spell _ (proper.more x [] is all) = last_item x [] (compact x) [] (join (compact x ∷ [])) tt (compact_spells x is) tt refl
+  items_spell _ (proper.more x (y ∷ ys) is all) = next_item x (y ∷ ys) [] (compact x) [] (join (map compact (y ∷ ys))) _ tt (compact_spells x is) tt (items_spell (y ∷ ys) all) refl
 
   pairs_spell : (ps : List (List ℕ × Json)) → PairsProper ps → PairsSpelled ps
   pairs_spell _ proper.no_pairs = tt
   pairs_spell _ (proper.pair key value [] u is all) = last_pair (key, value) [] (pair (key, compact value)) [] _ tt (pair_spell key value (compact_spells value is)) tt refl
   pairs_spell _ (proper.pair key value (q ∷ qs) u is all) =
-      next_pair (key, value) (q ∷ qs) [] (pair (key, compact value)) [] (joined (map pair (map (λ p. (p.0, compact p.1)) (q ∷ qs)))) _ tt (pair_spell key value (compact_spells value is)) tt (pairs_spell (q ∷ qs) all) refl
+      next_pair (key, value) (q ∷ qs) [] (pair (key, compact value)) [] (join (map pair (map (λ p. (p.0, compact p.1)) (q ∷ qs)))) _ tt (pair_spell key value (compact_spells value is)) tt (pairs_spell (q ∷ qs) all) refl
 
 -- ---- UTF-8
 
@@ -131,9 +131,9 @@ mutual
   compact_utf8 _ (proper.boolean b) = subst IsUtf8 (sym (compact-Bool b)) (word_utf8 b)
   compact_utf8 _ (proper.number s is) = subst IsUtf8 (sym (compact-Num s)) (number_utf8 s is)
   compact_utf8 _ (proper.text s u) = subst IsUtf8 (sym (compact-Str s)) (quoted_utf8 s u)
-  compact_utf8 _ (proper.array xs all) = subst IsUtf8 (sym (compact-Arr xs)) (enclosed_utf8 91 93 (joined (map compact xs)) (omega arith) (omega arith) (joined_utf8 (map compact xs) (items_utf8 xs all)))
+  compact_utf8 _ (proper.array xs all) = subst IsUtf8 (sym (compact-Arr xs)) (enclosed_utf8 91 93 (join (map compact xs)) (omega arith) (omega arith) (joined_utf8 (map compact xs) (items_utf8 xs all)))
   compact_utf8 _ (proper.object ps all d) =
-      subst IsUtf8 (sym (compact-Obj ps)) (enclosed_utf8 123 125 (joined (map pair (map (λ p. (p.0, compact p.1)) ps))) (omega arith) (omega arith) (joined_utf8 (map pair (map (λ p. (p.0, compact p.1)) ps)) (pairs_utf8 ps all)))
+      subst IsUtf8 (sym (compact-Obj ps)) (enclosed_utf8 123 125 (join (map pair (map (λ p. (p.0, compact p.1)) ps))) (omega arith) (omega arith) (joined_utf8 (map pair (map (λ p. (p.0, compact p.1)) ps)) (pairs_utf8 ps all)))
 
   items_utf8 : (xs : List Json) → AllProper xs → AllByRecursion IsUtf8 (map compact xs)
   items_utf8 _ proper.none = tt
@@ -142,7 +142,7 @@ mutual
   pairs_utf8 : (ps : List (List ℕ × Json)) → PairsProper ps → AllByRecursion IsUtf8 (map pair (map (λ p. (p.0, compact p.1)) ps))
   pairs_utf8 _ proper.no_pairs = tt
   pairs_utf8 _ (proper.pair key value ps u is all) =
-      (IsUtf8-append (quoted key) (58 ∷ compact value) (quoted_utf8 key u) (IsUtf8-append (58 ∷ []) (compact value) (utf8_ascii (58 ∷ []) (omega arith, tt)) (compact_utf8 value is)), pairs_utf8 ps all)
+      (IsUtf8-append (quote key) (58 ∷ compact value) (quoted_utf8 key u) (IsUtf8-append (58 ∷ []) (compact value) (utf8_ascii (58 ∷ []) (omega arith, tt)) (compact_utf8 value is)), pairs_utf8 ps all)
 
 pub compact_text : (t : Json) → Sound t → Keyed t → Spells t (compact t)
 compact_text t s k =

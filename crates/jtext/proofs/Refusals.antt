@@ -22,6 +22,7 @@ use Rattle.jtext.proofs.Founds.{deep_found, repeated_found, alone_found}
 use Rattle.jtext.proofs.Documents.{document_spells}
 use Rattle.jtext.proofs.Texts.{spells_text}
 use Rattle.jtext.proofs.Places.{placed}
+use Rattle.jtext.proofs.Only.{never}
 
 -- ---- bytes that are not UTF-8
 
@@ -53,9 +54,6 @@ document_stands deep b f e =
 
 differ_faults : (f g : Fault) (r : Result Json Fault) → r ≡ Err f → r ≡ Err g → f ≡ g
 differ_faults f g r d e = fault_is {A = Json} f g (sym d ∙ e)
-
-not_ok : (t : Json) (f : Fault) (r : Result Json Fault) → r ≡ Ok t → r ≡ Err f → ⊥
-not_ok t f r d e = cc
 
 pub none_stands : (deep k : ℕ) (b : List ℕ) → document_at deep b ≡ Err (Bad k) → HasNone deep b
 none_stands deep k b e =
@@ -131,9 +129,9 @@ stands deep b s (Lone k) g e u fails is =
 pub read_not_refused : (deep : ℕ) (b s : List ℕ) (t : Json) (g : JsonFault) → s ≡ b → IsUtf8 b → document_at deep s ≡ Ok t → Refused deep b g → ⊥
 read_not_refused deep b s t (json_fault.NotUtf8 n) e u read v = not_both b n u v
 read_not_refused deep b s t (json_fault.Bad n) e u read (v, place, none) = broken_no_text b n place (loose_text b (spells_text t b (document_spells deep b s t e u read).0))
-read_not_refused deep b s t (json_fault.Deep n) e u read (v, h) = not_ok t (Deep (length h.right)) (document_at deep b) (ap (document_at deep) (sym e) ∙ read) (deep_found deep b n h)
-read_not_refused deep b s t (json_fault.Repeated n) e u read (v, h) = not_ok t (Repeated (length h.right)) (document_at deep b) (ap (document_at deep) (sym e) ∙ read) (repeated_found deep b n h)
-read_not_refused deep b s t (json_fault.Lone n) e u read (v, h) = not_ok t (Lone (length h.right)) (document_at deep b) (ap (document_at deep) (sym e) ∙ read) (alone_found deep b n h)
+read_not_refused deep b s t (json_fault.Deep n) e u read (v, h) = never t (Deep (length h.right)) (document_at deep b) (ap (document_at deep) (sym e) ∙ read) (deep_found deep b n h)
+read_not_refused deep b s t (json_fault.Repeated n) e u read (v, h) = never t (Repeated (length h.right)) (document_at deep b) (ap (document_at deep) (sym e) ∙ read) (repeated_found deep b n h)
+read_not_refused deep b s t (json_fault.Lone n) e u read (v, h) = never t (Lone (length h.right)) (document_at deep b) (ap (document_at deep) (sym e) ∙ read) (alone_found deep b n h)
 read_not_refused deep b s t json_fault.NoMemory e u read v = v
 
 left_of : (b left right : List ℕ) (n : ℕ) → b ≡ left ++ right → length left ≡ n → n ≡ length b - length right

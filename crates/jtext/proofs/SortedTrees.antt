@@ -3,35 +3,35 @@ use Rattle.std.proofs.Common.{◌≡◌, ◌≢◌, ℕ, Bool, true, false, cond
 use Rattle.jtext.specs.declared.json.Json.{Json, the_lemmas}
 use Rattle.jtext.specs.declared.json.Json.TheVariants as json
 use Rattle.jtext.specs.Grammar.{Lacks, Distinct}
-use Rattle.jtext.specs.Sorting.{byte_order, insert_sorted, by_key, sorted}
+use Rattle.jtext.specs.Sorting.{byte_order, insert_sorted, by_key, sort_tree}
 use Rattle.jtext.proofs.Sorts.{all-insert_sorted, all-sort_by, sort_by-map}
 
-pub sorted-Null : sorted json.Null ≡ json.Null
+pub sorted-Null : sort_tree json.Null ≡ json.Null
 sorted-Null = search (rules, the_lemmas)
 
-pub sorted-Bool : (b : Bool) → sorted (json.Bool b) ≡ json.Bool b
+pub sorted-Bool : (b : Bool) → sort_tree (json.Bool b) ≡ json.Bool b
 sorted-Bool b = search (rules, the_lemmas)
 
-pub sorted-Num : (s : List ℕ) → sorted (json.Num s) ≡ json.Num s
+pub sorted-Num : (s : List ℕ) → sort_tree (json.Num s) ≡ json.Num s
 sorted-Num s = search (rules, the_lemmas)
 
-pub sorted-Str : (s : List ℕ) → sorted (json.Str s) ≡ json.Str s
+pub sorted-Str : (s : List ℕ) → sort_tree (json.Str s) ≡ json.Str s
 sorted-Str s = search (rules, the_lemmas)
 
-pub sorted-Arr : (xs : List Json) → sorted (json.Arr xs) ≡ json.Arr (map sorted xs)
+pub sorted-Arr : (xs : List Json) → sort_tree (json.Arr xs) ≡ json.Arr (map sort_tree xs)
 sorted-Arr xs = search (rules, the_lemmas)
 
 -- a pair with its value sorted
 abbrev pub with_sorted : List ℕ × Json → List ℕ × Json
-with_sorted p = (p.0, sorted p.1)
+with_sorted p = (p.0, sort_tree p.1)
 
 pub sorted-Obj : (ps : List (List ℕ × Json))
-    → sorted (json.Obj ps) ≡ json.Obj (by_key (map with_sorted ps))
+    → sort_tree (json.Obj ps) ≡ json.Obj (by_key (map with_sorted ps))
 sorted-Obj ps = search (rules, the_lemmas)
 
 -- to sort the values and then the pairs is to sort the pairs and then the values
 pub sorted_pairs-Obj : (ps : List (List ℕ × Json))
-    → sorted (json.Obj ps) ≡ json.Obj (map with_sorted (by_key ps))
+    → sort_tree (json.Obj ps) ≡ json.Obj (map with_sorted (by_key ps))
 sorted_pairs-Obj ps =
     sorted-Obj ps ∙ ap json.Obj (sort_by-map (λ p q. byte_order p.0 q.0) with_sorted ps)
 

@@ -11,7 +11,7 @@ use Rattle.std.specs.List.{flat_map, AllByRecursion}
 use Rattle.std.specs.Str.{IsUtf8}
 use Rattle.std.specs.Char.{digit_char}
 use Rattle.jtext.specs.Number.{IsNumber, AreAllDigits, IsMinus, IsSign, IsWhole, IsFraction, IsExponent}
-use Rattle.jtext.specs.Print.{escape_letter, escape_byte, quoted, joined, word}
+use Rattle.jtext.specs.Print.{escape_letter, escape_byte, quote, join, word}
 use Rattle.std.specs.Prelude.{codes}
 
 -- ---- ASCII
@@ -117,7 +117,7 @@ all_chars (c ∷ cs) e =
     let p = and_parts _ _ e in
     subst IsUtf8 (sym (flat_map-append escape_byte (encode c) (encodes cs))) (IsUtf8-append _ _ (one_char c p.0) (all_chars cs p.1))
 
-pub quoted_utf8 : (s : List ℕ) → IsUtf8 s → IsUtf8 (quoted s)
+pub quoted_utf8 : (s : List ℕ) → IsUtf8 s → IsUtf8 (quote s)
 quoted_utf8 s u =
     let inner = subst (λ b. IsUtf8 (flat_map escape_byte b)) u.1.1 (all_chars u.0 u.1.0) in
     IsUtf8-append (34 ∷ []) (flat_map escape_byte s ++ 34 ∷ []) (utf8_ascii (34 ∷ []) (omega arith, tt)) (IsUtf8-append (flat_map escape_byte s) (34 ∷ []) inner (utf8_ascii (34 ∷ []) (omega arith, tt)))
@@ -128,7 +128,7 @@ more_utf8 : (bs : List (List ℕ)) → AllByRecursion IsUtf8 bs → IsUtf8 (flat
 more_utf8 [] all = IsUtf8-nil
 more_utf8 (b ∷ bs) all = IsUtf8-append (44 ∷ b) (flat_map (λ c. 44 ∷ c) bs) (IsUtf8-append (44 ∷ []) b (utf8_ascii (44 ∷ []) (omega arith, tt)) all.0) (more_utf8 bs all.1)
 
-pub joined_utf8 : (bs : List (List ℕ)) → AllByRecursion IsUtf8 bs → IsUtf8 (joined bs)
+pub joined_utf8 : (bs : List (List ℕ)) → AllByRecursion IsUtf8 bs → IsUtf8 (join bs)
 joined_utf8 [] all = IsUtf8-nil
 joined_utf8 (b ∷ bs) all = IsUtf8-append b (flat_map (λ c. 44 ∷ c) bs) all.0 (more_utf8 bs all.1)
 

@@ -4,6 +4,7 @@ pub mod Number
 pub mod Strings
 pub mod Grammar
 pub mod Depth
+pub mod Within
 pub mod Loose
 pub mod Refusal
 pub mod Keyed
@@ -13,6 +14,7 @@ pub mod Sorting
 pub mod Indent
 pub mod Find
 pub mod Look
+pub mod Texts
 pub mod Bundle
 pub mod Edit
 pub mod Messages

@@ -1,5 +1,5 @@
 -- Looking into a JSON value (RFC 8259, section 3: an object, an array, a number, a string, or one of three names): its kind, and what stands in it.
-use Rattle.std.specs.Prelude.{ℕ, Bool, true, false, List, [], Option, Some, None, ◌&&◌, ◌||◌, ◌==◌, not, nat_le, length, slice_index, is_some, option_and_then}
+use Rattle.std.specs.Prelude.{ℕ, Bool, true, false, List, [], Option, Some, None, ◌&&◌, ◌||◌, ◌==◌, not, nat_le, length, slice_index, is_some, option_and_then, unwrap_or}
 use Rattle.std.specs.List.{list_all}
 use Rattle.std.specs.Char.{is_ascii_digit}
 use Rattle.jtext.specs.declared.json.Json.{Json, out-Json}
@@ -56,6 +56,10 @@ is_true_layer (Json-F.Str s) = false
 is_true_layer (Json-F.Arr xs) = false
 is_true_layer (Json-F.Obj ps) = false
 
+-- the value is `true`
+abbrev pub is_true : Json → Bool
+is_true t = is_true_layer (out-Json t)
+
 -- ---- what stands in a value
 
 -- the items of a list, seen at one level
@@ -88,6 +92,10 @@ string_layer (Json-F.Obj ps) = None
 -- the text of a string
 abbrev pub string : Json → Option (List ℕ)
 string t = string_layer (out-Json t)
+
+-- the text of a string, and the empty text of another value
+abbrev pub text_of : Json → List ℕ
+text_of t = unwrap_or (string t) []
 
 -- the text of a number, seen at one level
 abbrev pub number_layer : Json-F Json → Option (List ℕ)
@@ -133,3 +141,7 @@ string_at t key = option_and_then string (field t key)
 -- the number under the key
 abbrev pub number_at : Json → List ℕ → Option (List ℕ)
 number_at t key = option_and_then number (field t key)
+
+-- `true` stands under the key
+abbrev pub is_true_at : Json → List ℕ → Bool
+is_true_at t key = there_and is_true (field t key)

@@ -21,6 +21,10 @@ abbrev pub number_from : ℕ → List ℕ → Option ℕ
 number_from n [] = Some n
 number_from n (c ∷ cs) = if is_ascii_digit c then number_from (n * 10 + (c - 48)) cs else None
 
+-- the number that one to nine decimal digits make; zeros may lead
+abbrev pub short_number : List ℕ → Option ℕ
+short_number text = if (length text == 0) || nat_lt 9 (length text) then None else number_from 0 text
+
 -- nothing follows
 abbrev pub is_nothing : Option (List ℕ) → Bool
 is_nothing None = false

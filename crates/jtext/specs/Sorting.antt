@@ -31,14 +31,14 @@ abbrev pub ArePlacesByKey : {A : Type 0} → List (List ℕ × Json) → List (A
 ArePlacesByKey ps places = map (λ e. slice_get ps e.1) places ≡ map (λ p. Some p) (by_key ps)
 
 -- one level, with what was sorted inside in its place
-abbrev pub sorted_step : Json-F Json → Json
-sorted_step Json-F.Null = json.Null
-sorted_step (Json-F.Bool b) = json.Bool b
-sorted_step (Json-F.Num s) = json.Num s
-sorted_step (Json-F.Str s) = json.Str s
-sorted_step (Json-F.Arr xs) = json.Arr xs
-sorted_step (Json-F.Obj ps) = json.Obj (by_key ps)
+abbrev pub sort_step : Json-F Json → Json
+sort_step Json-F.Null = json.Null
+sort_step (Json-F.Bool b) = json.Bool b
+sort_step (Json-F.Num s) = json.Num s
+sort_step (Json-F.Str s) = json.Str s
+sort_step (Json-F.Arr xs) = json.Arr xs
+sort_step (Json-F.Obj ps) = json.Obj (by_key ps)
 
 -- the tree with the pairs of each object in the order of their keys
-abbrev pub sorted : Json → Json
-sorted = fold-Json Json sorted_step
+abbrev pub sort_tree : Json → Json
+sort_tree = fold-Json Json sort_step

@@ -1,5 +1,6 @@
 //! Copies of trees, and of what they are made of.
-ghost use Rattle.std.specs.Prelude.{◌≡◌, IfOk};
+ghost use Rattle.std.specs.Prelude.{◌≡◌, IfOk, map};
+ghost use Rattle.jtext.specs.Look.{text_of};
 
 use crate::json::{Fields, Items, Texts};
 use crate::{Json, NoMemory, NumText, Text};
@@ -53,4 +54,15 @@ pub fn copy_texts(alloc: Global, texts: &[Text]) -> Result<Texts, NoMemory>
         copied.push(text.copy(alloc)?)?;
     }
     Ok(copied)
+}
+
+/// Copies of the texts of these strings, and an empty text for each other value.
+pub fn texts_of(alloc: Global, items: &[Json]) -> Result<Texts, NoMemory>
+    ensures { IfOk result (λ r. r ≡ map text_of items.now) }
+{
+    let mut texts = Texts::new(alloc);
+    for item in items {
+        texts.push(Text::of(alloc, item.text())?)?;
+    }
+    Ok(texts)
 }

@@ -64,7 +64,8 @@ fn lift(alloc: Global, pairs: &mut Fields, key: &str) -> Result<Json, NoMemory>
     }
 }
 
-fn place_of_key(pairs: &[(Text, Json)], key: &str) -> Option<usize>
+/// The place of the first pair with that key, counted from 0, and `None` where there is none.
+pub fn place_of_key(pairs: &[(Text, Json)], key: &str) -> Option<usize>
     ensures place { result ≡ position (λ p. bytes_eq p.0 key.now) pairs.now }
     ensures within { IfSome result (λ i. i < length pairs.now) }
 {

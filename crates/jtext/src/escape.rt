@@ -1,14 +1,14 @@
 //! Strings as both writers write them (RFC 8259, section 7).
 ghost use Rattle.std.specs.Prelude.{◌≡◌, ◌++◌, ◌<◌, OnOk, flat_map};
 ghost use Rattle.std.specs.Char.{digit_char};
-ghost use Rattle.jtext.specs.Print.{quoted, escape_byte, escape_letter};
+ghost use Rattle.jtext.specs.Print.{quote, escape_byte, escape_letter};
 
 use crate::plain::plain_len;
 use crate::{Bytes, NoMemory};
 
 /// Appends `s` between quotes. Only what has to be escaped is, and runs of the rest are copied.
 pub fn put_string(out: &mut Bytes, s: &str) -> Result<(), NoMemory>
-    ensures { OnOk result (out.new ≡ out.old ++ quoted s.now) }
+    ensures { OnOk result (out.new ≡ out.old ++ quote s.now) }
 {
     out.add(b"\"")?;
     write_letters(out, s.as_bytes())?;

@@ -1,7 +1,7 @@
 //! The indented text of a tree.
 ghost use Rattle.std.specs.Prelude.{◌≡◌, ◌++◌, [], ℕ, List as Plain, replicate, IfOk, OnOk};
 ghost use Rattle.jtext.specs.Sorting.{by_key};
-ghost use Rattle.jtext.specs.Indent.{print, indented, indented_items, indented_fields};
+ghost use Rattle.jtext.specs.Indent.{print, indent, indent_items, indent_fields};
 ghost use Rattle.jtext.specs.Indent.{on_line, further};
 
 use crate::escape::put_string;
@@ -23,7 +23,7 @@ pub fn write_indented(alloc: Global, t: &Json) -> Result<Bytes, NoMemory>
 /// The text that the value has within an indented text, this many levels deep: without the margin
 /// before it, and without a line end after it.
 pub fn write_indented_at(alloc: Global, t: &Json, level: usize) -> Result<Bytes, NoMemory>
-    ensures { IfOk result (λ b. b ≡ indented t.now (replicate level 32)) }
+    ensures { IfOk result (λ b. b ≡ indent t.now (replicate level 32)) }
 {
     let mut text = Bytes::new(alloc);
     put_indented(alloc, &mut text, level, t)?;
@@ -33,7 +33,7 @@ pub fn write_indented_at(alloc: Global, t: &Json, level: usize) -> Result<Bytes,
 /// Appends the text that the value has within an indented text, this many levels deep: without the
 /// margin before it, and without a line end after it.
 pub fn put_indented(alloc: Global, out: &mut Bytes, level: usize, t: &Json) -> Result<(), NoMemory>
-    ensures { OnOk result (out.new ≡ out.old ++ indented t.now (replicate level 32)) }
+    ensures { OnOk result (out.new ≡ out.old ++ indent t.now (replicate level 32)) }
 {
     let mut margin = Bytes::of_vec(vec![in alloc; b' '; level]?);
     indent_value(alloc, out, &mut margin, t)
@@ -47,7 +47,7 @@ fn indent_value(
     margin: &mut Bytes,
     t: &Json,
 ) -> Result<(), NoMemory>
-    ensures text { OnOk result (out.new ≡ out.old ++ indented t.now margin.old) }
+    ensures text { OnOk result (out.new ≡ out.old ++ indent t.now margin.old) }
     ensures margin { OnOk result (margin.new ≡ margin.old) }
 {
     match t {
@@ -88,7 +88,7 @@ fn indent_items(
     margin: &mut Bytes,
     items: &Items,
 ) -> Result<(), NoMemory>
-    ensures text { OnOk result (out.new ≡ out.old ++ indented_items margin.old items.now) }
+    ensures text { OnOk result (out.new ≡ out.old ++ indent_items margin.old items.now) }
     ensures margin { OnOk result (margin.new ≡ margin.old) }
 {
     for (i, item) in items.as_slice().iter().enumerate() {
@@ -109,7 +109,7 @@ fn indent_fields(
     fields: &Fields,
 ) -> Result<(), NoMemory>
     ensures text { OnOk result
-        (out.new ≡ out.old ++ indented_fields margin.old (by_key fields.now)) }
+        (out.new ≡ out.old ++ indent_fields margin.old (by_key fields.now)) }
     ensures margin { OnOk result (margin.new ≡ margin.old) }
 {
     let pairs = fields.as_slice();

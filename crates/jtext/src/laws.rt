@@ -5,7 +5,7 @@ ghost use Rattle.jtext.specs.declared.json.Json as tree;
 ghost use Rattle.jtext.specs.Keyed.{Keyed};
 ghost use Rattle.jtext.specs.Grammar.{Spells};
 ghost use Rattle.jtext.specs.Print.{compact};
-ghost use Rattle.jtext.specs.Sorting.{sorted};
+ghost use Rattle.jtext.specs.Sorting.{sort_tree};
 ghost use Rattle.jtext.specs.Indent.{print};
 ghost use Rattle.jtext.specs.Sound.{Sound, AllSound, PairsSound};
 
@@ -58,7 +58,7 @@ pub fn compact_spells()
 
 /// The indented text of a tree with distinct keys spells that tree with its pairs sorted.
 pub fn indented_spells()
-    ensures { (t : tree.Json) → Sound t → Keyed t → Spells (sorted t) (print t) }
+    ensures { (t : tree.Json) → Sound t → Keyed t → Spells (sort_tree t) (print t) }
 {}
 
 /// A text spells no two trees.

@@ -36,6 +36,16 @@ impl Json {
         self.is_list() && all_strings(self.items())
     }
 
+    /// Whether it is `true`.
+    pub fn is_true(&self) -> bool
+        ensures { result ≡ spec.is_true self.now }
+    {
+        match self {
+            Json::Bool(is) => *is,
+            _ => false,
+        }
+    }
+
     /// The text of a string, and `None` of another value.
     pub fn as_text(&self) -> Option<&Text>
         ensures { option_map (λ r. r.now) result ≡ spec.string self.now }
@@ -43,6 +53,16 @@ impl Json {
         match self {
             Json::Str(text) => Some(text),
             _ => None,
+        }
+    }
+
+    /// The text of a string, and the empty text of another value.
+    pub fn text(&self) -> &str
+        ensures { result.now ≡ spec.text_of self.now }
+    {
+        match self {
+            Json::Str(text) => text.as_str(),
+            _ => "",
         }
     }
 

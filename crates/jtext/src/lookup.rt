@@ -37,3 +37,10 @@ pub fn text_at(alloc: Global, t: &Json, key: &str) -> Result<Option<Text>, NoMem
         None => Ok(None),
     }
 }
+
+/// Whether `true` stands under the key.
+pub fn is_true_at(t: &Json, key: &str) -> bool
+    ensures { result ≡ look.is_true_at t.now key.now }
+{
+    field(t, key).is_some_and(|v| v.is_true())
+}

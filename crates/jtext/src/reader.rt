@@ -1,6 +1,6 @@
 //! `read`, from bytes to a tree, by recursive descent. Each function gives the value at the front
 //! and the text after it.
-ghost use Rattle.std.specs.Prelude.{◌≡◌, ◌<◌, ◌≤◌, length, true, codes, IfOk};
+ghost use Rattle.std.specs.Prelude.{◌≡◌, ◌<◌, ◌≤◌, length, true, codes, IfOk, MatchOption};
 ghost use Rattle.std.specs.List.{AllByRecursion};
 ghost use Rattle.jtext.specs.Grammar.{Spells};
 ghost use Rattle.jtext.specs.Gives.{Gives, ReadsAs};
@@ -10,12 +10,13 @@ ghost use Rattle.jtext.specs.KeySet.{HasKeys, HasKeysAnd};
 ghost use Rattle.jtext.specs.Refusal.{Refused, Stands, Answers};
 ghost use Rattle.jtext.specs.declared.fault.JsonFault as fault;
 ghost use Rattle.jtext.specs.Depth.{depth};
+ghost use Rattle.jtext.specs.Within.{IsNoTextWithin, IsTextWithin};
 
 use crate::fault::{Fault, JsonFault};
 use crate::key_set::is_taken;
 use crate::quoted::string;
 use crate::scan::{number_stop, skip_spaces, split_ascii, split_number, strip_word, word_stop};
-use crate::{Fields, Items, Json, NumText, Text};
+use crate::{Fields, Items, Json, NoMemory, NumText, Text};
 use std::alloc::Global;
 use std::collections::BTreeSet;
 
@@ -175,6 +176,26 @@ pub fn read(alloc: Global, bytes: &[u8], deep: u32) -> Result<Json, JsonFault>
     match document(alloc, text, deep) {
         Ok(tree) => Ok(tree),
         Err(fault) => Err(fault.within(text.len())),
+    }
+}
+
+/// The tree that the bytes are a text of, where they are at most `size` and nested at most `deep`.
+pub fn read_within(
+    alloc: Global,
+    bytes: &[u8],
+    size: usize,
+    deep: u32,
+) -> Result<Option<Json>, NoMemory>
+    ensures { IfOk result (λ o.
+        MatchOption o (IsNoTextWithin size deep bytes.now) (IsTextWithin size deep bytes.now)) }
+{
+    if size < bytes.len() {
+        return Ok(None);
+    }
+    match read(alloc, bytes, deep) {
+        Ok(tree) => Ok(Some(tree)),
+        Err(JsonFault::NoMemory) => Err(NoMemory),
+        Err(_) => Ok(None),
     }
 }
 

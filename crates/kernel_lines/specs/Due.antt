@@ -4,13 +4,13 @@ use Rattle.std.specs.Prelude.{ℕ, ◌+◌, cond, List, [], ◌∷◌, ◌++◌,
 use Rattle.zmtp_wire.specs.declared.role.Role.{Role}
 use Rattle.zmtp_wire.specs.Meaning.{is_shaken}
 use Rattle.zmtp_wire.specs.Writing.{greeting_octets, ready_octets, message_octets}
-use Rattle.zmtp_peer.specs.Envelope.{enveloped}
+use Rattle.zmtp_peer.specs.Envelope.{with_envelope}
 use Rattle.zmtp_peer.specs.Reply.{owed_octets, subscription_to}
 use Rattle.kernel_lines.specs.Happened.{Came, Given, History, came_in}
 
 -- a message as the role sends it
 abbrev pub sent_octets : Role → List (List ℕ) → List ℕ
-sent_octets r m = message_octets (enveloped r m)
+sent_octets r m = message_octets (with_envelope r m)
 
 -- what a piece makes owed that wasn't owed before
 abbrev pub newly_owed : Role → List ℕ → List ℕ → List ℕ

@@ -10,11 +10,11 @@ use Rattle.world.specs.Disk.{place}
 use Rattle.world.specs.Moments.{Since, start, more as later}
 use Rattle.world.specs.Parts.{IsOf, OnDisk}
 use Rattle.world.specs.Touched.{Spares}
-use Rattle.world.proofs.PlaceLemmas.{same_bytes}
 use Rattle.save_disk.specs.Entries.{Writes, WritesBy, WriteFails, none, more}
 use Rattle.kernel_start.specs.declared.connection_fault.ConnectionFault.{ConnectionFault}
 use Rattle.kernel_start.specs.declared.connection_fault.ConnectionFault.TheVariants as fault
 use Rattle.kernel_start.specs.ConnectionFile.{WritesAndSyncs, MakesFile, not_created, not_written, not_synced, WritesFile, synced_text}
+use Rattle.jtext.proofs.Equals.{same_bytes}
 
 -- ---- the file itself
 

@@ -34,8 +34,8 @@ pinged_at p at end = record {
 }
 
 -- after an echo
-abbrev pub echoed : Pinged → Pinged
-echoed p = record p { count = 0; tenth = None }
+abbrev pub after_echo : Pinged → Pinged
+after_echo p = record p { count = 0; tenth = None }
 
 -- The kernel is lost: ten pings since the last echo were taken whole, and 3,000 ms have passed since the tenth.
 abbrev pub is_lost_by : Option Ping → ℕ → ℕ → Bool

@@ -1,5 +1,6 @@
 //! `Asking`, whether a kernel is ready.
 ghost use Rattle.std.specs.Prelude.{◌≡◌, ◌<◌, ◌^◌, ◌++◌, ◌∷◌, [], Some, true, OnOk, OnErr};
+ghost use Rattle.jtext.specs.Texts.{is_among};
 ghost use Rattle.kernel_talk.specs.Asking as asking;
 
 use jtext::{NoMemory, Text, Texts};
@@ -34,7 +35,7 @@ impl Model for Asking {
 impl Asking {
     /// Nothing was asked yet. It takes no memory.
     pub fn new(alloc: Global) -> Asking
-        ensures { result ≡ asking.unasked }
+        ensures { result ≡ asking.no_asking }
     {
         Asking {
             ids: Texts::new(alloc),
@@ -103,7 +104,7 @@ impl Asking {
     }
 
     fn is_ours(&self, parent: &Text) -> bool
-        ensures { result ≡ asking.is_among parent.now self.now.ids }
+        ensures { result ≡ is_among parent.now self.now.ids }
     {
         self.ids.iter().any(|id| id.as_str() == parent.as_str())
     }

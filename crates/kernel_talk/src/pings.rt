@@ -104,7 +104,7 @@ impl Pings {
 
     /// A message came on the heartbeat channel.
     pub fn on_echo(&mut self)
-        ensures { self.new ≡ pinging.echoed self.old }
+        ensures { self.new ≡ pinging.after_echo self.old }
     {
         self.count = 0;
         self.tenth = None;

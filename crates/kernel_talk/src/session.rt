@@ -3,7 +3,7 @@ ghost use Rattle.std.specs.Prelude.{◌≡◌, ◌<◌, ◌^◌, ◌+◌, IfOk, 
 ghost use Rattle.std.specs.Fmt.{decimal};
 ghost use Rattle.jsign.specs.Signer.{SignsUnder};
 ghost use Rattle.jmsg.specs.Date.{date_of};
-ghost use Rattle.jmsg.specs.Encoded.{encoded};
+ghost use Rattle.jmsg.specs.Encoded.{encode};
 ghost use Rattle.zmtp_wire.specs.Writing.{IsMessage};
 ghost use Rattle.kernel_talk.specs.Requests.{message_id, request, identifier as identifier_of};
 
@@ -91,7 +91,7 @@ impl Session {
     /// that would have more than 64 MiB, or more than 2^64 - 1 before it, counts as want of memory.
     pub fn request(&mut self, ms: u64, kind: &str, content: Json) -> Result<Parts, NoMemory>
         requires { ms < 2 ^ 47 }
-        ensures is { IfOk result (λ parts. parts ≡ encoded self.old.key
+        ensures is { IfOk result (λ parts. parts ≡ encode self.old.key
             (request self.old.name (self.old.made + 1) ms kind.now content)) }
         ensures fits { IfOk result IsMessage }
         ensures made { IfOk result (λ parts.
@@ -111,7 +111,7 @@ impl Session {
 
     fn parts_of(&self, number: u64, ms: u64, kind: &str, content: Json) -> Result<Parts, NoMemory>
         requires { ms < 2 ^ 47 }
-        ensures { IfOk result (λ parts. parts ≡ encoded self.now.key
+        ensures { IfOk result (λ parts. parts ≡ encode self.now.key
             (request self.now.name number ms kind.now content)) }
     {
         let message = self.message(number, ms, kind, content)?;
@@ -119,7 +119,7 @@ impl Session {
     }
 
     fn encode(&self, message: &Message) -> Result<Parts, NoMemory>
-        ensures { IfOk result (λ parts. parts ≡ encoded self.now.key message.now) }
+        ensures { IfOk result (λ parts. parts ≡ encode self.now.key message.now) }
     {
         encode_under(self.alloc, &self.signer, message)
     }

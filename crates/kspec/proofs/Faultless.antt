@@ -6,10 +6,10 @@ use Rattle.std.proofs.lemmas.List.Elements.{All-nil, All-cons}
 use Rattle.std.specs.List.{list_all}
 use Rattle.jtext.specs.declared.json.Json.{Json}
 use Rattle.jtext.specs.Find.{field, fields}
-use Rattle.jtext.specs.Look.{is_object, is_string, is_strings, items, there_and, absent_or, items_of}
+use Rattle.jtext.specs.Look.{is_object, is_string, is_strings, items, text_of, there_and, absent_or, items_of}
 use Rattle.kspec.specs.declared.spec_fault.SpecFault.TheVariants.{NotJson, NoArgv, BadEnv, SignalMode}
 use Rattle.kspec.specs.declared.start.Spec.{Spec}
-use Rattle.kspec.specs.KernelJson.{spec_of, is_argv, is_env, pairs_of, text_of, fault_of, is_by_message, CanStart}
+use Rattle.kspec.specs.KernelJson.{spec_of, is_argv, is_env, pairs_of, fault_of, is_by_message, CanStart}
 
 -- where no fault is first, the second and the third test hold
 no_fault : (a b c d : Bool)

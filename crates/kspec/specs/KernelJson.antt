@@ -1,25 +1,15 @@
 -- What a `kernel.json` says (jupyter_client, "Kernel specs": `argv`, `env`, `interrupt_mode`).
-use Rattle.std.specs.Prelude.{◌≡◌, ◌<◌, ◌≤◌, ◌⊎◌, ℕ, Bool, true, List, [], map, All, Option, Some, None, if◌then◌else◌, ◌&&◌, not, nat_le, length, codes, unwrap_or}
+use Rattle.std.specs.Prelude.{◌≡◌, ◌<◌, ◌⊎◌, ℕ, Bool, true, List, [], map, Option, Some, None, if◌then◌else◌, ◌&&◌, not, nat_le, length, codes}
 use Rattle.std.specs.List.{list_all}
 use Rattle.std.specs.Str.{bytes_eq}
 use Rattle.jtext.specs.declared.json.Json.{Json}
-use Rattle.jtext.specs.Depth.{depth}
 use Rattle.jtext.specs.Find.{field, fields}
-use Rattle.jtext.specs.Grammar.{Spells}
-use Rattle.jtext.specs.Look.{is_object, is_string, is_strings, items, string, string_at, there_and, absent_or, items_of}
+use Rattle.jtext.specs.Look.{is_object, is_string, is_strings, items, string_at, text_of, there_and, absent_or, items_of}
+use Rattle.jtext.specs.Texts.{AllStrings}
+use Rattle.jtext.specs.Within.{IsTextWithin, IsNoTextWithin}
 use Rattle.kspec.specs.declared.start.Spec.{Spec}
 use Rattle.kspec.specs.declared.spec_fault.SpecFault.{SpecFault}
 use Rattle.kspec.specs.declared.spec_fault.SpecFault.TheVariants.{NotJson, NoArgv, BadEnv, SignalMode}
-
--- the bytes are a text of this tree, of at most 1 MiB and nested at most 100 deep
-pub record IsTextOf (bytes : List ℕ) (t : Json) : Type 0 where
-  pub small : length bytes ≤ 1048576
-  pub spells : Spells t bytes
-  pub within : depth t ≤ 100
-
--- the bytes are a text of no tree
-abbrev pub IsNoText : List ℕ → Type 0
-IsNoText bytes = (t : Json) → IsTextOf bytes t → ⊥
 
 -- a list of at least one string
 abbrev pub is_argv : Json → Bool
@@ -46,10 +36,6 @@ fault_of interrupt t =
     else if interrupt && not (is_by_message t) then Some SignalMode
     else None
 
--- the text of a string, empty for another value
-abbrev pub text_of : Json → List ℕ
-text_of v = unwrap_or (string v) []
-
 -- the pairs of an object, and none where there is no value
 abbrev pub pairs_of : Option Json → List (List ℕ × Json)
 pairs_of None = []
@@ -66,16 +52,17 @@ spec_of t = record {
 -- the bytes spell a kernel spec without a fault, which says this
 pub record Says (interrupt : Bool) (bytes : List ℕ) (s : Spec) : Type 0 where
   pub tree : Json
-  pub text : IsTextOf bytes tree
+  pub text : IsTextWithin 1048576 100 bytes tree
   pub faultless : fault_of interrupt tree ≡ None
   pub told : s ≡ spec_of tree
 
 -- a program can be started by it: there is one, and each variable has a string
 pub record CanStart (s : Spec) : Type 0 where
   pub program : 0 < length s.argv
-  pub strings : All (λ variable. is_string variable.1 ≡ true) s.env
+  pub strings : AllStrings s.env
 
 -- the bytes are refused so: they spell no tree, or this is the first fault of the tree that they spell
 abbrev pub Refuses : Bool → List ℕ → SpecFault → Type 0
 Refuses interrupt bytes f =
-    (IsNoText bytes × (f ≡ NotJson)) ⊎ ((t : Json) × IsTextOf bytes t × (fault_of interrupt t ≡ Some f))
+    (IsNoTextWithin 1048576 100 bytes × (f ≡ NotJson))
+    ⊎ ((t : Json) × IsTextWithin 1048576 100 bytes t × (fault_of interrupt t ≡ Some f))

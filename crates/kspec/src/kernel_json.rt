@@ -1,5 +1,5 @@
 //! Kernel specs: the file `kernel.json`.
-ghost use Rattle.std.specs.Prelude.{◌≡◌, ◌⊎◌, map, IfOk, IfErr, MatchOption};
+ghost use Rattle.std.specs.Prelude.{◌≡◌, ◌⊎◌, IfOk, IfErr};
 ghost use Rattle.std.specs.List.{list_all};
 ghost use Rattle.jtext.specs.Find as find;
 ghost use Rattle.jtext.specs.Look.{is_string, items_of};
@@ -7,7 +7,7 @@ ghost use Rattle.kspec.specs.KernelJson as kernel_json;
 ghost use Rattle.kspec.specs.declared.spec_fault.SpecFault.TheVariants as fault;
 
 use crate::{Spec, SpecFault};
-use jtext::{Json, JsonFault, NoMemory, Text, Texts, copy_fields, field, read, string_at};
+use jtext::{Json, NoMemory, Text, copy_fields, field, read_within, string_at, texts_of};
 use std::alloc::Global;
 
 /// The size of the largest kernel spec, in bytes.
@@ -25,27 +25,12 @@ pub fn spec(alloc: Global, bytes: &[u8], interrupt: bool) -> Result<Spec, SpecFa
     ensures refused { IfErr result (λ f.
         (f ≡ fault.NoMemory) ⊎ kernel_json.Refuses interrupt bytes.now f) }
 {
-    let Some(tree) = parsed_tree(alloc, bytes)? else {
+    let Some(tree) = read_within(alloc, bytes, LARGEST, DEEP)? else {
         return Err(SpecFault::NotJson);
     };
     match fault_of(&tree, interrupt) {
         Some(fault) => Err(fault),
         None => Ok(spec_of(alloc, &tree)?),
-    }
-}
-
-/// The tree that the bytes spell, if they are a text of at most that size and depth.
-fn parsed_tree(alloc: Global, bytes: &[u8]) -> Result<Option<Json>, NoMemory>
-    ensures { IfOk result (λ o.
-        MatchOption o (kernel_json.IsNoText bytes.now) (kernel_json.IsTextOf bytes.now)) }
-{
-    if LARGEST < bytes.len() {
-        return Ok(None);
-    }
-    match read(alloc, bytes, DEEP) {
-        Ok(tree) => Ok(Some(tree)),
-        Err(JsonFault::NoMemory) => Err(NoMemory),
-        Err(_) => Ok(None),
     }
 }
 
@@ -101,7 +86,7 @@ fn spec_of(alloc: Global, t: &Json) -> Result<Spec, NoMemory>
     ensures { IfOk result (λ s. s ≡ kernel_json.spec_of t.now) }
 {
     Ok(Spec {
-        argv: texts(alloc, items_at(t, "argv"))?,
+        argv: texts_of(alloc, items_at(t, "argv"))?,
         env: copy_fields(alloc, pairs_at(t, "env"))?,
         by_message: is_by_message(t),
     })
@@ -122,24 +107,5 @@ fn pairs_at<'a>(t: &'a Json, key: &str) -> &'a [(Text, Json)]
     match field(t, key) {
         Some(v) => v.pairs(),
         None => &[],
-    }
-}
-
-fn texts(alloc: Global, items: &[Json]) -> Result<Texts, NoMemory>
-    ensures { IfOk result (λ r. r ≡ map kernel_json.text_of items.now) }
-{
-    let mut texts = Texts::new(alloc);
-    for item in items {
-        texts.push(text_of(alloc, item)?)?;
-    }
-    Ok(texts)
-}
-
-fn text_of(alloc: Global, v: &Json) -> Result<Text, NoMemory>
-    ensures { IfOk result (λ r. r ≡ kernel_json.text_of v.now) }
-{
-    match v.as_text() {
-        Some(text) => text.copy(alloc),
-        None => Ok(Text::new(alloc)),
     }
 }

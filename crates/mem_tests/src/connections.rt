@@ -1,6 +1,6 @@
 //! Connections, waits, children and the clock.
 ghost use Rattle.std.specs.Prelude.{◌<◌, length};
-ghost use Rattle.world.specs.Environment.{AllStrings};
+ghost use Rattle.jtext.specs.Texts.{AllStrings};
 
 use crate::calls::{close, connect, gives, put, reports};
 use crate::seen::SeenDisk;

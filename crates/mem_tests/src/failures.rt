@@ -1,6 +1,6 @@
 //! One failing call at a time.
 ghost use Rattle.std.specs.Prelude.{◌<◌, length};
-ghost use Rattle.world.specs.Environment.{AllStrings};
+ghost use Rattle.jtext.specs.Texts.{AllStrings};
 
 use crate::seen::{SeenCrash, SeenDisk};
 use crate::worlds::{plain_script, world};

@@ -1,6 +1,6 @@
 //! The world and the kernel that do nothing.
 ghost use Rattle.std.specs.Prelude.{◌<◌, ◌≤◌, ◌^◌, length};
-ghost use Rattle.world.specs.Environment.{AllStrings};
+ghost use Rattle.jtext.specs.Texts.{AllStrings};
 
 use jtext::{Fields, Json, Text, Texts};
 use std::alloc::Global;

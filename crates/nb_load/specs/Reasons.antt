@@ -1,7 +1,7 @@
 -- What is said of bytes that give no notebook for a job, with the place of the fault.
 use Rattle.std.specs.Prelude.{ℕ, List, [], ◌++◌, codes}
 use Rattle.jtext.specs.Messages.{json_message}
-use Rattle.jtext.specs.Print.{quoted}
+use Rattle.jtext.specs.Print.{quote}
 use Rattle.nb_model.specs.declared.nb_fault.NbFault.{NbFault}
 use Rattle.nb_model.specs.declared.nb_fault.NbFault.TheVariants as nb_fault
 use Rattle.nb_load.specs.declared.load_fault.LoadFault.{LoadFault}
@@ -18,5 +18,5 @@ notebook_reason nb_fault.NoMemory = []
 abbrev pub reason : LoadFault → List ℕ
 reason (fault.NotJson f) = json_message f
 reason (fault.NotNotebook f) = notebook_reason f
-reason (fault.NoTranslator language) = codes "no translator for " ++ quoted language
+reason (fault.NoTranslator language) = codes "no translator for " ++ quote language
 reason fault.NoMemory = []

@@ -1,7 +1,7 @@
 //! `LoadFault`, why bytes give no notebook for a job.
 ghost use Rattle.std.specs.Prelude.{◌≡◌, ◌++◌, codes, string_bytes, IfOk};
 ghost use Rattle.jtext.specs.Messages.{json_message};
-ghost use Rattle.jtext.specs.Print.{quoted};
+ghost use Rattle.jtext.specs.Print.{quote};
 ghost use Rattle.nb_load.specs.Reasons.{reason, notebook_reason};
 
 use jtext::{Bytes, Json, JsonFault, NoMemory, Text, write_compact};
@@ -67,7 +67,7 @@ fn join(alloc: Global, first: &str, second: &Text) -> Result<Bytes, NoMemory>
 }
 
 fn no_translator(alloc: Global, language: &Text) -> Result<Bytes, NoMemory>
-    ensures { IfOk result (λ b. b ≡ codes "no translator for " ++ quoted language.now) }
+    ensures { IfOk result (λ b. b ≡ codes "no translator for " ++ quote language.now) }
 {
     let name = Json::Str(Text::of(alloc, language.as_str())?);
     let name = write_compact(alloc, &name)?;

@@ -46,7 +46,7 @@ values_keyed [] all = tt
 values_keyed (p ∷ ps) all = (value_keyed p all.0, values_keyed ps all.1)
 
 -- each pair keeps its key
-same_key : (p : List ℕ × Json) → (raised_pair p).0 ≡ p.0
+pub same_key : (p : List ℕ × Json) → (raised_pair p).0 ≡ p.0
 same_key p =
     elim (bytes_eq p.0 (codes "cells")) as (λ b. (cond b (p.0, raised_cells p.1) (cond (bytes_eq p.0 (codes "nbformat_minor")) (p.0, json.Num (codes "5")) p)).0 ≡ p.0) [
       | true ↦ refl

@@ -2,7 +2,8 @@ use Rattle.std.proofs.Common.{◌≡◌, ℕ, suc, sym, ◌+◌, List, [], ◌�
 use Rattle.jtext.specs.declared.json.Json.{Json}
 use Rattle.nb_migrate.specs.Raised.{raised_cell, raised_from}
 
-raised_length : (i : ℕ) (vs : List Json) → length (raised_from i vs) ≡ length vs
+-- as many as before
+pub raised_length : (i : ℕ) (vs : List Json) → length (raised_from i vs) ≡ length vs
 raised_length i [] = refl
 raised_length i (v ∷ vs) = ap suc (raised_length (i + 1) vs)
 

@@ -4,6 +4,7 @@ use Rattle.std.specs.Prelude.{is_some, is_none, option_map, option_and_then, unw
 use Rattle.std.specs.Option.{option_or}
 use Rattle.std.specs.List.{list_any, list_all, position_from}
 use Rattle.std.specs.Str.{bytes_eq}
+use Rattle.std.proofs.Math.Bool.{and_assoc}
 use Rattle.std.proofs.lemmas.Bool.{cases_Bool, cond-true, cond-false, and_parts, not-true, not-false}
 use Rattle.std.proofs.lemmas.List.Folds.{list_all_at}
 use Rattle.std.proofs.lemmas.List.Quantifiers.{position-Some}
@@ -26,7 +27,7 @@ use Rattle.nb_model.specs.Pointer.{place_unless, under_key, under_item}
 use Rattle.nb_model.specs.Places as place
 use Rattle.nb_model.specs.Faults.{repeated_id, fault_within, fault_of}
 use Rattle.nb_model.proofs.PreparedLaws.{and_eq, or_eq, is_prose_name}
-use Rattle.nb_model.proofs.RegroupedTests.{two_keys, result_keys, error_keys, prose_keys, code_keys, top_level_keys, kernelspec_keys, one_key, and_left, version_first, one_more, one_taken}
+use Rattle.nb_model.proofs.RegroupedTests.{two_keys, result_keys, error_keys, prose_keys, code_keys, top_level_keys, kernelspec_keys, one_key, version_first, one_more, one_taken}
 use Rattle.nb_model.proofs.Tautologies.{always, same, from_same}
 
 -- ---- parts of a place
@@ -353,7 +354,7 @@ metadata-none : (v : Json) → is_none (place.of_metadata v) ≡ valid.is_metada
 metadata-none v =
     none-if (is_object v) _ []
     ∙ ap (λ b. is_object v && b) (tells-or (within_tells (codes "kernelspec") place.of_kernelspec valid.is_kernelspec v kernelspec-none) (within_tells (codes "language_info") place.of_language_info valid.is_language_info v language_info-none)).is
-    ∙ and_left (is_object v) (may_have (codes "kernelspec") valid.is_kernelspec v) (may_have (codes "language_info") valid.is_language_info v)
+    ∙ sym (and_assoc (is_object v) (may_have (codes "kernelspec") valid.is_kernelspec v) (may_have (codes "language_info") valid.is_language_info v))
 
 -- ---- ids
 

@@ -1,5 +1,5 @@
 -- Pairs whose keys are known, in the order of their keys.
-use Rattle.std.proofs.Common.{◌≡◌, ◌≢◌, ℕ, Bool, true, false, not, ◌&&◌, ◌||◌, List, [], ◌∷◌, ◌++◌, map, Some, None, refl, sym, ap, ap₂, ◌∙◌, inl, inr, is_gt}
+use Rattle.std.proofs.Common.{◌≡◌, ℕ, Bool, true, false, not, ◌&&◌, ◌||◌, List, [], ◌∷◌, ◌++◌, map, Some, None, refl, sym, ap, ap₂, ◌∙◌, inl, inr, is_gt}
 use Rattle.std.specs.List.{list_any, list_all}
 use Rattle.std.specs.Str.{bytes_eq}
 use Rattle.std.proofs.lemmas.Bool.{cases_Bool, cond-true, cond-false, and_parts, not-true}
@@ -8,6 +8,7 @@ use Rattle.jtext.specs.declared.json.Json.{Json}
 use Rattle.jtext.specs.Find.{find}
 use Rattle.jtext.specs.Grammar.{Lacks, Distinct}
 use Rattle.jtext.specs.Sorting.{byte_order, insert_sorted, by_key}
+use Rattle.jtext.proofs.Equals.{other_bytes}
 use Rattle.nb_model.specs.Tree.{optional_pair}
 
 -- the pairs with these keys, in this order
@@ -89,12 +90,9 @@ insert-chosen p (k ∷ ks) ps u h none =
 
 -- ---- all pairs
 
-differ : (xs ys : List ℕ) → xs ≢ ys → bytes_eq xs ys ≡ false
-differ xs ys ne = elim (cases_Bool (bytes_eq xs ys)) [ inl t ↦ absurd (ne ((bytes_eq-Decides xs ys).0 t)) | inr f ↦ f ]
-
 pub find-lacks : (key : List ℕ) (ps : List (List ℕ × Json)) → Lacks key ps → find key ps ≡ None
 find-lacks key [] l = refl
-find-lacks key (p ∷ ps) l = cond-false (bytes_eq p.0 key) (Some p.1) (find key ps) (differ p.0 key l.0) ∙ find-lacks key ps l.1
+find-lacks key (p ∷ ps) l = cond-false (bytes_eq p.0 key) (Some p.1) (find key ps) (other_bytes p.0 key l.0) ∙ find-lacks key ps l.1
 
 none_chosen : (ks : List (List ℕ)) → [] ≡ chosen ks []
 none_chosen [] = refl

@@ -10,10 +10,12 @@ use Rattle.nb_model.proofs.PreparedLaws.{and_eq, list_Arr, items_Arr}
 is_string_Arr : (xs : List Json) → is_string (json.Arr xs) ≡ false
 is_string_Arr xs = search (rules, the_lemmas)
 
-is_string_Str : (s : List ℕ) → is_string (json.Str s) ≡ true
+-- a string is one
+pub is_string_Str : (s : List ℕ) → is_string (json.Str s) ≡ true
 is_string_Str s = search (rules, the_lemmas)
 
-strings_fit : (ls : List (List ℕ)) → list_all is_string (map (λ l. json.Str l) ls) ≡ true
+-- each of a list of strings is one
+pub strings_fit : (ls : List (List ℕ)) → list_all is_string (map (λ l. json.Str l) ls) ≡ true
 strings_fit [] = refl
 strings_fit (l ∷ ls) = and_eq (is_string_Str l) (strings_fit ls)
 

@@ -1,15 +1,14 @@
 -- Pairs of which one is taken out.
-use Rattle.std.proofs.Common.{◌≡◌, ℕ, zero, suc, ◌+◌, ◌<◌, Bool, true, false, cond, ◌||◌, List, [], ◌∷◌, ◌++◌, Option, Some, None, length, take, drop, get_or, refl, sym, ap, ◌∙◌, inl, inr, arith}
+use Rattle.std.proofs.Common.{◌≡◌, ℕ, zero, suc, ◌+◌, ◌<◌, true, false, cond, List, [], ◌∷◌, ◌++◌, Option, Some, None, length, take, drop, get_or, refl, sym, ap, ◌∙◌, inl, inr, arith}
 use Rattle.std.specs.List.{list_any, remove, position, position_from}
 use Rattle.std.specs.Str.{bytes_eq}
-use Rattle.std.proofs.lemmas.Bool.{cases_Bool, cond-true, cond-false}
+use Rattle.std.proofs.lemmas.Bool.{cases_Bool, cond-true, cond-false, or_parts}
 use Rattle.std.proofs.lemmas.List.Quantifiers.{position-Some}
 use Rattle.std.proofs.lemmas.Iterator.Adapters.{position_from-zero}
 use Rattle.std.proofs.lemmas.Slice.Eq.{bytes_eq-Decides}
 use Rattle.jtext.specs.declared.json.Json.{Json}
-use Rattle.jtext.specs.declared.json.Json.TheVariants as json
 use Rattle.jtext.specs.Find.{find}
-use Rattle.jtext.proofs.Edits.{not_first}
+use Rattle.jtext.proofs.Edits.{no_pair, not_first}
 use Rattle.nb_model.specs.Pairs.{pairs_without}
 use Rattle.nb_model.specs.declared.kind.Kind.{Kind}
 use Rattle.nb_model.specs.declared.cell.Cell.{Cell}
@@ -17,11 +16,8 @@ use Rattle.nb_model.specs.declared.notebook.Notebook.{Notebook}
 
 -- ---- the place of a key
 
-nothing : List ℕ × Json
-nothing = ([], json.Null)
-
-rest_at : (key : List ℕ) (ps : List (List ℕ × Json)) (i : ℕ) → i < length ps → bytes_eq (get_or ps i nothing).0 key ≡ true
-    → ((k : ℕ) → k < i → bytes_eq (get_or ps k nothing).0 key ≡ false) → take i ps ++ drop (suc i) ps ≡ pairs_without key ps
+rest_at : (key : List ℕ) (ps : List (List ℕ × Json)) (i : ℕ) → i < length ps → bytes_eq (get_or ps i no_pair).0 key ≡ true
+    → ((k : ℕ) → k < i → bytes_eq (get_or ps k no_pair).0 key ≡ false) → take i ps ++ drop (suc i) ps ≡ pairs_without key ps
 rest_at key [] i lt here none = absurd (omega arith)
 rest_at key (q ∷ qs) zero lt here none = sym (cond-true (bytes_eq q.0 key) qs (q ∷ pairs_without key qs) here)
 rest_at key (q ∷ qs) (suc i) lt here none =
@@ -29,7 +25,7 @@ rest_at key (q ∷ qs) (suc i) lt here none =
     ∙ sym (cond-false (bytes_eq q.0 key) qs (q ∷ pairs_without key qs) (none 0 (omega arith)))
 
 pub without-at : (key : List ℕ) (ps : List (List ℕ × Json)) (i : ℕ) → position (λ q. bytes_eq q.0 key) ps ≡ Some i → remove ps i ≡ pairs_without key ps
-without-at key ps i e = let is = position-Some (λ q. bytes_eq q.0 key) ps i nothing e in rest_at key ps i is.0 is.1 is.2
+without-at key ps i e = let is = position-Some (λ q. bytes_eq q.0 key) ps i no_pair e in rest_at key ps i is.0 is.1 is.2
 
 absent_from : (key : List ℕ) (ps : List (List ℕ × Json)) (i : ℕ) → position_from (λ q. bytes_eq q.0 key) i ps ≡ None → pairs_without key ps ≡ ps
 absent_from key [] i e = refl
@@ -59,14 +55,10 @@ abbrev pub without_all : List (List ℕ) → List (List ℕ × Json) → List (L
 without_all [] ps = ps
 without_all (key ∷ keys) ps = without_all keys (pairs_without key ps)
 
-split_or : (a b : Bool) → (a || b) ≡ false → (a ≡ false) × (b ≡ false)
-split_or false b e = (refl, e)
-split_or true b e = cc
-
 pub find-without_all : (k : List ℕ) (keys : List (List ℕ)) (ps : List (List ℕ × Json)) → list_any (λ key. bytes_eq key k) keys ≡ false → find k (without_all keys ps) ≡ find k ps
 find-without_all k [] ps ne = refl
 find-without_all k (key ∷ keys) ps ne =
-    let h = split_or (bytes_eq key k) (list_any (λ q. bytes_eq q k) keys) ne in
+    let h = or_parts (bytes_eq key k) (list_any (λ q. bytes_eq q k) keys) ne in
     find-without_all k keys (pairs_without key ps) h.1 ∙ find-without k key ps h.0
 
 -- ---- records of parts

@@ -42,9 +42,6 @@ kernelspec_keys o n1 n2 m1 m2 =
 pub one_key : (o n m : Bool) → (o && ((n && true) && m)) ≡ (o && (n && m))
 one_key o n m = from_same (o && ((n && true) && m)) (o && (n && m)) (always 3 (λ o n m. same (o && ((n && true) && m)) (o && (n && m))) refl o n m)
 
-pub and_left : (o a b : Bool) → (o && (a && b)) ≡ ((o && a) && b)
-and_left o a b = from_same (o && (a && b)) ((o && a) && b) (always 3 (λ o a b. same (o && (a && b)) ((o && a) && b)) refl o a b)
-
 pub version_first : (o k a b m c : Bool) → (((((o && k) && a) && b) && m) && c) ≡ ((a && b) && (((o && k) && m) && c))
 version_first o k a b m c =
     from_same (((((o && k) && a) && b) && m) && c) ((a && b) && (((o && k) && m) && c))

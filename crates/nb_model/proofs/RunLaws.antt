@@ -13,6 +13,7 @@ use Rattle.jtext.specs.Keyed as keyed
 use Rattle.jtext.specs.Keyed.{Keyed}
 use Rattle.jtext.specs.Look.{absent_or}
 use Rattle.jtext.proofs.Depths.{depth-Arr, depth-Null, depth-Num, highest-le}
+use Rattle.jtext.proofs.Sorts.{all_weaker}
 use Rattle.nb_model.specs.declared.kind.Kind.{Kind}
 use Rattle.nb_model.specs.declared.kind.Kind.TheVariants as kind
 use Rattle.nb_model.specs.declared.cell.Cell.{Cell}
@@ -68,10 +69,6 @@ changed old new = record old { outputs = new.outputs; count = new.count; metadat
 all_true : {A : Type 0} (P : A → Type 0) (test : A → Bool) → ((x : A) → P x → test x ≡ true) → (xs : List A) → AllByRecursion P xs → list_all test xs ≡ true
 all_true P test holds [] all = refl
 all_true P test holds (x ∷ xs) all = and_eq (holds x all.0) (all_true P test holds xs all.1)
-
-all_weaker : {A : Type 0} (P Q : A → Type 0) → ((x : A) → P x → Q x) → (xs : List A) → AllByRecursion P xs → AllByRecursion Q xs
-all_weaker P Q f [] all = tt
-all_weaker P Q f (x ∷ xs) all = (f x all.0, all_weaker P Q f xs all.1)
 
 fit_outputs : (old new : Cell) → IsRunCellOf old new → AllByRecursion IsFitOutput new.outputs
 fit_outputs old new r = recursion_from_All IsFitOutput new.outputs r.outputs

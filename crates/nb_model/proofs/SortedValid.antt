@@ -7,7 +7,7 @@ use Rattle.jtext.specs.Find.{field}
 use Rattle.jtext.specs.Keyed.{Keyed, AllKeyed}
 use Rattle.jtext.specs.Grammar.{Spells}
 use Rattle.jtext.specs.Indent.{print}
-use Rattle.jtext.specs.Sorting.{sorted}
+use Rattle.jtext.specs.Sorting.{sort_tree}
 use Rattle.jtext.specs.Sound.{Sound}
 use Rattle.jtext.specs.Look.{is_object, string, is_string, there_and, is_strings, is_whole_text}
 use Rattle.jtext.proofs.IndentedSpells.{indented_text}
@@ -110,17 +110,17 @@ cell-stays t k = and_eq (object_sorted t) (or_eq (prose_cell-stays t k) (code_ce
 
 -- ---- ids
 
-id_sorted : (c : Json) → Keyed c → valid.id_of (sorted c) ≡ valid.id_of c
+id_sorted : (c : Json) → Keyed c → valid.id_of (sort_tree c) ≡ valid.id_of c
 id_sorted c k =
     ap (λ o. unwrap_or (option_and_then string o) []) (field_sorted (codes "id") c k)
-    ∙ (elim (field c (codes "id")) as (λ o. unwrap_or (option_and_then string (option_map sorted o)) [] ≡ unwrap_or (option_and_then string o) []) [ None ↦ refl | Some v ↦ ap (λ s. unwrap_or s []) (string_sorted v) ])
+    ∙ (elim (field c (codes "id")) as (λ o. unwrap_or (option_and_then string (option_map sort_tree o)) [] ≡ unwrap_or (option_and_then string o) []) [ None ↦ refl | Some v ↦ ap (λ s. unwrap_or s []) (string_sorted v) ])
 
-ids_sorted : (xs : List Json) → AllKeyed xs → map valid.id_of (map sorted xs) ≡ map valid.id_of xs
+ids_sorted : (xs : List Json) → AllKeyed xs → map valid.id_of (map sort_tree xs) ≡ map valid.id_of xs
 ids_sorted [] k = refl
 ids_sorted (x ∷ xs) k = let h = first_keyed x xs k in ap₂ (λ i is. i ∷ is) (id_sorted x h.0) (ids_sorted xs h.1)
 
-differ_sorted : (xs : List Json) → AllKeyed xs → valid.ids_differ (map sorted xs) ≡ valid.ids_differ xs
-differ_sorted xs k = ids_are (map sorted xs) ∙ ap no_repeat (ids_sorted xs k) ∙ sym (ids_are xs)
+differ_sorted : (xs : List Json) → AllKeyed xs → valid.ids_differ (map sort_tree xs) ≡ valid.ids_differ xs
+differ_sorted xs k = ids_are (map sort_tree xs) ∙ ap no_repeat (ids_sorted xs k) ∙ sym (ids_are xs)
 
 cells-stay : Stays valid.are_cells
 cells-stay t k = and_eq (and_eq (list_sorted t) (items-stay valid.is_cell cell-stays t k)) (items_of_sorted valid.ids_differ differ_sorted t k)
@@ -145,10 +145,10 @@ notebook-stays t k =
 
 pub read_valid : (t u : Json) → Sound t → Keyed t → Valid t → Spells u (print t) → Valid u × Keyed u
 read_valid t u s k v is =
-    let same : sorted t ≡ u = one_tree (sorted t) u (print t) (indented_text t s k) is in
-    let again : Valid (sorted t) = record { notebook = notebook-stays t k ∙ v.notebook; within = subst (λ n. n ≤ 128) (sym (depth_stays t k)) v.within } in
+    let same : sort_tree t ≡ u = one_tree (sort_tree t) u (print t) (indented_text t s k) is in
+    let again : Valid (sort_tree t) = record { notebook = notebook-stays t k ∙ v.notebook; within = subst (λ n. n ≤ 128) (sym (depth_stays t k)) v.within } in
     (subst Valid same again, spells_keyed u (print t) is)
 
 -- what is read of the indented text of a tree, is the tree with its pairs sorted
-pub read_sorted : (t u : Json) → Sound t → Keyed t → Spells u (print t) → u ≡ sorted t
-read_sorted t u s k is = sym (one_tree (sorted t) u (print t) (indented_text t s k) is)
+pub read_sorted : (t u : Json) → Sound t → Keyed t → Spells u (print t) → u ≡ sort_tree t
+read_sorted t u s k is = sym (one_tree (sort_tree t) u (print t) (indented_text t s k) is)

@@ -12,8 +12,8 @@ use Rattle.jtext.specs.declared.json.Json.TheVariants.{rolls-Obj, rolls-Arr, rol
 use Rattle.jtext.specs.Find.{field, fields}
 use Rattle.jtext.specs.Grammar.{Distinct}
 use Rattle.jtext.specs.Keyed.{Keyed, AllKeyed}
-use Rattle.jtext.specs.Sorting.{byte_order, by_key, sorted}
-use Rattle.jtext.specs.Indent.{bracketed, named, further, indented, print}
+use Rattle.jtext.specs.Sorting.{byte_order, by_key, sort_tree}
+use Rattle.jtext.specs.Indent.{bracket, member, further, indent, print}
 use Rattle.jtext.specs.Look.{is_object, is_list, items, string, string_layer, number, number_layer, is_null_layer, there_and, is_whole_text}
 use Rattle.jtext.proofs.Sorts.{sort_by-map}
 use Rattle.nb_model.specs.declared.kind.Kind.{Kind}
@@ -263,20 +263,20 @@ module _ {A : Type 0} (F : Json → A) (G : List (List ℕ × A) → A) (H : Lis
 
 -- ---- sorted trees and indented texts
 
-pub sorted_same : (t : Json) → valid.is_notebook t ≡ true → Keyed t → sorted (notebook_tree (notebook_of t)) ≡ sorted t
-sorted_same = notebook_same sorted json.Obj json.Arr sorted-Obj sorted-Arr
+pub sorted_same : (t : Json) → valid.is_notebook t ≡ true → Keyed t → sort_tree (notebook_tree (notebook_of t)) ≡ sort_tree t
+sorted_same = notebook_same sort_tree json.Obj json.Arr sorted-Obj sorted-Arr
 
 abbrev list_text : List (List ℕ → List ℕ) → List ℕ → List ℕ
-list_text fs margin = bracketed 91 93 margin (map (λ f. f (further margin)) fs)
+list_text fs margin = bracket 91 93 margin (map (λ f. f (further margin)) fs)
 
 abbrev object_text : List (List ℕ × (List ℕ → List ℕ)) → List ℕ → List ℕ
-object_text ps margin = bracketed 123 125 margin (map named (map (λ p. (p.0, p.1 (further margin))) ps))
+object_text ps margin = bracket 123 125 margin (map member (map (λ p. (p.0, p.1 (further margin))) ps))
 
-indented-Arr : (xs : List Json) → indented (json.Arr xs) ≡ list_text (map indented xs)
+indented-Arr : (xs : List Json) → indent (json.Arr xs) ≡ list_text (map indent xs)
 indented-Arr xs = search (rules, the_lemmas)
 
-indented-Obj : (ps : List (List ℕ × Json)) → indented (json.Obj ps) ≡ object_text (by_key (map (λ p. (p.0, indented p.1)) ps))
+indented-Obj : (ps : List (List ℕ × Json)) → indent (json.Obj ps) ≡ object_text (by_key (map (λ p. (p.0, indent p.1)) ps))
 indented-Obj ps = search (rules, the_lemmas)
 
 pub printed_same : (t : Json) → valid.is_notebook t ≡ true → Keyed t → print (notebook_tree (notebook_of t)) ≡ print t
-printed_same t v k = ap (λ f. f [] ++ 10 ∷ []) (notebook_same indented object_text list_text indented-Obj indented-Arr t v k)
+printed_same t v k = ap (λ f. f [] ++ 10 ∷ []) (notebook_same indent object_text list_text indented-Obj indented-Arr t v k)

@@ -1,19 +1,15 @@
 -- Which cells are executed, as nbclient decides it: code cells that aren't blank and aren't tagged to be skipped.
 -- A source is blank where every character has Unicode's property White_Space.
-use Rattle.std.specs.Prelude.{ℕ, ◌+◌, Bool, not, ◌&&◌, if◌then◌else◌, List, [], ◌∷◌, ◌++◌, codes, unwrap_or, flat_map}
+use Rattle.std.specs.Prelude.{ℕ, ◌+◌, Bool, not, ◌&&◌, if◌then◌else◌, List, [], ◌∷◌, ◌++◌, codes, flat_map}
 use Rattle.std.specs.List.{list_all}
 use Rattle.std.specs.Str.{chars}
 use Rattle.unicode.specs.Binary.{is_white_space}
 use Rattle.jtext.specs.declared.json.Json.{Json}
-use Rattle.jtext.specs.Look.{items, string}
+use Rattle.jtext.specs.Look.{items, text_of}
 use Rattle.nb_model.specs.declared.cell.Cell.{Cell}
 use Rattle.nb_model.specs.declared.notebook.Notebook.{Notebook}
 use Rattle.nb_model.specs.Tags.{is_tagged}
 use Rattle.nb_model.specs.Kind.{is_code}
-
--- the text of a string, and the empty text of another value
-abbrev pub text_of : Json → List ℕ
-text_of v = unwrap_or (string v) []
 
 -- what a multiline string means: its text, or its lines joined
 abbrev pub joined_text : Json → List ℕ

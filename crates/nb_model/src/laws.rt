@@ -9,7 +9,7 @@ ghost use Rattle.jtext.specs.Grammar.{Spells};
 ghost use Rattle.jtext.specs.Indent.{print};
 ghost use Rattle.jtext.specs.Keyed.{Keyed};
 ghost use Rattle.jtext.specs.Number.{IsNumber};
-ghost use Rattle.jtext.specs.Sorting.{sorted};
+ghost use Rattle.jtext.specs.Sorting.{sort_tree};
 ghost use Rattle.jtext.specs.Sound.{Sound, AllSound};
 ghost use Rattle.nb_model.specs.declared.notebook.Notebook as notebook;
 ghost use Rattle.nb_model.specs.Faults.{fault_of};
@@ -32,7 +32,7 @@ pub fn faulty_where_invalid()
 /// tree of sorted pairs, and the same indented text.
 pub fn notebook_of_its_tree()
     ensures sorted { (t : tree.Json) → is_notebook t ≡ true → Keyed t
-        → sorted (notebook_tree (notebook_of t)) ≡ sorted t }
+        → sort_tree (notebook_tree (notebook_of t)) ≡ sort_tree t }
     ensures printed { (t : tree.Json) → is_notebook t ≡ true → Keyed t
         → print (notebook_tree (notebook_of t)) ≡ print t }
 {}
@@ -89,14 +89,14 @@ pub fn run_reads_back()
         → Spells u (print (notebook_tree new)) → Valid u × Keyed u }
     ensures same { (old new : notebook.Notebook) (u : tree.Json) → IsRunOf old new
         → Valid (notebook_tree old) → Keyed (notebook_tree old) → Sound (notebook_tree new)
-        → Spells u (print (notebook_tree new)) → u ≡ sorted (notebook_tree new) }
+        → Spells u (print (notebook_tree new)) → u ≡ sort_tree (notebook_tree new) }
 {}
 
 /// With the pairs of each object in the order of their keys, a tree in which no object has a key
 /// twice is a notebook exactly where it was one, and nested as deep.
 pub fn sorted_stays_valid()
-    ensures valid { (t : tree.Json) → Keyed t → is_notebook (sorted t) ≡ is_notebook t }
-    ensures depth { (t : tree.Json) → Keyed t → depth (sorted t) ≡ depth t }
+    ensures valid { (t : tree.Json) → Keyed t → is_notebook (sort_tree t) ≡ is_notebook t }
+    ensures depth { (t : tree.Json) → Keyed t → depth (sort_tree t) ≡ depth t }
 {}
 
 /// What is read of the indented text of a valid notebook in which no object has a key twice, is a

@@ -1,6 +1,5 @@
 //! A tree taken apart into the notebook that it is. Nothing in it is copied.
-ghost use Rattle.std.specs.Prelude.{◌≡◌, ◌<◌, length, map, IfOk, IfSome, position, option_and_then, unwrap_or, []};
-ghost use Rattle.std.specs.Str.{bytes_eq};
+ghost use Rattle.std.specs.Prelude.{◌≡◌, map, IfOk, option_and_then, unwrap_or, []};
 ghost use Rattle.jtext.specs.Find.{find, fields};
 ghost use Rattle.jtext.specs.declared.json.Json.TheVariants as json;
 ghost use Rattle.jtext.specs.Look as look;
@@ -8,7 +7,7 @@ ghost use Rattle.nb_model.specs.Pairs.{pairs_without};
 ghost use Rattle.nb_model.specs.Reading as reading;
 
 use crate::{Cell, Cells, Kind, Notebook};
-use jtext::{Fields, Items, Json, NoMemory, NumText, Text};
+use jtext::{Fields, Items, Json, NoMemory, NumText, Text, place_of_key};
 use std::alloc::Global;
 
 /// The notebook of a tree. Where a part is missing or of another kind, it is as if empty.
@@ -61,17 +60,10 @@ fn take(pairs: &mut Fields, key: &str) -> Option<Json>
     ensures value { result ≡ find key.now pairs.old }
     ensures rest { pairs.new ≡ pairs_without key.now pairs.old }
 {
-    match place_of(pairs.as_slice(), key) {
+    match place_of_key(pairs.as_slice(), key) {
         Some(i) => Some(pairs.take(i).1),
         None => None,
     }
-}
-
-fn place_of(pairs: &[(Text, Json)], key: &str) -> Option<usize>
-    ensures place { result ≡ position (λ p. bytes_eq p.0 key.now) pairs.now }
-    ensures within { IfSome result (λ i. i < length pairs.now) }
-{
-    pairs.iter().position(|p| p.0.as_str() == key)
 }
 
 fn or_null(v: Option<Json>) -> Json

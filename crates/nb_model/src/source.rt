@@ -73,20 +73,11 @@ fn joined_text(alloc: Global, v: &Json) -> Result<Text, NoMemory>
 }
 
 fn joined_items(alloc: Global, items: &[Json]) -> Result<Text, NoMemory>
-    ensures { IfOk result (λ text. text ≡ flat_map planned.text_of items.now) }
+    ensures { IfOk result (λ text. text ≡ flat_map look.text_of items.now) }
 {
     let mut text = String::new(alloc);
     for item in items {
-        text.push_str(text_of(item))?;
+        text.push_str(item.text())?;
     }
     Ok(Text::of_string(text))
-}
-
-fn text_of(v: &Json) -> &str
-    ensures { result.now ≡ planned.text_of v.now }
-{
-    match v {
-        Json::Str(text) => text.as_str(),
-        _ => "",
-    }
 }

@@ -1,9 +1,8 @@
-use Rattle.std.proofs.Common.{◌≡◌, ℕ, zero, suc, ◌+◌, ◌<◌, ◌-◌, Bool, true, false, ◌||◌, List, [], ◌∷◌, length, get_or, take, refl, sym, ap, ◌∙◌, inl, inr, arith, cond, codes}
-use Rattle.std.proofs.lemmas.Bool.{cases_Bool}
+use Rattle.std.proofs.Common.{◌≡◌, ℕ, zero, suc, ◌+◌, ◌<◌, ◌-◌, Bool, true, false, ◌||◌, List, [], ◌∷◌, length, get_or, take, refl, sym, ap, ◌∙◌, arith, cond, codes}
 use Rattle.std.proofs.lemmas.List.{length-map}
-use Rattle.std.proofs.lemmas.Slice.Eq.{bytes_eq-Decides}
 use Rattle.std.specs.List.{list_any}
 use Rattle.std.specs.Str.{bytes_eq}
+use Rattle.jtext.proofs.Equals.{turned_bytes}
 use Rattle.nb_model.specs.declared.cell.Cell.{Cell}
 use Rattle.nb_params.specs.Injected.{ids, numbered_id, free_from, fresh_id}
 
@@ -11,18 +10,6 @@ use Rattle.nb_params.specs.Injected.{ids, numbered_id, free_from, fresh_id}
 pub any_id : (q : List ℕ) (cells : List Cell) → list_any (bytes_eq q) (ids cells) ≡ list_any (λ c. bytes_eq q c.id) cells
 any_id q [] = refl
 any_id q (c ∷ cs) = ap (λ b. bytes_eq q c.id || b) (any_id q cs)
-
-pub turned : (a b : List ℕ) → bytes_eq a b ≡ bytes_eq b a
-turned a b = elim (cases_Bool (bytes_eq a b)) [
-  | inl t ↦ t ∙ sym ((bytes_eq-Decides b a).1 (sym ((bytes_eq-Decides a b).0 t)))
-  | inr f ↦ elim (cases_Bool (bytes_eq b a)) [
-    | inl t ↦ absurd (never (sym ((bytes_eq-Decides a b).1 (sym ((bytes_eq-Decides b a).0 t))) ∙ f))
-    | inr g ↦ f ∙ sym g
-  ]
-]
-  where
-    never : true ≡ false → ⊥
-    never h = cc
 
 alone : (a : Bool) → (a || false) ≡ cond a true false
 alone false = refl
@@ -36,7 +23,7 @@ over true true x = refl
 -- the ids with one more cell
 pub more_ids : (q : List ℕ) (cells : List Cell) (i : ℕ) (d : Cell) → i < length cells → list_any (bytes_eq q) (ids (take (i + 1) cells)) ≡ cond (bytes_eq (get_or cells i d).id q) true (list_any (bytes_eq q) (ids (take i cells)))
 more_ids q [] i d h = absurd (omega (arith, h))
-more_ids q (c ∷ cs) zero d h = alone (bytes_eq q c.id) ∙ ap (λ b. cond b true false) (turned q c.id)
+more_ids q (c ∷ cs) zero d h = alone (bytes_eq q c.id) ∙ ap (λ b. cond b true false) (turned_bytes q c.id)
 more_ids q (c ∷ cs) (suc i) d h =
     let next : suc i + 1 ≡ suc (i + 1) = omega arith in
     rw next (ap (λ b. bytes_eq q c.id || b) (more_ids q cs i d (omega (arith, h))) ∙ over (bytes_eq q c.id) (bytes_eq (get_or cs i d).id q) (list_any (bytes_eq q) (ids (take i cs))))

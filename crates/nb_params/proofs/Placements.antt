@@ -5,12 +5,12 @@ use Rattle.std.proofs.lemmas.List.{take-append-drop, map-append, length-map}
 use Rattle.std.specs.List.{AllByRecursion, list_any, position}
 use Rattle.std.specs.Str.{bytes_eq}
 use Rattle.jtext.specs.declared.json.Json.{Json}
+use Rattle.jtext.proofs.Equals.{turned_bytes}
 use Rattle.nb_model.specs.declared.cell.Cell.{Cell}
 use Rattle.nb_model.specs.Tags.{is_tagged}
 use Rattle.nb_params.specs.Injected.{with_parameters, placed_at, placed_after, parameters_cell, fresh_id, ids}
 use Rattle.nb_model.proofs.PreparedLaws.{no_repeat}
 use Rattle.nb_model.proofs.Tautologies.{not_or}
-use Rattle.nb_params.proofs.Ids.{turned}
 use Rattle.nb_params.proofs.FreshIds.{fresh_id-free}
 
 -- these cells, or these with one taken out
@@ -107,7 +107,7 @@ no_repeat-between [] y ys e f = ap₂ (λ a b. not a && b) f e
 no_repeat-between (x ∷ xs) y ys e f =
     let h = and_parts (not (list_any (bytes_eq x) (xs ++ ys))) (no_repeat (xs ++ ys)) e in
     let g = or_parts (bytes_eq y x) (list_any (bytes_eq y) (xs ++ ys)) f in
-    ap₂ (λ a b. not a && b) (any-between x xs y ys (turned x y ∙ g.0)) (no_repeat-between xs y ys h.1 g.1) ∙ ap (λ b. b && true) h.0
+    ap₂ (λ a b. not a && b) (any-between x xs y ys (turned_bytes x y ∙ g.0)) (no_repeat-between xs y ys h.1 g.1) ∙ ap (λ b. b && true) h.0
 
 ids-left_out : (i : ℕ) (cs : List Cell) → ids (take i cs ++ drop (suc i) cs) ≡ take i (ids cs) ++ drop (suc i) (ids cs)
 ids-left_out zero [] = refl

@@ -6,7 +6,7 @@ use Rattle.nb_model.specs.declared.cell.Cell.{Cell}
 use Rattle.nb_model.specs.declared.kind.Kind.{Kind}
 use Rattle.nb_model.specs.declared.kind.Kind.TheVariants as kind
 use Rattle.nb_model.specs.Tree.{cell_tree, count_tree, optional_pair}
-use Rattle.jtext.specs.Indent.{indented}
+use Rattle.jtext.specs.Indent.{indent}
 use Rattle.nb_text.specs.Lines.{line}
 
 -- the pairs that a raw cell and a markdown cell have
@@ -38,7 +38,7 @@ sorted_pairs c = pairs_of c.kind c
 
 -- the text that a cell has among the cells of a notebook's text: without the margin before it and the comma after it
 abbrev pub cell_text : Cell → List ℕ
-cell_text c = indented (cell_tree c) (replicate 2 32)
+cell_text c = indent (cell_tree c) (replicate 2 32)
 
 -- the line of a code cell's count
 abbrev pub count_line : Option (List ℕ) → List ℕ

@@ -1,6 +1,6 @@
 //! The text of a cell, line by line.
 ghost use Rattle.std.specs.Prelude.{◌≡◌, ◌++◌, replicate, IfOk, OnOk};
-ghost use Rattle.jtext.specs.Indent.{indented_fields};
+ghost use Rattle.jtext.specs.Indent.{indent_fields};
 ghost use Rattle.std.specs.Str.{IsUtf8};
 ghost use Rattle.nb_text.specs.Cells.{cell_text, sorted_pairs, common_pairs, prose_pairs, code_pairs, count_line, outputs_line};
 
@@ -41,7 +41,7 @@ pub(crate) fn put_cell(alloc: Global, out: &mut Bytes, cell: &Cell) -> Result<()
 /// Appends the lines of the cell's pairs, sorted by their keys.
 fn put_pairs(alloc: Global, out: &mut Bytes, cell: &Cell) -> Result<(), NoMemory>
     ensures { OnOk result (out.new
-        ≡ out.old ++ indented_fields (replicate 3 32) (sorted_pairs cell.now)) }
+        ≡ out.old ++ indent_fields (replicate 3 32) (sorted_pairs cell.now)) }
 {
     match cell.kind {
         Kind::Raw => put_prose(alloc, out, "raw", cell),
@@ -52,7 +52,7 @@ fn put_pairs(alloc: Global, out: &mut Bytes, cell: &Cell) -> Result<(), NoMemory
 
 fn put_prose(alloc: Global, out: &mut Bytes, kind: &str, cell: &Cell) -> Result<(), NoMemory>
     ensures { OnOk result (out.new
-        ≡ out.old ++ indented_fields (replicate 3 32) (prose_pairs kind.now cell.now)) }
+        ≡ out.old ++ indent_fields (replicate 3 32) (prose_pairs kind.now cell.now)) }
 {
     match &cell.attachments {
         Some(attachments) => {
@@ -67,7 +67,7 @@ fn put_prose(alloc: Global, out: &mut Bytes, kind: &str, cell: &Cell) -> Result<
 
 fn put_common(alloc: Global, out: &mut Bytes, kind: &str, cell: &Cell) -> Result<(), NoMemory>
     ensures { OnOk result (out.new
-        ≡ out.old ++ indented_fields (replicate 3 32) (common_pairs kind.now cell.now)) }
+        ≡ out.old ++ indent_fields (replicate 3 32) (common_pairs kind.now cell.now)) }
 {
     put_text_pair(alloc, out, 3, "cell_type", kind)?;
     out.add(b",")?;
@@ -81,7 +81,7 @@ fn put_common(alloc: Global, out: &mut Bytes, kind: &str, cell: &Cell) -> Result
 
 fn put_code(alloc: Global, out: &mut Bytes, cell: &Cell) -> Result<(), NoMemory>
     ensures { OnOk result (out.new
-        ≡ out.old ++ indented_fields (replicate 3 32) (code_pairs cell.now)) }
+        ≡ out.old ++ indent_fields (replicate 3 32) (code_pairs cell.now)) }
 {
     put_text_pair(alloc, out, 3, "cell_type", "code")?;
     out.add(b",")?;

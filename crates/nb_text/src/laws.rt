@@ -1,19 +1,18 @@
 //! Laws of generated notebooks and of texts. The functions do nothing: their contracts are the
 //! laws.
 ghost use Rattle.std.specs.Prelude.{◌≡◌, ◌<◌, ◌^◌, ℕ, map};
-ghost use Rattle.jtext.specs.Indent.{print};
 ghost use Rattle.jtext.specs.Keyed.{Keyed};
 ghost use Rattle.nb_model.specs.declared.notebook.Notebook as notebook;
 ghost use Rattle.nb_model.specs.Tree.{notebook_tree};
 ghost use Rattle.nb_model.specs.Valid.{Valid};
 ghost use Rattle.nb_text.specs.Cells.{cell_text};
 ghost use Rattle.nb_text.specs.Generated.{generated_notebook};
-ghost use Rattle.nb_text.specs.Notebooks.{notebook_text};
+ghost use Rattle.nb_text.specs.Notebooks.{notebook_text, text_of};
 
 /// The text of a notebook is made of the texts of its cells.
 pub fn text_of_cell_texts()
     ensures { (n : notebook.Notebook)
-        → notebook_text n.metadata (map cell_text n.cells) ≡ print (notebook_tree n) }
+        → notebook_text n.metadata (map cell_text n.cells) ≡ text_of n }
 {}
 
 /// A generated notebook is valid, and none of its objects has a key twice. It has fewer than 10^44

@@ -1,7 +1,7 @@
 //! The lines of an object or a list in indented text.
 ghost use Rattle.std.specs.Prelude.{◌≡◌, ◌++◌, ◌∷◌, replicate, OnOk};
 ghost use Rattle.jtext.specs.declared.json.Json.TheVariants as json;
-ghost use Rattle.jtext.specs.Indent.{indented_items};
+ghost use Rattle.jtext.specs.Indent.{indent_items};
 ghost use Rattle.nb_text.specs.Lines.{line_start, line, named_line};
 
 use jtext::{Bytes, Json, NoMemory, put_indented, put_string};
@@ -70,7 +70,7 @@ pub(crate) fn put_items(
     level: usize,
     items: &[Json],
 ) -> Result<(), NoMemory>
-    ensures { OnOk result (out.new ≡ out.old ++ indented_items (replicate level 32) items.now) }
+    ensures { OnOk result (out.new ≡ out.old ++ indent_items (replicate level 32) items.now) }
 {
     for (i, item) in items.iter().enumerate() {
         if i > 0 {

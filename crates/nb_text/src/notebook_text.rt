@@ -1,7 +1,5 @@
 //! The text of a notebook, and from the texts of its cells.
 ghost use Rattle.std.specs.Prelude.{◌≡◌, ◌++◌, ◌∷◌, [], map, IfOk, OnOk};
-ghost use Rattle.jtext.specs.Indent.{print};
-ghost use Rattle.nb_model.specs.Tree.{notebook_tree};
 ghost use Rattle.nb_text.specs.Cells.{cell_text};
 ghost use Rattle.nb_text.specs.Notebooks as notebooks;
 
@@ -14,7 +12,7 @@ use std::alloc::Global;
 /// The indented text of the notebook's tree (nbformat 4.5), which is what is saved. The tree isn't
 /// built.
 pub fn text(alloc: Global, n: &Notebook) -> Result<Bytes, NoMemory>
-    ensures { IfOk result (λ b. b ≡ print (notebook_tree n.now)) }
+    ensures { IfOk result (λ b. b ≡ notebooks.text_of n.now) }
 {
     text_with_capacity(alloc, n, 0)
 }
@@ -22,7 +20,7 @@ pub fn text(alloc: Global, n: &Notebook) -> Result<Bytes, NoMemory>
 /// The same text in a buffer with room for `capacity` bytes from the start. Who knows roughly how
 /// long the text gets spares it growing; the text may be shorter or longer.
 pub fn text_with_capacity(alloc: Global, n: &Notebook, capacity: usize) -> Result<Bytes, NoMemory>
-    ensures { IfOk result (λ b. b ≡ print (notebook_tree n.now)) }
+    ensures { IfOk result (λ b. b ≡ notebooks.text_of n.now) }
 {
     let mut out = Bytes::of_vec(Vec::with_capacity(alloc, capacity)?);
     out.add(b"{")?;
@@ -36,7 +34,7 @@ pub fn text_with_capacity(alloc: Global, n: &Notebook, capacity: usize) -> Resul
 pub fn join(alloc: Global, n: &Notebook, texts: &Texts) -> Result<Bytes, NoMemory>
     ensures joined { IfOk result (λ b. b ≡ notebooks.notebook_text n.now.metadata texts.now) }
     ensures text { IfOk result (λ b. texts.now ≡ map cell_text n.now.cells
-        → b ≡ print (notebook_tree n.now)) }
+        → b ≡ notebooks.text_of n.now) }
 {
     let mut out = Bytes::new(alloc);
     out.add(b"{")?;

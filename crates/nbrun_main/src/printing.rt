@@ -1,6 +1,7 @@
 //! The saying of a text in place of a run.
 ghost use Rattle.std.specs.Prelude.{◌≡◌, ◌⊎◌};
-ghost use Rattle.said_lines.specs.Between.{Between, SayRose};
+ghost use Rattle.world.specs.Told.{Between};
+ghost use Rattle.said_lines.specs.Between.{SayRose};
 ghost use Rattle.nbrun_main.specs.Printed.{Prints};
 
 use world::{Say, Wrote};

@@ -5,7 +5,8 @@ ghost use Rattle.words.specs.declared.usage.Usage as usages;
 ghost use Rattle.words.specs.Refusals.{refusal};
 ghost use Rattle.nbrun_top.specs.Asked.{IsJob, IsPlain, IsExecuting, IsExecuted, texts};
 ghost use Rattle.nbrun_top.specs.Asked.{IsExercise, IsNoExercise};
-ghost use Rattle.said_lines.specs.Between.{Between, FromStart, DiskRose, SayRose, SayFailed};
+ghost use Rattle.world.specs.Told.{Between};
+ghost use Rattle.said_lines.specs.Between.{FromStart, DiskRose, SayRose, SayFailed};
 ghost use Rattle.nbrun_top.specs.Crash.{IsSafe};
 ghost use Rattle.nbrun_top.specs.Ended.{Ended, IsHeard, acks_of};
 ghost use Rattle.nbrun_top.specs.Exercised.{Exercised};
@@ -13,7 +14,7 @@ ghost use Rattle.nbrun_top.specs.Executed.{Executed, IsSavedOnly, DoesNotWrite, 
 ghost use Rattle.nbrun_top.specs.Executed.{NetRose, WaitsAll, WaitsAtMost};
 ghost use Rattle.nbrun_top.specs.Ran.{IsDelivered, IsOther, IsUntouched};
 ghost use Rattle.said_lines.specs.Speech.{heard};
-ghost use Rattle.save_disk.specs.Places.{acknowledged};
+ghost use Rattle.save_disk.specs.Places.{save_count};
 ghost use Rattle.toy_exercise.specs.Reported.{IsOutcome};
 ghost use Rattle.nbrun_main.specs.Printed.{Prints, IsRun, text_to_print as text_for_words};
 
@@ -96,7 +97,7 @@ pub fn run_words<W: World>(alloc: Global, words: &[String], here: Text, w: &mut 
     // A save is acknowledged exactly with status 0 or 11, and then one.
     ensures acknowledged { IsRun (texts words.now) → FromStart W.journal w.old w.new
         (λ j. (a : asks.Ask) → IsJob (texts words.now) a →
-        acknowledged a.output j ≡ acks_of result) }
+        save_count a.output j ≡ acks_of result) }
     // At every moment a crash leaves every other file as it was, the input among them.
     ensures untouched { IsRun (texts words.now) → IsPlain (texts words.now) →
         FromStart W.journal w.old w.new

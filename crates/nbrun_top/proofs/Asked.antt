@@ -5,7 +5,7 @@ use Rattle.words.specs.declared.command.Command.{Command}
 use Rattle.words.specs.declared.command.Command.TheVariants as command
 use Rattle.words.specs.declared.usage.Usage.{Usage}
 use Rattle.words.specs.declared.usage.Usage.TheVariants as usage_fault
-use Rattle.words.specs.Asked.{asked}
+use Rattle.words.specs.Asked.{command_of_words}
 use Rattle.words.specs.Refusals.{refusal}
 use Rattle.world.specs.declared.entry.Entry.{Entry}
 use Rattle.world.specs.Moments.{Told}
@@ -13,9 +13,7 @@ use Rattle.world.proofs.MomentsLemmas.{told_as}
 use Rattle.nbrun_top.specs.declared.plain.Plain.{Plain}
 use Rattle.nbrun_top.specs.declared.plain.Plain.TheVariants as plains
 use Rattle.nbrun_top.specs.Asked.{IsPlainOf, IsJob, IsExercise, IsNoExercise, IsPlain, IsExecuting, IsExecuted, IsBatch, is_execution}
-
-clash : {A : Type 0} → true ≡ false → A
-clash e = cc
+use Rattle.std.proofs.lemmas.Bool.{true≢false}
 
 -- ---- not both
 
@@ -23,12 +21,12 @@ pub no_job_executes : (words : List (List ℕ)) (a : Ask) → IsExecuting words 
 no_job_executes words a x is =
     let e : not a.prepare ≡ true = subst (λ c. is_execution c ≡ true) is.asks x.executes in
     let f : not true ≡ true = subst (λ b. not b ≡ true) is.prepares e in
-    clash (sym f)
+    absurd (true≢false (sym f))
 
 pub no_exercise_executes : (words : List (List ℕ)) (n : ℕ) → IsExecuting words → IsExercise words n → ⊥
 no_exercise_executes words n x is =
     let e : false ≡ true = subst (λ c. is_execution c ≡ true) is.asks x.executes in
-    clash (sym e)
+    absurd (true≢false (sym e))
 
 one_or_exercise : {a : Ask} {n : ℕ} → command.One a ≡ command.Exercise n → ⊥
 one_or_exercise e = cc
@@ -75,13 +73,13 @@ pub data Kind (words : List (List ℕ)) : Type 0 where
   executing : IsExecuting words → Kind words
   exercise : (n : ℕ) → IsExercise words n → Kind words
 
-one_at : (words : List (List ℕ)) (a : Ask) (b : Bool) → refusal words ≡ None → asked words ≡ command.One a → a.prepare ≡ b → Kind words
+one_at : (words : List (List ℕ)) (a : Ask) (b : Bool) → refusal words ≡ None → command_of_words words ≡ command.One a → a.prepare ≡ b → Kind words
 one_at words a true e f p =
     let job : IsJob words a = record { taken = e; asks = f; prepares = p } in
     plain (record { executes = λ x. no_job_executes words a x job; exercises = λ n x. no_job_exercises words a n job x })
 one_at words a false e f p = executing (record { taken = e; executes = ap is_execution f ∙ ap not p })
 
-kind_at : (words : List (List ℕ)) (r : Option Usage) (c : Command) → refusal words ≡ r → asked words ≡ c → Kind words
+kind_at : (words : List (List ℕ)) (r : Option Usage) (c : Command) → refusal words ≡ r → command_of_words words ≡ c → Kind words
 kind_at words (Some u) c e f =
     plain (record {
       executes = λ x. let t : refusal words ≡ None = x.taken in absurd (cc);
@@ -92,7 +90,7 @@ kind_at words None (command.Many file a) e f = executing (record { taken = e; ex
 kind_at words None (command.Exercise n) e f = exercise n (record { taken = e; asks = f })
 
 pub kind_of : (words : List (List ℕ)) → Kind words
-kind_of words = kind_at words (refusal words) (asked words) refl refl
+kind_of words = kind_at words (refusal words) (command_of_words words) refl refl
 
 -- what is told of each kind is told
 pub told_each : (words : List (List ℕ)) {i j : Option (List Entry)} {R S T : List Entry → List Entry → Type 0} {X : ℕ → List Entry → List Entry → Type 0}

@@ -22,9 +22,9 @@ use Rattle.nbrun_top.specs.declared.answer.Answer.{Answer as Last}
 use Rattle.nbrun_top.specs.Asked.{IsExecuting, IsExecuted, IsBatch}
 use Rattle.nbrun_top.specs.Codes.{code_of}
 use Rattle.nbrun_top.specs.Ended.{Answers, plain, not_said, Ended}
-use Rattle.nbrun_top.specs.Executed.{Executed, Runs, HaveRun, AreJobs, of_words, of_file, IsFileOf, GivesAsks, GivesNone, IsQuiet, IsAlone, AreApart, IsCountedIn, IsSavedOnly, untouched, saved, IsUnsaved, DoesNotWrite, NoneWrites, first_fault, file_read}
+use Rattle.nbrun_top.specs.Executed.{Executed, Runs, HaveRun, AreJobs, of_words, of_file, IsFileOf, GivesAsks, GivesNone, IsQuiet, IsAlone, AreApart, IsCountedIn, IsSavedOnly, untouched, saved, DoesNotWrite, NoneWrites, first_fault, file_read}
 use Rattle.nbrun_top.specs.Executed as executed
-use Rattle.nbrun_top.specs.Lines.{said}
+use Rattle.nbrun_top.specs.Lines.{all_lines}
 use Rattle.nbrun_top.specs.Ran.{Ran, IsUntouched}
 use Rattle.nbrun_top.specs.Ran as ran
 use Rattle.nbrun_top.specs.Said.{said_of}
@@ -33,6 +33,7 @@ use Rattle.nbrun_top.proofs.JobsApart.{file_apart}
 use Rattle.nbrun_top.proofs.Executions.{untouched_path, uncounted, apart_of, output_in}
 use Rattle.nbrun_top.proofs.Statuses.{one_fault}
 use Rattle.nbrun_top.proofs.Spared.{one_ask, says_spare, apart_paths, apart_from_temporary, apart_from_connection}
+use Rattle.job_run.specs.Run.{IsUnsaved}
 
 -- ---- one job is apart from itself
 
@@ -97,10 +98,10 @@ of_one {here} words a asks rose cut code before after same is runs new =
     (runs (λ path. subst (Since (Spares path) []) (sym new) start) (subst (IsClean asks) (sym new) (clean_start asks (subst AreApart (sym same) (one_apart words a is))))
     (subst AreApart (sym same) (one_apart words a is)))))
 
-pub of_starved : {here : List ℕ} (words : List (List ℕ)) (rose cut : Type 0) (code : ℕ) (before after : List Entry) → code ≡ 12 → Says (said [] [] end.NoMemory) cut before after → before ≡ []
+pub of_starved : {here : List ℕ} (words : List (List ℕ)) (rose cut : Type 0) (code : ℕ) (before after : List Entry) → code ≡ 12 → Says (all_lines [] [] end.NoMemory) cut before after → before ≡ []
     → Executed words here rose cut code after
 of_starved {here} words rose cut code before after is says new =
-    subst (λ n. Executed words here rose cut n after) (sym is) (executed.starved after (subst (λ b. Says (said [] [] end.NoMemory) cut b after) new says))
+    subst (λ n. Executed words here rose cut n after) (sym is) (executed.starved after (subst (λ b. Says (all_lines [] [] end.NoMemory) cut b after) new says))
 
 pub of_batch : {here : List ℕ} (words : List (List ℕ)) (file : List ℕ) (common : Ask) (asks : List Ask) (rose cut : Type 0) (code : ℕ) (before read after : List Entry) → IsBatch words file common
     → GivesAsks file common before (Ok asks) read → (IsQuiet read → IsClean asks read → AreApart asks → Runs asks here rose cut code read after) → before ≡ [] → Executed words here rose cut code after
@@ -111,7 +112,7 @@ of_batch {here} words file common asks rose cut code before read after is (bytes
     (runs (λ path. subst (Since (Spares path) []) (sym begun) (later start refl)) (subst (IsClean asks) (sym begun) (clean_read asks (file_apart file common bytes asks gives) file bytes)) (file_apart file common bytes asks gives)))
 
 pub of_none : {here : List ℕ} (words : List (List ℕ)) (file : List ℕ) (common : Ask) (answer : Last) (line : List ℕ) (rose cut : Type 0) (code : ℕ) (before read after : List Entry)
-    → IsBatch words file common → code ≡ code_of answer.end → line ≡ said file (codes "nbrun") answer.end → GivesNone file before answer.end read → Says line cut read after
+    → IsBatch words file common → code ≡ code_of answer.end → line ≡ all_lines file (codes "nbrun") answer.end → GivesNone file before answer.end read → Says line cut read after
     → before ≡ [] → Executed words here rose cut code after
 of_none {here} words file common answer line rose cut code before read after is coded text gives says new =
     subst (λ n. Executed words here rose cut n after) (sym coded)

@@ -22,6 +22,7 @@ use Rattle.nbrun_top.specs.Codes.{code_of, is_plain}
 use Rattle.nbrun_top.specs.Ended.{Answers, plain, not_said}
 use Rattle.nbrun_top.specs.Executed.{IsCounted, IsEndOfFile, first_fault}
 use Rattle.nbrun_top.proofs.Statuses.{status_in}
+use Rattle.jtext.proofs.Lists.{some_at}
 
 -- ---- the first job that fails
 
@@ -37,11 +38,6 @@ first_step true x rest (inr (i, (y, (at, is)))) = inr (suc i, (y, (at, is)))
 first_in : (answers : List Answer) → In answers (first_fault answers)
 first_in [] = inl refl
 first_in (x ∷ rest) = first_step (x.status == 0) x rest (first_in rest)
-
-ask_at : (asks : List Ask) (i : ℕ) → i < length asks → (a : Ask) × (slice_get asks i ≡ Some a)
-ask_at [] i less = absurd (omega (arith, less))
-ask_at (a ∷ rest) zero less = (a, refl)
-ask_at (a ∷ rest) (suc i) less = ask_at rest i (omega (arith, less))
 
 -- ---- no job answers as a run whose lines were not said
 
@@ -83,14 +79,14 @@ module _ (asks : List Ask) (answers : List Answer) (old new : Counts) (one_each 
   has_cause n (inl e) = subst (HasCause old new) (sym e) (other old new 0 refl)
   has_cause n (inr (i, (x, (at, is)))) =
       let within : i < length answers = slice_get_within answers i x at in
-      let a = ask_at asks i (subst (λ m. i < m) one_each within) in
+      let a = some_at asks i (subst (λ m. i < m) one_each within) in
       subst (HasCause old new) (sym is) (ends i a.0 x a.1 at).cause
 
   not_eleven : (n : ℕ) → In answers n → n ≡ 11 → ⊥
   not_eleven n (inl e) is = let wrong : 0 ≡ 11 = sym e ∙ is in absurd (cc)
   not_eleven n (inr (i, (x, (at, same)))) is =
       let within : i < length answers = slice_get_within answers i x at in
-      let a = ask_at asks i (subst (λ m. i < m) one_each within) in
+      let a = some_at asks i (subst (λ m. i < m) one_each within) in
       no_eleven a.0.output x (ends i a.0 x a.1 at).is (sym same ∙ is)
 
   all_waited : (turns : ℕ) → EndSpent turns old new answers → (n : ℕ) → In answers n → n ≡ 16 → HasWaited (old.waits + turns) new

@@ -23,7 +23,8 @@ use Rattle.nbrun_top.specs.Asked.{IsJob}
 use Rattle.nbrun_top.specs.Crash.{IsTextOf, IsOldOrText, IsSafe}
 use Rattle.nbrun_top.specs.Ended.{Ended}
 use Rattle.nb_load.specs.Loaded.{Accepts}
-use Rattle.nbrun_top.specs.Ran.{SavesAs, Prepares, Ran, read_of, text_of}
+use Rattle.nbrun_top.specs.Ran.{SavesAs, Prepares, Ran, read_of}
+use Rattle.nb_text.specs.Notebooks.{text_of}
 use Rattle.nbrun_top.specs.Ran as ran
 use Rattle.said_lines.proofs.SpeechLemmas.{says_since}
 use Rattle.nbrun_top.proofs.Saves.{EndsWith, ends_since}

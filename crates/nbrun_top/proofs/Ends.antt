@@ -17,7 +17,8 @@ use Rattle.nbrun_top.specs.Codes.{code_of, end_of}
 use Rattle.nb_load.specs.declared.load_fault.LoadFault.{LoadFault}
 use Rattle.nb_load.specs.declared.load_fault.LoadFault.TheVariants as fault
 use Rattle.nb_load.specs.Loaded.{Accepts}
-use Rattle.nbrun_top.specs.Ran.{SavesAs, Prepares, Ran, IsDelivered, read_of, text_of}
+use Rattle.nbrun_top.specs.Ran.{SavesAs, Prepares, Ran, IsDelivered, read_of}
+use Rattle.nb_text.specs.Notebooks.{text_of}
 use Rattle.nbrun_top.specs.Ran as ran
 use Rattle.said_lines.proofs.SpeechLemmas.{says_since}
 use Rattle.nbrun_top.specs.Ended.{Answers, Ended, plain, not_said}

@@ -14,15 +14,15 @@ use Rattle.world.specs.Moments.{Since, start, more as later}
 use Rattle.world.specs.Touched.{Spares}
 use Rattle.world.proofs.MomentsLemmas.{since_then}
 use Rattle.world.proofs.TouchedLemmas.{untouched_since}
-use Rattle.save_disk.specs.Places.{acknowledged}
-use Rattle.save_disk.specs.Temporary.{temporary_of}
+use Rattle.save_disk.specs.Places.{save_count}
+use Rattle.world.specs.Save.{temporary_of}
 use Rattle.save_course.specs.Course.{IsRested}
 use Rattle.save_course.proofs.CourseLemmas.{course_safe}
 use Rattle.save_course.proofs.RestLemmas.{none_waits, spared_rest}
 use Rattle.job_end.specs.declared.answer.Answer.{Answer}
 use Rattle.job_saves.specs.Course.{HasSaved, Ends}
 use Rattle.job_saves.proofs.CourseLemmas.{ends_pass}
-use Rattle.job_run.specs.Run.{IsOther, IsNew}
+use Rattle.job_run.specs.Run.{IsOther, IsNew, IsUnsaved}
 use Rattle.job_run.specs.Told.{cause_of}
 use Rattle.job_saves.specs.Reads.{first_of}
 use Rattle.job_begin.specs.Begun.{origin_of, IsCausedIn}
@@ -32,8 +32,8 @@ use Rattle.batch_run.specs.Batch.{Makes, nothing, saves, IsNoPath, IsApart, Leav
 use Rattle.said_lines.specs.Speech.{Says}
 use Rattle.nbrun_top.specs.declared.end.End.TheVariants as end
 use Rattle.nbrun_top.specs.Ended.{Answers, plain}
-use Rattle.nbrun_top.specs.Executed.{DoesNotWrite, IsAlone, AreApart, IsCountedIn, IsSavedOnly, untouched, saved, IsQuiet, IsUnsaved, NoneWrites, EndsSpeech, silence, last_line, Runs, first_fault}
-use Rattle.nbrun_top.specs.Lines.{said}
+use Rattle.nbrun_top.specs.Executed.{DoesNotWrite, IsAlone, AreApart, IsCountedIn, IsSavedOnly, untouched, saved, IsQuiet, NoneWrites, EndsSpeech, silence, last_line, Runs, first_fault}
+use Rattle.nbrun_top.specs.Lines.{all_lines}
 use Rattle.nbrun_top.specs.Ran.{IsUntouched}
 use Rattle.nbrun_top.proofs.Spared.{apart_from, says_spare, said_childless, spared_moments, at_moment}
 use Rattle.nbrun_top.proofs.Statuses.{all_starved, starved_count, starved_fault, starved_at}
@@ -43,7 +43,7 @@ use Rattle.nbrun_top.proofs.Statuses.{all_starved, starved_count, starved_fault,
 pub untouched_path : (path : List ℕ) {journal : List Entry} → Since (Spares path) [] journal → IsUntouched path journal
 untouched_path path {journal} since = at_moment path journal (spared_moments refl since)
 
-none_acked : (output : List ℕ) {journal : List Entry} → Since (Spares output) [] journal → acknowledged output journal ≡ 0
+none_acked : (output : List ℕ) {journal : List Entry} → Since (Spares output) [] journal → save_count output journal ≡ 0
 none_acked output start = refl
 none_acked output (later {past} {entry} since spared) =
     none_waits (temporary_of output) output entry past (spared_rest output refl since) ∙ none_acked output since
@@ -196,7 +196,7 @@ runs_done {here} asks answers old new rose cut code before after others calls ch
 pub runs_starved : {here : List ℕ} (asks : List Ask) (old mid new : Counts) (rose cut : Type 0) (line : List ℕ) (code : ℕ) (before past after : List Entry)
     → LeavesOthers asks before past → CallsOfJobs asks here true before past → EndsChildren asks before past
     → ((i : ℕ) (a : Ask) → slice_get asks i ≡ Some a → IsApart asks i a → IsRested a.output before → Makes a None old mid before past)
-    → CountsGrow mid new → line ≡ said [] [] end.NoMemory → Says line cut past after → 1 ≤ length asks → code ≡ 12 → IsQuiet before → AreApart asks → Runs asks here rose cut code before after
+    → CountsGrow mid new → line ≡ all_lines [] [] end.NoMemory → Says line cut past after → 1 ≤ length asks → code ≡ 12 → IsQuiet before → AreApart asks → Runs asks here rose cut code before after
 runs_starved {here} asks old mid new rose cut line code before past after others calls children jobs grow text says some is quiet alone =
     runs_with asks here rose cut code before past after (λ path apart. says_spare path (others path apart) says) quiet alone calls
     (last_line is (subst (λ t. Says t cut past after) text says)) (all_starved asks) (starved_count asks)

@@ -10,7 +10,8 @@ use Rattle.save_disk.proofs.Laws.{part_of_save}
 use Rattle.world.specs.declared.entry.Entry.TheVariants.{Said}
 use Rattle.world.specs.Moments.{Since, start, more as later}
 use Rattle.world.specs.Parts.{OnDisk, IsOf, part_of}
-use Rattle.nbrun_top.specs.Ran.{SavesAs, Prepares, Ran, text_of}
+use Rattle.nbrun_top.specs.Ran.{SavesAs, Prepares, Ran}
+use Rattle.nb_text.specs.Notebooks.{text_of}
 use Rattle.nbrun_top.specs.Ran as ran
 use Rattle.said_lines.specs.Speech.{heard}
 use Rattle.said_lines.proofs.SpeechLemmas.{says_since, heard_text}

@@ -12,13 +12,11 @@ use Rattle.words.specs.JobsFile.{IsJobsFile, jobs_of, path_at, paths_from, paths
 use Rattle.words.specs.Paths.{temporary_of, connection_of}
 use Rattle.std.proofs.lemmas.Bool.{and_parts, or_parts, not-true, true≢false}
 use Rattle.std.proofs.lemmas.Bool.Decides.{eqb_tells}
-use Rattle.world.proofs.PlaceLemmas.{same_bytes}
 use Rattle.nbrun_top.specs.Executed.{IsFileOf, IsAlone, NoneWrites, DoesNotWrite, AreApart}
+use Rattle.jtext.proofs.Equals.{same_bytes, apart_bytes}
+use Rattle.std.proofs.lemmas.Option.{same_Some}
 
 -- ---- tests
-
-differ : (x y : List ℕ) → bytes_eq x y ≡ false → x ≢ y
-differ x y e same = true≢false (sym (same_bytes x) ∙ ap (bytes_eq x) same ∙ e)
 
 -- ---- the paths of a job
 
@@ -39,9 +37,9 @@ record Apart (path : List ℕ) (job : Json) : Type 0 where
 not_written : (path : List ℕ) (job : Json) → bytes_eq path (output_of job) ≡ false → bytes_eq path (temporary_of (output_of job)) ≡ false
     → bytes_eq path (connection_of (output_of job)) ≡ false → DoesNotWrite (output_of job) path
 not_written path job o t c = record {
-  not_output = λ e. differ path (output_of job) o (sym e);
-  not_temporary = λ e. differ path (temporary_of (output_of job)) t (sym e);
-  not_connection = λ e. differ path (connection_of (output_of job)) c (sym e);
+  not_output = λ e. apart_bytes path (output_of job) o (sym e);
+  not_temporary = λ e. apart_bytes path (temporary_of (output_of job)) t (sym e);
+  not_connection = λ e. apart_bytes path (connection_of (output_of job)) c (sym e);
 }
 
 not_written_by : (path : List ℕ) (job : Json) → Apart path job → DoesNotWrite (output_of job) path
@@ -51,16 +49,16 @@ not_written_by path job a = not_written path job a.output a.temporary a.connecti
 module _ (b a : Json) (output : Apart (output_of b) a) (temporary : Apart (temporary_of (output_of b)) a) (connection : Apart (connection_of (output_of b)) a) where
   not_its_output : DoesNotWrite (output_of b) (output_of a)
   not_its_output = record {
-    not_output = differ (output_of b) (output_of a) output.output;
-    not_temporary = differ (temporary_of (output_of b)) (output_of a) temporary.output;
-    not_connection = differ (connection_of (output_of b)) (output_of a) connection.output;
+    not_output = apart_bytes (output_of b) (output_of a) output.output;
+    not_temporary = apart_bytes (temporary_of (output_of b)) (output_of a) temporary.output;
+    not_connection = apart_bytes (connection_of (output_of b)) (output_of a) connection.output;
   }
 
   not_its_input : DoesNotWrite (output_of b) (input_of a)
   not_its_input = record {
-    not_output = differ (output_of b) (input_of a) output.input;
-    not_temporary = differ (temporary_of (output_of b)) (input_of a) temporary.input;
-    not_connection = differ (connection_of (output_of b)) (input_of a) connection.input;
+    not_output = apart_bytes (output_of b) (input_of a) output.input;
+    not_temporary = apart_bytes (temporary_of (output_of b)) (input_of a) temporary.input;
+    not_connection = apart_bytes (connection_of (output_of b)) (input_of a) connection.input;
   }
 
 abbrev job_in : Option Json → Json
@@ -206,13 +204,9 @@ record Asks (common : Ask) (jobs : List Json) (i : ℕ) (a : Ask) : Type 0 where
   at : slice_get jobs i ≡ Some job
   is : a ≡ ask_of_job common job
 
-abbrev ask_in : Ask → Option Ask → Ask
-ask_in common None = common
-ask_in common (Some a) = a
-
 asks_at : (common : Ask) (jobs : List Json) (i : ℕ) (a : Ask) → slice_get (map (ask_of_job common) jobs) i ≡ Some a → Asks common jobs i a
 asks_at common [] i a at = cc
-asks_at common (first ∷ rest) zero a at = record { job = first; at = refl; is = sym (ap (ask_in common) at) }
+asks_at common (first ∷ rest) zero a at = record { job = first; at = refl; is = sym (same_Some _ _ at) }
 asks_at common (first ∷ rest) (suc i) a at = let s = asks_at common rest i a at in record { job = s.job; at = s.at; is = s.is }
 
 module _ (file : List ℕ) (common : Ask) (bytes : List ℕ) (asks : List Ask) (is : IsFileOf file common bytes asks) where
@@ -246,7 +240,7 @@ module _ (file : List ℕ) (common : Ask) (bytes : List ℕ) (asks : List Ask) (
       own : (k ≡ i) → DoesNotWrite b.output a.input
       own e =
           let x = asked_at i a at in
-          let same : b ≡ a = ap (ask_in common) (sym (subst (λ n. slice_get asks n ≡ Some b) e also) ∙ at) in
+          let same : b ≡ a = same_Some _ _ (sym (subst (λ n. slice_get asks n ≡ Some b) e also) ∙ at) in
           subst (λ (q : Ask). DoesNotWrite q.output a.input) (sym same)
           (subst (λ (q : Ask). DoesNotWrite q.output q.input) (sym x.is) (own_input 0 (jobs_of is.tree) whole.1 i x.job x.at))
 

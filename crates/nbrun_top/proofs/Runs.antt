@@ -14,19 +14,20 @@ use Rattle.nbrun_top.specs.declared.end.End.TheVariants as end
 use Rattle.save_disk.specs.declared.save_fault.SaveFault.{SaveFault}
 use Rattle.save_disk.specs.declared.save_fault.SaveFault.TheVariants as fault
 use Rattle.save_disk.specs.Entries.{SaveOf}
-use Rattle.jtext.specs.Indent.{indented}
+use Rattle.jtext.specs.Indent.{indent}
 use Rattle.nb_model.specs.Tree.{notebook_tree}
 use Rattle.nbrun_top.specs.declared.reports.Reports.{Reports}
 use Rattle.nbrun_top.specs.Reported.{AreReports, report_of}
 use Rattle.nbrun_top.specs.Codes.{code_of, end_of}
 use Rattle.nbrun_top.specs.Ended.{Answers, Ended}
 use Rattle.said_lines.specs.Lines.{spoken_line, saved_line}
-use Rattle.nbrun_top.specs.Lines.{said, save}
+use Rattle.nbrun_top.specs.Lines.{all_lines, save}
 use Rattle.said_lines.specs.Speech.{Says}
 use Rattle.nbrun_top.specs.Said.{said_of}
 use Rattle.nb_load.specs.declared.load_fault.LoadFault.{LoadFault}
 use Rattle.nb_load.specs.Loaded.{Accepts, Refuses}
-use Rattle.nbrun_top.specs.Ran.{SavesAs, Prepares, Ran, read_of, text_of}
+use Rattle.nbrun_top.specs.Ran.{SavesAs, Prepares, Ran, read_of}
+use Rattle.nb_text.specs.Notebooks.{text_of}
 use Rattle.nbrun_top.specs.Ran as ran
 
 -- ---- a save
@@ -47,7 +48,7 @@ module _ (output path text : List ℕ) (n : Notebook) (at : path ≡ output) (is
 
 -- a text that is printed has a byte
 pub some_text : (n : Notebook) (text : List ℕ) → text ≡ text_of n → 0 < length text
-some_text n text is = omega (arith, ap length is, length-append (indented (notebook_tree n) []) (10 ∷ []))
+some_text n text is = omega (arith, ap length is, length-append (indent (notebook_tree n) []) (10 ∷ []))
 
 -- each report is a line of the save
 pub reports_of : (output : List ℕ) (cells : ℕ) (r : Reports) → r.done ≡ saved_line output 0 cells ++ spoken_line output (codes "done")
@@ -90,9 +91,9 @@ usage_at words u given (inl same) memory (inr why) before = subst (λ e. Ran wor
 -- ---- the whole run
 
 -- what is said of an end on these paths
-pub said_text : (input output : List ℕ) (e : End) (text result : List ℕ) → (e ≡ end.NoMemory) ⊎ (text ≡ said input output e) → (e ≡ end.NoMemory → result ≡ said [] [] end.NoMemory)
-    → ((e ≡ end.NoMemory → ⊥) → result ≡ text) → result ≡ said input output e
-said_text input output e text result (inl memory) m t = m memory ∙ ap (λ x. said input output x) (sym memory)
+pub said_text : (input output : List ℕ) (e : End) (text result : List ℕ) → (e ≡ end.NoMemory) ⊎ (text ≡ all_lines input output e) → (e ≡ end.NoMemory → result ≡ all_lines [] [] end.NoMemory)
+    → ((e ≡ end.NoMemory → ⊥) → result ≡ text) → result ≡ all_lines input output e
+said_text input output e text result (inl memory) m t = m memory ∙ ap (λ x. all_lines input output x) (sym memory)
 said_text input output end.NoMemory text result (inr is) m t = m refl
 said_text input output (end.Done cells) text result (inr is) m t = t (λ x. cc) ∙ is
 said_text input output (end.Refused u) text result (inr is) m t = t (λ x. cc) ∙ is

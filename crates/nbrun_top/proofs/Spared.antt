@@ -1,7 +1,7 @@
 -- Which paths a run doesn't touch.
 use Rattle.std.proofs.Common.{◌≡◌, ℕ, zero, suc, ◌-◌, Bool, true, false, not, List, [], length, drop, Result, Ok, Err, refl, sym, ◌∙◌, ap, subst, arith}
 use Rattle.std.proofs.lemmas.Slice.Eq.{bytes_eq-Decides}
-use Rattle.std.proofs.lemmas.Bool.{false_from_ne_true}
+use Rattle.std.proofs.lemmas.Bool.{false_from_ne_true, true≢false}
 use Rattle.std.proofs.Math.Seq.{drop-length}
 use Rattle.std.specs.Prelude.{◌||◌}
 use Rattle.std.specs.Str.{bytes_eq}
@@ -13,7 +13,6 @@ use Rattle.world.specs.declared.entry.Entry.{Entry}
 use Rattle.world.specs.Disk.{Place, place, leaves, untouched_place}
 use Rattle.world.specs.Moments.{Since, start, more as later}
 use Rattle.world.proofs.MomentsLemmas.{since_at, since_then}
-use Rattle.world.proofs.PlaceLemmas.{same_bytes}
 use Rattle.world.specs.Touched.{Spares}
 use Rattle.world.proofs.TouchedLemmas.{untouched_after, untouched_since}
 use Rattle.nbrun_top.specs.declared.end.End.{End}
@@ -22,12 +21,14 @@ use Rattle.save_disk.specs.Entries.{SaveOf}
 use Rattle.save_disk.proofs.Laws.{others_of_save}
 use Rattle.nb_model.specs.declared.notebook.Notebook.{Notebook}
 use Rattle.nbrun_top.specs.Asked.{IsJob}
-use Rattle.nbrun_top.specs.Ran.{SavesAs, Prepares, Ran, IsOther, IsUntouched, text_of}
+use Rattle.nbrun_top.specs.Ran.{SavesAs, Prepares, Ran, IsOther, IsUntouched}
+use Rattle.nb_text.specs.Notebooks.{text_of}
 use Rattle.nbrun_top.specs.Ran as ran
 use Rattle.said_lines.specs.Speech.{Speech, Says}
 use Rattle.job_saves.specs.Children.{has_child}
 use Rattle.said_lines.specs.Speech as said
 use Rattle.nbrun_top.specs.Ended.{Ended}
+use Rattle.jtext.proofs.Equals.{same_bytes}
 
 -- ---- what a run doesn't write to
 
@@ -96,39 +97,36 @@ untouched_paths words code rose cut before after ended new path other =
 
 -- ---- the input
 
-clash : {A : Type 0} → true ≡ false → A
-clash e = cc
-
 -- a path isn't apart from itself
 same_not_apart : (x : List ℕ) → are_apart x x ≡ false
 same_not_apart x = ap (λ b. not (b || bytes_eq x (temporary_of x) || bytes_eq x (connection_of x))) (same_bytes x)
 
 pub apart_paths : (x y : List ℕ) → are_apart x y ≡ true → y ≡ x → ⊥
-apart_paths x y apart same = clash (sym apart ∙ ap (are_apart x) same ∙ same_not_apart x)
+apart_paths x y apart same = absurd (true≢false (sym apart ∙ ap (are_apart x) same ∙ same_not_apart x))
 
 not_any : (a b c : Bool) → b ≡ true → not (a || b || c) ≡ false
 not_any true b c is = refl
 not_any false true c is = refl
-not_any false false c is = clash (sym is)
+not_any false false c is = absurd (true≢false (sym is))
 
 -- nor is a path apart from the one whose temporary file it is
 temporary_not_apart : (x : List ℕ) → are_apart (temporary_of x) x ≡ false
 temporary_not_apart x = not_any (bytes_eq (temporary_of x) x) (bytes_eq (temporary_of x) (temporary_of x)) (bytes_eq (temporary_of x) (connection_of x)) (same_bytes (temporary_of x))
 
 pub apart_from_temporary : (x y : List ℕ) → are_apart x y ≡ true → temporary_of y ≡ x → ⊥
-apart_from_temporary x y apart is = clash (sym apart ∙ ap (λ z. are_apart z y) (sym is) ∙ temporary_not_apart y)
+apart_from_temporary x y apart is = absurd (true≢false (sym apart ∙ ap (λ z. are_apart z y) (sym is) ∙ temporary_not_apart y))
 
 last_of_any : (a b c : Bool) → c ≡ true → not (a || b || c) ≡ false
 last_of_any true b c is = refl
 last_of_any false true c is = refl
 last_of_any false false true is = refl
-last_of_any false false false is = clash (sym is)
+last_of_any false false false is = absurd (true≢false (sym is))
 
 -- nor from the one whose connection file it is
 pub apart_from_connection : (x y : List ℕ) → are_apart x y ≡ true → connection_of y ≡ x → ⊥
 apart_from_connection x y apart is =
-    clash (sym apart ∙ ap (λ z. are_apart z y) (sym is)
-    ∙ last_of_any (bytes_eq (connection_of y) y) (bytes_eq (connection_of y) (temporary_of y)) (bytes_eq (connection_of y) (connection_of y)) (same_bytes (connection_of y)))
+    absurd (true≢false (sym apart ∙ ap (λ z. are_apart z y) (sym is)
+    ∙ last_of_any (bytes_eq (connection_of y) y) (bytes_eq (connection_of y) (temporary_of y)) (bytes_eq (connection_of y) (connection_of y)) (same_bytes (connection_of y))))
 
 pub one_ask : {a b : Ask} → command.One a ≡ command.One b → a ≡ b
 one_ask e = cc

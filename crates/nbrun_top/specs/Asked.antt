@@ -5,7 +5,7 @@ use Rattle.words.specs.declared.ask.Ask.{Ask}
 use Rattle.words.specs.declared.command.Command.{Command}
 use Rattle.words.specs.declared.command.Command.TheVariants as command
 use Rattle.words.specs.declared.usage.Usage.TheVariants as usage_fault
-use Rattle.words.specs.Asked.{asked}
+use Rattle.words.specs.Asked.{command_of_words}
 use Rattle.words.specs.Refusals.{refusal}
 use Rattle.words.specs.Runnable.{IsRunnable}
 use Rattle.nbrun_top.specs.declared.plain.Plain.{Plain}
@@ -18,7 +18,7 @@ use Rattle.nbrun_top.specs.declared.task.Task.TheVariants as task
 -- the words are a command line that asks for this job, which prepares its notebook and executes nothing
 pub record IsJob (words : List (List ℕ)) (a : Ask) : Type 0 where
   pub taken : refusal words ≡ None
-  pub asks : asked words ≡ command.One a
+  pub asks : command_of_words words ≡ command.One a
   pub prepares : a.prepare ≡ true
 
 -- ---- words that ask for the exercise
@@ -26,7 +26,7 @@ pub record IsJob (words : List (List ℕ)) (a : Ask) : Type 0 where
 -- the words are a command line that asks for the exercise of so many cells
 pub record IsExercise (words : List (List ℕ)) (cells : ℕ) : Type 0 where
   pub taken : refusal words ≡ None
-  pub asks : asked words ≡ command.Exercise cells
+  pub asks : command_of_words words ≡ command.Exercise cells
 
 -- the words don't ask for the exercise
 abbrev pub IsNoExercise : List (List ℕ) → Type 0
@@ -37,13 +37,13 @@ IsNoExercise words = (cells : ℕ) → IsExercise words cells → ⊥
 -- the words are a command line that asks for this job, which executes its notebook
 pub record IsExecuted (words : List (List ℕ)) (a : Ask) : Type 0 where
   pub taken : refusal words ≡ None
-  pub asks : asked words ≡ command.One a
+  pub asks : command_of_words words ≡ command.One a
   pub executes : a.prepare ≡ false
 
 -- the words are a command line that asks for the jobs of this file, which have that in common
 pub record IsBatch (words : List (List ℕ)) (file : List ℕ) (common : Ask) : Type 0 where
   pub taken : refusal words ≡ None
-  pub asks : asked words ≡ command.Many file common
+  pub asks : command_of_words words ≡ command.Many file common
 
 -- a command that executes notebooks
 abbrev pub is_execution : Command → Bool
@@ -54,7 +54,7 @@ is_execution (command.Exercise n) = false
 -- the words are a command line that executes notebooks
 pub record IsExecuting (words : List (List ℕ)) : Type 0 where
   pub taken : refusal words ≡ None
-  pub executes : is_execution (asked words) ≡ true
+  pub executes : is_execution (command_of_words words) ≡ true
 
 -- the words execute nothing and ask for no exercise: they are refused, or prepare a notebook
 pub record IsPlain (words : List (List ℕ)) : Type 0 where

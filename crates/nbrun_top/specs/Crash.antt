@@ -9,7 +9,8 @@ use Rattle.world.specs.declared.read_file.ReadFile.TheVariants as found
 use Rattle.world.specs.Disk.{leaves, Among}
 use Rattle.world.specs.Moments.{upto}
 use Rattle.nb_load.specs.Loaded.{Accepts}
-use Rattle.nbrun_top.specs.Ran.{read_of, text_of}
+use Rattle.nbrun_top.specs.Ran.{read_of}
+use Rattle.nb_text.specs.Notebooks.{text_of}
 
 -- the run began with the read of the input, its bytes give a notebook that takes the parameters, and this is its text with them
 pub record IsTextOf (a : Ask) (journal : List Entry) (text : List ℕ) : Type 0 where

@@ -8,14 +8,15 @@ use Rattle.words.specs.declared.usage.Usage.{Usage}
 use Rattle.words.specs.declared.usage.Usage.TheVariants as usage_fault
 use Rattle.words.specs.JobsAsked.{asks_of}
 use Rattle.words.specs.JobsFaults.{Refused}
-use Rattle.words.specs.JobsFile.{IsJobsFile, IsTextOf}
+use Rattle.jtext.specs.Within.{IsTextWithin}
+use Rattle.words.specs.JobsFile.{IsJobsFile}
 use Rattle.words.specs.Paths.{connection_of}
 use Rattle.world.specs.declared.entry.Entry.{Entry}
 use Rattle.world.specs.declared.entry.Entry.TheVariants.{Read}
 use Rattle.world.specs.declared.read_file.ReadFile.{ReadFile}
 use Rattle.world.specs.declared.read_file.ReadFile.TheVariants as found
-use Rattle.save_disk.specs.Places.{acknowledged}
-use Rattle.save_disk.specs.Temporary.{temporary_of}
+use Rattle.save_disk.specs.Places.{save_count}
+use Rattle.world.specs.Save.{temporary_of}
 use Rattle.cell_core.specs.Task.{Task}
 use Rattle.job_run.specs.Counted.{IsCausedAfter}
 use Rattle.save_course.specs.Course.{IsSavedSo}
@@ -34,8 +35,9 @@ use Rattle.nbrun_top.specs.declared.end.End.TheVariants as end
 use Rattle.nbrun_top.specs.Asked.{IsExecuted, IsBatch}
 use Rattle.nbrun_top.specs.Codes.{code_of}
 use Rattle.nbrun_top.specs.Ended.{Answers}
-use Rattle.nbrun_top.specs.Lines.{said}
+use Rattle.nbrun_top.specs.Lines.{all_lines}
 use Rattle.nbrun_top.specs.Ran.{IsUntouched}
+use Rattle.job_run.specs.Run.{IsUnsaved}
 
 -- ---- the jobs
 
@@ -46,7 +48,7 @@ file_read file answer before = Read file 1048576 answer ∷ before
 -- the bytes are a jobs file with this path, which asks for these jobs
 pub record IsFileOf (file : List ℕ) (common : Ask) (bytes : List ℕ) (asks : List Ask) : Type 0 where
   pub tree : Json
-  pub text : IsTextOf bytes tree
+  pub text : IsTextWithin 1048576 100 bytes tree
   pub is : IsJobsFile file tree
   pub asked : asks ≡ asks_of common tree
 
@@ -97,14 +99,10 @@ pub record AreApart (asks : List Ask) : Type 0 where
   pub outputs : (i : ℕ) (a : Ask) → slice_get asks i ≡ Some a → IsAlone asks i a
   pub inputs : (i : ℕ) (a : Ask) → slice_get asks i ≡ Some a → NoneWrites asks a.input
 
--- a status with which a save may have failed: that of the save, or that of memory that was refused then
-abbrev pub IsUnsaved : ℕ → Type 0
-IsUnsaved status = (status ≡ 10) ⊎ (status ≡ 12)
-
 -- a status that names a cause comes only where there are events that stop the job for it, of which as many are saves as were
 -- acknowledged at its output
 abbrev pub IsCountedIn : Ask → Notebook → ℕ → List Entry → Type 0
-IsCountedIn a first status journal = (task : Task) → counted_task a first ≡ Some task → IsCausedAfter (acknowledged a.output journal) task status
+IsCountedIn a first status journal = (task : Task) → counted_task a first ≡ Some task → IsCausedAfter (save_count a.output journal) task status
 
 -- The output of a job that ended with this status wasn't touched; or the bytes of its input give a notebook with the
 -- parameters, nothing had touched the output before they were read, and then it was saved by prefixes of that notebook,
@@ -135,7 +133,7 @@ IsQuiet journal = (path : List ℕ) → Since (Spares path) [] journal
 -- behind the jobs nothing more is said, or where memory was refused the line that says so
 pub data EndsSpeech (cut : Type 0) (code : ℕ) (done : List Entry) : List Entry → Type 0 where
   silence : EndsSpeech cut code done done
-  last_line : {after : List Entry} → code ≡ 12 → Says (said [] [] end.NoMemory) cut done after → EndsSpeech cut code done after
+  last_line : {after : List Entry} → code ≡ 12 → Says (all_lines [] [] end.NoMemory) cut done after → EndsSpeech cut code done after
 
 -- Jobs have run behind these entries, and the run ends with that status. `done`: when they had ended, with what was said since.
 -- Each call was one of the loop or of one of the jobs, and each child that was started has its end.
@@ -180,5 +178,5 @@ StartRose counts old new = (Rose (counts old).rand (counts new).rand) ⊎ (Rose 
 pub data Executed (words : List (List ℕ)) (here : List ℕ) (rose cut : Type 0) : ℕ → List Entry → Type 0 where
   ran : (asks : List Ask) (begun after : List Entry) (code : ℕ) → AreJobs words asks begun → Runs asks here rose cut code begun after → Executed words here rose cut code after
   none : (file : List ℕ) (common : Ask) (e : End) (on_disk after : List Entry) → IsBatch words file common → GivesNone file [] e on_disk
-      → Says (said file (codes "nbrun") e) cut on_disk after → Executed words here rose cut (code_of e) after
-  starved : (after : List Entry) → Says (said [] [] end.NoMemory) cut [] after → Executed words here rose cut 12 after
+      → Says (all_lines file (codes "nbrun") e) cut on_disk after → Executed words here rose cut (code_of e) after
+  starved : (after : List Entry) → Says (all_lines [] [] end.NoMemory) cut [] after → Executed words here rose cut 12 after

@@ -1,8 +1,6 @@
 -- What a run asks of the disk before it ends, cause by cause. A journal has its newest entry first.
 use Rattle.std.specs.Prelude.{◌≡◌, ℕ, ◌≤◌, List, [], ◌∷◌, ◌++◌, length, Some, Ok, Err}
-use Rattle.jtext.specs.Indent.{print}
 use Rattle.nb_model.specs.declared.notebook.Notebook.{Notebook}
-use Rattle.nb_model.specs.Tree.{notebook_tree}
 use Rattle.words.specs.declared.ask.Ask.{Ask}
 use Rattle.words.specs.declared.usage.Usage.{Usage}
 use Rattle.words.specs.Refusals.{refusal}
@@ -13,11 +11,12 @@ use Rattle.world.specs.declared.read_file.ReadFile.TheVariants as found
 use Rattle.world.specs.declared.left.Left.TheVariants as left
 use Rattle.world.specs.Disk.{leaves}
 use Rattle.world.specs.Moments.{upto}
+use Rattle.nb_text.specs.Notebooks.{text_of}
 use Rattle.nbrun_top.specs.declared.end.End.{End}
 use Rattle.nbrun_top.specs.declared.end.End.TheVariants as end
 use Rattle.save_disk.specs.declared.save_fault.SaveFault.{SaveFault}
 use Rattle.save_disk.specs.Entries.{SaveOf}
-use Rattle.save_disk.specs.Temporary.{temporary_of}
+use Rattle.world.specs.Save.{temporary_of}
 use Rattle.nbrun_top.specs.Asked.{IsJob}
 use Rattle.nb_load.specs.declared.load_fault.LoadFault.{LoadFault}
 use Rattle.nb_load.specs.Loaded.{Accepts, Refuses}
@@ -26,10 +25,6 @@ use Rattle.nbrun_top.specs.Codes.{end_of}
 -- the journal after the read of the input, of which at most 32 MiB are read
 abbrev pub read_of : Ask → ReadFile → List Entry → List Entry
 read_of a answer before = Read a.input 33554432 answer ∷ before
-
--- the text that is saved of a notebook
-abbrev pub text_of : Notebook → List ℕ
-text_of n = print (notebook_tree n)
 
 -- a save of the notebook: the run ends so, and asks that of the disk
 pub data SavesAs (output : List ℕ) (n : Notebook) (before : List Entry) : End → List Entry → Type 0 where

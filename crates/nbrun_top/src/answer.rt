@@ -1,7 +1,7 @@
 //! `Answer`, how a run ended and what is said of it.
 ghost use Rattle.std.specs.Prelude.{◌≡◌, ◌⊎◌, ℕ, []};
 ghost use Rattle.nbrun_top.specs.declared.end.End.TheVariants as ending;
-ghost use Rattle.nbrun_top.specs.Lines.{said};
+ghost use Rattle.nbrun_top.specs.Lines.{all_lines};
 ghost use Rattle.nbrun_top.specs.Said.{Speaks};
 
 use crate::end::End;
@@ -21,7 +21,7 @@ pub(crate) struct Answer {
 impl Answer {
     /// The answer of a run on these paths that ended before anything was saved. Memory for its line
     /// may be refused.
-    pub(crate) fn refused(alloc: Global, input: &str, output: &str, end: End) -> Answer
+    pub(crate) fn refusal(alloc: Global, input: &str, output: &str, end: End) -> Answer
         requires { (cells : ℕ) → end ≡ ending.Done cells → ⊥ }
         ensures end { (result.end ≡ end) ⊎ (result.end ≡ ending.NoMemory) }
         ensures text { Speaks input.now output.now result }
@@ -43,8 +43,9 @@ impl Answer {
     }
 
     /// What is said.
-    pub(crate) fn said(&self) -> &[u8]
-        ensures memory { self.now.end ≡ ending.NoMemory → result.now ≡ said [] [] ending.NoMemory }
+    pub(crate) fn lines(&self) -> &[u8]
+        ensures memory { self.now.end ≡ ending.NoMemory →
+            result.now ≡ all_lines [] [] ending.NoMemory }
         ensures text { (self.now.end ≡ ending.NoMemory → ⊥) → result.now ≡ self.now.text }
     {
         match &self.end {

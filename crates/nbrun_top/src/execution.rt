@@ -2,14 +2,15 @@
 ghost use Rattle.std.specs.Prelude.{◌≡◌, ◌⊎◌, ◌≤◌, length, List as Seq, [], ℕ};
 ghost use Rattle.std.specs.List.{AllByRecursion};
 ghost use Rattle.words.specs.Runnable.{IsRunnable};
-ghost use Rattle.said_lines.specs.Between.{Between, FromStart, SayRose, SayFailed};
+ghost use Rattle.world.specs.Told.{Between};
+ghost use Rattle.said_lines.specs.Between.{FromStart, SayRose, SayFailed};
 ghost use Rattle.batch_run.specs.Batch.{IsClean};
 ghost use Rattle.nbrun_top.specs.Asked.{IsExecuted, IsBatch};
 ghost use Rattle.nbrun_top.specs.Executed.{Executed, Runs, IsCounted, IsQuiet, AreApart};
 ghost use Rattle.nbrun_top.specs.Executed.{WaitsAtMost};
 ghost use Rattle.said_lines.specs.Speech.{Says};
 ghost use Rattle.nbrun_top.specs.declared.end.End.TheVariants as ending;
-ghost use Rattle.nbrun_top.specs.Lines.{said};
+ghost use Rattle.nbrun_top.specs.Lines.{all_lines};
 ghost use Rattle.world.specs.Counts.{SayCause};
 
 use crate::jobs_file::asks_in;
@@ -37,7 +38,7 @@ pub(crate) fn run_one<W: World>(alloc: Global, ask: Ask, limits: &Limits, w: &mu
     let mut asks = Asks::new(alloc);
     match asks.push(ask) {
         Ok(()) => run_all(alloc, asks, limits, w),
-        Err(NoMemory) => starved(w),
+        Err(NoMemory) => say_no_memory(w),
     }
 }
 
@@ -60,7 +61,7 @@ pub(crate) fn run_file<W: World>(
     match asks_in(alloc, file, common, w) {
         Ok(asks) => run_all(alloc, asks, limits, w),
         Err(answer) => {
-            say(w, answer.said());
+            say(w, answer.lines());
             answer.end.code()
         }
     }
@@ -81,14 +82,14 @@ fn run_all<W: World>(alloc: Global, asks: Asks, limits: &Limits, w: &mut W) -> u
     let faults = w.say_faults();
     match run_jobs(alloc, w, asks, limits) {
         Ok(answers) => unless_not_said(w, faults, first_fault(answers.as_slice())),
-        Err(NoMemory) => starved(w),
+        Err(NoMemory) => say_no_memory(w),
     }
 }
 
 /// Says that memory was refused, and answers the exit status.
-pub(crate) fn starved<W: Say>(w: &mut W) -> u8
+pub(crate) fn say_no_memory<W: Say>(w: &mut W) -> u8
     ensures says { Between W.journal w.old w.new
-        (Says (said [] [] ending.NoMemory) (SayFailed W.counts w.new)) }
+        (Says (all_lines [] [] ending.NoMemory) (SayFailed W.counts w.new)) }
     ensures counts { SayCause (W.counts w.old) (W.counts w.new) ⊥ }
     ensures status { result ≡ 12 }
 {

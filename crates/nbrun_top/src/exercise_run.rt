@@ -1,10 +1,11 @@
 //! Runs that do the exercise.
 ghost use Rattle.std.specs.Prelude.{◌≡◌, ◌≤◌};
-ghost use Rattle.said_lines.specs.Between.{Between, SayRose, SayFailed};
+ghost use Rattle.world.specs.Told.{Between};
+ghost use Rattle.said_lines.specs.Between.{SayRose, SayFailed};
 ghost use Rattle.nbrun_top.specs.Executed.{WaitsAtMost};
 ghost use Rattle.nbrun_top.specs.Exercised.{Exercised};
 
-use crate::execution::starved;
+use crate::execution::say_no_memory;
 use crate::exercise::Exercise;
 use crate::status::unless_not_said;
 use batch_run::Limits;
@@ -34,6 +35,6 @@ pub(crate) fn run_exercise<W: Say, X: Exercise>(
             say(w, answer.line.bytes());
             unless_not_said(w, faults, answer.status)
         }
-        Err(NoMemory) => starved(w),
+        Err(NoMemory) => say_no_memory(w),
     }
 }

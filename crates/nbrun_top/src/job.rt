@@ -4,7 +4,8 @@ ghost use Rattle.words.specs.declared.usage.Usage as usages;
 ghost use Rattle.world.specs.Counts.{DiskCause};
 ghost use Rattle.nbrun_top.specs.declared.end.End.TheVariants as ending;
 ghost use Rattle.save_disk.specs.declared.save_fault.SaveFault as fault;
-ghost use Rattle.said_lines.specs.Between.{Between, DiskRose};
+ghost use Rattle.world.specs.Told.{Between};
+ghost use Rattle.said_lines.specs.Between.{DiskRose};
 ghost use Rattle.nbrun_top.specs.Codes.{end_of};
 ghost use Rattle.nbrun_top.specs.Ran.{Prepares, SavesAs};
 ghost use Rattle.nbrun_top.specs.Said.{Speaks};
@@ -41,8 +42,8 @@ pub(crate) fn prepare<W: Disk>(alloc: Global, ask: &Ask, w: &mut W) -> Answer
                 Err(fault) => not_loaded(alloc, ask, fault),
             }
         }
-        ReadFile::Big => refused(alloc, ask, End::TooLarge),
-        ReadFile::Failed => refused(alloc, ask, End::NotRead),
+        ReadFile::Big => refusal(alloc, ask, End::TooLarge),
+        ReadFile::Failed => refusal(alloc, ask, End::NotRead),
         ReadFile::NoMemory => Answer::no_memory(alloc),
     }
 }
@@ -55,11 +56,11 @@ fn not_loaded(alloc: Global, ask: &Ask, why: LoadFault) -> Answer
     ensures saves { (f : fault.SaveFault) → result.end ≡ ending.NotSaved f → ⊥ }
 {
     match why {
-        LoadFault::NotJson(fault) => refused(alloc, ask, End::NotLoaded(LoadFault::NotJson(fault))),
+        LoadFault::NotJson(fault) => refusal(alloc, ask, End::NotLoaded(LoadFault::NotJson(fault))),
         LoadFault::NotNotebook(fault) => {
-            refused(alloc, ask, End::NotLoaded(LoadFault::NotNotebook(fault)))
+            refusal(alloc, ask, End::NotLoaded(LoadFault::NotNotebook(fault)))
         }
-        LoadFault::NoTranslator { language } => refused(
+        LoadFault::NoTranslator { language } => refusal(
             alloc,
             ask,
             End::NotLoaded(LoadFault::NoTranslator { language }),
@@ -68,12 +69,12 @@ fn not_loaded(alloc: Global, ask: &Ask, why: LoadFault) -> Answer
     }
 }
 
-fn refused(alloc: Global, ask: &Ask, end: End) -> Answer
+fn refusal(alloc: Global, ask: &Ask, end: End) -> Answer
     requires { (cells : ℕ) → end ≡ ending.Done cells → ⊥ }
     ensures end { (result.end ≡ end) ⊎ (result.end ≡ ending.NoMemory) }
     ensures text { Speaks ask.now.input ask.now.output result }
 {
-    Answer::refused(alloc, ask.input.as_str(), ask.output.as_str(), end)
+    Answer::refusal(alloc, ask.input.as_str(), ask.output.as_str(), end)
 }
 
 // The text, the paths and the lines are made before anything is written. The input had that size.

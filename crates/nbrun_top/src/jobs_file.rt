@@ -4,7 +4,8 @@ ghost use Rattle.std.specs.List.{AllByRecursion};
 ghost use Rattle.words.specs.Runnable.{IsRunnable};
 ghost use Rattle.words.specs.declared.usage.Usage.TheVariants as usage_fault;
 ghost use Rattle.world.specs.Counts.{DiskCause};
-ghost use Rattle.said_lines.specs.Between.{Between, DiskRose};
+ghost use Rattle.world.specs.Told.{Between};
+ghost use Rattle.said_lines.specs.Between.{DiskRose};
 ghost use Rattle.nbrun_top.specs.declared.end.End.TheVariants as ending;
 ghost use Rattle.nbrun_top.specs.Executed.{GivesAsks, IsEndOfFile};
 ghost use Rattle.nbrun_top.specs.Said.{SpeaksOfFile};
@@ -40,7 +41,7 @@ pub(crate) fn asks_in<W: Disk>(
     match w.read_file(alloc, file, MOST) {
         ReadFile::Whole(bytes) => match jobs(alloc, bytes.bytes(), file, common) {
             Ok(asks) => Ok(asks),
-            Err(usage) => Err(refused(alloc, file, usage)),
+            Err(usage) => Err(refusal(alloc, file, usage)),
         },
         ReadFile::Big => Err(too_large(alloc, file)),
         ReadFile::Failed => Err(not_read(alloc, file)),
@@ -48,14 +49,14 @@ pub(crate) fn asks_in<W: Disk>(
     }
 }
 
-fn refused(alloc: Global, file: &Text, usage: Usage) -> Answer
+fn refusal(alloc: Global, file: &Text, usage: Usage) -> Answer
     ensures end { (result.end ≡ ending.Refused usage) ⊎ (result.end ≡ ending.NoMemory) }
     ensures memory { usage ≡ usage_fault.NoMemory → result.end ≡ ending.NoMemory }
     ensures text { SpeaksOfFile file.now result }
 {
     match usage {
         Usage::NoMemory => Answer::no_memory(alloc),
-        other => Answer::refused(alloc, file.as_str(), "nbrun", End::Refused(other)),
+        other => Answer::refusal(alloc, file.as_str(), "nbrun", End::Refused(other)),
     }
 }
 
@@ -68,12 +69,12 @@ fn too_large(alloc: Global, file: &Text) -> Answer
     let usage = Usage::BadJobs {
         pointer: Text::new(alloc),
     };
-    refused(alloc, file, usage)
+    refusal(alloc, file, usage)
 }
 
 fn not_read(alloc: Global, file: &Text) -> Answer
     ensures end { (result.end ≡ ending.NotRead) ⊎ (result.end ≡ ending.NoMemory) }
     ensures text { SpeaksOfFile file.now result }
 {
-    Answer::refused(alloc, file.as_str(), "nbrun", End::NotRead)
+    Answer::refusal(alloc, file.as_str(), "nbrun", End::NotRead)
 }

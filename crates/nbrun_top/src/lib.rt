@@ -19,7 +19,6 @@ mod plain_run;
 mod reports;
 mod status;
 mod task;
-mod why;
 
 pub use exercise::Exercise;
 pub use main_call::run;

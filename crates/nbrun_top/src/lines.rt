@@ -1,11 +1,12 @@
 //! The lines that are said at the end of a run.
 ghost use Rattle.std.specs.Prelude.{◌≡◌, IfOk};
+ghost use Rattle.said_lines.specs.Lines as lines;
 ghost use Rattle.nbrun_top.specs.Lines as spec;
 
 use crate::end::End;
-use crate::why;
 use jtext::{Bytes, NoMemory};
 use said_lines::spoken_line;
+use save_disk::SaveFault;
 use std::alloc::Global;
 
 /// The last line of a run that ends so.
@@ -15,11 +16,11 @@ pub(crate) fn last(alloc: Global, input: &str, output: &str, end: &End) -> Resul
     match end {
         End::Done { .. } => spoken_line(alloc, output, b"done"),
         End::Refused(usage) => {
-            let what = why::usage(alloc, usage)?;
+            let what = format!(in alloc; "{usage}")?;
             spoken_line(alloc, "usage", what.as_bytes())
         }
         End::NotRead => {
-            let what = why::joined(alloc, "cannot read ", input)?;
+            let what = format!(in alloc; "cannot read {input}")?;
             spoken_line(alloc, output, what.as_bytes())
         }
         End::TooLarge => spoken_line(alloc, output, b"too large"),
@@ -27,7 +28,15 @@ pub(crate) fn last(alloc: Global, input: &str, output: &str, end: &End) -> Resul
             let what = fault.reason(alloc)?;
             spoken_line(alloc, output, what.bytes())
         }
-        End::NotSaved(fault) => spoken_line(alloc, output, why::save(*fault).as_bytes()),
+        End::NotSaved(fault) => fault_line(alloc, output, *fault),
         End::NoMemory => spoken_line(alloc, "nbrun", b"no memory"),
     }
+}
+
+/// The line of a save of the output that failed at this step.
+pub(crate) fn fault_line(alloc: Global, output: &str, fault: SaveFault) -> Result<Bytes, NoMemory>
+    ensures { IfOk result (λ b. b ≡ lines.spoken_line output.now (spec.save fault)) }
+{
+    let what = format!(in alloc; "cannot save: {fault}")?;
+    spoken_line(alloc, output, what.as_bytes())
 }

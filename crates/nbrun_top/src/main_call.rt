@@ -5,14 +5,15 @@ ghost use Rattle.words.specs.declared.usage.Usage as usages;
 ghost use Rattle.words.specs.Refusals.{refusal};
 ghost use Rattle.nbrun_top.specs.Asked.{IsJob, IsPlain, IsExecuting, IsExecuted, texts};
 ghost use Rattle.nbrun_top.specs.Asked.{IsExercise, IsNoExercise};
-ghost use Rattle.said_lines.specs.Between.{Between, FromStart, DiskRose, SayRose, SayFailed};
+ghost use Rattle.world.specs.Told.{Between};
+ghost use Rattle.said_lines.specs.Between.{FromStart, DiskRose, SayRose, SayFailed};
 ghost use Rattle.nbrun_top.specs.Crash.{IsSafe};
 ghost use Rattle.nbrun_top.specs.Ended.{Ended, IsHeard, acks_of};
 ghost use Rattle.nbrun_top.specs.Exercised.{Exercised};
 ghost use Rattle.nbrun_top.specs.Executed.{Executed, IsSavedOnly, DoesNotWrite, StartRose};
-ghost use Rattle.nbrun_top.specs.Executed.{NetRose, WaitsAll, WaitsAtMost};
+ghost use Rattle.nbrun_top.specs.Executed.{IsCounted, NetRose, WaitsAll, WaitsAtMost};
 ghost use Rattle.nbrun_top.specs.Ran.{IsDelivered, IsOther, IsUntouched};
-ghost use Rattle.save_disk.specs.Places.{acknowledged};
+ghost use Rattle.save_disk.specs.Places.{save_count};
 ghost use Rattle.said_lines.specs.Speech.{heard};
 
 use crate::execution::{run_file, run_one};
@@ -48,7 +49,7 @@ pub fn run<W: World, X: Exercise>(
     // A save is acknowledged exactly with status 0 or 11, and then one.
     ensures acknowledged { FromStart W.journal w.old w.new
         (λ j. (a : asks.Ask) → IsJob (texts words.now) a →
-        acknowledged a.output j ≡ acks_of result) }
+        save_count a.output j ≡ acks_of result) }
     // At every moment a crash leaves every other file as it was, the input among them.
     ensures untouched { IsPlain (texts words.now) → FromStart W.journal w.old w.new
         (λ j. (path : Seq ℕ) → IsOther (texts words.now) path → IsUntouched path j) }
@@ -132,18 +133,8 @@ fn status<W: World, X: Exercise>(
         (result ≡ 2) ⊎ (result ≡ 12) }
     ensures refused { IsPlain (texts words.now) → result ≡ 2 →
         refusal (texts words.now) ≡ None → ⊥ }
-    ensures read_fault { IsNoExercise (texts words.now) → result ≡ 3 →
-        DiskRose W.counts w.old w.new }
-    ensures start_fault { IsNoExercise (texts words.now) → result ≡ 6 →
-        StartRose W.counts w.old w.new }
-    ensures save_fault { IsNoExercise (texts words.now) → result ≡ 10 →
-        DiskRose W.counts w.old w.new }
-    ensures say_fault { IsNoExercise (texts words.now) → result ≡ 11 →
-        SayRose W.counts w.old w.new }
-    ensures net_fault { IsNoExercise (texts words.now) → result ≡ 14 →
-        NetRose W.counts w.old w.new }
-    ensures spent { IsNoExercise (texts words.now) → result ≡ 16 →
-        WaitsAll W.counts w.old w.new limits.now.turns }
+    ensures counted { IsNoExercise (texts words.now) →
+        IsCounted limits.now.turns (W.counts w.old) (W.counts w.new) result }
     ensures waits { WaitsAtMost W.counts w.old w.new limits.now.turns }
     ensures heard { result ≡ 0 → SayRose W.counts w.old w.new → ⊥ }
 {

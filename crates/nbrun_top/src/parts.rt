@@ -1,6 +1,6 @@
 //! What a save needs, made before it.
 ghost use Rattle.std.specs.Prelude.{◌≡◌, length, IfOk};
-ghost use Rattle.nbrun_top.specs.Ran.{text_of};
+ghost use Rattle.nb_text.specs.Notebooks.{text_of};
 ghost use Rattle.nbrun_top.specs.Reported.{AreReports};
 
 use crate::reports::Reports;

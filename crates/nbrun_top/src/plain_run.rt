@@ -9,7 +9,8 @@ ghost use Rattle.nbrun_top.specs.declared.plain.Plain.TheVariants as plains;
 ghost use Rattle.save_disk.specs.declared.save_fault.SaveFault as fault;
 ghost use Rattle.nbrun_top.specs.Asked.{IsPlainOf};
 ghost use Rattle.nbrun_top.specs.Codes.{is_plain};
-ghost use Rattle.said_lines.specs.Between.{Between, DiskRose, SayRose, SayFailed};
+ghost use Rattle.world.specs.Told.{Between};
+ghost use Rattle.said_lines.specs.Between.{DiskRose, SayRose, SayFailed};
 ghost use Rattle.nbrun_top.specs.Ended.{Ended};
 ghost use Rattle.nbrun_top.specs.Executed.{WaitsAtMost};
 ghost use Rattle.nbrun_top.specs.Ran.{Ran};
@@ -44,14 +45,14 @@ pub(crate) fn run_plain<W: Disk + Say>(alloc: Global, plain: Plain, w: &mut W) -
     ensures heard { result ≡ 0 → SayRose W.counts w.old w.new → ⊥ }
 {
     let faults = w.say_faults();
-    let answer = answered(alloc, plain, w);
-    say(w, answer.said());
+    let answer = answer_of(alloc, plain, w);
+    say(w, answer.lines());
     let code = answer.end.code();
     unless_not_said(w, faults, code)
 }
 
 // All but the saying.
-fn answered<W: Disk>(alloc: Global, plain: Plain, w: &mut W) -> Answer
+fn answer_of<W: Disk>(alloc: Global, plain: Plain, w: &mut W) -> Answer
     ensures ran { (words : Seq (Seq ℕ)) → IsPlainOf words plain → Between W.journal w.old w.new
         (λ before after. Ran words before result.end after) }
     ensures text { (words : Seq (Seq ℕ)) → IsPlainOf words plain → SpeaksOf words result }
@@ -67,17 +68,17 @@ fn answered<W: Disk>(alloc: Global, plain: Plain, w: &mut W) -> Answer
 {
     match plain {
         Plain::Prepare(ask) => prepare(alloc, &ask, w),
-        Plain::Refused(usage) => refused(alloc, usage),
+        Plain::Refused(usage) => refusal(alloc, usage),
     }
 }
 
-fn refused(alloc: Global, usage: Usage) -> Answer
+fn refusal(alloc: Global, usage: Usage) -> Answer
     ensures end { (result.end ≡ ending.Refused usage) ⊎ (result.end ≡ ending.NoMemory) }
     ensures memory { usage ≡ usage_fault.NoMemory → result.end ≡ ending.NoMemory }
     ensures text { (input output : Seq ℕ) → Speaks input output result }
 {
     match usage {
         Usage::NoMemory => Answer::no_memory(alloc),
-        other => Answer::refused(alloc, "", "", End::Refused(other)),
+        other => Answer::refusal(alloc, "", "", End::Refused(other)),
     }
 }

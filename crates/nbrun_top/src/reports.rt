@@ -5,7 +5,7 @@ ghost use Rattle.nbrun_top.specs.Reported.{AreReports, report_of};
 
 use crate::answer::Answer;
 use crate::end::End;
-use crate::why;
+use crate::lines::fault_line;
 use jtext::{Bytes, NoMemory};
 use said_lines::{saved_line, spoken_line};
 use save_disk::SaveFault;
@@ -36,10 +36,10 @@ impl Reports {
         done.add(last.bytes())?;
         Ok(Reports {
             done,
-            not_written: spoken_line(alloc, output, why::save(SaveFault::Write).as_bytes())?,
-            not_synced: spoken_line(alloc, output, why::save(SaveFault::Sync).as_bytes())?,
-            not_renamed: spoken_line(alloc, output, why::save(SaveFault::Rename).as_bytes())?,
-            not_settled: spoken_line(alloc, output, why::save(SaveFault::DirSync).as_bytes())?,
+            not_written: fault_line(alloc, output, SaveFault::Write)?,
+            not_synced: fault_line(alloc, output, SaveFault::Sync)?,
+            not_renamed: fault_line(alloc, output, SaveFault::Rename)?,
+            not_settled: fault_line(alloc, output, SaveFault::DirSync)?,
         })
     }
 

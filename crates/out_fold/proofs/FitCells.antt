@@ -5,6 +5,7 @@ use Rattle.std.specs.List.{All, AllByRecursion}
 use Rattle.std.proofs.lemmas.List.Elements.{All-from_recursion, recursion_from_All}
 use Rattle.jtext.specs.declared.json.Json.{Json}
 use Rattle.jtext.specs.Depth.{depth}
+use Rattle.jtext.specs.Texts.{AllStrings}
 use Rattle.nb_model.specs.Run.{IsFitOutput}
 use Rattle.nb_model.specs.Tree.{count_tree}
 use Rattle.nb_model.specs.Values.{is_count}
@@ -13,7 +14,7 @@ use Rattle.jcontent.specs.IsRead.{IsCount, IsRead}
 use Rattle.out_fold.specs.Shown.{outputs}
 use Rattle.out_fold.specs.Tree.{output_tree}
 use Rattle.out_fold.specs.Cells.{Used, contents, all_contents, joined_where, outputs_of, last_count, count_of, last_date, is_input, says_busy, says_idle, date_pairs, dates_of}
-use Rattle.out_fold.specs.Fit.{AreRead, AreTexts}
+use Rattle.out_fold.specs.Fit.{AreRead}
 use Rattle.out_fold.proofs.ReadOutputs.{read_joined_where, read_count, parts}
 use Rattle.out_fold.proofs.FitTrees.{IsFit, trees_fit, AreDates, dates_fit, four_fit}
 
@@ -68,5 +69,5 @@ dates_are (u ∷ us) cell =
     (four_fit (last_date is_input None u.own) (last_date says_busy None u.own) (last_date says_idle None u.own) u.reply)
     (dates_are us cell)
 
-pub dates_are_texts : (us : List Used) (cell : ℕ) → AreTexts (dates_of us cell)
+pub dates_are_texts : (us : List Used) (cell : ℕ) → AllStrings (dates_of us cell)
 dates_are_texts us cell = All-from_recursion _ (dates_of us cell) (dates_are us cell).texts

@@ -1,6 +1,6 @@
 -- The trees of outputs that were read are outputs of nbformat.
 use Rattle.std.proofs.Common.{◌≡◌, ℕ, ◌<◌, ◌≤◌, Bool, true, false, ◌&&◌, ◌||◌, List, [], ◌∷◌, map, Option, Some, None, refl, sym, ap, ◌∙◌, arith, codes}
-use Rattle.std.specs.Prelude.{if◌then◌else◌, is_some}
+use Rattle.std.specs.Prelude.{if◌then◌else◌}
 use Rattle.std.specs.List.{AllByRecursion, list_all}
 use Rattle.std.specs.Str.{bytes_eq}
 use Rattle.std.proofs.lemmas.Bool.{and_parts, and_from, or_left, or_right}
@@ -15,6 +15,7 @@ use Rattle.jtext.specs.Keyed as keyed
 use Rattle.jtext.specs.Keyed.{Keyed, PairsKeyed}
 use Rattle.jtext.specs.Look.{is_object, is_list, items, is_string, is_strings, there_and}
 use Rattle.jtext.proofs.Depths.{depth-Arr, depth-Null, depth-Num, depth-Str, highest-le}
+use Rattle.jtext.proofs.Lists.{and_three}
 use Rattle.jtext.proofs.Trees.{pairs_keyed}
 use Rattle.nb_model.specs.Keys.{is_text, has}
 use Rattle.nb_model.specs.Lines.{lines_of, lines_tree}
@@ -24,6 +25,7 @@ use Rattle.nb_model.specs.Valid.{is_stream, is_display, is_result, is_error, is_
 use Rattle.nb_model.specs.Values.{is_count}
 use Rattle.nb_model.proofs.DepthLaws.{object_within, values_within}
 use Rattle.nb_model.proofs.KeyedLemmas.{values_of, pairs_of, distinct_from, string_list_keyed}
+use Rattle.nb_model.proofs.Multilines.{is_string_Str, strings_fit}
 use Rattle.nb_model.proofs.PreparedLaws.{fields_Obj, object_Obj, string_Str, list_Arr, items_Arr, count_is, only_at}
 use Rattle.jcontent.specs.declared.content.Content.{Content}
 use Rattle.jcontent.specs.declared.content.Content.TheVariants as content
@@ -42,17 +44,10 @@ has_at key test qs v e h = ap (λ ps. there_and test (find key ps)) (fields_Obj 
 text_is : (text s : List ℕ) → bytes_eq s text ≡ true → is_text text (json.Str s) ≡ true
 text_is text s e = ap (there_and (λ x. bytes_eq x text)) (string_Str s) ∙ e
 
-string_is : (s : List ℕ) → is_string (json.Str s) ≡ true
-string_is s = ap is_some (string_Str s)
-
-each_string : (ls : List (List ℕ)) → list_all is_string (map (λ l. json.Str l) ls) ≡ true
-each_string [] = refl
-each_string (l ∷ ls) = and_from (is_string (json.Str l)) (list_all is_string (map (λ k. json.Str k) ls)) (string_is l) (each_string ls)
-
 strings_are : (ls : List (List ℕ)) → is_strings (json.Arr (map (λ l. json.Str l) ls)) ≡ true
 strings_are ls =
     let xs = map (λ l. json.Str l) ls in
-    and_from (is_list (json.Arr xs)) (list_all is_string (items (json.Arr xs))) (list_Arr xs) (ap (list_all is_string) (items_Arr xs) ∙ each_string ls)
+    and_from (is_list (json.Arr xs)) (list_all is_string (items (json.Arr xs))) (list_Arr xs) (ap (list_all is_string) (items_Arr xs) ∙ strings_fit ls)
 
 lines_are : (s : List ℕ) → is_multiline (lines_tree s) ≡ true
 lines_are s = or_right (is_string (lines_tree s)) (is_strings (lines_tree s)) (strings_are (lines_of s))
@@ -191,11 +186,8 @@ count_part (Some s) = record { keyed = keyed.number s; within = up (depth (json.
 pick : (o : Json) → is_object o ≡ true → (is_stream o || is_display o || is_result o || is_error o) ≡ true → is_output o ≡ true
 pick o is one = and_from (is_object o) (is_stream o || is_display o || is_result o || is_error o) is one
 
-and3 : (a b c : Bool) → a ≡ true → b ≡ true → c ≡ true → (a && b && c) ≡ true
-and3 a b c p q r = and_from (a && b) c (and_from a b p q) r
-
 and4 : (a b c d : Bool) → a ≡ true → b ≡ true → c ≡ true → d ≡ true → (a && b && c && d) ≡ true
-and4 a b c d p q r s = and_from (a && b && c) d (and3 a b c p q r) s
+and4 a b c d p q r s = and_from (a && b && c) d (and_three a b c p q r) s
 
 and5 : (a b c d e : Bool) → a ≡ true → b ≡ true → c ≡ true → d ≡ true → e ≡ true → (a && b && c && d && e) ≡ true
 and5 a b c d e p q r s t = and_from (a && b && c && d) e (and4 a b c d p q r s) t
@@ -221,7 +213,7 @@ stream_is : (name text : List ℕ) → is_stream (json.Obj (stream_pairs name te
 stream_is name text =
     let qs = stream_pairs name text in
     and4 _ _ _ _ (type_at (codes "stream") qs refl refl) (only_at (output_keys stream_required) qs refl)
-    (has_at (codes "name") is_string qs (json.Str name) refl (string_is name))
+    (has_at (codes "name") is_string qs (json.Str name) refl (is_string_Str name))
     (has_at (codes "text") is_multiline qs (lines_tree text) refl (lines_are text))
 
 display_is : (s : Shown) → IsShown s → is_display (json.Obj (display_pairs s)) ≡ true
@@ -243,8 +235,8 @@ error_is : (ename evalue : List ℕ) (traceback : List (List ℕ)) → is_error 
 error_is ename evalue traceback =
     let qs = error_pairs ename evalue traceback in
     and5 _ _ _ _ _ (type_at (codes "error") qs refl refl) (only_at (output_keys error_required) qs refl)
-    (has_at (codes "ename") is_string qs (json.Str ename) refl (string_is ename))
-    (has_at (codes "evalue") is_string qs (json.Str evalue) refl (string_is evalue))
+    (has_at (codes "ename") is_string qs (json.Str ename) refl (is_string_Str ename))
+    (has_at (codes "evalue") is_string qs (json.Str evalue) refl (is_string_Str evalue))
     (has_at (codes "traceback") is_strings qs (json.Arr (map (λ l. json.Str l) traceback)) refl (strings_are traceback))
 
 stream_fit : (name text : List ℕ) → IsFit (stream_tree name text)
@@ -306,7 +298,7 @@ dates_fit ps distinct =
   where
     are_strings : (ps : List (List ℕ × List ℕ)) → AllByRecursion (λ (p : List ℕ × Json). is_string p.1 ≡ true) (map (λ p. (p.0, json.Str p.1)) ps)
     are_strings [] = tt
-    are_strings (p ∷ ps) = (string_is p.1, are_strings ps)
+    are_strings (p ∷ ps) = (is_string_Str p.1, are_strings ps)
 
     are_keyed : (ps : List (List ℕ × List ℕ)) → PairsKeyed (map (λ p. (p.0, json.Str p.1)) ps)
     are_keyed [] = keyed.no_pairs

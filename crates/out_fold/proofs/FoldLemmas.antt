@@ -3,13 +3,14 @@ use Rattle.std.proofs.Common.{◌≡◌, ◌≢◌, ◌==◌, ℕ, zero, suc, �
 use Rattle.std.specs.Option.{option_or}
 use Rattle.std.specs.Result.{OnOk, OnErr}
 use Rattle.std.proofs.lemmas.Bool.{cond-true, cond-false, eq-eqb, ne_eqb}
+use Rattle.std.proofs.lemmas.Simd.{map-map}
 use Rattle.jcontent.specs.declared.content.Content.{Content}
 use Rattle.out_fold.specs.declared.latest.Data.{Data}
 use Rattle.out_fold.specs.declared.folded.Folded.{Folded}
 use Rattle.out_fold.specs.declared.folds.Folds.{Folds}
 use Rattle.out_fold.specs.Shown.{shows, latest, resolve, outputs}
 use Rattle.out_fold.specs.Tree.{output_tree}
-use Rattle.out_fold.specs.Cells.{Used, begun, with_message, with_reply, contents, all_contents, joined_where, outputs_of, count_of, dates_of, date_pairs}
+use Rattle.out_fold.specs.Cells.{Used, begin, with_message, with_reply, contents, all_contents, joined_where, outputs_of, count_of, dates_of, date_pairs}
 use Rattle.out_fold.specs.Held.{nothing, fold_of, folded_at, step, held_at, data_of, Ordered, Holds, Took, Kept, IsSameShape}
 use Rattle.out_fold.proofs.ShownLemmas.{latest-snoc, outputs-held}
 use Rattle.out_fold.proofs.JoinedLemmas.{joined-resolved}
@@ -28,7 +29,7 @@ pub ordered-same : (low : ℕ) (us : List Used) (u u' : Used) (next : ℕ) → u
 ordered-same low [] u u' next e h = rw e h
 ordered-same low (v ∷ us) u u' next e h = (h.0, ordered-same (v.cell + 1) us u u' next e h.1)
 
-ordered-begun : (low : ℕ) (us : List Used) (cell next : ℕ) → next ≤ cell → Ordered low us next → Ordered low (us ++ begun cell ∷ []) (cell + 1)
+ordered-begun : (low : ℕ) (us : List Used) (cell next : ℕ) → next ≤ cell → Ordered low us next → Ordered low (us ++ begin cell ∷ []) (cell + 1)
 ordered-begun low [] cell next le h = (omega (arith, le, h), refl)
 ordered-begun low (v ∷ us) cell next le h = (h.0, ordered-begun (v.cell + 1) us cell next le h.1)
 
@@ -163,22 +164,22 @@ before-start f f' cell n s zero e =
     ap (λ cs. get_or cs n nothing) (s.same e) ∙ sym (held-other f n (λ x. absurd (omega (arith, x, e))))
 before-start f f' cell n s (suc m) e = before_by f f' cell n s m e ((n + 1) == f.next) refl
 
-pub all-begun : (us : List Used) (cell : ℕ) → all_contents (us ++ begun cell ∷ []) ≡ all_contents us
-all-begun us cell = all-snoc us (begun cell) ∙ append-nil (all_contents us)
+pub all-begun : (us : List Used) (cell : ℕ) → all_contents (us ++ begin cell ∷ []) ≡ all_contents us
+all-begun us cell = all-snoc us (begin cell) ∙ append-nil (all_contents us)
 
 start_at : (f f' : Folds) (us : List Used) (cell n : ℕ) → Starts f f' cell → f.next ≤ cell → Holds f us → n < length f.cells
-    → (b : Bool) → ((n + 1) == (cell + 1)) ≡ b → held_at f' n ≡ folded_at (us ++ begun cell ∷ []) n
+    → (b : Bool) → ((n + 1) == (cell + 1)) ≡ b → held_at f' n ≡ folded_at (us ++ begin cell ∷ []) n
 start_at f f' us cell n s le st lt true e =
     let e1 : n + 1 ≡ cell + 1 = eqb-true (n + 1) (cell + 1) e in
     let here : cell ≡ n = omega (arith, e1) in
     held-current f' n (e1 ∙ sym s.next) ∙ s.current
-    ∙ sym (at-last 0 us (begun cell) (cell + 1) (ordered-begun 0 us cell f.next le st.order)) ∙ ap (λ k. folded_at (us ++ begun cell ∷ []) k) here
+    ∙ sym (at-last 0 us (begin cell) (cell + 1) (ordered-begun 0 us cell f.next le st.order)) ∙ ap (λ k. folded_at (us ++ begin cell ∷ []) k) here
 start_at f f' us cell n s le st lt false e =
     let apart : n + 1 ≢ cell + 1 = λ x. absurd (grind (arith, e, x)) in
     let other : cell ≢ n = λ x. apart (omega (arith, x)) in
-    held-other f' n (λ x. apart (x ∙ s.next)) ∙ before-start f f' cell n s f.next refl ∙ st.cells n lt ∙ sym (at-other us (begun cell) n other)
+    held-other f' n (λ x. apart (x ∙ s.next)) ∙ before-start f f' cell n s f.next refl ∙ st.cells n lt ∙ sym (at-other us (begin cell) n other)
 
-pub start-stands : (f f' : Folds) (us : List Used) (cell : ℕ) → Starts f f' cell → f.next ≤ cell → Holds f us → Holds f' (us ++ begun cell ∷ [])
+pub start-stands : (f f' : Folds) (us : List Used) (cell : ℕ) → Starts f f' cell → f.next ≤ cell → Holds f us → Holds f' (us ++ begin cell ∷ [])
 start-stands f f' us cell s le st = record {
   order = rw s.next (ordered-begun 0 us cell f.next le st.order);
   cells = λ n lt. start_at f f' us cell n s le st (rw s.len at lt) ((n + 1) == (cell + 1)) refl;
@@ -190,10 +191,6 @@ start-stands f f' us cell s le st = record {
 pub latest-through : (id : List ℕ) (before : Option Data) (xs ys : List Content) → latest id before (xs ++ ys) ≡ latest id (latest id before xs) ys
 latest-through id before [] ys = refl
 latest-through id before (x ∷ xs) ys = latest-through id (option_or (shows id x) before) xs ys
-
-map-map : {A B C : Type 0} (f : B → C) (g : A → B) (xs : List A) → map f (map g xs) ≡ map (λ x. f (g x)) xs
-map-map f g [] = refl
-map-map f g (x ∷ xs) = ap (λ r. f (g x) ∷ r) (map-map f g xs)
 
 joined_where-resolved : (merge : Bool) (known : List ℕ → Option Data) (cs : List Content) → joined_where merge (map (resolve known) cs) ≡ map (resolve known) (joined_where merge cs)
 joined_where-resolved true known cs = joined-resolved known cs

@@ -5,7 +5,9 @@ use Rattle.std.specs.Option.{option_and_then}
 use Rattle.std.specs.Str.{bytes_eq}
 use Rattle.std.proofs.lemmas.Slice.Eq.{bytes_eq-Decides}
 use Rattle.std.proofs.lemmas.Bool.{or_left, or_right, eq-eqb}
+use Rattle.std.proofs.lemmas.Option.{same_Some}
 use Rattle.std.proofs.lemmas.List.Folds.{list_any-append}
+use Rattle.jtext.proofs.Equals.{same_bytes}
 use Rattle.jcontent.specs.declared.content.Content.{Content}
 use Rattle.jcontent.specs.declared.shown.Shown.{Shown}
 use Rattle.display_index.specs.declared.index.Index.{Index}
@@ -28,14 +30,11 @@ some_true : (b : Bool) (s : Shown) → is_some (data_if b s) ≡ true → b ≡ 
 some_true true s e = refl
 some_true false s e = cc
 
-some_same : (x y : List ℕ) → Some x ≡ Some y → x ≡ y
-some_same x y e = cc
-
 under_id : (s : Shown) (i : Option (List ℕ)) (id other : List ℕ) → i ≡ Some id → is_some (data_under other i s) ≡ true → other ≡ id
 under_id s None id other e h = cc
 under_id s (Some x) id other e h =
     let same : x ≡ other = (bytes_eq-Decides x other).0 (some_true (bytes_eq x other) s h) in
-    sym same ∙ some_same x id e
+    sym same ∙ same_Some x id e
 
 of_shown : (o : Option Shown) (id other : List ℕ) → option_and_then (λ (s : Shown). s.id) o ≡ Some id → is_some (data_shown other o) ≡ true → other ≡ id
 of_shown None id other e h = cc
@@ -82,7 +81,7 @@ more_added calls id other p n h =
 
 here_added : (calls : List Call) (id : List ℕ) (p : Place) → has_place (calls ++ added id p ∷ []) id p.cell ≡ true
 here_added calls id p =
-    ap (λ ps. list_any (λ (q : Place). q.cell == p.cell) ps) (standing-added id calls id p ∙ ap (λ b. standing id calls ++ cond b (p ∷ []) []) ((bytes_eq-Decides id id).1 refl))
+    ap (λ ps. list_any (λ (q : Place). q.cell == p.cell) ps) (standing-added id calls id p ∙ ap (λ b. standing id calls ++ cond b (p ∷ []) []) (same_bytes id))
     ∙ any-snoc (λ (q : Place). q.cell == p.cell) (standing id calls) p
     ∙ or_right (has_place calls id p.cell) (p.cell == p.cell) (eq-eqb p.cell p.cell refl)
 

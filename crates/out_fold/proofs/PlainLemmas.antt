@@ -1,8 +1,9 @@
 -- The requests of several cells, kept one after another.
-use Rattle.std.proofs.Common.{◌≡◌, ℕ, zero, suc, ◌+◌, ◌-◌, ◌<◌, List, [], ◌∷◌, ◌++◌, length, set, get_or, drop, Option, Some, refl, sym, ◌∙◌, ap, arith}
+use Rattle.std.proofs.Common.{◌≡◌, ℕ, ◌+◌, ◌-◌, ◌<◌, List, [], ◌∷◌, ◌++◌, length, set, get_or, drop, Option, Some, sym, ◌∙◌, ap, arith}
 use Rattle.std.proofs.lemmas.List.{set-set, set_at, drop_more, length_push}
 use Rattle.std.specs.List.{slice_get}
 use Rattle.std.proofs.lemmas.Option.{same_Some}
+use Rattle.jtext.proofs.Lists.{last_at, set_given}
 use Rattle.jcontent.specs.declared.content.Content.{Content}
 use Rattle.out_fold.specs.declared.latest.Data.{Data}
 use Rattle.out_fold.specs.Shown.{latest}
@@ -19,18 +20,9 @@ latest-next id us i u all before next lt e h n =
 
 -- ---- the last request changed, by way of another one in its place
 
-get-last : {A : Type 0} (us : List A) (u : A) → slice_get (us ++ u ∷ []) (length us) ≡ Some u
-get-last [] u = refl
-get-last (v ∷ us) u = get-last us u
-
-get-set : {A : Type 0} (xs : List A) (i : ℕ) (x : A) → slice_get xs i ≡ Some x → set xs i x ≡ xs
-get-set [] i x e = cc
-get-set (y ∷ ys) zero x e = ap (λ z. z ∷ ys) (sym (same_Some y x e))
-get-set (y ∷ ys) (suc i) x e = ap (λ zs. y ∷ zs) (get-set ys i x e)
-
 -- the last one, given back as it was
 pub same-last : {A : Type 0} (xs : List A) (i : ℕ) (x between : A) → slice_get xs i ≡ Some x → set (set xs i between) i x ≡ xs
-same-last xs i x between e = set-set xs i between x ∙ get-set xs i x e
+same-last xs i x between e = set-set xs i between x ∙ set_given xs i x e
 
 last_is : {A : Type 0} (us : List A) (u : A) (xs : List A) (i : ℕ) → xs ≡ us ++ u ∷ [] → i ≡ length xs - 1 → i ≡ length us
 last_is us u xs i e at =
@@ -40,7 +32,7 @@ last_is us u xs i e at =
 -- what was last
 pub taken-last : {A : Type 0} (us : List A) (u : A) (xs : List A) (i : ℕ) (x : A) → xs ≡ us ++ u ∷ [] → i ≡ length xs - 1 → slice_get xs i ≡ Some x → x ≡ u
 taken-last us u xs i x e at g =
-    same_Some x u (sym g ∙ ap (λ ys. slice_get ys i) e ∙ ap (λ k. slice_get (us ++ u ∷ []) k) (last_is us u xs i e at) ∙ get-last us u)
+    same_Some x u (sym g ∙ ap (λ ys. slice_get ys i) e ∙ ap (λ k. slice_get (us ++ u ∷ []) k) (last_is us u xs i e at) ∙ last_at us u)
 
 -- another one put in its place
 pub changed-last : {A : Type 0} (us : List A) (u : A) (xs : List A) (i : ℕ) (x between : A) → xs ≡ us ++ u ∷ [] → i ≡ length xs - 1

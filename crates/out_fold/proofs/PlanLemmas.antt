@@ -4,11 +4,12 @@ use Rattle.std.specs.List.{list_any, list_all, insert, remove}
 use Rattle.std.specs.List.Sorted.{IsBinarySearchResult}
 use Rattle.std.specs.Result.{IfOk, IfErr}
 use Rattle.std.proofs.lemmas.List.Sorted.{searched}
-use Rattle.std.proofs.lemmas.Bool.{and_parts, and_from, or_parts, or_left, or_right, eq-eqb}
+use Rattle.std.proofs.lemmas.Bool.{and_parts, and_from, or_parts, or_from, or_left, or_right, eq-eqb}
 use Rattle.std.proofs.Math.Bool.{or_assoc}
 use Rattle.std.proofs.lemmas.List.Folds.{list_any-append}
+use Rattle.jtext.proofs.Lists.{all_more}
 use Rattle.display_index.specs.declared.place.Place.{Place}
-use Rattle.display_index.proofs.ListedLemmas.{all-more, any-snoc}
+use Rattle.display_index.proofs.ListedLemmas.{any-snoc}
 use Rattle.out_fold.specs.Plans.{is_in, increases, lead, Covers}
 use Rattle.out_fold.proofs.ListTests.{no}
 
@@ -63,7 +64,7 @@ sorted_by x y ys true e f h i q = and_from (list_all (nat_lt y) (ins x ys)) (inc
 sorted_by x y ys false e f h i q =
     let up = above x y e f in
     and_from (list_all (nat_lt x) (y ∷ ys)) (increases (y ∷ ys))
-    (and_from (nat_lt x y) (list_all (nat_lt x) ys) up (all-more (nat_lt y) (nat_lt x) (λ z g. below x y z up g) ys h))
+    (and_from (nat_lt x y) (list_all (nat_lt x) ys) up (all_more (nat_lt y) (nat_lt x) (λ z g. below x y z up g) ys h))
     (and_from (list_all (nat_lt y) ys) (increases ys) h i)
 
 sorted-ins : (x : ℕ) (ys : List ℕ) → is_in ys x ≡ false → increases ys ≡ true → increases (ins x ys) ≡ true
@@ -228,13 +229,10 @@ not_less y x l = grind (arith, l)
 is_less : (y x : ℕ) → y < x → nat_lt y x ≡ true
 is_less y x l = grind (arith, l)
 
-or_none : (a b : Bool) → a ≡ false → b ≡ false → (a || b) ≡ false
-or_none a b e f = rw (e, f) refl
-
 out-of : (xs : List ℕ) (x i : ℕ) → ((k : ℕ) → k < i → get_or xs k 0 < x) → ((k : ℕ) → i ≤ k → k < length xs → x < get_or xs k 0) → is_in xs x ≡ false
 out-of [] x i b a = refl
-out-of (y ∷ ys) x zero b a = or_none (y == x) (is_in ys x) (above_no y x (a 0 (omega arith) (omega arith))) (out-of ys x 0 (λ k l. absurd (omega (arith, l))) (λ k l m. a (suc k) (omega arith) (omega (arith, m))))
-out-of (y ∷ ys) x (suc i) b a = or_none (y == x) (is_in ys x) (below_no y x (b 0 (omega arith))) (out-of ys x i (λ k l. b (suc k) (omega (arith, l))) (λ k l m. a (suc k) (omega (arith, l)) (omega (arith, m))))
+out-of (y ∷ ys) x zero b a = or_from (y == x) (is_in ys x) (above_no y x (a 0 (omega arith) (omega arith))) (out-of ys x 0 (λ k l. absurd (omega (arith, l))) (λ k l m. a (suc k) (omega arith) (omega (arith, m))))
+out-of (y ∷ ys) x (suc i) b a = or_from (y == x) (is_in ys x) (below_no y x (b 0 (omega arith))) (out-of ys x i (λ k l. b (suc k) (omega (arith, l))) (λ k l m. a (suc k) (omega (arith, l)) (omega (arith, m))))
 
 lead_no : (y x : ℕ) (ys : List ℕ) → nat_lt y x ≡ false → lead (y ∷ ys) x ≡ 0
 lead_no y x ys e = ap (λ b. cond b (lead ys x + 1) 0) e

@@ -2,9 +2,9 @@
 use Rattle.std.proofs.Common.{◌≡◌, ℕ, Bool, true, false, cond, ◌&&◌, List, [], ◌∷◌, ◌++◌, map, Option, Some, None, refl, sym, ◌∙◌, ap}
 use Rattle.std.specs.Option.{option_or}
 use Rattle.std.specs.Str.{bytes_eq}
-use Rattle.std.proofs.lemmas.Slice.Eq.{bytes_eq-Decides}
 use Rattle.jtext.specs.declared.json.Json.{Json}
 use Rattle.jtext.specs.declared.json.Json.TheVariants as json
+use Rattle.jtext.proofs.Equals.{same_bytes}
 use Rattle.jcontent.specs.declared.content.Content.{Content}
 use Rattle.jcontent.specs.declared.content.Content.TheVariants as content
 use Rattle.jcontent.specs.declared.shown.Shown.{Shown}
@@ -12,9 +12,6 @@ use Rattle.out_fold.specs.declared.latest.Data.{Data}
 use Rattle.out_fold.specs.Live.{appends, stays, live}
 use Rattle.out_fold.specs.Shown.{data_in, data_if, shows, latest, with_data, known_to, resolve, shown_output, outputs}
 use Rattle.out_fold.specs.Held.{without_data, held_output}
-
-pub same_text : (s : List ℕ) → bytes_eq s s ≡ true
-same_text s = (bytes_eq-Decides s s).1 refl
 
 -- ---- the last one
 
@@ -57,7 +54,7 @@ by_data known b m id (Some d) h = rw (h d refl) refl
 by_data known b m id None h = rw (h (record { bundle = b; metadata = m }) refl) refl
 
 data_if-same : (id : List ℕ) (s : Shown) → data_if (bytes_eq id id) s ≡ Some (data_in s)
-data_if-same id s = rw (same_text id) refl
+data_if-same id s = rw (same_bytes id) refl
 
 shown-held : (known : List ℕ → Option Data) (b : List (List ℕ × Json)) (m : Json) (i : Option (List ℕ)) (after : List Content)
     → ((id : List ℕ) (d : Data) → latest id (shows id (content.Display (record { bundle = b; metadata = m; id = i }))) after ≡ Some d → known id ≡ Some d)

@@ -6,6 +6,7 @@ use Rattle.std.specs.Option.{option_or}
 use Rattle.std.specs.Str.{bytes_eq}
 use Rattle.std.proofs.lemmas.Bool.{or_parts, or_left, or_right, cond-false, eq-eqb, ne_eqb}
 use Rattle.jtext.specs.declared.json.Json.{Json}
+use Rattle.jtext.proofs.Equals.{same_bytes}
 use Rattle.jcontent.specs.declared.content.Content.{Content}
 use Rattle.jcontent.specs.declared.content.Content.TheVariants as content
 use Rattle.jcontent.specs.declared.shown.Shown.{Shown}
@@ -19,7 +20,7 @@ use Rattle.out_fold.specs.declared.fold.Fold.{Fold}
 use Rattle.out_fold.specs.Live.{appends, clears_now, stays, live}
 use Rattle.out_fold.specs.Shown.{shows, data_if, latest, with_data, known_to, shown_output, outputs}
 use Rattle.out_fold.specs.Tree.{output_tree}
-use Rattle.out_fold.specs.Cells.{Used, begun, with_message, with_reply, contents, all_contents, joined_where, outputs_of, last_count, count_of, last_date, is_input, says_busy, says_idle, date_pairs, dates_of}
+use Rattle.out_fold.specs.Cells.{Used, begin, with_message, with_reply, contents, all_contents, joined_where, outputs_of, last_count, count_of, last_date, is_input, says_busy, says_idle, date_pairs, dates_of}
 use Rattle.out_fold.specs.Held.{Holds, Ordered, waits}
 use Rattle.out_fold.specs.Names.{name_of, has_id}
 use Rattle.out_fold.specs.Placing.{has_place, IsWithin, named_places, Grown, Settled, settle}
@@ -27,7 +28,7 @@ use Rattle.out_fold.specs.Plans.{is_in, Covers}
 use Rattle.out_fold.specs.Stands.{has_output, StandsFor, SameCell, Rested, cells_of, merge_of}
 use Rattle.out_fold.proofs.ListTests.{no, either}
 use Rattle.out_fold.proofs.LiveLemmas.{live-snoc}
-use Rattle.out_fold.proofs.ShownLemmas.{same_text, latest-snoc}
+use Rattle.out_fold.proofs.ShownLemmas.{latest-snoc}
 use Rattle.out_fold.proofs.CellLemmas.{contents-snoc, all-message, all-reply}
 use Rattle.out_fold.proofs.FoldLemmas.{ordered-least, ordered-same, all-begun}
 use Rattle.out_fold.proofs.PlaceLemmas.{named, unnamed, settled-other, settled-same}
@@ -72,7 +73,7 @@ unknown_by None l h = refl
 unknown_by (Some d) l h = absurd (h refl)
 
 own_id : (id : List ℕ) (s : Shown) → is_some (data_if (bytes_eq id id) s) ≡ true
-own_id id s = ap (λ b. is_some (data_if b s)) (same_text id)
+own_id id s = ap (λ b. is_some (data_if b s)) (same_bytes id)
 
 shown_by : (c : Content) (b : List (List ℕ × Json)) (m : Json) (i : Option (List ℕ)) (after : List Content)
     → ((id : List ℕ) → is_some (shows id c) ≡ true → has_id id (content.Display (record { bundle = b; metadata = m; id = i })) ≡ false)
@@ -143,26 +144,26 @@ nothing_of true true = refl
 nothing_of true false = refl
 nothing_of false merge = refl
 
-begun-outputs : (merge : Bool) (us : List Used) (cell n : ℕ) → outputs_of merge (us ++ begun cell ∷ []) n ≡ outputs_of merge us n
+begun-outputs : (merge : Bool) (us : List Used) (cell n : ℕ) → outputs_of merge (us ++ begin cell ∷ []) n ≡ outputs_of merge us n
 begun-outputs merge [] cell n = nothing_of (cell == n) merge
 begun-outputs merge (v ∷ us) cell n =
-    ap (λ cs. cond (v.cell == n) (map output_tree (joined_where merge (outputs (contents v) cs))) (outputs_of merge (us ++ begun cell ∷ []) n)) (all-begun us cell)
+    ap (λ cs. cond (v.cell == n) (map output_tree (joined_where merge (outputs (contents v) cs))) (outputs_of merge (us ++ begin cell ∷ []) n)) (all-begun us cell)
     ∙ ap (λ x. cond (v.cell == n) (map output_tree (joined_where merge (outputs (contents v) (all_contents us)))) x) (begun-outputs merge us cell n)
 
 either_way : {A : Type 0} (b : Bool) (x : A) → cond b x x ≡ x
 either_way true x = refl
 either_way false x = refl
 
-begun-count : (us : List Used) (cell n : ℕ) → count_of (us ++ begun cell ∷ []) n ≡ count_of us n
+begun-count : (us : List Used) (cell n : ℕ) → count_of (us ++ begin cell ∷ []) n ≡ count_of us n
 begun-count [] cell n = either_way (cell == n) None
 begun-count (v ∷ us) cell n = ap (λ x. cond (v.cell == n) (last_count None (contents v)) x) (begun-count us cell n)
 
-begun-dates : (us : List Used) (cell n : ℕ) → dates_of (us ++ begun cell ∷ []) n ≡ dates_of us n
+begun-dates : (us : List Used) (cell n : ℕ) → dates_of (us ++ begin cell ∷ []) n ≡ dates_of us n
 begun-dates [] cell n = either_way (cell == n) []
 begun-dates (v ∷ us) cell n =
     ap (λ x. cond (v.cell == n) (date_pairs (last_date is_input None v.own) (last_date says_busy None v.own) (last_date says_idle None v.own) v.reply) x) (begun-dates us cell n)
 
-begun-output : (us : List Used) (cell : ℕ) (id : List ℕ) (n : ℕ) → has_output (us ++ begun cell ∷ []) id n ≡ has_output us id n
+begun-output : (us : List Used) (cell : ℕ) (id : List ℕ) (n : ℕ) → has_output (us ++ begin cell ∷ []) id n ≡ has_output us id n
 begun-output [] cell id n = either_way (cell == n) false
 begun-output (v ∷ us) cell id n = ap (λ x. cond (v.cell == n) (list_any (λ c. has_id id c) (live (contents v))) x) (begun-output us cell id n)
 
@@ -199,8 +200,8 @@ rested-stands-for f f' us h i t s =
       touches = λ n e. nothing_in f'.touched n (n < cells_of f') t e;
     }
 
-pub begun-stands-for : (f f' : Fold) (us : List Used) (cell : ℕ) → Holds f'.held (us ++ begun cell ∷ []) → f'.index ≡ f.index → f'.touched ≡ f.touched → cells_of f' ≡ cells_of f
-    → StandsFor f us → StandsFor f' (us ++ begun cell ∷ [])
+pub begun-stands-for : (f f' : Fold) (us : List Used) (cell : ℕ) → Holds f'.held (us ++ begin cell ∷ []) → f'.index ≡ f.index → f'.touched ≡ f.touched → cells_of f' ≡ cells_of f
+    → StandsFor f us → StandsFor f' (us ++ begin cell ∷ [])
 begun-stands-for f f' us cell h i t m s = record {
   held = h;
   calls = s.calls;
@@ -211,7 +212,7 @@ begun-stands-for f f' us cell h i t m s = record {
 }
 
 pub begun-rested : (f : Fold) (merge : Bool) (was us : List Used) (cell : ℕ) → merge ≡ merge_of f → Rested f was us
-    → (n : ℕ) → is_in f.touched n ≡ false → SameCell merge was (us ++ begun cell ∷ []) n
+    → (n : ℕ) → is_in f.touched n ≡ false → SameCell merge was (us ++ begin cell ∷ []) n
 begun-rested f merge was us cell m r n e =
     let old = r n e in
     record {

@@ -14,8 +14,8 @@ use Rattle.out_fold.specs.Joined.{join}
 use Rattle.out_fold.specs.Tree.{output_tree}
 
 -- a request for which nothing was used yet
-abbrev pub begun : ℕ → Used
-begun cell = record { cell = cell; own = []; reply = None }
+abbrev pub begin : ℕ → Used
+begin cell = record { cell = cell; own = []; reply = None }
 
 -- with one more message
 abbrev pub with_message : Used → Content → Option (List ℕ) → Used

@@ -29,7 +29,7 @@ impl Fold {
     ghost use Rattle.std.specs.Option.{option_copied};
     ghost use Rattle.display_index.specs.Standing.{Call};
     ghost use Rattle.display_index.specs.Held as ids;
-    ghost use Rattle.out_fold.specs.Cells.{Used, begun, outputs_of, count_of, dates_of};
+    ghost use Rattle.out_fold.specs.Cells.{Used, begin, outputs_of, count_of, dates_of};
     ghost use Rattle.out_fold.specs.Placing.{named_places};
     ghost use Rattle.out_fold.specs.Plans.{increases, Covers};
     ghost use Rattle.out_fold.specs.Stands.{StandsFor, StandsAsBefore, Takes, TouchesTaken, Replies, TouchesReplied, Rested, cells_of, merge_of, next_of, touched_of};
@@ -59,9 +59,9 @@ impl Fold {
         ensures merge { merge_of self.new ≡ merge_of self.old }
         ensures next { next_of self.new ≡ cell + 1 }
         ensures stands { (us : Plain Used) → StandsFor self.old us
-            → StandsFor self.new (us ++ begun cell ∷ []) }
+            → StandsFor self.new (us ++ begin cell ∷ []) }
         ensures rested { (was us : Plain Used) → Rested self.old was us
-            → Rested self.new was (us ++ begun cell ∷ []) }
+            → Rested self.new was (us ++ begin cell ∷ []) }
     {
         self.held.start(cell);
     }

@@ -29,7 +29,7 @@ impl Folds {
     ghost use Rattle.std.specs.Str.{bytes_eq};
     ghost use Rattle.out_fold.specs.Shown.{shown_in, shows, data_if};
     ghost use Rattle.std.specs.Option.{option_copied};
-    ghost use Rattle.out_fold.specs.Cells.{Used, begun, with_message, with_reply, outputs_of, count_of, dates_of};
+    ghost use Rattle.out_fold.specs.Cells.{Used, begin, with_message, with_reply, outputs_of, count_of, dates_of};
     ghost use Rattle.out_fold.specs.Held.{Holds, IsSameShape, Took, Kept, cells_of, merge_of, next_of, held_at};
 
     /// A fold for a notebook with that many cells; `merge` joins neighbouring streams of one name.
@@ -61,7 +61,7 @@ impl Folds {
         ensures merge { merge_of self.new ≡ merge_of self.old }
         ensures next { next_of self.new ≡ cell + 1 }
         ensures stands { (us : Plain Used) → Holds self.old us
-            → Holds self.new (us ++ begun cell ∷ []) }
+            → Holds self.new (us ++ begin cell ∷ []) }
     {
         let ended = mem::replace(&mut self.current, Folded::new(self.alloc));
         put_back(&mut self.cells, self.next, ended);

@@ -3,11 +3,12 @@ ghost use Rattle.std.specs.Prelude.{◌≡◌, ℕ, ◌≤◌, Bool, true, List,
 ghost use Rattle.jtext.specs.declared.json.Json.TheVariants.{Obj};
 ghost use Rattle.jtext.specs.Depth.{depth};
 ghost use Rattle.jtext.specs.Keyed.{Keyed};
+ghost use Rattle.jtext.specs.Texts.{AllStrings};
 ghost use Rattle.nb_model.specs.Run.{IsFitOutput};
 ghost use Rattle.nb_model.specs.Tree.{count_tree};
 ghost use Rattle.nb_model.specs.Values.{is_count};
 ghost use Rattle.out_fold.specs.Cells.{Used, outputs_of, count_of, dates_of};
-ghost use Rattle.out_fold.specs.Fit.{AreRead, AreTexts};
+ghost use Rattle.out_fold.specs.Fit.{AreRead};
 
 /// Where all contents were read of messages, each output of a cell is an output of nbformat in
 /// which no object has a key twice, nested at most 100 deep.
@@ -26,7 +27,7 @@ pub fn counts_fit()
 
 /// The dates of a cell are strings, and no key stands twice among them.
 pub fn dates_fit()
-    ensures texts { (us : List Used) (cell : ℕ) → AreTexts (dates_of us cell) }
+    ensures texts { (us : List Used) (cell : ℕ) → AllStrings (dates_of us cell) }
     ensures keyed { (us : List Used) (cell : ℕ) → Keyed (Obj (dates_of us cell)) }
     ensures within { (us : List Used) (cell : ℕ) → depth (Obj (dates_of us cell)) ≤ 1 }
 {}

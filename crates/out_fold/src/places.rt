@@ -1,6 +1,5 @@
 //! What a message tells the index of display ids.
-ghost use Rattle.std.specs.Prelude.{◌≡◌, ◌==◌, List as Plain, ℕ, true, Some, IsTrue, OnOk, OnErr};
-ghost use Rattle.std.specs.List.{list_any};
+ghost use Rattle.std.specs.Prelude.{◌≡◌, List as Plain, Some, OnOk, OnErr};
 ghost use Rattle.std.specs.Option.{option_copied};
 ghost use Rattle.display_index.specs.Standing.{Call};
 ghost use Rattle.display_index.specs.Held as ids;
@@ -8,7 +7,7 @@ ghost use Rattle.out_fold.specs.Names as names;
 ghost use Rattle.out_fold.specs.Placing as spec;
 
 use crate::parts::{appends, clears_now};
-use display_index::{Index, Place, Places};
+use display_index::{Index, Place, last_is_in};
 use jcontent::Content;
 use jtext::{NoMemory, Text};
 
@@ -70,15 +69,6 @@ fn place_output(
         Ok(())
     } else {
         index.add(id, Place { cell, at })
-    }
-}
-
-fn last_is_in(places: &Places, cell: u32) -> bool
-    ensures { IsTrue result → list_any (λ p. p.cell == cell) places.now ≡ true }
-{
-    match places.as_slice().last() {
-        Some(place) => place.cell == cell,
-        None => false,
     }
 }
 

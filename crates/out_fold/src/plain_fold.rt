@@ -22,7 +22,7 @@ pub struct PlainFold {
 impl PlainFold {
     ghost use Rattle.std.specs.Prelude.{◌≡◌, ◌<◌, ◌++◌, ◌∷◌, [], List as Plain, length, IfOk, OnOk, OnErr};
     ghost use Rattle.std.specs.Option.{option_copied};
-    ghost use Rattle.out_fold.specs.Cells.{Used as Request, begun, with_message, with_reply, outputs_of, count_of, dates_of};
+    ghost use Rattle.out_fold.specs.Cells.{Used as Request, begin, with_message, with_reply, outputs_of, count_of, dates_of};
     ghost use Rattle.out_fold.specs.Plain.{used_of, merge_of};
 
     /// A fold that was given nothing; `merge` joins neighbouring streams of one name. It takes no
@@ -40,7 +40,7 @@ impl PlainFold {
 
     /// Makes the cell the current one, with nothing used for it. Without memory nothing changes.
     pub fn start(&mut self, cell: u32) -> Result<(), NoMemory>
-        ensures ok { OnOk result (used_of self.new ≡ used_of self.old ++ begun cell ∷ []) }
+        ensures ok { OnOk result (used_of self.new ≡ used_of self.old ++ begin cell ∷ []) }
         ensures err { OnErr result (used_of self.new ≡ used_of self.old) }
         ensures merge { merge_of self.new ≡ merge_of self.old }
     {

@@ -11,9 +11,9 @@ ghost use Rattle.out_fold.specs.Held.{data_of};
 use crate::folded::Folded;
 use crate::joining::{run_len, run_text};
 use crate::latest::{Data, Latest};
-use crate::tree::{display_tree, error_tree, result_tree, stream_tree, text_pair};
+use crate::tree::{display_tree, error_tree, result_tree, stream_tree};
 use jcontent::{Content, Shown};
-use jtext::{Fields, Items, Json, NoMemory, Text};
+use jtext::{Fields, Items, Json, NoMemory, Text, text_pair};
 use std::alloc::Global;
 
 /// The outputs as trees, with the data that are known of their display ids.

@@ -5,7 +5,7 @@ ghost use Rattle.nb_model.specs.Tree.{count_tree};
 ghost use Rattle.out_fold.specs.Tree as spec;
 
 use crate::bundle::stored_bundle;
-use jtext::{Fields, Items, Json, NoMemory, NumText, Text, Texts, copy};
+use jtext::{Fields, Items, Json, NoMemory, NumText, Text, Texts, copy, pair, text_pair};
 use nb_model::split_lines;
 use std::alloc::Global;
 
@@ -91,19 +91,6 @@ fn strings(alloc: Global, lines: &Texts) -> Result<Json, NoMemory>
         items.push(Json::Str(Text::of(alloc, line.as_str())?))?;
     }
     Ok(Json::Arr(items))
-}
-
-fn pair(alloc: Global, key: &str, value: Json) -> Result<(Text, Json), NoMemory>
-    ensures { IfOk result (λ p. p ≡ (key.now, value)) }
-{
-    Ok((Text::of(alloc, key)?, value))
-}
-
-pub(crate) fn text_pair(alloc: Global, key: &str, text: &str) -> Result<(Text, Json), NoMemory>
-    ensures { IfOk result (λ p. p ≡ (key.now, json.Str text.now)) }
-{
-    let value = Json::Str(Text::of(alloc, text)?);
-    Ok((Text::of(alloc, key)?, value))
 }
 
 fn object_of_3(

@@ -25,12 +25,12 @@ pub struct Used {
 impl Used {
     ghost use Rattle.std.specs.Prelude.{◌≡◌, None, IfOk};
     ghost use Rattle.std.specs.Option.{option_copied};
-    ghost use Rattle.out_fold.specs.Cells.{begun, last_count, contents};
+    ghost use Rattle.out_fold.specs.Cells.{begin, last_count, contents};
     ghost use Rattle.out_fold.specs.Plain.{dates_in};
 
     /// Nothing was used yet. It takes no memory.
     pub(crate) fn new(alloc: Global, cell: u32) -> Used
-        ensures { result ≡ begun cell }
+        ensures { result ≡ begin cell }
     {
         Used {
             cell,

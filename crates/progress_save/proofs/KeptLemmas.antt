@@ -9,6 +9,7 @@ use Rattle.nb_text.specs.Cells.{cell_text}
 use Rattle.progress_save.specs.declared.kept_texts.KeptTexts.{KeptTexts}
 use Rattle.progress_save.specs.Kept.{is_kept, text_at, Fits, KeepsSame, KeepsAll, IsComplete, IsPut}
 use Rattle.progress_save.proofs.PutLemmas.{same_items}
+use Rattle.jtext.proofs.Lists.{none_beyond}
 
 pub free_at : (k : KeptTexts) (i : ℕ) → is_kept k i ≡ false → text_at k i ≡ None
 free_at k i e = cond-false (is_kept k i) _ _ e
@@ -58,11 +59,6 @@ none_behind k cs fits i le = absent (text_at k i) (fits i)
     absent None h = refl
     absent (Some t) h = let never : None ≡ Some t = sym past ∙ h in cc
 
-none_past : {X : Type 0} (xs : List X) (j : ℕ) → slice_get xs j ≡ None → length xs ≤ j
-none_past [] j e = omega arith
-none_past (x ∷ xs) zero e = cc
-none_past (x ∷ xs) (suc j) e = let h = none_past xs j e in omega (arith, h)
-
 -- the texts of the cells up to this one are there, and none behind the last cell
 pub record Made (k : KeptTexts) (cs : List Cell) (i : ℕ) : Type 0 where
   pub texts : (j : ℕ) → j < i → slice_get k.texts j ≡ slice_get (map cell_text cs) j
@@ -75,7 +71,7 @@ made_more old new cs i c at lt made put = record {
     | inl e ↦ ap (slice_get new.texts) e ∙ put.is ∙ sym (slice_get-map cell_text cs i ∙ ap (option_map cell_text) at) ∙ ap (slice_get (map cell_text cs)) (sym e)
     | inr ne ↦ put.others j ne ∙ made.texts j (lower j below ne)
   ];
-  within = none_past new.texts (length cs) (put.others (length cs) (λ e. absurd (omega (arith, lt, e))) ∙ slice_get_past old.texts (length cs) made.within);
+  within = none_beyond new.texts (length cs) (put.others (length cs) (λ e. absurd (omega (arith, lt, e))) ∙ slice_get_past old.texts (length cs) made.within);
   places = omega (arith, put.place);
 }
   where

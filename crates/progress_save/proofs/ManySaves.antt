@@ -14,8 +14,8 @@ use Rattle.world.specs.Parts.{IsNotOf, OnDisk}
 use Rattle.world.specs.Touched.{touches}
 use Rattle.world.proofs.PartsLemmas.{place_kept, acked_kept}
 use Rattle.world.proofs.TouchedLemmas.{after_spared}
-use Rattle.save_disk.specs.Places.{acknowledged}
-use Rattle.save_disk.specs.Temporary.{temporary_of}
+use Rattle.save_disk.specs.Places.{save_count}
+use Rattle.world.specs.Save.{temporary_of}
 use Rattle.progress_save.specs.Safe.{IsText, IsLastOrNext, IsPlace, IsHeld}
 
 -- ---- other tests
@@ -28,7 +28,7 @@ weaker_place turns h = record {
 
 -- ---- the beginning
 
-pub untouched_held : (output : List ℕ) (texts : List (List ℕ)) (now : List Entry) → place now output ≡ untouched_place → acknowledged output now ≡ 0 → IsHeld output texts now
+pub untouched_held : (output : List ℕ) (texts : List (List ℕ)) (now : List Entry) → place now output ≡ untouched_place → save_count output now ≡ 0 → IsHeld output texts now
 untouched_held output texts now e a =
     subst (λ n. IsPlace (IsText texts n) (place now output)) (sym a) (subst (IsPlace (IsText texts 0)) (sym e) (record {
       options = λ o among. is_old o among;
@@ -60,10 +60,10 @@ last_or_next_before n texts more o (inr h) = inr (text_before (n + 1) texts more
 -- ---- calls of other parts, and for other files
 
 module _ (T : ℕ → Left → Type 0) (output : List ℕ) where
-  pub parts_stay : (before after : List Entry) → Since (IsNotOf OnDisk) before after → IsPlace (T (acknowledged output before)) (place before output) → IsPlace (T (acknowledged output after)) (place after output)
+  pub parts_stay : (before after : List Entry) → Since (IsNotOf OnDisk) before after → IsPlace (T (save_count output before)) (place before output) → IsPlace (T (save_count output after)) (place after output)
   parts_stay before after since h =
       subst (λ n. IsPlace (T n) (place after output)) (sym (acked_kept (temporary_of output) output since))
-      (subst (λ p. IsPlace (T (acknowledged output before)) p) (sym (ap (λ f. f output) (place_kept since))) h)
+      (subst (λ p. IsPlace (T (save_count output before)) p) (sym (ap (λ f. f output) (place_kept since))) h)
 
 module _ (T : Left → Type 0) where
   -- the file that the name stands for passes the test

@@ -8,9 +8,10 @@ use Rattle.jtext.specs.declared.json.Json.{Json}
 use Rattle.jtext.specs.declared.json.Json.TheVariants as json
 use Rattle.jtext.specs.Find.{find, field, fields}
 use Rattle.jtext.specs.Edit.{set_pair, set_field, set_within}
-use Rattle.jtext.proofs.Edits.{set_pair-twice, same_key}
+use Rattle.jtext.proofs.Edits.{set_pair-twice}
 use Rattle.nb_model.proofs.PreparedLaws.{fields_Obj, field-set_other}
 use Rattle.progress_save.specs.Prefix.{with_status, with_mark}
+use Rattle.jtext.proofs.Equals.{same_bytes}
 
 -- ---- pairs
 
@@ -23,7 +24,7 @@ set_pair-swap : (a b : List ℕ) (u v w : Json) → bytes_eq a b ≡ false → (
     → set_pair a v (set_pair b w (set_pair a u ps)) ≡ set_pair b w (set_pair a v ps)
 set_pair-swap a b u v w ne [] =
     ap (set_pair a v) (cond-false (bytes_eq a b) ((a, w) ∷ []) ((a, u) ∷ (b, w) ∷ []) ne)
-    ∙ cond-true (bytes_eq a a) ((a, v) ∷ (b, w) ∷ []) ((a, u) ∷ set_pair a v ((b, w) ∷ [])) (same_key a)
+    ∙ cond-true (bytes_eq a a) ((a, v) ∷ (b, w) ∷ []) ((a, u) ∷ set_pair a v ((b, w) ∷ [])) (same_bytes a)
     ∙ sym (cond-false (bytes_eq a b) ((a, w) ∷ []) ((a, v) ∷ (b, w) ∷ []) ne)
 set_pair-swap a b u v w ne (p ∷ ps) = elim (cases_Bool (bytes_eq p.0 a)) [
   | inl t ↦
@@ -54,7 +55,7 @@ set_pair-swap a b u v w ne (p ∷ ps) = elim (cases_Bool (bytes_eq p.0 a)) [
     ]
 
 find-set : (key : List ℕ) (v : Json) (ps : List (List ℕ × Json)) → find key (set_pair key v ps) ≡ Some v
-find-set key v [] = cond-true (bytes_eq key key) (Some v) (find key []) (same_key key)
+find-set key v [] = cond-true (bytes_eq key key) (Some v) (find key []) (same_bytes key)
 find-set key v (p ∷ ps) = elim (cases_Bool (bytes_eq p.0 key)) [
   | inl t ↦
       ap (find key) (cond-true (bytes_eq p.0 key) ((p.0, v) ∷ ps) (p ∷ set_pair key v ps) t)

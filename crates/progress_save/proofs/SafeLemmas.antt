@@ -1,5 +1,5 @@
 -- A save of the text that comes next is safe at each of its moments.
-use Rattle.std.proofs.Common.{◌≡◌, ◌⊎◌, inl, inr, ℕ, ◌+◌, List, [], ◌∷◌, ◌++◌, Some, Result, Ok, Err, IsSomeAnd, refl, sym, subst, add-one}
+use Rattle.std.proofs.Common.{◌≡◌, ◌⊎◌, inl, inr, ℕ, ◌+◌, List, [], ◌∷◌, ◌++◌, Result, Ok, Err, refl, sym, subst, add-one}
 use Rattle.std.specs.Prelude.{slice_get, OnOk}
 use Rattle.std.proofs.lemmas.Option.{same_Some}
 use Rattle.world.specs.declared.entry.Entry.{Entry}
@@ -9,11 +9,12 @@ use Rattle.world.specs.Disk.{Place, Among, place}
 use Rattle.world.specs.Moments.{Since, start, more as later}
 use Rattle.world.proofs.MomentsLemmas.{since_as}
 use Rattle.world.proofs.SaveLemmas.{among_one}
-use Rattle.save_disk.specs.Places.{acknowledged, durable_place, SaveMoment, as_before, renamed, unsure, durable}
+use Rattle.save_disk.specs.Places.{save_count, durable_place, SaveMoment, as_before, renamed, unsure, durable}
 use Rattle.progress_save.specs.declared.progress_fault.ProgressFault.{ProgressFault}
 use Rattle.progress_save.specs.Saved.{SavesAs, EndsAs}
 use Rattle.progress_save.specs.Safe.{IsText, IsLastOrNext, IsPlace, IsSafe, IsHeld, IsNext, StaysSafe}
 use Rattle.progress_save.proofs.SavedLemmas.{ended, moments}
+use Rattle.jtext.proofs.Lists.{some_and}
 
 among_both : (o : Left) (xs ys : List Left) → Among o (xs ++ ys) → Among o xs ⊎ Among o ys
 among_both o [] ys a = inr a
@@ -23,22 +24,19 @@ among_both o (x ∷ xs) ys (inr a) = elim (among_both o xs ys a) [ inl b ↦ inl
     inl_more : Among o xs → Among o (x ∷ xs)
     inl_more b = inr b
 
-found : {A : Type 0} (P : A → Type 0) (o : Rattle.std.proofs.Common.Option A) (x : A) → o ≡ Some x → P x → IsSomeAnd o P
-found P o x e p = subst (λ v. IsSomeAnd v P) (sym e) p
-
 module _ (output : List ℕ) (texts : List (List ℕ)) (text : List ℕ) (before : List Entry) (safe : IsSafe output texts before) (next : IsNext output texts text before) where
   abbrev count : ℕ
-  count = acknowledged output before
+  count = save_count output before
 
   -- the text has the next number
   numbered : IsText texts (count + 1) (Whole text)
-  numbered = subst (λ n. IsText texts n (Whole text)) (sym (add-one count)) (found (λ t. Whole text ≡ Whole t) (slice_get texts count) text next refl)
+  numbered = subst (λ n. IsText texts n (Whole text)) (sym (add-one count)) (some_and (λ t. Whole text ≡ Whole t) (slice_get texts count) text next refl)
 
   abbrev Was : Left → Type 0
   Was o = IsLastOrNext texts count o
 
   -- the same place and the same count
-  same_safe : (now : List Entry) (p : Place) → acknowledged output now ≡ count → place now output ≡ p → IsPlace Was p → IsSafe output texts now
+  same_safe : (now : List Entry) (p : Place) → save_count output now ≡ count → place now output ≡ p → IsPlace Was p → IsSafe output texts now
   same_safe now p a e h = subst (λ n. IsPlace (IsLastOrNext texts n) (place now output)) (sym a) (subst (IsPlace Was) (sym e) h)
 
   among_more : (o : Left) → Among o ((place before output).options ++ Whole text ∷ []) → Was o
@@ -53,7 +51,7 @@ module _ (output : List ℕ) (texts : List (List ℕ)) (text : List ℕ) (before
     here = λ o e. inl (subst (IsText texts (count + 1)) (same_Some (Whole text) o e) numbered);
   }
 
-  pub held : (now : List Entry) → acknowledged output now ≡ count + 1 → place now output ≡ durable_place text → IsHeld output texts now
+  pub held : (now : List Entry) → save_count output now ≡ count + 1 → place now output ≡ durable_place text → IsHeld output texts now
   held now a e = subst (λ n. IsPlace (IsText texts n) (place now output)) (sym a) (subst (IsPlace (IsText texts (count + 1))) (sym e) held_place)
 
   held_safe : (now : List Entry) → IsHeld output texts now → IsSafe output texts now

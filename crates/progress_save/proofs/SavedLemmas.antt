@@ -11,8 +11,8 @@ use Rattle.world.proofs.PartsLemmas.{place_since, acked_since}
 use Rattle.said_lines.specs.Speech.{Speech, Says}
 use Rattle.said_lines.specs.Speech as said
 use Rattle.said_lines.proofs.SpeechLemmas.{says_since}
-use Rattle.save_disk.specs.Places.{acknowledged, SaveMoment, durable}
-use Rattle.save_disk.specs.Temporary.{temporary_of}
+use Rattle.save_disk.specs.Places.{save_count, SaveMoment, durable}
+use Rattle.world.specs.Save.{temporary_of}
 use Rattle.save_disk.proofs.Laws.{end_of, moments_of, part_of_save, others_of_save}
 use Rattle.progress_save.specs.declared.progress_fault.ProgressFault.{ProgressFault}
 use Rattle.progress_save.specs.declared.progress_fault.ProgressFault.TheVariants as fault
@@ -24,7 +24,7 @@ module _ (output : List ℕ) (past : List Entry) where
   said_place : {after : List Entry} → Since (IsOf OnSay) past after → place after output ≡ place past output
   said_place since = ap (λ f. f output) (place_since (λ e. cc) since)
 
-  said_count : {after : List Entry} → Since (IsOf OnSay) past after → acknowledged output after ≡ acknowledged output past
+  said_count : {after : List Entry} → Since (IsOf OnSay) past after → save_count output after ≡ save_count output past
   said_count since = acked_since (temporary_of output) output (λ e. cc) since
 
 -- what follows of what was said so far holds at each of its moments
@@ -45,8 +45,8 @@ module _ (output text line : List ℕ) (failed : Type 0) (before : List Entry) w
   ended (Err (fault.Save f)) after s =
       let end = end_of output text before (failure f) after s in
       record { place_is = end.place_is; count_is = end.count_is }
-  ended (Err fault.Closed) after e = record { place_is = ap (λ j. place j output) e; count_is = ap (acknowledged output) e }
-  ended (Err fault.NoMemory) after e = record { place_is = ap (λ j. place j output) e; count_is = ap (acknowledged output) e }
+  ended (Err fault.Closed) after e = record { place_is = ap (λ j. place j output) e; count_is = ap (save_count output) e }
+  ended (Err fault.NoMemory) after e = record { place_is = ap (λ j. place j output) e; count_is = ap (save_count output) e }
 
 -- ---- each moment
 

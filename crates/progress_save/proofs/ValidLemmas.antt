@@ -24,10 +24,9 @@ use Rattle.nb_model.specs.Run.{IsMarkKey, IsMarked, IsFitOutput, IsRunCellOf, Is
 use Rattle.nb_model.specs.Tree.{count_tree, cell_tree, notebook_tree}
 use Rattle.nb_model.specs.Valid.{Valid}
 use Rattle.nb_model.specs.Values.{is_count}
-use Rattle.nb_model.proofs.PreparedLaws.{count_is}
+use Rattle.nb_model.proofs.PreparedLaws.{count_is, prepared_valid}
 use Rattle.nb_model.proofs.DepthLaws.{prepared_within}
 use Rattle.nb_model.proofs.PreparedKeyed.{prepared_keyed}
-use Rattle.nb_model.proofs.PreparedLaws.{prepared_valid}
 use Rattle.nb_model.proofs.RunLaws.{run_valid, run_keyed}
 use Rattle.nb_model.proofs.SortedValid.{read_valid, read_sorted}
 use Rattle.nb_model.proofs.TreeLaws.{pairs_with}
@@ -36,7 +35,8 @@ use Rattle.out_fold.specs.Cells.{outputs_of, count_of, dates_of}
 use Rattle.out_fold.specs.Fit.{AreRead}
 use Rattle.out_fold.proofs.FitCells.{outputs_are_fit, counts_are_fit, dates_are}
 use Rattle.progress_save.specs.Prefix.{with_mark, stops_at, executed_cell, marked_cell, settled_cell, saved_cell, saved_metadata, prefix}
-use Rattle.progress_save.specs.Saved.{text_of, IsReadOf}
+use Rattle.progress_save.specs.Saved.{IsReadOf}
+use Rattle.nb_text.specs.Notebooks.{text_of}
 use Rattle.progress_save.proofs.SettledCells.{changed_from}
 
 -- ---- a cell without what its kind doesn't show

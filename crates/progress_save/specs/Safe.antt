@@ -5,7 +5,7 @@ use Rattle.world.specs.declared.left.Left.{Left}
 use Rattle.world.specs.declared.left.Left.TheVariants.{Old, Whole, Absent, Any}
 use Rattle.world.specs.Disk.{Place, Among, place}
 use Rattle.world.specs.Moments.{Since}
-use Rattle.save_disk.specs.Places.{acknowledged}
+use Rattle.save_disk.specs.Places.{save_count}
 
 -- it is the text of this number of these, counted from 1; number 0 is what was there before
 abbrev pub IsText : List (List ℕ) → ℕ → Left → Type 0
@@ -24,15 +24,15 @@ pub record IsPlace (Test : Left → Type 0) (p : Place) : Type 0 where
 
 -- at this moment a crash leaves at the output the text that was acknowledged last, or the next one
 abbrev pub IsSafe : List ℕ → List (List ℕ) → List Entry → Type 0
-IsSafe output texts now = IsPlace (IsLastOrNext texts (acknowledged output now)) (place now output)
+IsSafe output texts now = IsPlace (IsLastOrNext texts (save_count output now)) (place now output)
 
 -- at this moment a crash leaves at the output the text that was acknowledged last
 abbrev pub IsHeld : List ℕ → List (List ℕ) → List Entry → Type 0
-IsHeld output texts now = IsPlace (IsText texts (acknowledged output now)) (place now output)
+IsHeld output texts now = IsPlace (IsText texts (save_count output now)) (place now output)
 
 -- the text is the one after those that were acknowledged
 abbrev pub IsNext : List ℕ → List (List ℕ) → List ℕ → List Entry → Type 0
-IsNext output texts text now = slice_get texts (acknowledged output now) ≡ Some text
+IsNext output texts text now = slice_get texts (save_count output now) ≡ Some text
 
 -- Where the output was safe and this text is the next one, it is safe at each moment of a save of the text with this
 -- answer and after it, and holds the text after `Ok`.

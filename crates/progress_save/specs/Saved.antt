@@ -1,9 +1,8 @@
 -- What a save of a prefix adds to the journal, its newest entry first, and what it makes of the output.
 use Rattle.std.specs.Prelude.{◌≡◌, ◌⊎◌, ℕ, ◌+◌, List, length, Result, Ok, Err}
 use Rattle.jtext.specs.declared.json.Json.{Json}
-use Rattle.jtext.specs.Indent.{print}
 use Rattle.jtext.specs.Keyed.{Keyed}
-use Rattle.jtext.specs.Sorting.{sorted}
+use Rattle.jtext.specs.Sorting.{sort_tree}
 use Rattle.nb_model.specs.declared.notebook.Notebook.{Notebook}
 use Rattle.nb_model.specs.Tree.{notebook_tree}
 use Rattle.nb_model.specs.Valid.{Valid}
@@ -14,20 +13,16 @@ use Rattle.world.specs.Parts.{IsOf, OnDisk, OnSay}
 use Rattle.said_lines.specs.Lines.{saved_line}
 use Rattle.said_lines.specs.Speech.{Says}
 use Rattle.save_disk.specs.Entries.{SaveOf}
-use Rattle.save_disk.specs.Places.{acknowledged, durable_place, place_after}
+use Rattle.save_disk.specs.Places.{save_count, durable_place, place_after}
 use Rattle.save_disk.specs.declared.save_fault.SaveFault.{SaveFault}
 use Rattle.progress_save.specs.declared.progress_fault.ProgressFault.{ProgressFault}
 use Rattle.progress_save.specs.declared.progress_fault.ProgressFault.TheVariants as fault
 
--- the text of a notebook, as it is saved
-abbrev pub text_of : Notebook → List ℕ
-text_of n = print (notebook_tree n)
-
--- what may be read of that text: a valid notebook without a key twice, the same tree with its pairs sorted
+-- what may be read of a notebook's text: a valid notebook without a key twice, the same tree with its pairs sorted
 pub record IsReadOf (n : Notebook) (t : Json) : Type 0 where
   pub valid : Valid t
   pub keyed : Keyed t
-  pub same : t ≡ sorted (notebook_tree n)
+  pub same : t ≡ sort_tree (notebook_tree n)
 
 -- the line of an acknowledged save that settles so many of the notebook's cells
 abbrev pub line_of : List ℕ → ℕ → Notebook → List ℕ
@@ -86,7 +81,7 @@ count_by (Err e) n = n
 -- what has come of the output in the end
 pub record EndsAs {U : Type 0} (output text : List ℕ) (result : Result U ProgressFault) (before after : List Entry) : Type 0 where
   pub place_is : place after output ≡ place_by text result (place before output)
-  pub count_is : acknowledged output after ≡ count_by result (acknowledged output before)
+  pub count_is : save_count output after ≡ count_by result (save_count output before)
 
 -- the newest entry is of the disk, or is said
 abbrev pub IsOfSave : List Entry → Type 0

@@ -17,9 +17,10 @@ ghost use Rattle.out_fold.specs.Stands.{SameCell};
 ghost use Rattle.progress_save.specs.Prefix.{prefix, saved_cell, stops_at};
 ghost use Rattle.progress_save.specs.declared.progress.Progress as progress;
 ghost use Rattle.progress_save.specs.Safe.{IsSafe, IsHeld};
-ghost use Rattle.progress_save.specs.Saved.{text_of, IsReadOf};
+ghost use Rattle.progress_save.specs.Saved.{IsReadOf};
+ghost use Rattle.nb_text.specs.Notebooks.{text_of};
 ghost use Rattle.progress_save.specs.State.{kept_text, Fits, KeepsAll};
-ghost use Rattle.save_disk.specs.Places.{acknowledged};
+ghost use Rattle.save_disk.specs.Places.{save_count};
 ghost use Rattle.world.specs.declared.entry.Entry.{Entry};
 ghost use Rattle.world.specs.Disk.{place, untouched_place};
 ghost use Rattle.world.specs.Moments.{Since};
@@ -108,7 +109,7 @@ pub fn kept_texts_fit()
 /// text is safe.
 pub fn outputs_begin_safe()
     ensures untouched { (output : List ℕ) (texts : List (List ℕ)) (now : List Entry) →
-        place now output ≡ untouched_place → acknowledged output now ≡ 0 →
+        place now output ≡ untouched_place → save_count output now ≡ 0 →
         IsHeld output texts now }
     ensures held { (output : List ℕ) (texts : List (List ℕ)) (now : List Entry) →
         IsHeld output texts now → IsSafe output texts now }
@@ -137,10 +138,10 @@ pub fn other_parts_stay_safe()
 pub fn other_files_stay_safe()
     ensures safe { (output : List ℕ) (texts : List (List ℕ)) (entry : Entry) (past : List Entry) →
         touches output entry ≡ false →
-        acknowledged output (entry ∷ past) ≡ acknowledged output past →
+        save_count output (entry ∷ past) ≡ save_count output past →
         IsSafe output texts past → IsSafe output texts (entry ∷ past) }
     ensures held { (output : List ℕ) (texts : List (List ℕ)) (entry : Entry) (past : List Entry) →
         touches output entry ≡ false →
-        acknowledged output (entry ∷ past) ≡ acknowledged output past →
+        save_count output (entry ∷ past) ≡ save_count output past →
         IsHeld output texts past → IsHeld output texts (entry ∷ past) }
 {}

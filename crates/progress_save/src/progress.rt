@@ -1,6 +1,7 @@
 //! `Progress`, the saves of one output.
 ghost use Rattle.std.specs.Prelude.{◌≡◌, ◌<◌, length, IsErr};
-ghost use Rattle.said_lines.specs.Between.{Between, SayFailed};
+ghost use Rattle.world.specs.Told.{Between};
+ghost use Rattle.said_lines.specs.Between.{SayFailed};
 ghost use Rattle.save_disk.specs.Entries.{SaveOf};
 ghost use Rattle.progress_save.specs.Saved.{SaveCause, SavesAndSays};
 
@@ -30,12 +31,13 @@ impl Progress {
     ghost use Rattle.std.specs.Str.{bytes_eq};
     ghost use Rattle.said_lines.specs.Between.{SayFailed};
     ghost use Rattle.save_disk.specs.Places.{SaveMoment};
-    ghost use Rattle.save_disk.specs.Temporary.{temporary_of};
+    ghost use Rattle.world.specs.Save.{temporary_of};
     ghost use Rattle.world.specs.Moments.{Told, Since};
     ghost use Rattle.world.specs.Touched.{Spares};
     ghost use Rattle.progress_save.specs.declared.progress_fault.ProgressFault.TheVariants as fault;
     ghost use Rattle.progress_save.specs.Safe.{IsSafe, IsNext, StaysSafe};
-    ghost use Rattle.progress_save.specs.Saved.{text_of, line_of, SavesAs, SavesSilently, EndsAs, IsOfSave, OnRefusal, IsSaveFault, SaveCause};
+    ghost use Rattle.progress_save.specs.Saved.{line_of, SavesAs, SavesSilently, EndsAs, IsOfSave, OnRefusal, IsSaveFault, SaveCause};
+    ghost use Rattle.nb_text.specs.Notebooks.{text_of};
     ghost use Rattle.progress_save.specs.State.{output_of, has_failed, kept_text, Fits, KeepsSame, KeepsAfter, failed_after};
 
     /// The saves of this output, of which none was made. No text is kept.

@@ -3,7 +3,7 @@ use Rattle.std.proofs.Common.{◌≡◌, ◌≢◌, inl, inr, ◌<◌, ◌||◌,
 use Rattle.world.specs.declared.chan.Chan.{Chan}
 use Rattle.std.proofs.lemmas.Bool.{cases_eq, false≢true, or_parts, or_right}
 use Rattle.std.proofs.Math.ListN.{length-set}
-use Rattle.std.proofs.lemmas.Option.{same_Some}
+use Rattle.std.proofs.lemmas.Option.{same_Some, slice_get_within}
 use Rattle.world.specs.declared.chan.Chan.TheVariants.{Shell, Control, Iopub, Heart}
 use Rattle.world.specs.declared.conn.Conn.{Conn}
 use Rattle.world.specs.declared.connected.Connected.{Connected}
@@ -22,14 +22,14 @@ use Rattle.ready_loop.specs.Link.{MayRead, MayWrite, connect_link, begun_link, c
 use Rattle.ready_loop.specs.Begins.{BeginMoment, Begins, BeginsOne, port_of, CloseMoment, CloseCame, ClosesOne, closing, begun_in, failed_closed, is_of_job}
 use Rattle.ready_loop.specs.Queues.{held_in, rest_at}
 use Rattle.ready_loop.specs.Begins as begins
-use Rattle.ready_loop.specs.History.{History, same, with_begun, with_all_begun, conn_on, chans, after_begin}
+use Rattle.ready_loop.specs.History.{History, no_change, with_begun, with_all_begun, conn_on, chans, after_begin}
 use Rattle.ready_loop.specs.Standing.{write_ended, StandsAt, Stand, StandsFor, Goes}
 use Rattle.ready_loop.specs.States.{OnlyAt, IsOffered, IsSound, Each, SameKnown, HoldsForKnown, failed_at, failed_in, failed_connect, known_in, known_at}
 use Rattle.ready_loop.proofs.ConnectLemmas.{stands_begun, stands_closed, stands_unbegun, known_closed}
 use Rattle.ready_loop.proofs.OfferLemmas.{ended_connect}
 use Rattle.ready_loop.proofs.StandLemmas.{stand_at, stands_as, same_but, begun_but, not_at, or_own}
 use Rattle.ready_loop.proofs.StateLemmas.{each_set, failed_set, kept_set, known_by, connect_failed, failed_connect_other, connect_stage, sound_at}
-use Rattle.ready_loop.proofs.TableLemmas.{within, some_at, slice_get-set_same, slice_get-set_other}
+use Rattle.jtext.proofs.Lists.{some_at, slice_get-set_same, slice_get-set_other}
 
 -- ---- a first connect
 
@@ -45,7 +45,7 @@ begin_goes conn port how l links link last past found fresh is clock =
           let m = stand.each (place_of conn) link found in
           let own = stands_as refl (or_own (place_of conn) (h.begun (place_of conn))) refl refl (connected_own conn port how past) (ended_connect conn port how past)
           (stands_begun link _ _ _ _ _ _ how port last (time past) clock fresh m) in
-          let r = stand_at entry (place_of conn) (connect_link how last (begun_link port link)) (within l.links (place_of conn) found) refl
+          let r = stand_at entry (place_of conn) (connect_link how last (begun_link port link)) (slice_get_within l.links (place_of conn) _ found) refl
           (λ p ne. not_at p conn ne) (λ p ne. refl) (begun_but (place_of conn) h) own stand in (
             subst (λ ls. Stand ls l.queues l.left (with_begun (place_of conn) h) (entry ∷ past)) (sym is) r,
             more start (sym m.stage ∙ ap is_begun fresh),
@@ -81,7 +81,7 @@ pub begin_known : (conn : Conn) (how : Connected) (last port : ℕ) (links now :
     → known_in (slice_get now p) ≡ is_at p conn || known_in (slice_get links p)
 begin_known conn how last port links now link found is p = elim (cases_eq p (place_of conn)) [
   | inl e ↦
-      let own = ap (λ ls. known_in (slice_get ls (place_of conn))) is ∙ ap known_in (slice_get-set_same links (place_of conn) (connect_link how last (begun_link port link)) (within links (place_of conn) found))
+      let own = ap (λ ls. known_in (slice_get ls (place_of conn))) is ∙ ap known_in (slice_get-set_same links (place_of conn) (connect_link how last (begun_link port link)) (slice_get_within links (place_of conn) _ found))
       ∙ ap is_known (connect_stage how last (begun_link port link)) ∙ sym (ap (λ b. b || known_in (slice_get links (place_of conn))) (at_own conn)) in
       subst (λ i. known_in (slice_get now i) ≡ is_at i conn || known_in (slice_get links i)) (sym e) own
   | inr ne ↦
@@ -139,7 +139,7 @@ after_last {U} job (Err fault) e h = sym (ap (λ f. after_begin {U = U} job true
 unbegun_goes : (conn : Conn) (l : Loop) (links : List Link) (link : Link) (past : List Entry)
     → slice_get l.links (place_of conn) ≡ Some link → false ≡ is_begun link.stage
     → links ≡ set l.links (place_of conn) (closed_link link)
-    → Goes CloseMoment same l (record l { links = links }) past past
+    → Goes CloseMoment no_change l (record l { links = links }) past past
 unbegun_goes conn l links link past found shut is = record {
   so = λ h stand. (
     record {
@@ -149,7 +149,7 @@ unbegun_goes conn l links link past found shut is = record {
         | inl e ↦
             let q = place_of conn in
             let at_q : slice_get (set l.links (place_of conn) (closed_link link)) (place_of conn) ≡ Some x = subst (λ (ls : List Link). slice_get ls (place_of conn) ≡ Some x) is (subst (λ i. slice_get links i ≡ Some x) e at) in
-            let x_is : closed_link link ≡ x = same_Some _ _ (sym (slice_get-set_same l.links (place_of conn) (closed_link link) (within l.links (place_of conn) found)) ∙ at_q) in
+            let x_is : closed_link link ≡ x = same_Some _ _ (sym (slice_get-set_same l.links (place_of conn) (closed_link link) (slice_get_within l.links (place_of conn) _ found)) ∙ at_q) in
             subst (λ i. StandsAt x (held_in (slice_get l.queues i)) (h.begun i) (h.queued i) (h.named i) (status i past) (write_ended i past)) (sym e)
             (subst (λ y. StandsAt y (held_in (slice_get l.queues (place_of conn))) (h.begun (place_of conn)) (h.queued (place_of conn)) (h.named (place_of conn)) (status (place_of conn) past) (write_ended (place_of conn) past)) x_is
             (stands_unbegun link _ _ _ _ _ _ (sym shut) (stand.each (place_of conn) link found)))
@@ -163,12 +163,12 @@ unbegun_goes conn l links link past found shut is = record {
 begun_goes : (conn : Conn) (l : Loop) (links : List Link) (link : Link) (past : List Entry)
     → slice_get l.links (place_of conn) ≡ Some link → true ≡ is_begun link.stage
     → links ≡ set l.links (place_of conn) (closed_link link)
-    → Goes CloseMoment same l (record l { links = links }) past (made.Closed conn ∷ past)
+    → Goes CloseMoment no_change l (record l { links = links }) past (made.Closed conn ∷ past)
 begun_goes conn l links link past found begun is = record {
   so = λ h stand.
       let m = stand.each (place_of conn) link found in
       let own = stands_as refl refl refl refl (closed_own conn past) refl (stands_closed link _ _ _ _ _ _ m) in
-      let r = stand_at (made.Closed conn) (place_of conn) (closed_link link) (within l.links (place_of conn) found) refl
+      let r = stand_at (made.Closed conn) (place_of conn) (closed_link link) (slice_get_within l.links (place_of conn) _ found) refl
       (λ p ne. not_at p conn ne) (λ p ne. refl) (same_but (place_of conn) h) own stand in (
         subst (λ ls. Stand ls l.queues l.left h (made.Closed conn ∷ past)) (sym is) r,
         more start (sym m.stage ∙ sym begun),
@@ -178,7 +178,7 @@ begun_goes conn l links link past found begun is = record {
 pub closed_goes : (b : Bool) (conn : Conn) (l : Loop) (links : List Link) (link : Link) (past : List Entry)
     → slice_get l.links (place_of conn) ≡ Some link → b ≡ is_begun link.stage
     → links ≡ set l.links (place_of conn) (closed_link link)
-    → Goes CloseMoment same l (record l { links = links }) past (closing b conn past)
+    → Goes CloseMoment no_change l (record l { links = links }) past (closing b conn past)
 closed_goes true conn l links link past found b is = begun_goes conn l links link past found b is
 closed_goes false conn l links link past found b is = unbegun_goes conn l links link past found b is
 
@@ -193,7 +193,7 @@ pub closed_offered : (l : Loop) (q : ℕ) (links : List Link) (link : Link) → 
     → links ≡ set l.links q (closed_link link) → IsOffered l → IsOffered (record l { links = links })
 closed_offered l q links link found is o = record {
   each = subst (λ (ls : List Link). Each ls (λ p x. MayWrite x → rest_at l.queues p ≡ [])) (sym is)
-      (each_set {P = λ p x. MayWrite x → rest_at l.queues p ≡ []} 64 q l.links (closed_link link) (within l.links q found) (λ m. absurd (false≢true m.writable)) o.each);
+      (each_set {P = λ p x. MayWrite x → rest_at l.queues p ≡ []} 64 q l.links (closed_link link) (slice_get_within l.links q _ found) (λ m. absurd (false≢true m.writable)) o.each);
 }
 
 pub closed_reads : (link : Link) → MayRead (closed_link link) → MayRead link

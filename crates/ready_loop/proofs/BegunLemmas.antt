@@ -2,7 +2,7 @@
 use Rattle.std.proofs.Common.{◌≡◌, inl, inr, ◌<◌, ℕ, zero, suc, Bool, true, List, length, set, replicate, Some, slice_get, arith, refl, sym, ◌∙◌, subst}
 use Rattle.std.proofs.lemmas.Bool.{cases_eq}
 use Rattle.std.proofs.Math.ListN.{length-set}
-use Rattle.std.proofs.lemmas.Option.{same_Some}
+use Rattle.std.proofs.lemmas.Option.{same_Some, slice_get_within}
 use Rattle.world.specs.declared.connected.Connected.{Connected}
 use Rattle.world.specs.declared.connected.Connected.TheVariants as connected
 use Rattle.world.specs.declared.did.Did.{Did}
@@ -16,7 +16,7 @@ use Rattle.ready_loop.specs.declared.stage.Stage.{Stage}
 use Rattle.ready_loop.specs.declared.stage.Stage.TheVariants.{Fresh, Begun, Closed}
 use Rattle.ready_loop.specs.Link.{is_begun, is_known, refused_clock, IsBegunWhereRefused, fresh_link, connect_link, read_link, write_link, wait_link, closed_link, named_link}
 use Rattle.ready_loop.specs.Table.{AllBegunWhereRefused}
-use Rattle.ready_loop.proofs.TableLemmas.{slice_get-set_same, slice_get-set_other, within}
+use Rattle.jtext.proofs.Lists.{slice_get-set_same, slice_get-set_other}
 
 -- a clock is kept only where it was begun
 clock_some : (stage : Stage) (last at : ℕ) → refused_clock stage last ≡ Some at → is_begun stage ≡ true
@@ -87,7 +87,7 @@ pub all_set : (links : List Link) (p : ℕ) (link : Link) → AllBegunWhereRefus
 all_set links p link all own q x found = elim (cases_eq q p) [
   | inl e ↦
       let at : slice_get (set links p link) p ≡ Some x = subst (λ i. slice_get (set links p link) i ≡ Some x) e found in
-      let low : p < length links = omega (arith, within (set links p link) p at, length-set links p link) in
+      let low : p < length links = omega (arith, slice_get_within (set links p link) p _ at, length-set links p link) in
       subst (λ l. IsBegunWhereRefused l) (same_Some _ _ (sym (slice_get-set_same links p link low) ∙ at)) own
   | inr ne ↦ all q x (sym (slice_get-set_other links p q link ne) ∙ found)
 ]

@@ -1,7 +1,7 @@
 -- How one connection goes on standing for the journal, where it is lost, read or written.
 use Rattle.std.proofs.Common.{◌≡◌, ◌+◌, ◌≤◌, ◌++◌, ◌&&◌, not, ℕ, Bool, true, false, List, [], length, take, drop, Some, arith, refl, sym, ◌∙◌, ap, subst, append_assoc, length-append, length-take}
 use Rattle.std.proofs.lemmas.List.{take-append-drop}
-use Rattle.std.proofs.lemmas.Bool.{false≢true}
+use Rattle.std.proofs.lemmas.Option.{none-some}
 use Rattle.world.specs.declared.got.Got.{Got}
 use Rattle.world.specs.declared.got.Got.TheVariants as got
 use Rattle.world.specs.declared.put.Put.{Put}
@@ -16,8 +16,8 @@ use Rattle.ready_loop.specs.declared.stage.Stage.TheVariants.{Fresh, Begun, Clos
 use Rattle.ready_loop.specs.Link.{refused_clock, read_link, write_link, found_end, is_found, is_named, is_begun}
 use Rattle.ready_loop.specs.Queues.{Held, put_count}
 use Rattle.ready_loop.specs.Standing.{StandsAt, Sends, EndIs, put_by}
+use Rattle.ready_loop.proofs.StepLemmas.{stands_on, stands_down, awake_still, open_still, failed_still, asleep, stuck, broken}
 use Rattle.ready_loop.proofs.BegunLemmas.{clock_begun, known_begun}
-use Rattle.ready_loop.proofs.TableLemmas.{not_some}
 
 -- ---- small facts
 
@@ -29,10 +29,6 @@ both_never false e = refl
 never_ended : (b n : Bool) → false ≡ b && (false && not n)
 never_ended true n = refl
 never_ended false n = refl
-
--- one that was begun is no fresh one
-not_fresh : {stage : Stage} {X : Type 0} → is_begun stage ≡ true → stage ≡ Fresh → X
-not_fresh h e = let f = sym h ∙ ap is_begun e in absurd (false≢true (sym f))
 
 pub stage_of_begun : (stage : Stage) → is_begun stage ≡ true → stage ≡ Begun
 stage_of_begun Fresh e = cc
@@ -67,56 +63,14 @@ stands_ended : {link : Link} {held then : Held} {b : Bool} {q : List ℕ} {n m :
     → s.up ≡ true → Sends then q (put_by b s.put) → EndIs end b m f → StandsAt link held b q n s e
     → StandsAt (record link { awake = false; writable = false; end = end }) then b q m (ended_after s) f
 stands_ended end up sends ends m =
-    record {
-      awake = refl;
-      writable = refl;
-      failed = m.failed;
-      refused = m.refused;
-      reads = λ a. absurd (false≢true a);
-      known = m.known;
-      stage = m.stage;
-      port = m.port;
-      failed_begun = m.failed_begun;
-      reported = λ a. absurd (false≢true a);
-      open_up = λ a. absurd (false≢true a);
-      up_begun = λ a. absurd (false≢true a);
-      up_calm = λ a. absurd (false≢true a);
-      up_whole = λ a. absurd (false≢true a);
-      refused_begun = m.refused_begun;
-      refused_unused = m.refused_unused;
-      refused_whole = λ at is. not_some (m.up_calm up) is;
-      fresh_whole = not_fresh (m.stage ∙ m.up_begun up);
-      sends = sends;
-      ends = ends;
-    }
+    stands_down m up m.refused m.refused_unused (λ at is. absurd (none-some _ (sym (m.up_calm up) ∙ is))) sends ends
 
 -- it was turned away
 stands_refused : {link : Link} {held then : Held} {b : Bool} {q : List ℕ} {n : Bool} {s : Status} {e : Bool} (last clock : ℕ)
     → last ≡ clock → s.up ≡ true → s.put ≡ [] → Sends then q (put_by b s.put) → StandsAt link held b q n s e
     → StandsAt (record link { awake = false; writable = false; refused = refused_clock link.stage last }) then b q n (refused_after clock s) e
 stands_refused {link} last clock t up unused sends m =
-    record {
-      awake = refl;
-      writable = refl;
-      failed = m.failed;
-      refused = clock_begun link.stage last (m.stage ∙ m.up_begun up) ∙ ap Some t;
-      reads = λ a. absurd (false≢true a);
-      known = m.known;
-      stage = m.stage;
-      port = m.port;
-      failed_begun = m.failed_begun;
-      reported = λ a. absurd (false≢true a);
-      open_up = λ a. absurd (false≢true a);
-      up_begun = λ a. absurd (false≢true a);
-      up_calm = λ a. absurd (false≢true a);
-      up_whole = λ a. absurd (false≢true a);
-      refused_begun = λ at is. m.up_begun up;
-      refused_unused = λ at is. unused;
-      refused_whole = λ at is. m.up_whole up;
-      fresh_whole = m.fresh_whole;
-      sends = sends;
-      ends = m.ends;
-    }
+    stands_down m up (clock_begun link.stage last (m.stage ∙ m.up_begun up) ∙ ap Some t) (λ at is. unused) (λ at is. m.up_whole up) sends m.ends
 
 -- ---- a read
 
@@ -139,78 +93,16 @@ pub stands_read : (link : Link) (held : Held) (b : Bool) (q : List ℕ) (n : Boo
     → last ≡ clock → link.awake ≡ true → (answer ≡ got.Refused → s.put ≡ []) → StandsAt link held b q n s e
     → StandsAt (read_link answer last link) held b q (named_read answer n) (status_read answer buffer clock s) e
 stands_read link held b q n s e (got.Piece k) buffer last clock t awake unused m =
-    record {
-      awake = m.awake;
-      writable = m.writable;
-      failed = m.failed;
-      refused = m.refused;
-      reads = λ a. ap (λ k. k + 1) (m.reads a);
-      known = m.known;
-      stage = m.stage;
-      port = m.port;
-      failed_begun = m.failed_begun;
-      reported = m.reported;
-      open_up = m.open_up;
-      up_begun = m.up_begun;
-      up_calm = m.up_calm;
-      up_whole = m.up_whole;
-      refused_begun = m.refused_begun;
-      refused_unused = m.refused_unused;
-      refused_whole = m.refused_whole;
-      fresh_whole = m.fresh_whole;
-      sends = m.sends;
-      ends = m.ends;
-    }
+    stands_on m s.put (s.got ++ take k buffer) (record { same = m.awake; counted = λ a. ap (λ k. k + 1) (m.reads a); is_up = m.reported })
+    (open_still m) (failed_still m) m.refused_unused m.sends
 stands_read link held b q n s e got.Dry buffer last clock t awake unused m =
-    record {
-      awake = refl;
-      writable = m.writable;
-      failed = m.failed;
-      refused = m.refused;
-      reads = λ a. absurd (false≢true a);
-      known = m.known;
-      stage = m.stage;
-      port = m.port;
-      failed_begun = m.failed_begun;
-      reported = λ a. absurd (false≢true a);
-      open_up = m.open_up;
-      up_begun = m.up_begun;
-      up_calm = m.up_calm;
-      up_whole = m.up_whole;
-      refused_begun = m.refused_begun;
-      refused_unused = m.refused_unused;
-      refused_whole = m.refused_whole;
-      fresh_whole = m.fresh_whole;
-      sends = m.sends;
-      ends = m.ends;
-    }
+    stands_on m s.put s.got asleep (open_still m) (failed_still m) m.refused_unused m.sends
 stands_read link held b q n s e got.Ended buffer last clock t awake unused m =
     stands_ended Named (m.reported (sym m.awake ∙ awake)) m.sends (ends_named m.ends) m
 stands_read link held b q n s e got.Refused buffer last clock t awake unused m =
     stands_refused last clock t (m.reported (sym m.awake ∙ awake)) (unused refl) m.sends m
 stands_read link held b q n s e got.Failed buffer last clock t awake unused m =
-    record {
-      awake = refl;
-      writable = m.writable;
-      failed = refl;
-      refused = m.refused;
-      reads = λ a. absurd (false≢true a);
-      known = m.known;
-      stage = m.stage;
-      port = m.port;
-      failed_begun = λ f. m.up_begun (m.reported (sym m.awake ∙ awake));
-      reported = λ a. absurd (false≢true a);
-      open_up = m.open_up;
-      up_begun = m.up_begun;
-      up_calm = m.up_calm;
-      up_whole = m.up_whole;
-      refused_begun = m.refused_begun;
-      refused_unused = m.refused_unused;
-      refused_whole = m.refused_whole;
-      fresh_whole = m.fresh_whole;
-      sends = m.sends;
-      ends = m.ends;
-    }
+    stands_on m s.put s.got asleep (open_still m) (broken (m.up_begun (m.reported (sym m.awake ∙ awake)))) m.refused_unused m.sends
 
 -- ---- a write
 
@@ -260,76 +152,14 @@ pub stands_write : (link : Link) (held : Held) (b : Bool) (q : List ℕ) (n : Bo
 stands_write link held b q n s e (put.Took k) last clock t writable some unused m =
     let up : s.up ≡ true = m.open_up (sym m.writable ∙ writable) in
     let known : b ≡ true = sym m.known ∙ known_begun link.stage (m.stage ∙ m.up_begun up) in
-    record {
-      awake = m.awake;
-      writable = m.writable;
-      failed = m.failed;
-      refused = m.refused;
-      reads = m.reads;
-      known = m.known;
-      stage = m.stage;
-      port = m.port;
-      failed_begun = m.failed_begun;
-      reported = m.reported;
-      open_up = m.open_up;
-      up_begun = m.up_begun;
-      up_calm = m.up_calm;
-      up_whole = m.up_whole;
-      refused_begun = m.refused_begun;
-      refused_unused = λ at is. not_some (m.up_calm up) is;
-      refused_whole = m.refused_whole;
-      fresh_whole = m.fresh_whole;
-      sends = subst (λ xs. Sends (held_write (put.Took k) held) q xs) (ap (λ xs. xs ++ take k held.rest) (put_known known) ∙ sym (put_known known)) (sends_took k some.1 m.sends);
-      ends = m.ends;
-    }
+    stands_on m (s.put ++ take k held.rest) s.got (awake_still m) (open_still m) (failed_still m) (λ at is. absurd (none-some _ (sym (m.up_calm up) ∙ is)))
+    (subst (λ xs. Sends (held_write (put.Took k) held) q xs) (ap (λ xs. xs ++ take k held.rest) (put_known known) ∙ sym (put_known known)) (sends_took k some.1 m.sends))
 stands_write link held b q n s e put.Stuck last clock t writable some unused m =
-    record {
-      awake = m.awake;
-      writable = refl;
-      failed = m.failed;
-      refused = m.refused;
-      reads = m.reads;
-      known = m.known;
-      stage = m.stage;
-      port = m.port;
-      failed_begun = m.failed_begun;
-      reported = m.reported;
-      open_up = λ a. absurd (false≢true a);
-      up_begun = m.up_begun;
-      up_calm = m.up_calm;
-      up_whole = m.up_whole;
-      refused_begun = m.refused_begun;
-      refused_unused = m.refused_unused;
-      refused_whole = m.refused_whole;
-      fresh_whole = m.fresh_whole;
-      sends = sends_none m.sends;
-      ends = m.ends;
-    }
+    stands_on m s.put s.got (awake_still m) stuck (failed_still m) m.refused_unused (sends_none m.sends)
 stands_write link held b q n s e put.Ended last clock t writable some unused m =
     let up : s.up ≡ true = m.open_up (sym m.writable ∙ writable) in
     stands_ended (found_end link.end) up (sends_none m.sends) (ends_found (m.up_whole up) (known_up m up) m.ends) m
 stands_write link held b q n s e put.Refused last clock t writable some unused m =
     stands_refused last clock t (m.open_up (sym m.writable ∙ writable)) (unused refl) (sends_none m.sends) m
 stands_write link held b q n s e put.Failed last clock t writable some unused m =
-    record {
-      awake = m.awake;
-      writable = refl;
-      failed = refl;
-      refused = m.refused;
-      reads = m.reads;
-      known = m.known;
-      stage = m.stage;
-      port = m.port;
-      failed_begun = λ f. m.up_begun (m.open_up (sym m.writable ∙ writable));
-      reported = m.reported;
-      open_up = λ a. absurd (false≢true a);
-      up_begun = m.up_begun;
-      up_calm = m.up_calm;
-      up_whole = m.up_whole;
-      refused_begun = m.refused_begun;
-      refused_unused = m.refused_unused;
-      refused_whole = m.refused_whole;
-      fresh_whole = m.fresh_whole;
-      sends = sends_none m.sends;
-      ends = m.ends;
-    }
+    stands_on m s.put s.got (awake_still m) stuck (broken (m.up_begun (m.open_up (sym m.writable ∙ writable)))) m.refused_unused (sends_none m.sends)

@@ -1,6 +1,7 @@
 -- How one connection goes on standing for the journal, where it is connected or closed.
 use Rattle.std.proofs.Common.{◌≡◌, ℕ, Bool, true, false, List, [], Option, Some, None, refl, sym, ◌∙◌, ap, subst}
 use Rattle.std.proofs.lemmas.Bool.{false≢true, false_from_ne_true}
+use Rattle.std.proofs.lemmas.Option.{none-some}
 use Rattle.world.specs.declared.connected.Connected.{Connected}
 use Rattle.world.specs.declared.connected.Connected.TheVariants as connected
 use Rattle.world.specs.Places.{Status, connected_after, closed_after}
@@ -12,7 +13,7 @@ use Rattle.ready_loop.specs.declared.stage.Stage.TheVariants.{Fresh, Begun, Clos
 use Rattle.ready_loop.specs.Link.{connect_link, begun_link, closed_link, is_found, is_known, is_begun, closed_stage}
 use Rattle.ready_loop.specs.Queues.{Held}
 use Rattle.ready_loop.specs.Standing.{StandsAt, Sends, EndIs, put_by}
-use Rattle.ready_loop.proofs.TableLemmas.{not_some}
+use Rattle.ready_loop.proofs.StepLemmas.{AwakeIs, OpenIs, stands_tried, awake_with, awake_still, open_still, opened}
 use Rattle.ready_loop.proofs.CallLemmas.{ends_again}
 
 -- ---- a connect of one that was refused
@@ -23,78 +24,28 @@ sends_anew {held} {q} b e m = subst (λ xs. Sends held q (put_by b xs)) e m
 pub stands_again : (link : Link) (held : Held) (b : Bool) (q : List ℕ) (n : Bool) (s : Status) (e : Bool) (how : Connected) (last clock at : ℕ)
     → last ≡ clock → link.refused ≡ Some at → StandsAt link held b q n s e
     → StandsAt (connect_link how last link) held b q n (connected_after how link.port clock s) false
-stands_again link held b q n s e connected.Begun last clock at t refused m =
-    let was : s.refused ≡ Some at = sym m.refused ∙ refused in
-    record {
-      awake = m.awake;
-      writable = refl;
-      failed = m.failed;
-      refused = refl;
-      reads = m.reads;
-      known = m.known;
-      stage = m.stage ∙ m.refused_begun at was;
-      port = λ st. refl;
-      failed_begun = λ f. refl;
-      reported = λ a. refl;
-      open_up = λ a. refl;
-      up_begun = λ u. refl;
-      up_calm = λ u. refl;
-      up_whole = λ u. m.refused_whole at was;
-      refused_begun = λ k is. refl;
-      refused_unused = λ k is. refl;
-      refused_whole = λ k is. m.refused_whole at was;
-      fresh_whole = m.fresh_whole;
-      sends = sends_anew b (m.refused_unused at was) m.sends;
-      ends = ends_again (m.refused_whole at was) m.ends;
-    }
-stands_again link held b q n s e connected.Refused last clock at t refused m =
-    let was : s.refused ≡ Some at = sym m.refused ∙ refused in
-    record {
-      awake = m.awake;
-      writable = m.writable;
-      failed = m.failed;
-      refused = ap Some t;
-      reads = m.reads;
-      known = m.known;
-      stage = m.stage ∙ m.refused_begun at was;
-      port = λ st. refl;
-      failed_begun = λ f. refl;
-      reported = λ a. not_some (m.up_calm (m.reported a)) was;
-      open_up = λ a. not_some (m.up_calm (m.open_up a)) was;
-      up_begun = λ u. refl;
-      up_calm = λ a. absurd (false≢true a);
-      up_whole = λ a. absurd (false≢true a);
-      refused_begun = λ k is. refl;
-      refused_unused = λ k is. refl;
-      refused_whole = λ k is. m.refused_whole at was;
-      fresh_whole = m.fresh_whole;
-      sends = sends_anew b (m.refused_unused at was) m.sends;
-      ends = ends_again (m.refused_whole at was) m.ends;
-    }
-stands_again link held b q n s e connected.Failed last clock at t refused m =
-    let was : s.refused ≡ Some at = sym m.refused ∙ refused in
-    record {
-      awake = m.awake;
-      writable = m.writable;
-      failed = refl;
-      refused = refl;
-      reads = m.reads;
-      known = m.known;
-      stage = m.stage ∙ m.refused_begun at was;
-      port = λ st. refl;
-      failed_begun = λ f. refl;
-      reported = m.reported;
-      open_up = m.open_up;
-      up_begun = λ u. refl;
-      up_calm = λ u. refl;
-      up_whole = m.up_whole;
-      refused_begun = λ k is. refl;
-      refused_unused = λ k is. refl;
-      refused_whole = λ k is. m.refused_whole at was;
-      fresh_whole = m.fresh_whole;
-      sends = sends_anew b (m.refused_unused at was) m.sends;
-      ends = ends_again (m.refused_whole at was) m.ends;
-    }
+stands_again link held b q n s e how last clock at t refused m = by how
+  where
+    was : s.refused ≡ Some at
+    was = sym m.refused ∙ refused
+
+    down : {A : Type 0} → s.up ≡ true → A
+    down up = absurd (none-some _ (sym (m.up_calm up) ∙ was))
+
+    tried : {a w f x y z up : Bool} {reads count : ℕ} {refused after : Option ℕ} → AwakeIs a reads x count up → OpenIs w y up → f ≡ z → refused ≡ after
+        → (up ≡ true → after ≡ None)
+        → StandsAt (record link { awake = a; writable = w; failed = f; refused = refused; reads = reads }) held b q n
+        (record { begun = true; port = Some link.port; awake = x; writable = y; up = up; failed = z; refused = after; count = count; put = []; got = [] }) false
+    tried =
+        stands_tried link m.known (m.stage ∙ m.refused_begun at was) (m.refused_whole at was) (sends_anew b (m.refused_unused at was) m.sends)
+        (ends_again (m.refused_whole at was) m.ends)
+
+    by : (how : Connected) → StandsAt (connect_link how last link) held b q n (connected_after how link.port clock s) false
+    by connected.Begun = tried (awake_with m true (λ a. refl)) opened m.failed refl (λ up. refl)
+    by connected.Refused =
+        tried (awake_with m false (λ a. down (m.reported a))) (record { same = m.writable; is_up = λ a. down (m.open_up a) }) m.failed (ap Some t)
+        (λ up. absurd (false≢true up))
+    by connected.Failed = tried (awake_still m) (open_still m) refl refl (λ up. refl)
 
 -- ---- a first connect
 
@@ -107,87 +58,28 @@ sends_begun {held} {q = q} p e m = subst (λ xs. Sends held q xs) (ap (λ x. put
 pub stands_begun : (link : Link) (held : Held) (b : Bool) (q : List ℕ) (n : Bool) (s : Status) (e : Bool) (how : Connected) (number last clock : ℕ)
     → last ≡ clock → link.stage ≡ Fresh → StandsAt link held b q n s e
     → StandsAt (connect_link how last (begun_link number link)) held true q n (connected_after how number clock s) false
-stands_begun link held b q n s e connected.Begun number last clock t fresh m =
-    let b_is : b ≡ false = sym m.known ∙ ap is_known fresh in
-    let shut : s.begun ≡ false = sym m.stage ∙ ap is_begun fresh in
-    let down : s.up ≡ true → ⊥ = λ u. false≢true (sym shut ∙ m.up_begun u) in
-    let whole : link.end ≡ No = m.fresh_whole fresh in
-    record {
-      awake = m.awake;
-      writable = refl;
-      failed = m.failed;
-      refused = refl;
-      reads = m.reads;
-      known = refl;
-      stage = refl;
-      port = λ st. refl;
-      failed_begun = λ f. refl;
-      reported = λ a. refl;
-      open_up = λ a. refl;
-      up_begun = λ u. refl;
-      up_calm = λ u. refl;
-      up_whole = λ u. whole;
-      refused_begun = λ k is. refl;
-      refused_unused = λ k is. refl;
-      refused_whole = λ k is. whole;
-      fresh_whole = λ st. whole;
-      sends = sends_begun s.put b_is m.sends;
-      ends = ends_begun whole m.ends;
-    }
-stands_begun link held b q n s e connected.Refused number last clock t fresh m =
-    let b_is : b ≡ false = sym m.known ∙ ap is_known fresh in
-    let shut : s.begun ≡ false = sym m.stage ∙ ap is_begun fresh in
-    let down : s.up ≡ true → ⊥ = λ u. false≢true (sym shut ∙ m.up_begun u) in
-    let whole : link.end ≡ No = m.fresh_whole fresh in
-    record {
-      awake = m.awake;
-      writable = m.writable;
-      failed = m.failed;
-      refused = ap Some t;
-      reads = m.reads;
-      known = refl;
-      stage = refl;
-      port = λ st. refl;
-      failed_begun = λ f. refl;
-      reported = λ a. absurd (down (m.reported a));
-      open_up = λ a. absurd (down (m.open_up a));
-      up_begun = λ u. refl;
-      up_calm = λ a. absurd (false≢true a);
-      up_whole = λ u. whole;
-      refused_begun = λ k is. refl;
-      refused_unused = λ k is. refl;
-      refused_whole = λ k is. whole;
-      fresh_whole = λ st. whole;
-      sends = sends_begun s.put b_is m.sends;
-      ends = ends_begun whole m.ends;
-    }
-stands_begun link held b q n s e connected.Failed number last clock t fresh m =
-    let b_is : b ≡ false = sym m.known ∙ ap is_known fresh in
-    let shut : s.begun ≡ false = sym m.stage ∙ ap is_begun fresh in
-    let down : s.up ≡ true → ⊥ = λ u. false≢true (sym shut ∙ m.up_begun u) in
-    let whole : link.end ≡ No = m.fresh_whole fresh in
-    record {
-      awake = m.awake;
-      writable = m.writable;
-      failed = refl;
-      refused = refl;
-      reads = m.reads;
-      known = refl;
-      stage = refl;
-      port = λ st. refl;
-      failed_begun = λ f. refl;
-      reported = m.reported;
-      open_up = m.open_up;
-      up_begun = λ u. refl;
-      up_calm = λ u. refl;
-      up_whole = λ u. whole;
-      refused_begun = λ k is. refl;
-      refused_unused = λ k is. refl;
-      refused_whole = λ k is. whole;
-      fresh_whole = λ st. whole;
-      sends = sends_begun s.put b_is m.sends;
-      ends = ends_begun whole m.ends;
-    }
+stands_begun link held b q n s e how number last clock t fresh m = by how
+  where
+    shut : s.begun ≡ false
+    shut = sym m.stage ∙ ap is_begun fresh
+
+    down : {A : Type 0} → s.up ≡ true → A
+    down up = absurd (false≢true (sym shut ∙ m.up_begun up))
+
+    tried : {a w f x y z up : Bool} {reads count : ℕ} {refused after : Option ℕ} → AwakeIs a reads x count up → OpenIs w y up → f ≡ z → refused ≡ after
+        → (up ≡ true → after ≡ None)
+        → StandsAt (record (begun_link number link) { awake = a; writable = w; failed = f; refused = refused; reads = reads }) held true q n
+        (record { begun = true; port = Some number; awake = x; writable = y; up = up; failed = z; refused = after; count = count; put = []; got = [] }) false
+    tried =
+        stands_tried (begun_link number link) refl refl (m.fresh_whole fresh) (sends_begun s.put (sym m.known ∙ ap is_known fresh) m.sends)
+        (ends_begun (m.fresh_whole fresh) m.ends)
+
+    by : (how : Connected) → StandsAt (connect_link how last (begun_link number link)) held true q n (connected_after how number clock s) false
+    by connected.Begun = tried (awake_with m true (λ a. refl)) opened m.failed refl (λ up. refl)
+    by connected.Refused =
+        tried (awake_with m false (λ a. down (m.reported a))) (record { same = m.writable; is_up = λ a. down (m.open_up a) }) m.failed (ap Some t)
+        (λ up. absurd (false≢true up))
+    by connected.Failed = tried (awake_still m) (open_still m) refl refl (λ up. refl)
 
 -- ---- a close
 
@@ -227,9 +119,9 @@ stands_closed link held b q n s e m =
       up_begun = λ a. absurd (false≢true a);
       up_calm = λ a. absurd (false≢true a);
       up_whole = λ a. absurd (false≢true a);
-      refused_begun = λ k is. not_some refl is;
-      refused_unused = λ k is. not_some refl is;
-      refused_whole = λ k is. not_some refl is;
+      refused_begun = λ k is. absurd (none-some _ is);
+      refused_unused = λ k is. absurd (none-some _ is);
+      refused_whole = λ k is. absurd (none-some _ is);
       fresh_whole = λ st. m.fresh_whole (fresh_closed link.stage st);
       sends = m.sends;
       ends = m.ends;

@@ -1,12 +1,12 @@
 -- How the table goes by places over keys.
 use Rattle.std.proofs.Common.{◌≡◌, ◌≢◌, inl, inr, ◌+◌, ◌<◌, ℕ, zero, suc, List, [], ◌∷◌, length, map, set, replicate, Option, Some, None, IsSome, slice_get, arith, refl, sym, ◌∙◌, ap, subst}
 use Rattle.std.proofs.lemmas.Bool.{cases_eq}
-use Rattle.std.proofs.lemmas.Option.{same_Some}
+use Rattle.std.proofs.lemmas.Option.{same_Some, slice_get_within}
 use Rattle.slab.specs.Slab.{Slab, get, Updates}
 use Rattle.ready_loop.specs.declared.link.Link.{Link}
 use Rattle.ready_loop.specs.Link.{fresh_link}
 use Rattle.ready_loop.specs.Table.{link_or, link_in, links_of, AllHeld, AllApart}
-use Rattle.ready_loop.proofs.TableLemmas.{slice_get-set_same, slice_get-set_other, within}
+use Rattle.jtext.proofs.Lists.{slice_get-set_same, slice_get-set_other}
 
 map_get : (f : ℕ → Link) (keys : List ℕ) (p key : ℕ) → slice_get keys p ≡ Some key
     → slice_get (map f keys) p ≡ Some (f key)
@@ -47,7 +47,7 @@ pub put_key : (old new : Slab Link) (keys : List ℕ) (place key : ℕ) (link : 
     → Updates old new key (Some link) → links_of new keys ≡ set (links_of old keys) place link
 put_key old new keys place key link size low apart at up = map_set (link_in old) (link_in new) keys place link
     (λ k e. let same : key ≡ k = same_Some _ _ (sym at ∙ e) in subst (λ i. link_in new i ≡ link) same (ap link_or up.changed))
-    (λ p k ne e. ap link_or (up.others k (λ same. ne (apart p place k (omega (arith, size, within keys p e)) low e (at ∙ ap Some (sym same))))))
+    (λ p k ne e. ap link_or (up.others k (λ same. ne (apart p place k (omega (arith, size, slice_get_within keys p _ e)) low e (at ∙ ap Some (sym same))))))
 
 pub held_after : (old new : Slab Link) (keys : List ℕ) (key : ℕ) (link : Link) → Updates old new key (Some link)
     → AllHeld 64 old keys → AllHeld 64 new keys
@@ -118,4 +118,4 @@ map_fresh f (x ∷ rest) same =
 
 pub fresh_links : (slab : Slab Link) (keys : List ℕ) → length keys ≡ 64 → AllFresh 64 slab keys
     → links_of slab keys ≡ replicate 64 fresh_link
-fresh_links slab keys size all = map_fresh (link_in slab) keys (λ p key e. ap link_or (all p key (omega (arith, size, within keys p e)) e)) ∙ ap (λ n. replicate n fresh_link) size
+fresh_links slab keys size all = map_fresh (link_in slab) keys (λ p key e. ap link_or (all p key (omega (arith, size, slice_get_within keys p _ e)) e)) ∙ ap (λ n. replicate n fresh_link) size

@@ -14,6 +14,7 @@ pub mod ReadLemmas
 pub mod RunLemmas
 pub mod StandLemmas
 pub mod StateLemmas
+pub mod StepLemmas
 pub mod TableLemmas
 pub mod TurnLemmas
 pub mod WaitLemmas

@@ -1,6 +1,6 @@
 -- What a last look adds to the journal.
 use Rattle.ready_loop.proofs.StandLemmas.{not_at}
-use Rattle.world.proofs.StatusLemmas.{status_elsewhere, chan_below}
+use Rattle.world.proofs.StatusLemmas.{status_elsewhere, chan_below, same_job}
 use Rattle.std.proofs.Common.{◌≡◌, inl, inr, ◌+◌, ◌/◌, ◌<◌, ℕ, Bool, true, false, List, [], ◌∷◌, Some, None, Ok, Err, slice_get, arith, refl, sym, ◌∙◌, ap, subst, ◌≢◌, ◌&&◌, ◌||◌, not}
 use Rattle.std.proofs.lemmas.Bool.{cases_eq, false≢true}
 use Rattle.world.specs.declared.conn.Conn.{Conn}
@@ -16,7 +16,7 @@ use Rattle.ready_loop.specs.declared.fault.LoopFault.TheVariants.{NetFault, Spen
 use Rattle.ready_loop.specs.declared.link.Link.{Link}
 use Rattle.ready_loop.specs.declared.readiness.Loop.{Loop}
 use Rattle.ready_loop.specs.Link.{IsToBegin}
-use Rattle.ready_loop.specs.History.{History, same, with_all_named}
+use Rattle.ready_loop.specs.History.{History, no_change, with_all_named}
 use Rattle.ready_loop.specs.Offers.{OfferAt, LookMoment, FaultCame, IsOfConn, Names, Extends, Connects, connects, later, BeginsAt, BeginsBelow, is_looked, Offers, again, writes, is_to_name}
 use Rattle.ready_loop.specs.Queues.{rest_at}
 use Rattle.ready_loop.specs.Standing.{StandsFor, Goes, write_ended}
@@ -25,8 +25,8 @@ use Rattle.ready_loop.specs.Waits.{WaitCame, Looked, LooksThenWaits, LookCounts,
 use Rattle.ready_loop.proofs.OfferLemmas.{untimed_write, concerns_not}
 use Rattle.ready_loop.proofs.NameLemmas.{named_stands, names_are}
 use Rattle.ready_loop.proofs.StateLemmas.{sound_as}
-use Rattle.ready_loop.proofs.TableLemmas.{some_at}
 use Rattle.ready_loop.proofs.WaitLemmas.{all_served, none_due}
+use Rattle.jtext.proofs.Lists.{some_at}
 
 -- ---- connects
 
@@ -54,7 +54,7 @@ begins_one k = record { so = λ h s f at is. k }
 
 pub begins_then : {P Q : History → List Entry → Type 0} {forced : Bool} {place : ℕ} {l mid new : Loop} {x y z : List Entry}
     → BeginsAt forced place l x y
-    → Goes P same l mid x y → Goes Q same mid new y z → BeginsAt forced place l x z
+    → Goes P no_change l mid x y → Goes Q no_change mid new y z → BeginsAt forced place l x z
 begins_then b m n = record { so = λ h s f at is. connects_later (b.so h s f at is) (extends_of (n.so h (m.so h s).0).1) }
 
 -- ---- the places of the jobs, one after another
@@ -73,7 +73,7 @@ below_skip {n} {jobs} skip b = record {
 
 pub below_more : {P Q : History → List Entry → Type 0} {n : ℕ} {jobs : List Bool} {l mid new : Loop} {x y z : List Entry}
     → slice_get mid.links n ≡ slice_get l.links n
-    → BeginsBelow n jobs l x y → Goes P same l mid x y → BeginsAt true n mid y z → Goes Q same mid new y z
+    → BeginsBelow n jobs l x y → Goes P no_change l mid x y → BeginsAt true n mid y z → Goes Q no_change mid new y z
     → BeginsBelow (n + 1) jobs l x z
 below_more {n = n} {jobs} {l} {mid} {x = x} {z = z} untouched b m k q = record {
   so = λ h s p at low looked is.
@@ -117,7 +117,7 @@ look_time jobs h start = refl
 look_time jobs h (more {past} {entry} s m) = offer_time true h past m.0 entry m.2 ∙ look_time jobs h s
 
 module _ (jobs : List Bool) (was later : ℕ) (l mid : Loop) (may : MayWait mid) (calm : IsCalm was l → IsCalm later mid) (same_clock : later ≡ was)
-    (x y : List Entry) (clock : was ≡ time x) (goes : Goes (LookMoment jobs) same l mid x y) (begins : BeginsBelow 64 jobs l x y) where
+    (x y : List Entry) (clock : was ≡ time x) (goes : Goes (LookMoment jobs) no_change l mid x y) (begins : BeginsBelow 64 jobs l x y) where
   looks_wait : (answer : Did) (new : Loop) (z : List Entry) → WaitCame 0 answer mid new y z → (h : History)
       → StandsFor l h x → LooksThenWaits jobs (IsCalm was l) h answer x z
   looks_wait answer new z came h stand =
@@ -149,7 +149,7 @@ module _ (jobs : List Bool) (was later : ℕ) (l mid : Loop) (may : MayWait mid)
   }
 
 pub looked_until : (jobs : List Bool) (was : ℕ) (l new : Loop) (fault : LoopFault) (x y : List Entry)
-    → FaultCame {T = Unit {0}} (Err fault) y → Goes (LookMoment jobs) same l new x y
+    → FaultCame {T = Unit {0}} (Err fault) y → Goes (LookMoment jobs) no_change l new x y
     → Looked jobs (Err fault) was l new x y
 looked_until jobs was l new (NetFault (Some conn)) x y came goes = record { so = λ h stand. let r = goes.so h stand in (r.0, record { looks = r.1; failure = came }) }
 looked_until jobs was l new (NetFault None) x y came goes = absurd came
@@ -173,7 +173,7 @@ counts_of Spent a b e f c = absurd e
 
 -- the names of a look
 pub looked_names : {P : History → List Entry → Type 0} (l mid then new : Loop) (names : List Bool) (x y z : List Entry)
-    → Goes P same l mid x y → WaitCame 0 did.Done mid then y z
+    → Goes P no_change l mid x y → WaitCame 0 did.Done mid then y z
     → NamesAll then.links new.links → new.queues ≡ then.queues → new.left ≡ then.left
     → ((p : ℕ) → p < 64 → slice_get names p ≡ Some (found_at then p)) → Names {E = LoopFault} (Ok names) l x z
 looked_names l mid then new names x y z goes came all queues left named = record {
@@ -186,13 +186,6 @@ pub may_then : (l mid : Loop) → MayWait l → (IsDrained l → IsDrained mid) 
 may_then l mid may drained offered failed = record { drained = drained may.drained; offered = offered may.offered; sound = sound_as l mid failed may.sound }
 
 -- ---- other jobs
-
--- one place is of one job
-same_job : (a c : Conn) → place_of a ≡ place_of c → a.job ≡ c.job
-same_job a c e =
-    let low = chan_below a.chan in
-    let high = chan_below c.chan in
-    omega arith
 
 offer_elsewhere : (p : ℕ) (forced : Bool) (h : History) (past : List Entry) (conn : Conn) (entry : Entry) → p ≢ place_of conn
     → Offers forced h past conn entry → concerns p entry ≡ false

@@ -2,23 +2,15 @@
 use Rattle.std.proofs.Common.{◌≡◌, inl, inr, ◌+◌, ◌<◌, ℕ, Bool, List, set, Option, Some, None, IsSomeAnd, slice_get, arith, refl, sym, ◌∙◌, ap, subst}
 use Rattle.std.proofs.lemmas.Bool.{cases_eq, cases_lt}
 use Rattle.std.proofs.Math.ListN.{length-set}
-use Rattle.std.proofs.lemmas.Option.{same_Some}
+use Rattle.std.proofs.lemmas.Option.{same_Some, slice_get_within, slice_get_past}
 use Rattle.ready_loop.specs.declared.link.Link.{Link}
 use Rattle.ready_loop.specs.States.{MapsTo, MapsBelow, failed_in, known_in}
 use Rattle.ready_loop.specs.Link.{is_known}
-use Rattle.ready_loop.proofs.TableLemmas.{slice_get-set_same, slice_get-set_other, within, none_at, beyond}
-
-pub some_and : (P : Link → Type 0) (o : Option Link) (x : Link) → o ≡ Some x → P x → IsSomeAnd o P
-some_and P o x e p = subst (λ v. IsSomeAnd v P) (sym e) p
+use Rattle.jtext.proofs.Lists.{slice_get-set_same, slice_get-set_other, none_beyond, some_and, some_was}
 
 pub and_as : {P Q : Link → Type 0} (o : Option Link) → ((x : Link) → P x → Q x) → IsSomeAnd o P → IsSomeAnd o Q
 and_as None turns h = absurd h
 and_as (Some x) turns h = turns x h
-
--- what is there, and what is known of it
-pub some_was : (P : Link → Type 0) (o : Option Link) → IsSomeAnd o P → (was : Link) × (o ≡ Some was) × P was
-some_was P None h = absurd h
-some_was P (Some was) h = (was, refl, h)
 
 pub maps_none : (f : ℕ → Link → Link) (links : List Link) → MapsBelow 0 f links links
 maps_none f links = record {
@@ -35,7 +27,7 @@ maps_more n f old now here new found is r = record {
   each = λ p link at. elim (cases_eq p n) [
     | inl e ↦
         let at_n : slice_get (set now n new) n ≡ Some link = subst (λ i. slice_get (set now n new) i ≡ Some link) e at in
-        let link_is : link ≡ new = same_Some _ _ (sym at_n ∙ slice_get-set_same now n new (within now n found)) in
+        let link_is : link ≡ new = same_Some _ _ (sym at_n ∙ slice_get-set_same now n new (slice_get_within now n _ found)) in
         subst (λ i. IsSomeAnd (slice_get old i) (MapsTo (n + 1) f i link)) (sym e)
         (and_as (slice_get old n) (λ was s. record {
           below = λ low. link_is ∙ is ∙ ap (f n) (s.above (omega arith));
@@ -69,7 +61,7 @@ pub maps_kept : (g : Option Link → Bool) (n : ℕ) (f : ℕ → Link → Link)
 maps_kept g n f old new same r p = at (slice_get new p) refl
   where
     at : (o : Option Link) → slice_get new p ≡ o → g (slice_get new p) ≡ g (slice_get old p)
-    at None e = ap g e ∙ sym (ap g (none_at old p (omega (arith, r.size, beyond new p e))))
+    at None e = ap g e ∙ sym (ap g (slice_get_past old p (omega (arith, r.size, none_beyond new p e))))
     at (Some link) e =
         let (was, here, s) = some_was (MapsTo n f p link) (slice_get old p) (r.each p link e) in
         ap g e ∙ elim (cases_lt p n) [ inl lt ↦ ap (λ l. g (Some l)) (s.below lt) ∙ same p was | inr le ↦ ap (λ l. g (Some l)) (s.above le) ]

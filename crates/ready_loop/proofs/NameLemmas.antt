@@ -1,6 +1,7 @@
 -- What an answer that names ends does to a loop.
 use Rattle.std.proofs.Common.{◌≡◌, ◌+◌, ◌<◌, ◌||◌, ℕ, Bool, false, List, length, set, Some, slice_get, unwrap_or, arith, refl, sym, ◌∙◌, ap, subst, Ok}
 use Rattle.std.proofs.lemmas.Bool.{cases_eq}
+use Rattle.std.proofs.lemmas.Option.{slice_get_within}
 use Rattle.std.proofs.Common.{inl, inr}
 use Rattle.world.specs.declared.entry.Entry.{Entry}
 use Rattle.world.specs.Places.{is_reported, status}
@@ -8,7 +9,7 @@ use Rattle.world.specs.Waits.{wait_count}
 use Rattle.ready_loop.specs.declared.fault.LoopFault.{LoopFault}
 use Rattle.ready_loop.specs.declared.readiness.Loop.{Loop}
 use Rattle.ready_loop.specs.Link.{named_link, is_found}
-use Rattle.ready_loop.specs.History.{History, same, with_all_named, after_names}
+use Rattle.ready_loop.specs.History.{History, no_change, with_all_named, after_names}
 use Rattle.ready_loop.specs.Offers.{Names, is_to_name}
 use Rattle.ready_loop.specs.Queues.{held_in, rest_at}
 use Rattle.ready_loop.specs.Standing.{StandsAt, StandsFor, Goes, write_ended}
@@ -17,7 +18,7 @@ use Rattle.ready_loop.proofs.TurnLemmas.{stands_named}
 use Rattle.ready_loop.proofs.MapLemmas.{maps_at, maps_failed, maps_known}
 use Rattle.ready_loop.proofs.StandLemmas.{stands_as}
 use Rattle.ready_loop.proofs.StateLemmas.{known_by}
-use Rattle.ready_loop.proofs.TableLemmas.{within, some_at, slice_get-set_same, slice_get-set_other}
+use Rattle.jtext.proofs.Lists.{some_at, slice_get-set_same, slice_get-set_other}
 
 -- the names so far, and one place more
 pub named_more : (n : ℕ) (names : List Bool) (f : ℕ → Bool) (b : Bool) → n < length names → b ≡ f n
@@ -36,7 +37,7 @@ module _ (l new : Loop) (names : List Bool) (all : NamesAll l.links new.links) (
     size = all.size ∙ stand.size;
     waits = ap (λ n. wait_count journal + n) left ∙ stand.waits;
     each = λ p link found.
-        let low : p < 64 = omega (arith, within new.links p found, all.size, stand.size) in
+        let low : p < 64 = omega (arith, slice_get_within new.links p _ found, all.size, stand.size) in
         let (was, at, is) = maps_at (λ q. named_link) l.links new.links all p link low found in
         let told : is_reported p names ≡ is_found was.end = ap (λ o. unwrap_or o false) (named p low) ∙ ap found_in at in
         subst (λ x. StandsAt x (held_in (slice_get new.queues p)) (h.begun p) (h.queued p) (is_reported p names || h.named p) (status p journal) (write_ended p journal)) (sym is)
@@ -52,11 +53,11 @@ module _ (l new : Loop) (names : List Bool) (all : NamesAll l.links new.links) (
       named p low ∙ ap Some (ap found_in at ∙ m.ends.found)
 
   -- the same of a call that ends by naming
-  pub named_goes : {P : History → List Entry → Type 0} {first : Loop} {i j : List Entry} → Goes P same first l i j
+  pub named_goes : {P : History → List Entry → Type 0} {first : Loop} {i j : List Entry} → Goes P no_change first l i j
       → Goes P (after_names {E = LoopFault} (Ok names)) first new i j
   named_goes {i = i} {j} m = record { so = λ h s. let r = m.so h s in (named_stands h j r.0, r.1) }
 
-  pub named_names : {P : History → List Entry → Type 0} {first : Loop} {i j : List Entry} → Goes P same first l i j
+  pub named_names : {P : History → List Entry → Type 0} {first : Loop} {i j : List Entry} → Goes P no_change first l i j
       → Names {E = LoopFault} (Ok names) first i j
   named_names {i = i} {j} m = record { so = λ h s p low. names_are h j (m.so h s).0 p low }
 

@@ -1,6 +1,7 @@
 -- What a new loop stands for, and what queueing does.
 use Rattle.std.proofs.Common.{◌≡◌, inl, inr, ◌+◌, ◌<◌, ◌++◌, ◌==◌, ℕ, zero, suc, true, false, List, [], length, set, replicate, Some, Result, Ok, Err, OnOk, OnErr, slice_get, arith, refl, sym, ◌∙◌, ap, subst}
 use Rattle.std.proofs.lemmas.Bool.{cases_eq, eq-eqb, cond-true, false≢true}
+use Rattle.std.proofs.lemmas.Option.{none-some}
 use Rattle.world.specs.declared.conn.Conn.{Conn}
 use Rattle.world.specs.declared.entry.Entry.{Entry}
 use Rattle.world.specs.Places.{place_of, status}
@@ -14,7 +15,7 @@ use Rattle.ready_loop.specs.Standing.{StandsAt, Stand, StandsFor, IsShut, AllShu
 use Rattle.ready_loop.specs.States.{MayWait, HoldsForKnown, SameKnown, known_in, known_at}
 use Rattle.ready_loop.proofs.TurnLemmas.{stands_queued}
 use Rattle.ready_loop.proofs.StandLemmas.{stands_as, queued_but}
-use Rattle.ready_loop.proofs.TableLemmas.{some_at, slice_get-set_same, slice_get-set_other, not_some}
+use Rattle.jtext.proofs.Lists.{some_at, slice_get-set_same, slice_get-set_other}
 
 -- ---- a new loop
 
@@ -52,8 +53,8 @@ fresh_stands p turns journal shut = record {
   up_begun = λ a. absurd (false≢true (sym shut.up ∙ a));
   up_calm = λ a. absurd (false≢true (sym shut.up ∙ a));
   up_whole = λ a. refl;
-  refused_begun = λ at is. not_some shut.refused is;
-  refused_unused = λ at is. not_some shut.refused is;
+  refused_begun = λ at is. absurd (none-some _ (sym shut.refused ∙ is));
+  refused_unused = λ at is. absurd (none-some _ (sym shut.refused ∙ is));
   refused_whole = λ at is. refl;
   fresh_whole = λ e. refl;
   sends = record { whole = refl; taken = refl };

@@ -1,6 +1,7 @@
 -- What a connect of a refused connection and a write do to a loop.
 use Rattle.std.proofs.Common.{◌≡◌, ◌≢◌, inl, inr, ◌+◌, ◌<◌, ◌≤◌, ◌++◌, ℕ, Bool, true, false, List, [], ◌∷◌, length, set, Option, Some, None, slice_get, arith, refl, sym, ◌∙◌, ap, subst}
 use Rattle.std.proofs.lemmas.Bool.{cond-true}
+use Rattle.std.proofs.lemmas.Option.{slice_get_within}
 use Rattle.world.specs.declared.conn.Conn.{Conn}
 use Rattle.world.specs.declared.connected.Connected.{Connected}
 use Rattle.world.specs.declared.entry.Entry.{Entry}
@@ -16,14 +17,14 @@ use Rattle.world.proofs.StatusLemmas.{at_own, connected_own, put_own, stuck_own,
 use Rattle.ready_loop.specs.declared.link.Link.{Link}
 use Rattle.ready_loop.specs.declared.readiness.Loop.{Loop}
 use Rattle.ready_loop.specs.Link.{MayWrite, IsToBegin, connect_link, write_link}
-use Rattle.ready_loop.specs.History.{History, same}
+use Rattle.ready_loop.specs.History.{History, no_change}
 use Rattle.ready_loop.specs.Offers.{IsOfferedTo, Offers, again, writes, OfferMoment, OfferAt}
 use Rattle.ready_loop.specs.Queues.{Held, held_in, rest_at}
 use Rattle.ready_loop.specs.Standing.{write_ended, Stand, StandsFor, Goes}
 use Rattle.ready_loop.proofs.CallLemmas.{stands_write, status_write, held_write, ended_write, put_known, known_up, stage_of_begun}
 use Rattle.ready_loop.proofs.ConnectLemmas.{stands_again}
 use Rattle.ready_loop.proofs.StandLemmas.{stand_at, stands_as, same_but, not_at}
-use Rattle.ready_loop.proofs.TableLemmas.{within, slice_get-set_same, slice_get-set_other}
+use Rattle.jtext.proofs.Lists.{slice_get-set_same, slice_get-set_other}
 
 -- ---- a connect
 
@@ -34,7 +35,7 @@ ended_connect conn number how past = cond-true (is_at (place_of conn) conn) _ _ 
 pub again_goes : (forced : Bool) (conn : Conn) (p : ℕ) (how : Connected) (l : Loop) (links : List Link) (link : Link) (was last : ℕ) (past : List Entry)
     → place_of conn ≡ p → slice_get l.links p ≡ Some link → IsToBegin forced was link → last ≡ was
     → links ≡ set l.links p (connect_link how last link) → last ≡ time past
-    → Goes (OfferAt forced p) same l (record l { links = links }) past (made.Connected conn link.port how ∷ past)
+    → Goes (OfferAt forced p) no_change l (record l { links = links }) past (made.Connected conn link.port how ∷ past)
 again_goes forced conn p how l links link was last past place found to then is clock =
     let entry : Entry = made.Connected conn link.port how in
     let here : slice_get l.links (place_of conn) ≡ Some link = subst (λ i. slice_get l.links i ≡ Some link) (sym place) found in
@@ -44,7 +45,7 @@ again_goes forced conn p how l links link was last past place found to then is c
           let refused : (status (place_of conn) past).refused ≡ Some to.at = sym m.refused ∙ to.refused in
           let own = stands_as refl refl refl refl (connected_own conn link.port how past) (ended_connect conn link.port how past)
           (stands_again link _ _ _ _ _ _ how last (time past) to.at clock to.refused m) in
-          let r = stand_at entry (place_of conn) (connect_link how last link) (within l.links (place_of conn) here) refl
+          let r = stand_at entry (place_of conn) (connect_link how last link) (slice_get_within l.links (place_of conn) _ here) refl
           (λ q ne. not_at q conn ne) (λ q ne. refl) (same_but (place_of conn) h) own stand in (
             subst (λ ls. Stand ls l.queues l.left h (entry ∷ past)) (sym is)
                 (subst (λ i. Stand (set l.links i (connect_link how last link)) l.queues l.left h (entry ∷ past)) place r),
@@ -108,7 +109,7 @@ held_within queues q some = at (slice_get queues q) refl some
   where
     at : (o : Option Held) → slice_get queues q ≡ o → 0 < length ((held_in o).rest) → q < length queues
     at None e lt = absurd (omega arith)
-    at (Some held) e lt = within queues q e
+    at (Some held) e lt = slice_get_within queues q _ e
 
 pub held_set : (queues : List Held) (q : ℕ) (new : Held) → 0 < length (rest_at queues q)
     → held_in (slice_get (set queues q new) q) ≡ new
@@ -134,7 +135,7 @@ module _ (conn : Conn) (answer : Put) (l : Loop) (link : Link) (last : ℕ) (pas
       let m = stand.each q link found in
       let own = stands_as (held_set l.queues q (held_write answer (held_in (slice_get l.queues q))) some) refl refl refl (status_own conn answer piece past) (ended_own_write conn answer piece past)
       (stands_write link _ _ _ _ _ _ answer last (time past) clock may.writable took (λ e. (unused e).0) m) in
-      stand_at (write_entry conn answer piece) q (write_link answer last link) (within l.links q found) (no_wait conn answer piece)
+      stand_at (write_entry conn answer piece) q (write_link answer last link) (slice_get_within l.links q _ found) (no_wait conn answer piece)
       (λ p ne. concerns_not conn answer piece p ne) (λ p ne. held_other l.queues q p (held_write answer (held_in (slice_get l.queues q))) ne) (same_but q h) own stand
 
   write_rule : (h : History) → StandsFor l h past
@@ -156,7 +157,7 @@ pub write_goes : (conn : Conn) (p : ℕ) (answer : Put) (piece : List ℕ) (l : 
     → PutSome answer (length piece) → links ≡ set l.links p (write_link answer last link)
     → queues ≡ set l.queues p (held_write answer (held_in (slice_get l.queues p))) → last ≡ time past
     → (answer ≡ put.Refused → IsUnused (place_of conn) past)
-    → Goes (OfferAt false p) same l (record l { links = links; queues = queues }) past (write_entry conn answer piece ∷ past)
+    → Goes (OfferAt false p) no_change l (record l { links = links; queues = queues }) past (write_entry conn answer piece ∷ past)
 write_goes conn p answer piece l links queues link last past place found may some piece_is took is queues_are clock unused =
     let found' : slice_get l.links (place_of conn) ≡ Some link = subst (λ i. slice_get l.links i ≡ Some link) (sym place) found in
     let some' : 0 < length (rest_at l.queues (place_of conn)) = subst (λ i. 0 < length (rest_at l.queues i)) (sym place) some in

@@ -1,5 +1,6 @@
 -- What a read does to a loop.
 use Rattle.std.proofs.Common.{◌≡◌, ◌≢◌, ◌<◌, ℕ, Bool, true, false, List, ◌∷◌, set, Some, slice_get, refl, sym, ◌∙◌, subst}
+use Rattle.std.proofs.lemmas.Option.{slice_get_within}
 use Rattle.world.specs.declared.conn.Conn.{Conn}
 use Rattle.world.specs.declared.entry.Entry.{Entry}
 use Rattle.world.specs.declared.got.Got.{Got}
@@ -19,7 +20,6 @@ use Rattle.ready_loop.specs.Reads.{ReadMoment, after_got}
 use Rattle.ready_loop.specs.Standing.{write_ended, StandsAt, Stand, Goes}
 use Rattle.ready_loop.proofs.CallLemmas.{status_read, named_read, stands_read}
 use Rattle.ready_loop.proofs.StandLemmas.{stand_at, stands_as, SameBut, same_but, named_but, not_at, or_own}
-use Rattle.ready_loop.proofs.TableLemmas.{within}
 
 -- the entry of a read, of its own place and of the others
 status_own : (conn : Conn) (room : ℕ) (answer : Got) (buffer : List ℕ) (past : List Entry)
@@ -101,7 +101,7 @@ read_goes conn p room answer buffer l links link last past place found may is cl
           let own = own_history answer conn h
           (stands_as refl refl refl refl (status_own conn room answer buffer past) (ended_own_read conn room answer buffer past)
           (stands_read link _ _ _ _ _ _ answer buffer last (time past) clock may.awake (λ e. (unused e).0) m)) in
-          let r = stand_at entry (place_of conn) (read_link answer last link) (within l.links (place_of conn) here) (no_wait conn room answer buffer)
+          let r = stand_at entry (place_of conn) (read_link answer last link) (slice_get_within l.links (place_of conn) _ here) (no_wait conn room answer buffer)
           (λ q ne. concerns_not conn room answer buffer q ne) (λ q ne. refl) (same_but_got answer conn h) own stand in (
             subst (λ ls. Stand ls l.queues l.left (after_got answer conn h) (entry ∷ past)) (sym is)
                 (subst (λ i. Stand (set l.links i (read_link answer last link)) l.queues l.left (after_got answer conn h) (entry ∷ past)) place r),

@@ -19,7 +19,7 @@ use Rattle.ready_loop.specs.declared.readiness.Loop.{Loop}
 use Rattle.ready_loop.specs.History.{History, with_begun, with_queued, with_named}
 use Rattle.ready_loop.specs.Queues.{Held, held_in}
 use Rattle.ready_loop.specs.Standing.{write_ended, StandsAt, Stand, StandsFor, Goes}
-use Rattle.ready_loop.proofs.TableLemmas.{slice_get-set_same, slice_get-set_other}
+use Rattle.jtext.proofs.Lists.{slice_get-set_same, slice_get-set_other}
 
 -- an entry of no concern to a place changes nothing of how it was ended
 pub ended_elsewhere : (p : ℕ) (entry : Entry) (past : List Entry) → concerns p entry ≡ false

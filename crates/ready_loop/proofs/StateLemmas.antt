@@ -1,7 +1,7 @@
 -- What one call does to what is to be done before the next wait.
 use Rattle.std.proofs.Common.{◌≡◌, ◌≢◌, inl, inr, ◌+◌, ◌-◌, ◌<◌, ◌||◌, ◌∷◌, drop, length-drop, sum_by, get_or, ℕ, Bool, true, false, List, [], length, set, Option, Some, None, IsSomeAnd, Result, Ok, Err, OnOk, slice_get, arith, refl, sym, ◌∙◌, ap, subst}
 use Rattle.std.proofs.lemmas.List.Sums.{sum_by-set}
-use Rattle.std.proofs.lemmas.Option.{get_or_from_slice_get, same_Some}
+use Rattle.std.proofs.lemmas.Option.{get_or_from_slice_get, same_Some, slice_get_within}
 use Rattle.std.proofs.lemmas.Bool.{cases_eq, cases_lt, eq-eqb, ne_eqb, false≢true}
 use Rattle.world.specs.declared.conn.Conn.{Conn}
 use Rattle.world.specs.declared.got.Got.{Got}
@@ -22,7 +22,7 @@ use Rattle.ready_loop.specs.declared.fault.LoopFault.{LoopFault}
 use Rattle.ready_loop.proofs.BegunLemmas.{clock_last}
 use Rattle.ready_loop.proofs.CallLemmas.{held_write}
 use Rattle.ready_loop.proofs.OfferLemmas.{held_set}
-use Rattle.ready_loop.proofs.TableLemmas.{slice_get-set_same, slice_get-set_other, within}
+use Rattle.jtext.proofs.Lists.{slice_get-set_same, slice_get-set_other}
 
 -- ---- a table with one link replaced
 
@@ -72,7 +72,7 @@ pub kept_set : (g : Option Link → Bool) (links now : List Link) (q : ℕ) (new
     → g (Some new) ≡ g (Some link) → (p : ℕ) → g (slice_get now p) ≡ g (slice_get links p)
 kept_set g links now q new link found is same p = elim (cases_eq p q) [
   | inl e ↦
-      let own = ap (λ ls. g (slice_get ls q)) is ∙ ap g (slice_get-set_same links q new (within links q found)) ∙ same ∙ ap g (sym found) in
+      let own = ap (λ ls. g (slice_get ls q)) is ∙ ap g (slice_get-set_same links q new (slice_get_within links q _ found)) ∙ same ∙ ap g (sym found) in
       subst (λ i. g (slice_get now i) ≡ g (slice_get links i)) (sym e) own
   | inr ne ↦ ap (λ ls. g (slice_get ls p)) is ∙ ap g (slice_get-set_other links q p new ne)
 ]
@@ -121,7 +121,7 @@ pub failed_set : (f : ℕ → Bool → Bool) (links now : List Link) (q : ℕ) (
     → (p : ℕ) → failed_in (slice_get now p) ≡ f p (failed_in (slice_get links p))
 failed_set f links now q new link found is own other p = elim (cases_eq p q) [
   | inl e ↦
-      let own_at = ap (λ ls. failed_in (slice_get ls q)) is ∙ failed_set_own links q new (within links q found) ∙ own ∙ ap (λ o. f q (failed_in o)) (sym found) in
+      let own_at = ap (λ ls. failed_in (slice_get ls q)) is ∙ failed_set_own links q new (slice_get_within links q _ found) ∙ own ∙ ap (λ o. f q (failed_in o)) (sym found) in
       subst (λ i. failed_in (slice_get now i) ≡ f i (failed_in (slice_get links i))) (sym e) own_at
   | inr ne ↦ ap (λ ls. failed_in (slice_get ls p)) is ∙ failed_set_other links q p new ne ∙ sym (other p (failed_in (slice_get links p)) ne)
 ]
@@ -140,7 +140,7 @@ pub read_offered : (answer : Got) (last q : ℕ) (l : Loop) (links : List Link) 
     → links ≡ set l.links q (read_link answer last link) → IsOffered l → IsOffered (record l { links = links })
 read_offered answer last q l links link found low is o = record {
   each = subst (λ (ls : List Link). Each ls (λ p x. MayWrite x → rest_at l.queues p ≡ [])) (sym is)
-      (each_set {P = λ p x. MayWrite x → rest_at l.queues p ≡ []} 64 q l.links (read_link answer last link) (within l.links q found)
+      (each_set {P = λ p x. MayWrite x → rest_at l.queues p ≡ []} 64 q l.links (read_link answer last link) (slice_get_within l.links q _ found)
       (λ m. o.each q link low found (read_may_write answer last link m)) o.each);
 }
 
@@ -175,7 +175,7 @@ pub read_below : (answer : Got) (last q : ℕ) (links now : List Link) (link : L
     → answer ≡ got.Dry → EachBelow q links NotRead → EachBelow (q + 1) now NotRead
 read_below answer last q links now link found is dry all =
     subst (λ (ls : List Link). EachBelow (q + 1) ls NotRead) (sym is)
-    (each_more {P = NotRead} q links (read_link answer last link) (within links q found)
+    (each_more {P = NotRead} q links (read_link answer last link) (slice_get_within links q _ found)
     (subst (λ a. MayRead (read_link a last link) → ⊥) (sym dry) (dry_reads last link)) all)
 
 link_read_as : (answer : Got) (last : ℕ) (link : Link) → MayRead link → link_reads (read_link answer last link) < 64 - link.reads
@@ -198,7 +198,7 @@ link_read answer last link may =
 pub read_lowers : (answer : Got) (last q : ℕ) (links now : List Link) (link : Link) → slice_get links q ≡ Some link
     → now ≡ set links q (read_link answer last link) → MayRead link → sum_by link_reads now < sum_by link_reads links
 read_lowers answer last q links now link found is may =
-    let sums = sum_by-set link_reads links q (read_link answer last link) link (within links q found) in
+    let sums = sum_by-set link_reads links q (read_link answer last link) link (slice_get_within links q _ found) in
     let here : link_reads (get_or links q link) ≡ link_reads link = ap link_reads (get_or_from_slice_get links q link link found) in
     let same : sum_by link_reads now ≡ sum_by link_reads (set links q (read_link answer last link)) = ap (sum_by link_reads) is in
     let falls = link_read answer last link may in
@@ -221,7 +221,7 @@ pub drained_set : (l new : Loop) (q : ℕ) (link then : Link) → slice_get l.li
     → (MayRead then → MayRead link) → IsDrained l → IsDrained new
 drained_set l new q link then found low is only d = record {
   each = subst (λ (ls : List Link). Each ls NotRead) (sym is)
-      (each_set {P = NotRead} 64 q l.links then (within l.links q found) (λ m. d.each q link low found (only m)) d.each);
+      (each_set {P = NotRead} 64 q l.links then (slice_get_within l.links q _ found) (λ m. d.each q link low found (only m)) d.each);
 }
 
 pub only_set : (l new : Loop) (q : ℕ) (link : Link) → new.links ≡ set l.links q link → new.queues ≡ l.queues
@@ -268,7 +268,7 @@ pub calm_connected : (how : Connected) (last later q : ℕ) (l new : Loop) (link
 calm_connected how last later q l new link found is clock = record {
   at = λ x at_q at refused.
       let here : slice_get (set l.links q (connect_link how last link)) q ≡ Some x = subst (λ (ls : List Link). slice_get ls q ≡ Some x) is at_q in
-      let x_is : connect_link how last link ≡ x = same_Some _ _ (sym (slice_get-set_same l.links q (connect_link how last link) (within l.links q found)) ∙ here) in
+      let x_is : connect_link how last link ≡ x = same_Some _ _ (sym (slice_get-set_same l.links q (connect_link how last link) (slice_get_within l.links q _ found)) ∙ here) in
       subst (λ n. n < at + 200) clock (connect_calm how last link at (ap (λ y. y.refused) x_is ∙ refused));
 }
 
@@ -317,7 +317,7 @@ pub calm_written : (answer : Put) (last was later q : ℕ) (l new : Loop) (link 
 calm_written answer last was later q l new link found is clock same calm = record {
   at = λ x at_q at refused.
       let here : slice_get (set l.links q (write_link answer last link)) q ≡ Some x = subst (λ (ls : List Link). slice_get ls q ≡ Some x) is at_q in
-      let x_is : write_link answer last link ≡ x = same_Some _ _ (sym (slice_get-set_same l.links q (write_link answer last link) (within l.links q found)) ∙ here) in
+      let x_is : write_link answer last link ≡ x = same_Some _ _ (sym (slice_get-set_same l.links q (write_link answer last link) (slice_get_within l.links q _ found)) ∙ here) in
       subst (λ n. n < at + 200) clock (write_calm answer last was link (calm.at link found) (clock ∙ same) at (ap (λ y. y.refused) x_is ∙ refused));
 }
 
@@ -378,7 +378,7 @@ load_less answer last q l new link found w some took is queues =
     let rest_is : rest_at new.queues q ≡ drop (put_count answer) (rest_at l.queues q) = ap (λ qs. (held_in (slice_get qs q)).rest) queues
     ∙ ap (λ h. h.rest) (held_set l.queues q (held_write answer (held_in (slice_get l.queues q))) some) in
     let flag_is : writable_in (slice_get new.links q) ≡ flag ((write_link answer last link).writable) = ap (λ ls. writable_in (slice_get ls q)) is
-    ∙ ap writable_in (slice_get-set_same l.links q (write_link answer last link) (within l.links q found)) in
+    ∙ ap writable_in (slice_get-set_same l.links q (write_link answer last link) (slice_get_within l.links q _ found)) in
     let was_is : writable_in (slice_get l.links q) ≡ flag link.writable = ap writable_in found in
     let length_is = ap length rest_is in
     let less = less_here answer last link (rest_at l.queues q) w took in

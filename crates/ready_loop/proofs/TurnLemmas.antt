@@ -9,6 +9,7 @@ use Rattle.ready_loop.specs.declared.link.Link.{Link}
 use Rattle.ready_loop.specs.Link.{wait_link, named_end, named_link, is_found}
 use Rattle.ready_loop.specs.Queues.{Held}
 use Rattle.ready_loop.specs.Standing.{StandsAt, EndIs, put_by}
+use Rattle.ready_loop.proofs.StepLemmas.{stands_on, awake_still, open_still, failed_still}
 use Rattle.ready_loop.proofs.CallLemmas.{both_never}
 
 -- ---- a wait
@@ -21,51 +22,12 @@ pub stands_waited : (link : Link) (held : Held) (b : Bool) (q : List ℕ) (n : B
     → (is_reported p ready ≡ true → s.up ≡ true) → StandsAt link held b q n s e
     → StandsAt (wait_link answer (is_reported p ready) link) held b q n (waited_after p ready answer s) e
 stands_waited link held b q n s e did.Done ready p up m =
-    record {
-      awake = ap (λ x. is_reported p ready || x) m.awake;
-      writable = ap (λ x. is_reported p ready || x) m.writable;
-      failed = m.failed;
-      refused = m.refused;
-      reads = λ a. refl;
-      known = m.known;
-      stage = m.stage;
-      port = m.port;
-      failed_begun = m.failed_begun;
-      reported = either_up (is_reported p ready) s.awake up m.reported;
-      open_up = either_up (is_reported p ready) s.writable up m.open_up;
-      up_begun = m.up_begun;
-      up_calm = m.up_calm;
-      up_whole = m.up_whole;
-      refused_begun = m.refused_begun;
-      refused_unused = m.refused_unused;
-      refused_whole = m.refused_whole;
-      fresh_whole = m.fresh_whole;
-      sends = m.sends;
-      ends = m.ends;
-    }
+    stands_on m s.put s.got
+    (record { same = ap (λ x. is_reported p ready || x) m.awake; counted = λ a. refl; is_up = either_up (is_reported p ready) s.awake up m.reported })
+    (record { same = ap (λ x. is_reported p ready || x) m.writable; is_up = either_up (is_reported p ready) s.writable up m.open_up })
+    (failed_still m) m.refused_unused m.sends
 stands_waited link held b q n s e did.Failed ready p up m =
-    record {
-      awake = m.awake;
-      writable = m.writable;
-      failed = m.failed;
-      refused = m.refused;
-      reads = λ a. refl;
-      known = m.known;
-      stage = m.stage;
-      port = m.port;
-      failed_begun = m.failed_begun;
-      reported = m.reported;
-      open_up = m.open_up;
-      up_begun = m.up_begun;
-      up_calm = m.up_calm;
-      up_whole = m.up_whole;
-      refused_begun = m.refused_begun;
-      refused_unused = m.refused_unused;
-      refused_whole = m.refused_whole;
-      fresh_whole = m.fresh_whole;
-      sends = m.sends;
-      ends = m.ends;
-    }
+    stands_on m s.put s.got (record { same = m.awake; counted = λ a. refl; is_up = m.reported }) (open_still m) (failed_still m) m.refused_unused m.sends
 
 -- ---- an answer that names the ends that were found
 
@@ -113,25 +75,5 @@ pub stands_queued : (link : Link) (held : Held) (b : Bool) (q : List ℕ) (n : B
     → StandsAt link held b q n s e
     → StandsAt link (record { rest = held.rest ++ more; taken = held.taken }) b (q ++ more) n s e
 stands_queued link held b q n s e more m =
-    record {
-      awake = m.awake;
-      writable = m.writable;
-      failed = m.failed;
-      refused = m.refused;
-      reads = m.reads;
-      known = m.known;
-      stage = m.stage;
-      port = m.port;
-      failed_begun = m.failed_begun;
-      reported = m.reported;
-      open_up = m.open_up;
-      up_begun = m.up_begun;
-      up_calm = m.up_calm;
-      up_whole = m.up_whole;
-      refused_begun = m.refused_begun;
-      refused_unused = m.refused_unused;
-      refused_whole = m.refused_whole;
-      fresh_whole = m.fresh_whole;
-      sends = record { whole = ap (λ xs. xs ++ more) m.sends.whole ∙ append_assoc (put_by b s.put) held.rest more; taken = m.sends.taken };
-      ends = m.ends;
-    }
+    stands_on m s.put s.got (awake_still m) (open_still m) (failed_still m) m.refused_unused
+    (record { whole = ap (λ xs. xs ++ more) m.sends.whole ∙ append_assoc (put_by b s.put) held.rest more; taken = m.sends.taken })

@@ -1,6 +1,7 @@
 -- What a wait does to a loop, and its limit.
 use Rattle.std.proofs.Common.{◌≡◌, inl, inr, ◌+◌, ◌-◌, ◌<◌, ◌≤◌, ◌++◌, ℕ, Bool, true, false, min, List, ◌∷◌, Option, Some, None, Ok, Err, slice_get, arith, refl, sym, ◌∙◌, ap, subst, append-nil}
 use Rattle.std.proofs.lemmas.Bool.{cases_eq, cases_lt, false≢true}
+use Rattle.std.proofs.lemmas.Option.{slice_get_within}
 use Rattle.world.specs.declared.did.Did.{Did}
 use Rattle.world.specs.declared.did.Did.TheVariants as did
 use Rattle.world.specs.declared.entry.Entry.{Entry}
@@ -20,7 +21,7 @@ use Rattle.ready_loop.proofs.CallLemmas.{put_known, known_up}
 use Rattle.ready_loop.proofs.TurnLemmas.{stands_waited}
 use Rattle.ready_loop.proofs.MapLemmas.{maps_at}
 use Rattle.ready_loop.proofs.StandLemmas.{stands_as}
-use Rattle.ready_loop.proofs.TableLemmas.{within, some_at}
+use Rattle.jtext.proofs.Lists.{some_at}
 
 pub wait_failed : (answer : Did) (ready : Bool) (link : Link) → (wait_link answer ready link).failed ≡ link.failed
 wait_failed did.Done ready link = refl
@@ -41,7 +42,7 @@ wait_stands ms reports answer l new past all queues some left up h stand = recor
   size = all.size ∙ stand.size;
   waits = let w = stand.waits in omega arith;
   each = λ p link found.
-      let low : p < 64 = omega (arith, within new.links p found, all.size, stand.size) in
+      let low : p < 64 = omega (arith, slice_get_within new.links p _ found, all.size, stand.size) in
       let (was, at, is) = maps_at (λ q. wait_link answer (is_reported q reports.ready)) l.links new.links all p link low found in
       subst (λ x. StandsAt x (held_in (slice_get new.queues p)) (h.begun p) (h.queued p) (h.named p) (status p (made.Waited ms reports answer ∷ past)) (write_ended p (made.Waited ms reports answer ∷ past))) (sym is)
       (stands_as (ap (λ qs. held_in (slice_get qs p)) queues) refl refl refl refl refl

@@ -1,7 +1,7 @@
 -- On which port each connect is made.
 use Rattle.std.proofs.Common.{◌≡◌, inl, inr, ◌||◌, ℕ, zero, suc, Bool, true, false, List, [], ◌∷◌, map, set, replicate, Option, Some, None, slice_get, arith, refl, sym, ◌∙◌, ap, subst}
 use Rattle.std.proofs.lemmas.Bool.{cases_eq, eq-eqb, false≢true, or_parts}
-use Rattle.std.proofs.lemmas.Option.{same_Some}
+use Rattle.std.proofs.lemmas.Option.{same_Some, slice_get_within}
 use Rattle.world.specs.declared.chan.Chan.{Chan}
 use Rattle.world.specs.declared.chan.Chan.TheVariants.{Shell, Control, Iopub, Heart}
 use Rattle.world.specs.declared.conn.Conn.{Conn}
@@ -27,8 +27,8 @@ use Rattle.ready_loop.specs.Link.{is_known, fresh_link, begun_link, connect_link
 use Rattle.ready_loop.specs.States.{known_at, known_in}
 use Rattle.ready_loop.specs.Wires.{port_where, port_kept, ports_in, OnPort, IsWired, AddsPort, HasPorts}
 use Rattle.ready_loop.proofs.StandLemmas.{not_at}
-use Rattle.ready_loop.proofs.TableLemmas.{slice_get-set_same, slice_get-set_other, within}
 use Rattle.ready_loop.proofs.ConnectLemmas.{known_closed}
+use Rattle.jtext.proofs.Lists.{slice_get-set_same, slice_get-set_other}
 
 -- ---- the ports that are kept
 
@@ -123,7 +123,7 @@ adds_port conn how last port links now link found fresh is =
     record {
       none = port_here links (place_of conn) link found ∙ ap (λ b. Some (port_where b link.port)) fresh;
       here = ap (λ ls. slice_get (map port_kept ls) (place_of conn)) is
-          ∙ port_here (set links (place_of conn) new) (place_of conn) new (slice_get-set_same links (place_of conn) new (within links (place_of conn) found))
+          ∙ port_here (set links (place_of conn) new) (place_of conn) new (slice_get-set_same links (place_of conn) new (slice_get_within links (place_of conn) _ found))
           ∙ ap Some (connect_port how last (begun_link port link));
       others = λ p ne. ap (λ ls. slice_get (map port_kept ls) p) is ∙ ports_get (set links (place_of conn) new) p
           ∙ ap port_in (slice_get-set_other links (place_of conn) p new ne) ∙ sym (ports_get links p);

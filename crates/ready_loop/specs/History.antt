@@ -46,8 +46,8 @@ no_history turns = record {
 }
 
 -- a call that hands in nothing, and names no end
-abbrev pub same : History → History
-same h = h
+abbrev pub no_change : History → History
+no_change h = h
 
 -- a connection was begun at this place
 abbrev pub with_begun : ℕ → History → History

@@ -117,6 +117,7 @@ is_to_name h journal p = h.begun p && (write_ended p journal && not (h.named p))
 
 -- an answer names just those
 abbrev pub NamesEnds : {E : Type 0} → Result (List Bool) E → History → List Entry → Type 0
+-- each place has its answer
 NamesEnds (Ok names) h after = (p : ℕ) → p < 64 → slice_get names p ≡ Some (is_to_name h after p)
 NamesEnds (Err e) h after = Unit {0}
 

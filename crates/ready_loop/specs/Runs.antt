@@ -17,7 +17,7 @@ use Rattle.ready_loop.specs.declared.next.Next.{Next}
 use Rattle.ready_loop.specs.declared.readiness.Loop.{Loop}
 use Rattle.ready_loop.specs.Begins.{BeginMoment, CloseMoment}
 use Rattle.ready_loop.specs.Between.{ReadsAll}
-use Rattle.ready_loop.specs.History.{History, same, after_begin, after_queue, after_next, after_names}
+use Rattle.ready_loop.specs.History.{History, no_change, after_begin, after_queue, after_next, after_names}
 use Rattle.ready_loop.specs.Offers.{IsBegunAgain, OfferMoment}
 use Rattle.ready_loop.specs.Reads.{IsReadOf, ReadMoment}
 use Rattle.ready_loop.specs.Standing.{StandsFor, Goes, IsElsewhere, MadeElsewhere}
@@ -43,7 +43,7 @@ pub data Calls (old : Loop) (h : History) (before : List Entry) : Loop → Histo
   reads : (result : Result Next LoopFault) (new : Loop) (after : List Entry)
       → Goes ReadMoment (after_next result) old new before after
       → Calls old h before new (after_next result h) after
-  closes : (new : Loop) (after : List Entry) → Goes CloseMoment same old new before after
+  closes : (new : Loop) (after : List Entry) → Goes CloseMoment no_change old new before after
       → Calls old h before new h after
   elsewhere : (after : List Entry) → Since MadeElsewhere before after → Calls old h before old h after
 

@@ -7,7 +7,7 @@ ghost use Rattle.world.specs.declared.entry.Entry.{Entry};
 ghost use Rattle.ready_loop.specs.Begins.{BeginMoment, Begins, BeginsOne, IsFresh, IsBegun};
 ghost use Rattle.ready_loop.specs.Begins.{CloseMoment, CloseCame, ClosesOne, closing, is_of_job};
 ghost use Rattle.ready_loop.specs.Begins.{failed_closed};
-ghost use Rattle.ready_loop.specs.History.{same, with_begun, after_begin, chans};
+ghost use Rattle.ready_loop.specs.History.{no_change, with_begun, after_begin, chans};
 ghost use Rattle.ready_loop.specs.Offers.{IsOfConn};
 ghost use Rattle.ready_loop.specs.Standing.{Goes, CallsOfLoop};
 ghost use Rattle.ready_loop.specs.States.{IsDrained, IsOffered, IsSound, FailsOnly, OnlyAt};
@@ -148,7 +148,8 @@ impl Loop {
     pub fn close<W: World>(&mut self, w: &mut W, job: u8)
         requires { job < 16 }
         ensures came { Between W.journal w.old w.new (CloseCame job self.old) }
-        ensures goes { Between W.journal w.old w.new (Goes CloseMoment same self.old self.new) }
+        ensures goes { Between W.journal w.old w.new
+            (Goes CloseMoment no_change self.old self.new) }
         ensures drained { IsDrained self.old → IsDrained self.new }
         ensures offered { IsOffered self.old → IsOffered self.new }
         ensures failed { (p : ℕ) → failed_at self.new p
@@ -175,7 +176,8 @@ impl Loop {
     fn close_one<W: World>(&mut self, w: &mut W, conn: Conn)
         requires { conn.job < 16 }
         ensures came { Between W.journal w.old w.new (ClosesOne conn self.old) }
-        ensures goes { Between W.journal w.old w.new (Goes CloseMoment same self.old self.new) }
+        ensures goes { Between W.journal w.old w.new
+            (Goes CloseMoment no_change self.old self.new) }
         ensures only { OnlyAt (place_of conn) self.old self.new }
         ensures drained { IsDrained self.old → IsDrained self.new }
         ensures offered { IsOffered self.old → IsOffered self.new }

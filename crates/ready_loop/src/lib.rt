@@ -21,6 +21,7 @@ mod stage;
 mod timer;
 mod waiting;
 
+pub use conn_place::place_at;
 pub use fault::LoopFault;
 pub use next::Next;
 pub use readiness::Loop;

@@ -2,7 +2,7 @@
 ghost use Rattle.std.specs.Prelude.{◌≡◌, ◌↔◌, IfErr, IsErr, OnOk, Err, Some};
 ghost use Rattle.world.specs.Counts.{CountsBy, NetCause};
 ghost use Rattle.world.specs.declared.conn.Conn.{Conn};
-ghost use Rattle.ready_loop.specs.History.{same};
+ghost use Rattle.ready_loop.specs.History.{no_change};
 ghost use Rattle.ready_loop.specs.Offers.{LookMoment, FaultCame, BeginsBelow, IsOfConn, Names};
 ghost use Rattle.ready_loop.specs.Standing.{Goes, CallsOfLoop};
 ghost use Rattle.world.specs.Told.{Between};
@@ -57,7 +57,7 @@ impl Loop {
     /// Begins the refused connections of these jobs again, and offers what is queued on theirs.
     fn offer_jobs<W: World>(&mut self, w: &mut W, jobs: &[bool; 16]) -> Result<(), LoopFault>
         ensures goes { Between W.journal w.old w.new
-            (Goes (LookMoment jobs.now) same self.old self.new) }
+            (Goes (LookMoment jobs.now) no_change self.old self.new) }
         ensures came { Between W.journal w.old w.new (λ _ after. FaultCame result after) }
         ensures begins { OnOk result
             (Between W.journal w.old w.new (BeginsBelow 64 jobs.now self.old)) }

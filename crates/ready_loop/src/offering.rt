@@ -5,7 +5,7 @@ ghost use Rattle.world.specs.Places.{place_of};
 ghost use Rattle.world.specs.declared.entry.Entry.{Entry};
 ghost use Rattle.ready_loop.specs.declared.link.Link.{Link};
 ghost use Rattle.ready_loop.specs.Link.{MayWrite, IsToBegin};
-ghost use Rattle.ready_loop.specs.History.{same, after_names};
+ghost use Rattle.ready_loop.specs.History.{no_change, after_names};
 ghost use Rattle.ready_loop.specs.Offers.{OfferMoment, OfferAt, FaultCame, ConnectCame, PutCame};
 ghost use Rattle.ready_loop.specs.Offers.{Names, BeginsAt, Connects, IsOfConn};
 ghost use Rattle.ready_loop.specs.Queues.{rest_at};
@@ -55,7 +55,7 @@ impl Loop {
     /// Begins again what is due and offers what is queued, at each place.
     fn offer_all<W: World>(&mut self, w: &mut W) -> Result<(), LoopFault>
         ensures goes { Between W.journal w.old w.new
-            (Goes (OfferMoment false) same self.old self.new) }
+            (Goes (OfferMoment false) no_change self.old self.new) }
         ensures came { Between W.journal w.old w.new (λ _ after. FaultCame result after) }
         ensures fault { IfErr result IsOfConn }
         ensures offered { OnOk result (AllOfferedBelow 64 (W.counts w.new).last self.new) }
@@ -83,7 +83,7 @@ impl Loop {
     ) -> Result<(), LoopFault>
         requires { place < 64 }
         ensures goes { Between W.journal w.old w.new
-            (Goes (OfferAt forced place) same self.old self.new) }
+            (Goes (OfferAt forced place) no_change self.old self.new) }
         ensures came { Between W.journal w.old w.new (λ _ after. FaultCame result after) }
         ensures fault { IfErr result IsOfConn }
         ensures begins { Between W.journal w.old w.new (BeginsAt forced place self.old) }
@@ -114,7 +114,7 @@ impl Loop {
         requires job { conn.job < 16 }
         requires within { place < 64 }
         ensures goes { Between W.journal w.old w.new
-            (Goes (OfferAt forced place) same self.old self.new) }
+            (Goes (OfferAt forced place) no_change self.old self.new) }
         ensures came { Between W.journal w.old w.new (λ _ after. FaultCame result after) }
         ensures fault { IfErr result IsOfConn }
         ensures begins { Between W.journal w.old w.new (BeginsAt forced place self.old) }
@@ -152,7 +152,7 @@ impl Loop {
         requires may { IsSomeAnd (slice_get self.old.links place)
             (IsToBegin forced (W.counts w.old).last) }
         ensures goes { Between W.journal w.old w.new
-            (Goes (OfferAt forced place) same self.old self.new) }
+            (Goes (OfferAt forced place) no_change self.old self.new) }
         ensures came { Between W.journal w.old w.new (λ _ after. ConnectCame conn result after) }
         ensures connects { Between W.journal w.old w.new (Connects place) }
         ensures only { OnlyAt place self.old self.new }
@@ -180,7 +180,7 @@ impl Loop {
         requires within { place < 64 }
         requires calm { IsCalmAt place (W.counts w.old).last self.old }
         ensures goes { Between W.journal w.old w.new
-            (Goes (OfferAt false place) same self.old self.new) }
+            (Goes (OfferAt false place) no_change self.old self.new) }
         ensures came { Between W.journal w.old w.new (λ _ after. FaultCame result after) }
         ensures fault { IfErr result IsOfConn }
         ensures only { OnlyAt place self.old self.new }
@@ -219,7 +219,7 @@ impl Loop {
         requires may { IsSomeAnd (slice_get self.old.links place) MayWrite }
         requires some { 0 < length (rest_at self.old.queues place) }
         ensures goes { Between W.journal w.old w.new
-            (Goes (OfferAt false place) same self.old self.new) }
+            (Goes (OfferAt false place) no_change self.old self.new) }
         ensures came { Between W.journal w.old w.new (λ _ after. PutCame conn result after) }
         ensures only { OnlyAt place self.old self.new }
         ensures less { load place self.new < load place self.old }

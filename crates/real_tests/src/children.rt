@@ -1,5 +1,5 @@
 //! Child programs of the system.
-ghost use Rattle.world.specs.Environment.{AllStrings};
+ghost use Rattle.jtext.specs.Texts.{AllStrings};
 
 use crate::worlds::{
     children, open_descriptors, real_world, start_script, start_with, status, text, texts,

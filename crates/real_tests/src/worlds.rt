@@ -1,6 +1,6 @@
 //! What the tests of the real world share.
 ghost use Rattle.std.specs.Prelude.{◌<◌};
-ghost use Rattle.world.specs.Environment.{AllStrings};
+ghost use Rattle.jtext.specs.Texts.{AllStrings};
 
 use jtext::{Fields, Text, Texts};
 use std::test::Fail;

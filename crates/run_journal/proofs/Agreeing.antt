@@ -1,5 +1,5 @@
 -- The core's requests and those of the journal go on agreeing, event by event and entry by entry.
-use Rattle.std.proofs.Common.{◌≡◌, inl, inr, ℕ, zero, suc, ◌+◌, ◌<◌, ◌≤◌, List, [], ◌∷◌, ◌++◌, length, map, Bool, true, false, ◌&&◌, ◌||◌, not, cond, Option, Some, None, refl, sym, ◌∙◌, ap, subst, arith}
+use Rattle.std.proofs.Common.{◌≡◌, inl, inr, ℕ, zero, suc, ◌+◌, ◌<◌, ◌≤◌, List, [], ◌∷◌, ◌++◌, length, map, Bool, true, false, ◌&&◌, ◌||◌, not, Option, Some, None, refl, sym, ◌∙◌, ap, subst, arith}
 use Rattle.std.specs.Prelude.{is_some, option_map, slice_get, IsSomeAnd, ◌==◌, nat_lt, filter}
 use Rattle.std.specs.List.{list_any}
 use Rattle.std.proofs.lemmas.List.{append-nil, length-map, length_push}
@@ -17,13 +17,14 @@ use Rattle.cell_core.specs.Events as events
 use Rattle.cell_core.specs.Requests as core
 use Rattle.run_journal.specs.Codec.{Arrival}
 use Rattle.run_journal.specs.Job.{Job}
-use Rattle.run_journal.specs.Parts.{bytes_got, acked, is_acknowledging}
-use Rattle.run_journal.specs.Arrivals.{arrive, asked, is_ready, ask_on, has_some, tells}
+use Rattle.run_journal.specs.Parts.{bytes_got, saves_of, is_acknowledging}
+use Rattle.run_journal.specs.Arrivals.{arrive, ask_state, is_ready, ask_on, has_some, tells}
 use Rattle.run_journal.specs.Requests.{Request, has_idle, first, reply, is_passed, is_fatal, is_last_passed, is_parent, is_exec_reply, with_interrupt, goes_on, fresh, count_queued, is_next, requests}
 use Rattle.run_journal.specs.Agreement.{AgreesOn, Agrees, IsOther, moment, looked, lost, broken}
 use Rattle.run_journal.proofs.AlikeLooks.{arrive_nothing}
 use Rattle.run_journal.proofs.Isolation.{no_next}
 use Rattle.run_journal.proofs.Truths.{not_both, and_true}
+use Rattle.jtext.proofs.Lists.{some_at, none_chosen}
 
 -- ---- the core's tests
 
@@ -42,16 +43,12 @@ pub after_more : (task : Task) (k : ℕ) (e : Event) (told : List Event) → cor
 after_more task zero e told = refl
 after_more task (suc k) e told = refl
 
-no_some : (b : Bool) (later : List Event) → cond b (Some later) None ≡ None → b ≡ false
-no_some true later e = cc
-no_some false later e = refl
-
 since_none : (test : List Event → Bool) (told : List Event) → test [] ≡ false → events.since test told ≡ None → test told ≡ false
 since_none test [] none e = none
 since_none test (x ∷ told) none e = by (events.since test told) e
   where
     by : (o : Option (List Event)) → events.since_more test x told o ≡ None → test (x ∷ told) ≡ false
-    by None e = no_some (test (x ∷ told)) [] e
+    by None e = none_chosen (test (x ∷ told)) [] e
     by (Some later) e = cc
 
 -- a request that doesn't stand doesn't come to stand just now
@@ -75,16 +72,6 @@ some_now Q test x told None e f q = subst (λ o. IsSomeAnd o Q) (sym (cond-true 
 some_now Q test x told (Some later) e f q = cc
 
 -- ---- requests by their numbers
-
-pub get_some : (rs : List Request) (i : ℕ) → i < length rs → (r : Request) × (slice_get rs i ≡ Some r)
-get_some [] i h = absurd (omega (arith, h))
-get_some (x ∷ rs) zero h = (x, refl)
-get_some (x ∷ rs) (suc i) h = get_some rs i (omega (arith, h))
-
-pub get_below : (rs : List Request) (i : ℕ) (r : Request) → slice_get rs i ≡ Some r → i < length rs
-get_below [] i r e = cc
-get_below (x ∷ rs) zero r e = omega arith
-get_below (x ∷ rs) (suc i) r e = let h = get_below rs i r e in omega (arith, h)
 
 -- a request after a map is one before it
 pub get_mapped : (f : Request → Request) (rs : List Request) (i : ℕ) (r : Request) → slice_get (map f rs) i ≡ Some r → (q : Request) × (slice_get rs i ≡ Some q) × (r ≡ f q)
@@ -136,11 +123,11 @@ no_ready broken = refl
 -- an event that tells no acknowledgement and no readiness makes no request stand
 pub stands_later : (task : Task) (k : ℕ) (e : Event) (told : List Event) → events.is_saved e ≡ false → events.is_ready e ≡ false → stands_at task k told ≡ false → stands_at task k (e ∷ told) ≡ false
 stands_later task zero e told s r h =
-    ap (λ b. (b || events.came events.is_ready told) && nat_lt 0 (events.acked (e ∷ told))) r
-    ∙ ap (λ n. events.came events.is_ready told && nat_lt 0 n) (cond-false (events.is_saved e) (events.acked told + 1) (events.acked told) s)
+    ap (λ b. (b || events.came events.is_ready told) && nat_lt 0 (events.ack_count (e ∷ told))) r
+    ∙ ap (λ n. events.came events.is_ready told && nat_lt 0 n) (cond-false (events.is_saved e) (events.ack_count told + 1) (events.ack_count told) s)
     ∙ h
 stands_later task (suc k) e told s r h =
-    ap (λ b. b && events.acked told == k + 1 && core.is_passed_in (core.after task k told) && nat_lt (k + 1) (length task.plan)) s
+    ap (λ b. b && events.ack_count told == k + 1 && core.is_passed_in (core.after task k told) && nat_lt (k + 1) (length task.plan)) s
 
 -- what agreed goes on agreeing, where the event changes no message and no reply
 on_other : {j : Job} {k : ℕ} {r : Request} {e : Event} → IsOther e → (later : List Event) → AgreesOn j k later r → AgreesOn j k (e ∷ later) r
@@ -152,7 +139,7 @@ on_other o later a = record {
 -- an event that isn't of requests keeps the agreement
 pub agree_other : (j : Job) (e : Event) (told : List Event) (past : List Entry) → IsOther e → Agrees j told past → Agrees j (e ∷ told) past
 agree_other j e told past o a = record {
-  acked = cond-false (events.is_saved e) (events.acked told + 1) (events.acked told) (no_saved o) ∙ a.acked;
+  acked = cond-false (events.is_saved e) (events.ack_count told + 1) (events.ack_count told) (no_saved o) ∙ a.acked;
   ready = ap (λ b. b || events.came events.is_ready told) (no_ready o) ∙ a.ready;
   standing = λ k r h.
       subst (λ x. IsSomeAnd x (λ later. AgreesOn j k later r)) (sym (after_more j.task k e told))
@@ -168,10 +155,10 @@ agree_other j e told past o a = record {
 pub ready_unheard : (j : Job) (entry : Entry) (past : List Entry) → ((c : Chan) → bytes_got j c (entry ∷ past) ≡ bytes_got j c past) → is_ready j (entry ∷ past) ≡ is_ready j past
 unfolding ask_on
 ready_unheard j entry past same =
-    ap (λ ms. ((asked j past).told || list_any (tells (asked j past).ids) ms) && ((asked j past).heard || has_some (arrive j Iopub entry past))) (arrive_nothing j entry past Shell (same Shell))
-    ∙ ap (λ ms. ((asked j past).told || false) && ((asked j past).heard || has_some ms)) (arrive_nothing j entry past Iopub (same Iopub))
-    ∙ ap (λ b. b && ((asked j past).heard || false)) (or-false (asked j past).told)
-    ∙ ap (λ b. (asked j past).told && b) (or-false (asked j past).heard)
+    ap (λ ms. ((ask_state j past).told || list_any (tells (ask_state j past).ids) ms) && ((ask_state j past).heard || has_some (arrive j Iopub entry past))) (arrive_nothing j entry past Shell (same Shell))
+    ∙ ap (λ ms. ((ask_state j past).told || false) && ((ask_state j past).heard || has_some ms)) (arrive_nothing j entry past Iopub (same Iopub))
+    ∙ ap (λ b. b && ((ask_state j past).heard || false)) (or-false (ask_state j past).told)
+    ∙ ap (λ b. (ask_state j past).told && b) (or-false (ask_state j past).heard)
 
 -- a request for which nothing came agrees with what it did before
 on_nothing : (j : Job) (entry : Entry) (past : List Entry) (k : ℕ) (later : List Event) (q : Request) → ((c : Chan) → bytes_got j c (entry ∷ past) ≡ bytes_got j c past) → AgreesOn j k later q → AgreesOn j k later (goes_on j entry past q)
@@ -183,7 +170,7 @@ on_nothing j entry past k later q same a = record {
 }
 
 -- where the next request doesn't come to stand, the requests are those before, gone on
-requests_on : (j : Job) (entry : Entry) (past : List Entry) → is_next j (is_acknowledging j (entry ∷ past)) (is_ready j (entry ∷ past)) (acked j (entry ∷ past)) (map (goes_on j entry past) (requests j past)) ≡ false
+requests_on : (j : Job) (entry : Entry) (past : List Entry) → is_next j (is_acknowledging j (entry ∷ past)) (is_ready j (entry ∷ past)) (saves_of j (entry ∷ past)) (map (goes_on j entry past) (requests j past)) ≡ false
     → requests j (entry ∷ past) ≡ map (goes_on j entry past) (requests j past)
 requests_on j entry past e = cond-false _ _ _ e
 
@@ -196,11 +183,11 @@ next_none j acks ready saves f (r ∷ rs) e h = and_left _ _ (and_left _ _ (and_
 pub agree_unheard : (j : Job) (entry : Entry) (told : List Event) (past : List Entry) → ((c : Chan) → bytes_got j c (entry ∷ past) ≡ bytes_got j c past) → is_acknowledging j (entry ∷ past) ≡ false
     → Agrees j told past → Agrees j told (entry ∷ past)
 agree_unheard j entry told past same acks a =
-    let saves : acked j (entry ∷ past) ≡ acked j past = cond-false (is_acknowledging j (entry ∷ past)) _ _ acks in
+    let saves : saves_of j (entry ∷ past) ≡ saves_of j past = cond-false (is_acknowledging j (entry ∷ past)) _ _ acks in
     let ready : is_ready j (entry ∷ past) ≡ is_ready j past = ready_unheard j entry past same in
-    let no : is_next j (is_acknowledging j (entry ∷ past)) (is_ready j (entry ∷ past)) (acked j (entry ∷ past)) (map (goes_on j entry past) (requests j past)) ≡ false
-    = next_none j (is_acknowledging j (entry ∷ past)) (is_ready j (entry ∷ past)) (acked j (entry ∷ past)) (goes_on j entry past) (requests j past) acks
-    (ap (λ b. is_next j false b (acked j (entry ∷ past)) (requests j past)) ready ∙ ap (λ n. is_next j false (is_ready j past) n (requests j past)) saves ∙ no_next j past) in
+    let no : is_next j (is_acknowledging j (entry ∷ past)) (is_ready j (entry ∷ past)) (saves_of j (entry ∷ past)) (map (goes_on j entry past) (requests j past)) ≡ false
+    = next_none j (is_acknowledging j (entry ∷ past)) (is_ready j (entry ∷ past)) (saves_of j (entry ∷ past)) (goes_on j entry past) (requests j past) acks
+    (ap (λ b. is_next j false b (saves_of j (entry ∷ past)) (requests j past)) ready ∙ ap (λ n. is_next j false (is_ready j past) n (requests j past)) saves ∙ no_next j past) in
     let on : requests j (entry ∷ past) ≡ map (goes_on j entry past) (requests j past) = requests_on j entry past no in
     record {
       acked = a.acked ∙ sym saves;
@@ -269,11 +256,11 @@ module _ (j : Job) (entry : Entry) (told : List Event) (past : List Entry) where
 
   -- whether the next one comes to stand
   abbrev next : Bool
-  next = is_next j (is_acknowledging j (entry ∷ past)) (is_ready j (entry ∷ past)) (acked j (entry ∷ past)) gone
+  next = is_next j (is_acknowledging j (entry ∷ past)) (is_ready j (entry ∷ past)) (saves_of j (entry ∷ past)) gone
 
   -- the next one
   abbrev fresh_one : Request
-  fresh_one = with_interrupt j (entry ∷ past) (fresh (count_queued (length (asked j (entry ∷ past)).ids) gone + 1) (time past))
+  fresh_one = with_interrupt j (entry ∷ past) (fresh (count_queued (length (ask_state j (entry ∷ past)).ids) gone + 1) (time past))
 
   gone_length : length gone ≡ length (requests j past)
   gone_length = length-map (requests j past) (goes_on j entry past)
@@ -282,38 +269,38 @@ module _ (j : Job) (entry : Entry) (told : List Event) (past : List Entry) where
   none_beyond : (k : ℕ) → k < length j.task.plan → length (requests j past) < k → Agrees j told past → stands_at j.task k (event.Saved ∷ told) ≡ false
   none_beyond zero p h a = absurd (omega (arith, h))
   none_beyond (suc m) p h a =
-      and_left (events.acked told == m + 1 && core.is_passed_in (core.after j.task m told)) _
-      (and_right (events.acked told == m + 1) (core.is_passed_in (core.after j.task m told)) (ap core.is_passed_in (a.none m (omega (arith, p)) (omega (arith, h)))))
+      and_left (events.ack_count told == m + 1 && core.is_passed_in (core.after j.task m told)) _
+      (and_right (events.ack_count told == m + 1) (core.is_passed_in (core.after j.task m told)) (ap core.is_passed_in (a.none m (omega (arith, p)) (omega (arith, h)))))
 
   module _ (same : (c : Chan) → bytes_got j c (entry ∷ past) ≡ bytes_got j c past) (acks : is_acknowledging j (entry ∷ past) ≡ true) (a : Agrees j told past) where
-    saves_more : acked j (entry ∷ past) ≡ acked j past + 1
+    saves_more : saves_of j (entry ∷ past) ≡ saves_of j past + 1
     saves_more = cond-true (is_acknowledging j (entry ∷ past)) _ _ acks
 
     -- the first request comes to stand for both
     first_both : length (requests j past) ≡ 0 → 0 < length j.task.plan → stands_at j.task 0 (event.Saved ∷ told) ≡ next
     first_both l p =
-        ap (λ b. b && nat_lt 0 (events.acked told + 1)) (a.ready ∙ sym (ready_unheard j entry past same))
+        ap (λ b. b && nat_lt 0 (events.ack_count told + 1)) (a.ready ∙ sym (ready_unheard j entry past same))
         ∙ ap (λ n. is_ready j (entry ∷ past) && nat_lt 0 (n + 1)) a.acked
         ∙ ap (λ n. is_ready j (entry ∷ past) && nat_lt 0 n) (sym saves_more)
-        ∙ sym (and_true (is_ready j (entry ∷ past) && nat_lt 0 (acked j (entry ∷ past))) (nat_lt 0 (length j.task.plan)) (lt-ltb 0 (length j.task.plan) p))
-        ∙ sym (next_first j (is_acknowledging j (entry ∷ past)) (is_ready j (entry ∷ past)) (acked j (entry ∷ past)) gone (gone_length ∙ l))
+        ∙ sym (and_true (is_ready j (entry ∷ past) && nat_lt 0 (saves_of j (entry ∷ past))) (nat_lt 0 (length j.task.plan)) (lt-ltb 0 (length j.task.plan) p))
+        ∙ sym (next_first j (is_acknowledging j (entry ∷ past)) (is_ready j (entry ∷ past)) (saves_of j (entry ∷ past)) gone (gone_length ∙ l))
 
     -- a later one comes to stand for both
     later_both : (m : ℕ) → length (requests j past) ≡ suc m → stands_at j.task (suc m) (event.Saved ∷ told) ≡ next
     later_both m l =
-        let q = get_some (requests j past) m (omega (arith, l)) in
+        let q = some_at (requests j past) m (omega (arith, l)) in
         let is : slice_get gone m ≡ Some (goes_on j entry past q.0) = mapped (requests j past) m q.0 q.1 in
         let known_last : core.is_passed_in (core.after j.task m told) ≡ is_last_passed j 0 gone
         = known j m (goes_on j entry past q.0) (core.after j.task m told) (and_on (core.after j.task m told) (a.standing m q.0 q.1) (λ later b. on_nothing j entry past m later q.0 same b))
         ∙ sym (last_at j 0 m gone (goes_on j entry past q.0) is (gone_length ∙ l) ∙ zero_more m (goes_on j entry past q.0)) in
-        ap (λ x. (events.acked told == m + 1 && x) && nat_lt (m + 1) (length j.task.plan)) known_last
+        ap (λ x. (events.ack_count told == m + 1 && x) && nat_lt (m + 1) (length j.task.plan)) known_last
         ∙ ap (λ n. (n == m + 1 && is_last_passed j 0 gone) && nat_lt (m + 1) (length j.task.plan)) a.acked
-        ∙ ap (λ b. (b && is_last_passed j 0 gone) && nat_lt (m + 1) (length j.task.plan)) (same_number (acked j past) m)
+        ∙ ap (λ b. (b && is_last_passed j 0 gone) && nat_lt (m + 1) (length j.task.plan)) (same_number (saves_of j past) m)
         ∙ ap (λ n. (n == suc m + 1 && is_last_passed j 0 gone) && nat_lt (m + 1) (length j.task.plan)) (sym saves_more)
-        ∙ ap (λ b. b && nat_lt (m + 1) (length j.task.plan)) (swap (acked j (entry ∷ past) == suc m + 1) (is_last_passed j 0 gone))
-        ∙ ap (λ n. (is_last_passed j 0 gone && acked j (entry ∷ past) == suc m + 1) && nat_lt n (length j.task.plan)) (let n : m + 1 ≡ suc m = omega arith in n)
-        ∙ sym (next_after j (is_ready j (entry ∷ past)) (acked j (entry ∷ past)) m gone (gone_length ∙ l))
-        ∙ ap (λ b. is_next j b (is_ready j (entry ∷ past)) (acked j (entry ∷ past)) gone) (sym acks)
+        ∙ ap (λ b. b && nat_lt (m + 1) (length j.task.plan)) (swap (saves_of j (entry ∷ past) == suc m + 1) (is_last_passed j 0 gone))
+        ∙ ap (λ n. (is_last_passed j 0 gone && saves_of j (entry ∷ past) == suc m + 1) && nat_lt n (length j.task.plan)) (let n : m + 1 ≡ suc m = omega arith in n)
+        ∙ sym (next_after j (is_ready j (entry ∷ past)) (saves_of j (entry ∷ past)) m gone (gone_length ∙ l))
+        ∙ ap (λ b. is_next j b (is_ready j (entry ∷ past)) (saves_of j (entry ∷ past)) gone) (sym acks)
       where
         swap : (x y : Bool) → (x && y) ≡ (y && x)
         swap true true = refl
@@ -366,11 +353,11 @@ module _ (j : Job) (entry : Entry) (told : List Event) (past : List Entry) where
       where
         by : (n : ℕ) → length (requests j past) ≡ n → n < length j.task.plan
         by zero l =
-            ltb-true 0 (length j.task.plan) (and_parts (is_ready j (entry ∷ past) && nat_lt 0 (acked j (entry ∷ past))) (nat_lt 0 (length j.task.plan))
-            (sym (next_first j (is_acknowledging j (entry ∷ past)) (is_ready j (entry ∷ past)) (acked j (entry ∷ past)) gone (gone_length ∙ l)) ∙ e)).1
+            ltb-true 0 (length j.task.plan) (and_parts (is_ready j (entry ∷ past) && nat_lt 0 (saves_of j (entry ∷ past))) (nat_lt 0 (length j.task.plan))
+            (sym (next_first j (is_acknowledging j (entry ∷ past)) (is_ready j (entry ∷ past)) (saves_of j (entry ∷ past)) gone (gone_length ∙ l)) ∙ e)).1
         by (suc m) l =
-            ltb-true (suc m) (length j.task.plan) (and_parts (is_last_passed j 0 gone && acked j (entry ∷ past) == suc m + 1) (nat_lt (suc m) (length j.task.plan))
-            (sym (next_after j (is_ready j (entry ∷ past)) (acked j (entry ∷ past)) m gone (gone_length ∙ l)) ∙ ap (λ b. is_next j b (is_ready j (entry ∷ past)) (acked j (entry ∷ past)) gone) (sym acks) ∙ e)).1
+            ltb-true (suc m) (length j.task.plan) (and_parts (is_last_passed j 0 gone && saves_of j (entry ∷ past) == suc m + 1) (nat_lt (suc m) (length j.task.plan))
+            (sym (next_after j (is_ready j (entry ∷ past)) (saves_of j (entry ∷ past)) m gone (gone_length ∙ l)) ∙ ap (λ b. is_next j b (is_ready j (entry ∷ past)) (saves_of j (entry ∷ past)) gone) (sym acks) ∙ e)).1
 
     all_standing : (k : ℕ) (r : Request) → slice_get (requests j (entry ∷ past)) k ≡ Some r → IsSomeAnd (core.after j.task k (event.Saved ∷ told)) (λ later. AgreesOn j k later r)
     all_standing k r h = elim (cases_Bool next) [

@@ -13,9 +13,9 @@ use Rattle.world.specs.Waits.{is_wait, has_wait, before_wait, to_wait, since_wai
 use Rattle.kernel_talk.specs.Asking.{Asked}
 use Rattle.run_journal.specs.Codec.{Arrival, Ping}
 use Rattle.run_journal.specs.Job.{Job}
-use Rattle.run_journal.specs.Parts.{channels, place, connection, bytes_got, bytes_put, turn_clock, is_acknowledging, acked}
-use Rattle.run_journal.specs.Arrivals.{heard, arrive, has_some, is_shaken, subscribed_at, can_ask, ask_on, asked, is_ready}
-use Rattle.run_journal.specs.Looks.{is_short_wait, ends_reading, is_drained, is_read_through, looked, ever, Pings, can_ping, ping_end, ping_on, pings, is_silent_at, is_silent, ends, shows_lost, is_lost, is_at_least, is_past, ran_out}
+use Rattle.run_journal.specs.Parts.{channels, place, connection, bytes_got, bytes_put, turn_clock, is_acknowledging, saves_of}
+use Rattle.run_journal.specs.Arrivals.{heard, arrive, has_some, is_shaken, subscribed_at, can_ask, ask_on, ask_state, is_ready}
+use Rattle.run_journal.specs.Looks.{is_short_wait, ends_reading, is_drained, is_read_through, is_look, ever, Pings, can_ping, ping_end, ping_on, pings, is_silent_at, is_silent, ends, shows_lost, is_lost, is_at_least, is_past, ran_out}
 use Rattle.run_journal.specs.Requests.{Request, or_later, before_clock, deadline}
 use Rattle.run_journal.proofs.Alike.{Quiet, Same, Near, empty, skips, shares, Alike, neither, theirs, ours, near_self}
 
@@ -69,10 +69,10 @@ module _ (j : Job) where
   waited_alike (shares {entry} {q = q} s a) = ap (λ b. is_wait entry || b) (waited_alike a) ∙ ap (λ b. b || has_wait q) (sym s.wait)
 
   -- as many saves are acknowledged
-  pub acked_alike : {p q : List Entry} → Alike j p q → acked j p ≡ acked j q
+  pub acked_alike : {p q : List Entry} → Alike j p q → saves_of j p ≡ saves_of j q
   acked_alike neither = refl
   acked_alike (theirs {entry} {p} f k a) = cond-false (is_acknowledging j (entry ∷ p)) _ _ k ∙ acked_alike a
-  acked_alike (ours {entry} {own} {p} {q} s k a) = ap (λ n. cond (is_acknowledging j (entry ∷ p)) (n + 1) n) (acked_alike a) ∙ ap (λ b. cond b (acked j q + 1) (acked j q)) (sym k)
+  acked_alike (ours {entry} {own} {p} {q} s k a) = ap (λ n. cond (is_acknowledging j (entry ∷ p)) (n + 1) n) (acked_alike a) ∙ ap (λ b. cond b (saves_of j q + 1) (saves_of j q)) (sym k)
 
   -- ---- messages
 
@@ -116,11 +116,11 @@ module _ (j : Job) where
   ask_alike e1 e2 e3 e4 e5 e6 = cc
 
   -- as much came of the asking
-  pub asked_alike : {p q : List Entry} → Near j p q → asked j p ≡ asked j q
+  pub asked_alike : {p q : List Entry} → Near j p q → ask_state j p ≡ ask_state j q
   asked_alike empty = refl
   asked_alike (skips {entry} {p} f a) =
       ask_alike refl refl f.clock refl (arrive_theirs p f Shell) (arrive_theirs p f Iopub)
-      ∙ ask_nothing (asked j p) (can_ask j p) (j.msg_id (length (asked j p).ids + 1)) ∙ asked_alike a
+      ∙ ask_nothing (ask_state j p) (can_ask j p) (j.msg_id (length (ask_state j p).ids + 1)) ∙ asked_alike a
   asked_alike (shares s a) =
       ask_alike (asked_alike a) (can_ask_alike a) (sym s.clock) (ap (λ (x : Asked). j.msg_id (length x.ids + 1)) (asked_alike a)) (arrive_ours s a Shell) (arrive_ours s a Iopub)
 
@@ -186,8 +186,8 @@ module _ (j : Job) where
       ∙ ap (λ b. not (connection j c (to_wait q)).awake || b) (drained_alike a c)) channels
 
   -- a look is done in both
-  pub looked_alike : {p q : List Entry} → Near j p q → looked j p ≡ looked j q
-  unfolding looked
+  pub looked_alike : {p q : List Entry} → Near j p q → is_look j p ≡ is_look j q
+  unfolding is_look
   looked_alike {p} {q} a = ap (λ b. b && is_read_through j p) (short_alike a) ∙ ap (λ b. is_short_wait (to_wait q) && b) (through_alike a)
 
   -- ---- what shows that a kernel is lost
@@ -240,7 +240,7 @@ module _ (j : Job) where
   -- the kernel is lost in both
   pub is_lost_alike : {p q : List Entry} → Near j p q → is_lost j p ≡ is_lost j q
   unfolding is_lost
-  is_lost_alike {p} {q} a = ap (λ b. b && ever (shows_lost j) (before_wait p)) (looked_alike a) ∙ ap (λ b. looked j q && b) (ever_alike (shows_lost j) (λ entry p f. lost_theirs p f) (λ entry own p q s b. lost_ours s b) (before_wait_alike a))
+  is_lost_alike {p} {q} a = ap (λ b. b && ever (shows_lost j) (before_wait p)) (looked_alike a) ∙ ap (λ b. is_look j q && b) (ever_alike (shows_lost j) (λ entry p f. lost_theirs p f) (λ entry own p q s b. lost_ours s b) (before_wait_alike a))
 
   pub clock_theirs : {entry : Entry} (p : List Entry) → Quiet j entry → turn_clock (entry ∷ p) ≡ None
   clock_theirs {entry} p f = cond_both (has_wait p) (moment_of entry) None (λ o. o ≡ None) (λ e. f.clock) (λ e. refl)
@@ -253,4 +253,4 @@ module _ (j : Job) where
   unfolding ran_out
   ran_out_alike {p} {q} deadline a =
       ap (λ b. b && ever (is_past deadline) (before_wait p)) (looked_alike a)
-      ∙ ap (λ b. looked j q && b) (ever_alike (is_past deadline) (λ entry p f. ap (is_at_least deadline) (clock_theirs p f)) (λ entry own p q s b. ap (is_at_least deadline) (clock_ours s b)) (before_wait_alike a))
+      ∙ ap (λ b. is_look j q && b) (ever_alike (is_past deadline) (λ entry p f. ap (is_at_least deadline) (clock_theirs p f)) (λ entry own p q s b. ap (is_at_least deadline) (clock_ours s b)) (before_wait_alike a))

@@ -12,7 +12,7 @@ use Rattle.kernel_talk.specs.Asking as asking
 use Rattle.run_journal.specs.Codec.{Arrival}
 use Rattle.run_journal.specs.Job.{Job}
 use Rattle.run_journal.specs.Parts.{bytes_got}
-use Rattle.run_journal.specs.Arrivals.{arrive, is_info_reply, is_shaken, can_ask, answers, tells, is_asked, ask_on, asked, is_ready}
+use Rattle.run_journal.specs.Arrivals.{arrive, is_info_reply, is_shaken, can_ask, answers, tells, is_asked, ask_on, ask_state, is_ready}
 use Rattle.run_journal.specs.Looks.{is_at_least, ever, is_past}
 use Rattle.run_journal.specs.Requests.{Request, first_clock, requests, last_request}
 use Rattle.run_journal.specs.Due.{all_along}
@@ -48,43 +48,43 @@ none_tells [] e (m ∷ ms) = ap (λ v. v || list_any (tells []) ms) (by (is_info
 
 module _ (j : Job) (entry : Entry) (past : List Entry) where
   abbrev is_now : Bool
-  is_now = is_asked (can_ask j past) (asked j past) (moment_of entry)
+  is_now = is_asked (can_ask j past) (ask_state j past) (moment_of entry)
 
-  ids_stay : has_ids (asked j past).ids ≡ true → has_ids (asked j (entry ∷ past)).ids ≡ true
+  ids_stay : has_ids (ask_state j past).ids ≡ true → has_ids (ask_state j (entry ∷ past)).ids ≡ true
   unfolding ask_on
   ids_stay e = by is_now
     where
-      by : (b : Bool) → has_ids (cond b ((asked j past).ids ++ j.msg_id (length (asked j past).ids + 1) ∷ []) (asked j past).ids) ≡ true
-      by true = has_more (asked j past).ids (j.msg_id (length (asked j past).ids + 1) ∷ []) e
+      by : (b : Bool) → has_ids (cond b ((ask_state j past).ids ++ j.msg_id (length (ask_state j past).ids + 1) ∷ []) (ask_state j past).ids) ≡ true
+      by true = has_more (ask_state j past).ids (j.msg_id (length (ask_state j past).ids + 1) ∷ []) e
       by false = e
 
   -- a reply is to one of those before
-  told_by : (asked j (entry ∷ past)).told ≡ true → ((asked j past).told ≡ true) ⊎ (has_ids (asked j past).ids ≡ true)
+  told_by : (ask_state j (entry ∷ past)).told ≡ true → ((ask_state j past).told ≡ true) ⊎ (has_ids (ask_state j past).ids ≡ true)
   unfolding ask_on
-  told_by e = by (cases_Bool (has_ids (asked j past).ids))
+  told_by e = by (cases_Bool (has_ids (ask_state j past).ids))
     where
-      by : (has_ids (asked j past).ids ≡ true) ⊎ (has_ids (asked j past).ids ≡ false) → ((asked j past).told ≡ true) ⊎ (has_ids (asked j past).ids ≡ true)
+      by : (has_ids (ask_state j past).ids ≡ true) ⊎ (has_ids (ask_state j past).ids ≡ false) → ((ask_state j past).told ≡ true) ⊎ (has_ids (ask_state j past).ids ≡ true)
       by (inl h) = inr h
-      by (inr h) = inl (sym (or-false (asked j past).told) ∙ ap (λ v. (asked j past).told || v) (sym (none_tells (asked j past).ids h (arrive j Shell entry past))) ∙ e)
+      by (inr h) = inl (sym (or-false (ask_state j past).told) ∙ ap (λ v. (ask_state j past).told || v) (sym (none_tells (ask_state j past).ids h (arrive j Shell entry past))) ∙ e)
 
   -- one more comes with a clock entry, where the handshake on shell is finished
-  asked_by : has_ids (asked j (entry ∷ past)).ids ≡ true → (has_ids (asked j past).ids ≡ true) ⊎ ((is_shaken j Shell past ≡ true) × ((ms : ℕ) × (moment_of entry ≡ Some ms)))
+  asked_by : has_ids (ask_state j (entry ∷ past)).ids ≡ true → (has_ids (ask_state j past).ids ≡ true) ⊎ ((is_shaken j Shell past ≡ true) × ((ms : ℕ) × (moment_of entry ≡ Some ms)))
   unfolding ask_on can_ask
   asked_by e = by is_now refl
     where
-      now : (o : Option ℕ) → moment_of entry ≡ o → is_asked (can_ask j past) (asked j past) o ≡ true → (is_shaken j Shell past ≡ true) × ((ms : ℕ) × (moment_of entry ≡ Some ms))
+      now : (o : Option ℕ) → moment_of entry ≡ o → is_asked (can_ask j past) (ask_state j past) o ≡ true → (is_shaken j Shell past ≡ true) × ((ms : ℕ) × (moment_of entry ≡ Some ms))
       now None f g = cc
       now (Some ms) f g =
-          let p = and_parts (can_ask j past && not (asking.is_ready (asked j past))) _ g in
-          let q = and_parts (can_ask j past) (not (asking.is_ready (asked j past))) p.0 in
+          let p = and_parts (can_ask j past && not (asking.is_ready (ask_state j past))) _ g in
+          let q = and_parts (can_ask j past) (not (asking.is_ready (ask_state j past))) p.0 in
           let r = and_parts (is_shaken j Shell past && is_shaken j Iopub past) _ q.0 in
           ((and_parts (is_shaken j Shell past) (is_shaken j Iopub past) r.0).0, (ms, f))
 
-      by : (b : Bool) → is_now ≡ b → (has_ids (asked j past).ids ≡ true) ⊎ ((is_shaken j Shell past ≡ true) × ((ms : ℕ) × (moment_of entry ≡ Some ms)))
+      by : (b : Bool) → is_now ≡ b → (has_ids (ask_state j past).ids ≡ true) ⊎ ((is_shaken j Shell past ≡ true) × ((ms : ℕ) × (moment_of entry ≡ Some ms)))
       by true f = inr (now (moment_of entry) refl f)
-      by false f = inl (sym (ap has_ids (cond-false is_now _ (asked j past).ids f)) ∙ e)
+      by false f = inl (sym (ap has_ids (cond-false is_now _ (ask_state j past).ids f)) ∙ e)
 
-told_ids : (j : Job) (past : List Entry) → (asked j past).told ≡ true → has_ids (asked j past).ids ≡ true
+told_ids : (j : Job) (past : List Entry) → (ask_state j past).told ≡ true → has_ids (ask_state j past).ids ≡ true
 told_ids j [] e = cc
 told_ids j (entry ∷ past) e = ids_stay j entry past (elim (told_by j entry past e) [
   | inl f ↦ told_ids j past f
@@ -97,7 +97,7 @@ unshaken j d past e = ap (j.codec.shaken Shell) e ∙ d.not_shaken Shell
 
 module _ (jobs : List Job) (j : Job) (m : IsAmong j jobs) (d : IsDecoding j.codec) where
   -- it was asked at a turn's clock entry
-  ids_clock : (past : List Entry) → all_along (in_order jobs) past ≡ true → has_ids (asked j past).ids ≡ true → is_some (first_clock 0 past) ≡ true
+  ids_clock : (past : List Entry) → all_along (in_order jobs) past ≡ true → has_ids (ask_state j past).ids ≡ true → is_some (first_clock 0 past) ≡ true
   ids_clock [] o e = cc
   ids_clock (entry ∷ past) o e = first_ever 0 (entry ∷ past) ∙ by (λ f. ids_clock past p.1 f) (asked_by j entry past e)
     where
@@ -110,18 +110,18 @@ module _ (jobs : List Job) (j : Job) (m : IsAmong j jobs) (d : IsDecoding j.code
         | inr w ↦ absurd (not_both (is_shaken j Shell past) s (unshaken j d past (no_bytes jobs j m past p.1 w Shell)))
       ]
 
-      by : (has_ids (asked j past).ids ≡ true → is_some (first_clock 0 past) ≡ true) → (has_ids (asked j past).ids ≡ true) ⊎ ((is_shaken j Shell past ≡ true) × ((ms : ℕ) × (moment_of entry ≡ Some ms))) → ever (is_past 0) (entry ∷ past) ≡ true
+      by : (has_ids (ask_state j past).ids ≡ true → is_some (first_clock 0 past) ≡ true) → (has_ids (ask_state j past).ids ≡ true) ⊎ ((is_shaken j Shell past ≡ true) × ((ms : ℕ) × (moment_of entry ≡ Some ms))) → ever (is_past 0) (entry ∷ past) ≡ true
       by ih (inl f) = or_right (is_past 0 (entry ∷ past)) (ever (is_past 0) past) (sym (first_ever 0 past) ∙ ih f)
       by ih (inr f) = or_left (is_past 0 (entry ∷ past)) (ever (is_past 0) past) (now f.1.0 f.1.1 f.0)
 
   pub ready_clock : (past : List Entry) → all_along (in_order jobs) past ≡ true → is_ready j past ≡ true → is_some (first_clock 0 past) ≡ true
-  ready_clock past o e = ids_clock past o (told_ids j past (and_parts (asked j past).told (asked j past).heard e).0)
+  ready_clock past o e = ids_clock past o (told_ids j past (and_parts (ask_state j past).told (ask_state j past).heard e).0)
 
   -- so before anything comes for a request
   pub brings_late : (entry : Entry) (past : List Entry) → all_along (in_order jobs) past ≡ true → brings j entry past ≡ true → is_some (first_clock 0 past) ≡ true
   brings_late entry past o b = elim (or_cases (not (is_empty_list (came_for j (last_request 0 (requests j past)) entry past))) _ b) [
     | inl e ↦ ready_clock past o (was_ready (cases_Bool (is_ready j past)) e)
-    | inr e ↦ ids_clock past o (elim (told_by j entry past (and_parts (asked j (entry ∷ past)).told (asked j (entry ∷ past)).heard (and_parts (is_ready j (entry ∷ past)) (not (is_ready j past)) e).0).0) [
+    | inr e ↦ ids_clock past o (elim (told_by j entry past (and_parts (ask_state j (entry ∷ past)).told (ask_state j (entry ∷ past)).heard (and_parts (is_ready j (entry ∷ past)) (not (is_ready j past)) e).0).0) [
       | inl f ↦ told_ids j past f
       | inr f ↦ f
     ])

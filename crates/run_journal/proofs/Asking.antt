@@ -1,7 +1,7 @@
 -- Where the core's requests agree with the journal's, and its cause, the saves that it asks for are those that are due.
 use Rattle.std.proofs.Common.{◌≡◌, inl, inr, ℕ, zero, suc, ◌+◌, ◌<◌, ◌≤◌, List, [], ◌∷◌, ◌++◌, length, map, Bool, true, false, ◌&&◌, ◌||◌, not, cond, Option, Some, None, refl, sym, ◌∙◌, ap, subst, arith, append_assoc}
 use Rattle.std.specs.Prelude.{is_some, option_map, slice_get, slice_index, IsSomeAnd, ◌==◌, nat_lt, if◌then◌else◌}
-use Rattle.std.proofs.lemmas.List.{append-nil, map-append}
+use Rattle.std.proofs.lemmas.List.{append-nil, map-append, nil_from_length}
 use Rattle.std.proofs.lemmas.Bool.{and_parts, cond-true, cond-false, cases_Bool, eqb-true, eq-eqb, lt-ltb, false_from_ne_true}
 use Rattle.std.proofs.Math.Bool.{and-true}
 use Rattle.std.proofs.lemmas.Option.{same_Some}
@@ -16,7 +16,7 @@ use Rattle.cell_core.specs.Laws.{settles as core_settles}
 use Rattle.out_fold.specs.declared.used.Used.{Used}
 use Rattle.run_journal.specs.Codec.{Arrival}
 use Rattle.run_journal.specs.Job.{Job}
-use Rattle.run_journal.specs.Parts.{acked}
+use Rattle.run_journal.specs.Parts.{saves_of}
 use Rattle.run_journal.specs.Requests.{Request, has_idle, reply, use_of, used_of, is_over, is_fatal, is_passed, is_last_passed, requests, last_request}
 use Rattle.run_journal.specs.Why.{are_acked, plain_count, plan_end, is_done, is_error, why}
 use Rattle.run_journal.specs.Saves.{Save, save, passes, last_cell, stop_save, stopping, is_complete, closing, run_saves, settled_by}
@@ -24,8 +24,9 @@ use Rattle.run_journal.specs.Grow.{ArePassed}
 use Rattle.run_journal.specs.Agreement.{AgreesOn, Agrees}
 use Rattle.run_journal.proofs.Growth.{no_stop}
 use Rattle.run_journal.proofs.Safety.{all_but_last, few_requests}
-use Rattle.run_journal.proofs.Agreeing.{passed_agrees, known, get_some, last_at}
+use Rattle.run_journal.proofs.Agreeing.{passed_agrees, known, last_at}
 use Rattle.run_journal.proofs.Truths.{not_both, or_rest}
+use Rattle.jtext.proofs.Lists.{some_at}
 
 -- ---- the last request
 
@@ -47,7 +48,7 @@ below_is task told n (suc d) f =
 standing_at : (j : Job) (told : List Event) (past : List Entry) → Agrees j told past → (n : ℕ) → length (requests j past) ≡ n → Stands j told past (core.last_below j.task n told)
 standing_at j told past a zero e = nothing e
 standing_at j told past a (suc m) e =
-    let q = get_some (requests j past) m (omega (arith, e)) in
+    let q = some_at (requests j past) m (omega (arith, e)) in
     by q.0 q.1 (core.after j.task m told) (a.standing m q.0 q.1)
   where
     by : (q : Request) → slice_get (requests j past) m ≡ Some q → (o : Option (List Event)) → IsSomeAnd o (λ later. AgreesOn j m later q) → Stands j told past (core.or_before m o (core.last_below j.task m told))
@@ -208,10 +209,6 @@ some_plan m n p =
       | inr e ↦ ap (λ b. b && p) e ∙ sym (ap (λ b. b && (n == 0 || p)) e)
     ]
 
-no_length : (rs : List Request) → length rs ≡ 0 → rs ≡ []
-no_length [] e = refl
-no_length (r ∷ rs) e = cc
-
 -- the last of the journal's requests is passed where the core's is
 last_same : (j : Job) (past : List Entry) (m : ℕ) (q : Request) (later : List Event) → length (requests j past) ≡ suc m → slice_get (requests j past) m ≡ Some q → AgreesOn j m later q → core.is_passed later ≡ is_last_passed j 0 (requests j past)
 last_same j past m q later l e b =
@@ -221,7 +218,7 @@ last_same j past m q later l e b =
 -- the plan is executed for both
 whole_same : (j : Job) (told : List Event) (past : List Entry) (o : Option core.Standing) → Stands j told past o → core_saves.is_whole j.task o ≡ is_complete j (requests j past)
 whole_same j told past None (nothing l) =
-    empty_plan (length j.task.plan) ∙ sym (ap (is_complete j) (no_length (requests j past) l))
+    empty_plan (length j.task.plan) ∙ sym (ap (is_complete j) (nil_from_length (requests j past) l))
 whole_same j told past (Some _) (last m q later l e b) =
     ap (λ x. m + 1 == length j.task.plan && x) (last_same j past m q later l e b)
     ∙ some_plan m (length j.task.plan) (is_last_passed j 0 (requests j past))
@@ -298,7 +295,7 @@ last_cell_is j past k (suc m) (c ∷ plan) (r ∷ s ∷ rs) f l h =
 
 stopping_same : (j : Job) (told : List Event) (past : List Entry) (o : Option core.Standing) → Stands j told past o → (w : Option Why) → core_settles (core_saves.stopping j.task o w) ≡ settled_by (stopping j (requests j past) w)
 stopping_same j told past None (nothing l) w =
-    sym (ap settled_by (ap (λ rs. stopping j rs w) (no_length (requests j past) l) ∙ no_stop j w))
+    sym (ap settled_by (ap (λ rs. stopping j rs w) (nil_from_length (requests j past) l) ∙ no_stop j w))
 stopping_same j told past (Some _) (last m q later l e b) None = refl
 stopping_same j told past (Some _) (last m q later l e b) (Some cause) =
     ap (λ x. core_settles (cond (core_saves.is_stop cause) (cond x [] (stop ∷ [])) [])) (last_same j past m q later l e b)
@@ -328,8 +325,8 @@ saves_agree j told past a w =
     let P = core_saves.passes j.task (length j.task.plan) told in
     let S = core_saves.stopping j.task (core.standing j.task told) (core_saves.why j.task told) in
     let C = core_saves.closing j.task told in
-    map-append (λ (p : core_saves.Prefix). p.settled) ((core_saves.prepared ∷ P) ++ S) C
-    ∙ ap (λ v. v ++ core_settles C) (map-append (λ (p : core_saves.Prefix). p.settled) (core_saves.prepared ∷ P) S)
+    map-append (λ (p : core_saves.Prefix). p.settled) ((core_saves.after_preparation ∷ P) ++ S) C
+    ∙ ap (λ v. v ++ core_settles C) (map-append (λ (p : core_saves.Prefix). p.settled) (core_saves.after_preparation ∷ P) S)
     ∙ ap (λ v. ((0 ∷ v) ++ core_settles S) ++ core_settles C) (passes_same j told past a)
     ∙ ap (λ v. ((0 ∷ settled_by (passes j [] 0 j.task.plan (requests j past))) ++ v) ++ core_settles C)
     (ap (λ x. core_settles (core_saves.stopping j.task (core.standing j.task told) x)) w ∙ stopping_same j told past (core.standing j.task told) (stands j told past a) (why j past))
@@ -367,17 +364,17 @@ pub error_same : (j : Job) (told : List Event) (past : List Entry) → Agrees j 
 error_same j told past a = by (core.standing j.task told) (stands j told past a)
   where
     by : (o : Option core.Standing) → Stands j told past o → core_saves.is_cell_error o ≡ is_error j (last_request 0 (requests j past))
-    by None (nothing l) = sym (ap (λ rs. is_error j (last_request 0 rs)) (no_length (requests j past) l))
+    by None (nothing l) = sym (ap (λ rs. is_error j (last_request 0 rs)) (nil_from_length (requests j past) l))
     by (Some _) (last m q later l e b) =
         let z : 0 + m ≡ m = omega arith in
         error_agrees j m later q b ∙ sym (ap (is_error j) (last_numbered 0 m (requests j past) q l e ∙ ap (λ i. Some (i, q)) z))
 
 -- an executed plan stops both
-pub done_same : (j : Job) (told : List Event) (past : List Entry) → Agrees j told past → 0 < length j.task.plan → core_saves.is_done j.task told ≡ is_done j (acked j past) (requests j past)
+pub done_same : (j : Job) (told : List Event) (past : List Entry) → Agrees j told past → 0 < length j.task.plan → core_saves.is_done j.task told ≡ is_done j (saves_of j past) (requests j past)
 done_same j told past a p =
     let some : (length j.task.plan == 0) ≡ false = false_from_ne_true (length j.task.plan == 0) (λ f. let n : length j.task.plan ≡ 0 = eqb-true (length j.task.plan) 0 f in absurd (omega (arith, p, n))) in
-    ap (λ b. core_saves.is_whole j.task (core.standing j.task told) && (b || length (core_saves.planned j.task told) == events.acked told)) (lt-ltb 0 (length j.task.plan) p)
+    ap (λ b. core_saves.is_whole j.task (core.standing j.task told) && (b || length (core_saves.plan_saves j.task told) == events.ack_count told)) (lt-ltb 0 (length j.task.plan) p)
     ∙ and-true (core_saves.is_whole j.task (core.standing j.task told))
     ∙ whole_same j told past (core.standing j.task told) (stands j told past a)
     ∙ ap (λ b. length (requests j past) == length j.task.plan && (b || is_last_passed j 0 (requests j past))) some
-    ∙ sym (cond-false (length j.task.plan == 0) (are_acked (plain_count j j.given) (acked j past)) (length (requests j past) == length j.task.plan && is_last_passed j 0 (requests j past)) some)
+    ∙ sym (cond-false (length j.task.plan == 0) (are_acked (plain_count j j.given) (saves_of j past)) (length (requests j past) == length j.task.plan && is_last_passed j 0 (requests j past)) some)

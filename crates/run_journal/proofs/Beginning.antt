@@ -16,17 +16,18 @@ use Rattle.cell_core.specs.Events as events
 use Rattle.cell_core.specs.Requests as core
 use Rattle.cell_core.specs.Saves as core_saves
 use Rattle.run_journal.specs.Job.{Job}
-use Rattle.run_journal.specs.Parts.{acked, is_acknowledging}
+use Rattle.run_journal.specs.Parts.{saves_of, is_acknowledging}
 use Rattle.run_journal.specs.Course.{events_at, Course, tell, late_then, course}
 use Rattle.run_journal.specs.Requests.{or_later}
 use Rattle.run_journal.specs.Why.{starts, child_clock}
 use Rattle.run_journal.specs.Due.{all_along}
 use Rattle.run_journal.specs.Starts.{Launch, StartsRightly, StartsAt}
-use Rattle.run_journal.specs.Agreement.{Flows, HearsLooks, drawn_clock, is_clock, starts_in_turn, KeepsRules}
+use Rattle.run_journal.specs.Agreement.{Flows, HearsLooks, drawn_clock, starts_in_turn, KeepsRules}
+use Rattle.run_journal.specs.OfJob.{is_number}
 use Rattle.run_journal.proofs.Flowing.{course_agrees}
 use Rattle.run_journal.proofs.Dating.{Seen, start_is}
 use Rattle.run_journal.proofs.Dropping.{told_whole, looks_kept}
-use Rattle.run_journal.proofs.Running.{or_off, RanAtWait, start_parts, is_clock_is, child_drawn, drawn_acked}
+use Rattle.run_journal.proofs.Running.{or_off, RanAtWait, start_parts, is_number_is, child_drawn, drawn_acked}
 use Rattle.run_journal.proofs.Turning.{dates}
 use Rattle.run_journal.proofs.Truths.{not_both}
 use Rattle.std.proofs.Math.Bool.{and-false}
@@ -48,11 +49,11 @@ module _ (j : Job) where
   none_acked true n e = absurd (omega (arith, e))
   none_acked false n e = (refl, e)
 
-  pub untold_first : (past : List Entry) → acked j past ≡ 0 → (course j past).told ≡ []
+  pub untold_first : (past : List Entry) → saves_of j past ≡ 0 → (course j past).told ≡ []
   untold_first [] e = refl
   untold_first (entry ∷ past) e =
       let c : Course = course j past in
-      let p = none_acked (is_acknowledging j (entry ∷ past)) (acked j past) e in
+      let p = none_acked (is_acknowledging j (entry ∷ past)) (saves_of j past) e in
       ap (λ v. (tell j v (late_then j entry past c.late) (c.held ++ events_at j entry past c.late)).told)
       (cond-false (is_acknowledging j (entry ∷ past)) (event.Saved ∷ c.told) c.told p.0 ∙ untold_first past p.1)
       ∙ told_first (late_then j entry past c.late) (c.held ++ events_at j entry past c.late)
@@ -91,10 +92,10 @@ module _ (task : Task) where
 
     none_why : core_saves.why task first ≡ None
     none_why =
-        ap (λ b. if b && (nat_lt 0 (length task.plan) || length (core_saves.planned task first) == events.acked first) then Some cause.Done else core_saves.why_not_done task (core.standing task first) first) not_whole
+        ap (λ b. if b && (nat_lt 0 (length task.plan) || length (core_saves.plan_saves task first) == events.ack_count first) then Some cause.Done else core_saves.why_not_done task (core.standing task first) first) not_whole
         ∙ ap (λ o. core_saves.why_not_done task o first) (none_below (length task.plan))
 
-    none_due : core_saves.unacked task first ≡ []
+    none_due : core_saves.pending_saves task first ≡ []
     none_due =
         ap (λ o. (core_saves.passes task (length task.plan) first ++ core_saves.stopping task o (core_saves.why task first)) ++ core_saves.closing_after task (core.standing task first) (core_saves.passes task (length task.plan) first)) (none_below (length task.plan))
         ∙ ap (λ ps. (ps ++ []) ++ core_saves.closing_after task (core.standing task first) ps) (none_passes (length task.plan))
@@ -121,43 +122,43 @@ module _ (task : Task) where
   no_start : act.Nothing ≡ act.Start → ⊥
   no_start e = cc
 
-  answered : (o : Option core.Standing) (told : List Event) → answers task o (event.Saved ∷ told) ≡ act.Start → events.acked told ≡ 0
+  answered : (o : Option core.Standing) (told : List Event) → answers task o (event.Saved ∷ told) ≡ act.Start → events.ack_count told ≡ 0
   answered (Some last) told e = by (is_empty_list last.later) e
     where
-      by : (b : Bool) → (if b then act.Send (cell_of task last.request) else act.Nothing) ≡ act.Start → events.acked told ≡ 0
+      by : (b : Bool) → (if b then act.Send (cell_of task last.request) else act.Nothing) ≡ act.Start → events.ack_count told ≡ 0
       by true f = cc
       by false f = cc
-  answered None told e = by (events.acked told == 0) refl e
+  answered None told e = by (events.ack_count told == 0) refl e
     where
-      by : (b : Bool) → (events.acked told == 0) ≡ b → (if b then act.Start else act.Nothing) ≡ act.Start → events.acked told ≡ 0
-      by true f g = eqb-true (events.acked told) 0 f
+      by : (b : Bool) → (events.ack_count told == 0) ≡ b → (if b then act.Start else act.Nothing) ≡ act.Start → events.ack_count told ≡ 0
+      by true f g = eqb-true (events.ack_count told) 0 f
       by false f g = cc
 
-  acted : (told : List Event) (ps : List core_saves.Prefix) (o : Option Why) → act_by task (event.Saved ∷ told) ps o ≡ act.Start → events.acked told ≡ 0
+  acted : (told : List Event) (ps : List core_saves.Prefix) (o : Option Why) → act_by task (event.Saved ∷ told) ps o ≡ act.Start → events.ack_count told ≡ 0
   acted told (p ∷ ps) o e = cc
   acted told [] (Some cause) e = cc
   acted told [] None e = answered (core.standing task (event.Saved ∷ told)) told e
 
-  pub start_acked : (told : List Event) → act_of task event.Saved told ≡ act.Start → events.acked told ≡ 0
+  pub start_acked : (told : List Event) → act_of task event.Saved told ≡ act.Start → events.ack_count told ≡ 0
   start_acked told e = by (cases_Bool (has_stopped task (heard task told)))
     where
-      by : (has_stopped task (heard task told) ≡ true) ⊎ (has_stopped task (heard task told) ≡ false) → events.acked told ≡ 0
+      by : (has_stopped task (heard task told) ≡ true) ⊎ (has_stopped task (heard task told) ≡ false) → events.ack_count told ≡ 0
       by (inl f) = absurd (no_start (sym (cond-true (has_stopped task (heard task told)) act.Nothing _ f) ∙ e))
       by (inr f) =
-          ap events.acked (sym (all_heard told f))
-          ∙ acted (heard task told) (core_saves.unacked task (event.Saved ∷ heard task told)) (core_saves.why task (event.Saved ∷ heard task told)) (sym (cond-false (has_stopped task (heard task told)) act.Nothing _ f) ∙ e)
+          ap events.ack_count (sym (all_heard told f))
+          ∙ acted (heard task told) (core_saves.pending_saves task (event.Saved ∷ heard task told)) (core_saves.why task (event.Saved ∷ heard task told)) (sym (cond-false (has_stopped task (heard task told)) act.Nothing _ f) ∙ e)
 
 -- ---- by the journal
 
-pub started_first : (j : Job) (past : List Entry) → 0 < length j.task.plan → acked j past ≡ 0 → act_of j.task event.Saved (course j past).told ≡ act.Start
+pub started_first : (j : Job) (past : List Entry) → 0 < length j.task.plan → saves_of j past ≡ 0 → act_of j.task event.Saved (course j past).told ≡ act.Start
 started_first j past plan e = ap (act_of j.task event.Saved) (untold_first j past e) ∙ starts_first j.task plan
 
-pub first_started : (j : Job) (past : List Entry) → Flows j past → act_of j.task event.Saved (course j past).told ≡ act.Start → acked j past ≡ 0
+pub first_started : (j : Job) (past : List Entry) → Flows j past → act_of j.task event.Saved (course j past).told ≡ act.Start → saves_of j past ≡ 0
 first_started j past f e = sym (course_agrees j past f).acked ∙ start_acked j.task (course j past).told e
 
 -- ---- the clock of the start
 
-pub start_clock : (jobs : List Job) (j : Job) (past : List Entry) → KeepsRules jobs j past → HearsLooks j past → RanAtWait j past → (course j past).held ≡ [] → (clock : ℕ) → child_clock j past ≡ Some clock → events.started (course j past).told ≡ Some clock
+pub start_clock : (jobs : List Job) (j : Job) (past : List Entry) → KeepsRules jobs j past → HearsLooks j past → RanAtWait j past → (course j past).held ≡ [] → (clock : ℕ) → child_clock j past ≡ Some clock → events.start_time (course j past).told ≡ Some clock
 start_clock jobs j past k l h none clock e =
     start_is 0 (course j past).told ∙ ap (λ (s : Seen). s.start) (sym (told_whole j 0 past none (looks_kept j past l))) ∙ (dates 0 jobs j past k h).start ∙ child_drawn j past k.start clock e
 
@@ -168,7 +169,7 @@ right_now : (launch : Launch) (j : Job) (entry : Entry) (past : List Entry) → 
     → starts j entry ≡ true → (clock : ℕ) → time past ≡ clock → StartsAt launch j clock (entry ∷ past)
 right_now launch j (made.Started job argv env dir did) past s t u e clock c =
     let n = eqb-true job j.number e in
-    let d : is_some (drawn_clock j past) ≡ true = ap (λ (o : Option ℕ). is_some o) (is_clock_is j (time past) (drawn_clock j past) (or_off (job == j.number) (is_clock (time past) (drawn_clock j past)) (start_parts j (made.Started job argv env dir did) past t).1 e)) in
+    let d : is_some (drawn_clock j past) ≡ true = ap (λ (o : Option ℕ). is_some o) (is_number_is j (time past) (drawn_clock j past) (or_off (job == j.number) (is_number (time past) (drawn_clock j past)) (start_parts j (made.Started job argv env dir did) past t).1 e)) in
     inl (n, c, drawn_acked j past u d, s.0 n)
 right_now launch j _ past s t u e clock c = cc
 

@@ -17,7 +17,7 @@ use Rattle.cell_core.specs.Acts.{awaits_saved, has_stopped, heard}
 use Rattle.cell_core.specs.Events as events
 use Rattle.cell_core.specs.declared.why.Why.{Why}
 use Rattle.run_journal.specs.Job.{Job}
-use Rattle.run_journal.specs.Parts.{channels, place, connection, bytes_got, turn_clock, acked, is_acknowledging, is_running}
+use Rattle.run_journal.specs.Parts.{channels, place, connection, bytes_got, turn_clock, saves_of, is_acknowledging, is_running}
 use Rattle.run_journal.specs.Arrivals.{is_ready}
 use Rattle.run_journal.specs.Requests.{is_broken, requests, last_request}
 use Rattle.run_journal.specs.Why.{is_done, is_error, why}
@@ -102,8 +102,8 @@ module _ (jobs : List Job) (j : Job) (m : IsAmong j jobs) where
   not_at_once d plan past o w =
       let none = none_unready j past (not_ready past o w) in
       once_rows j past
-      ∙ ap (λ rs. is_done j (acked j past) rs || (is_error j (last_request 0 rs) || is_broken j past)) none
-      ∙ ap (λ b. b || (false || is_broken j past)) (not_done (acked j past))
+      ∙ ap (λ rs. is_done j (saves_of j past) rs || (is_error j (last_request 0 rs) || is_broken j past)) none
+      ∙ ap (λ b. b || (false || is_broken j past)) (not_done (saves_of j past))
       ∙ not_broken d past o w
     where
       not_done : (n : ℕ) → is_done j n [] ≡ false
@@ -132,8 +132,8 @@ wait_once j entry past plan f w =
     let b = agree_unheard j entry (course j past).told past (wait_brings j entry past w) (wait_unacked j entry past w) a in
     once_rows j (entry ∷ past)
     ∙ ap (λ v. v || (is_error j (last_request 0 (requests j (entry ∷ past))) || is_broken j (entry ∷ past))) (sym (done_same j (course j past).told (entry ∷ past) b plan) ∙ done_same j (course j past).told past a plan)
-    ∙ ap (λ v. is_done j (acked j past) (requests j past) || (v || is_broken j (entry ∷ past))) (sym (error_same j (course j past).told (entry ∷ past) b) ∙ error_same j (course j past).told past a)
-    ∙ ap (λ v. is_done j (acked j past) (requests j past) || (is_error j (last_request 0 (requests j past)) || v)) (broken_as j entry past (wait_brings j entry past w))
+    ∙ ap (λ v. is_done j (saves_of j past) (requests j past) || (v || is_broken j (entry ∷ past))) (sym (error_same j (course j past).told (entry ∷ past) b) ∙ error_same j (course j past).told past a)
+    ∙ ap (λ v. is_done j (saves_of j past) (requests j past) || (is_error j (last_request 0 (requests j past)) || v)) (broken_as j entry past (wait_brings j entry past w))
     ∙ sym (once_rows j past)
 
 -- ---- no clock entry comes after the stop
@@ -305,7 +305,7 @@ module _ (jobs : List Job) (j : Job) (dec : IsDecoding j.codec) (plan : 0 < leng
       was_not : draws j entry ≡ true → is_some (drawn_clock j past) ≡ false
       was_not e =
           not-true (is_some (drawn_clock j past))
-          (and_parts (not (is_some (drawn_clock j past))) (nat_lt 0 (acked j past))
+          (and_parts (not (is_some (drawn_clock j past))) (nat_lt 0 (saves_of j past))
           (or_off (draws j entry) _ (start_parts j entry past (and_parts (starts_in_turn j (entry ∷ past)) (all_along (starts_in_turn j) past) g.rules.start).0).0 e)).0
 
       undrawn : has_wait past ≡ true → draws j entry ≡ false

@@ -4,7 +4,7 @@ use Rattle.std.specs.Prelude.{is_some, option_map, slice_get, IsSomeAnd, ◌==�
 use Rattle.std.proofs.Math.Bool.{or-false}
 use Rattle.std.proofs.lemmas.List.{length-map, length_push}
 use Rattle.std.proofs.lemmas.Bool.{and_parts, and_from, lt-ltb, or_left, or_right, cond-true, cond-false, cases_Bool, eqb-true}
-use Rattle.std.proofs.lemmas.Option.{same_Some}
+use Rattle.std.proofs.lemmas.Option.{same_Some, slice_get_within, none-some}
 use Rattle.world.specs.declared.entry.Entry.{Entry}
 use Rattle.world.specs.Places.{time}
 use Rattle.cell_core.specs.declared.event.Event.{Event}
@@ -15,8 +15,8 @@ use Rattle.cell_core.specs.Events as events
 use Rattle.cell_core.specs.Requests as core
 use Rattle.run_journal.specs.Codec.{Arrival}
 use Rattle.run_journal.specs.Job.{Job}
-use Rattle.run_journal.specs.Parts.{acked, is_acknowledging}
-use Rattle.run_journal.specs.Arrivals.{asked, is_ready}
+use Rattle.run_journal.specs.Parts.{saves_of, is_acknowledging}
+use Rattle.run_journal.specs.Arrivals.{ask_state, is_ready}
 use Rattle.run_journal.specs.Requests.{Request, first, reply, goes_on, is_next, fresh, count_queued, with_interrupt, requests, last_request}
 use Rattle.run_journal.specs.Due.{all_along}
 use Rattle.run_journal.specs.Course.{came_for, when_so, events_at, Course, late_then, told_saved, course}
@@ -24,12 +24,13 @@ use Rattle.run_journal.specs.Agreement.{AgreesOn, Agrees, told_on, Flows, Clocks
 use Rattle.run_journal.proofs.Growth.{ready_stays, goes, reply_stays}
 use Rattle.run_journal.proofs.Safety.{few_requests}
 use Rattle.run_journal.proofs.Isolation.{no_next}
-use Rattle.run_journal.proofs.Agreeing.{get_below, get_mapped, IsIn, before, last, get_pushed, next_none}
+use Rattle.run_journal.proofs.Agreeing.{get_mapped, IsIn, before, last, get_pushed, next_none}
 use Rattle.run_journal.proofs.Hearing.{coming_for, after_on, none_unready}
 use Rattle.run_journal.proofs.Flowing.{AreOther, held_other, rest_other, late_other, core_nothing, sync_brings_nothing, Tells, front, tell_front, rest_at, core_at, events_are, told_parts, course_agrees}
 use Rattle.run_journal.proofs.Telling.{came_append}
-use Rattle.run_journal.proofs.Moments.{none_some, stood_on, kept_on, is_reply, at_reply, new_on, reply_came, reply_front, reply_behind, no_reply_in, reply_coming, is_mark, at_mark, AreFew, none_through, mark_time, mark_front, mark_behind, no_mark_in, few_none, few_behind, front_none, few_front}
+use Rattle.run_journal.proofs.Moments.{stood_on, kept_on, is_reply, at_reply, new_on, reply_came, reply_front, reply_behind, no_reply_in, reply_coming, is_mark, at_mark, AreFew, none_through, mark_time, mark_front, mark_behind, no_mark_in, few_none, few_behind, front_none, few_front}
 use Rattle.run_journal.proofs.Truths.{not_both}
+use Rattle.jtext.proofs.Lists.{some_and, some_was}
 
 -- ---- one entry
 
@@ -37,13 +38,6 @@ pub first_new : (xs : List (Arrival × ℕ)) (clock : ℕ) (ns : List Arrival) (
 first_new [] clock [] m e h = cc
 first_new [] clock (n ∷ ns) m e h = ap (λ (x : Arrival × ℕ). x.1) (same_Some _ _ h)
 first_new (x ∷ xs) clock ns m e h = cc
-
-pub is_some_and : {P : List Event → Type 0} (o : Option (List Event)) → IsSomeAnd o P → (later : List Event) × (o ≡ Some later) × P later
-is_some_and None h = absurd h
-is_some_and (Some later) h = (later, refl, h)
-
-some_and : (P : List Event → Type 0) {o : Option (List Event)} (later : List Event) → o ≡ Some later → P later → IsSomeAnd o P
-some_and P later e p = subst (λ v. IsSomeAnd v P) (sym e) p
 
 module _ (j : Job) (entry : Entry) (past : List Entry) (told held late : List Event) (oh : AreOther held) (ol : AreOther late)
     (on_ack : is_acknowledging j (entry ∷ past) ≡ true → stands_anew j entry past ≡ true → events.time told ≡ time past) (on_news : brings j entry past ≡ true → events.time (told_on held told) ≡ time past) where
@@ -55,7 +49,7 @@ module _ (j : Job) (entry : Entry) (past : List Entry) (told held late : List Ev
 
   -- whether the next request comes to stand
   abbrev next : Bool
-  next = is_next j (is_acknowledging j (entry ∷ past)) (is_ready j (entry ∷ past)) (acked j (entry ∷ past)) (map (goes_on j entry past) (requests j past))
+  next = is_next j (is_acknowledging j (entry ∷ past)) (is_ready j (entry ∷ past)) (saves_of j (entry ∷ past)) (map (goes_on j entry past) (requests j past))
 
   -- then it is one more
   next_anew : next ≡ true → stands_anew j entry past ≡ true
@@ -117,10 +111,10 @@ module _ (j : Job) (entry : Entry) (past : List Entry) (told held late : List Ev
       where
         unlike : is_ready j (entry ∷ past) ≡ is_ready j past → ⊥
         unlike ready =
-            let saves : acked j (entry ∷ past) ≡ acked j past = cond-false (is_acknowledging j (entry ∷ past)) _ _ acks in
+            let saves : saves_of j (entry ∷ past) ≡ saves_of j past = cond-false (is_acknowledging j (entry ∷ past)) _ _ acks in
             not_both next n
-            (next_none j (is_acknowledging j (entry ∷ past)) (is_ready j (entry ∷ past)) (acked j (entry ∷ past)) (goes_on j entry past) (requests j past) acks
-            (ap (λ b. is_next j false b (acked j (entry ∷ past)) (requests j past)) ready ∙ ap (λ k. is_next j false (is_ready j past) k (requests j past)) saves ∙ no_next j past))
+            (next_none j (is_acknowledging j (entry ∷ past)) (is_ready j (entry ∷ past)) (saves_of j (entry ∷ past)) (goes_on j entry past) (requests j past) acks
+            (ap (λ b. is_next j false b (saves_of j (entry ∷ past)) (requests j past)) ready ∙ ap (λ k. is_next j false (is_ready j past) k (requests j past)) saves ∙ no_next j past))
 
         by : (is_ready j past ≡ true) ⊎ (is_ready j past ≡ false) → (is_ready j (entry ∷ past) ≡ true) ⊎ (is_ready j (entry ∷ past) ≡ false) → (is_ready j past ≡ false) × (is_ready j (entry ∷ past) ≡ true)
         by (inl was) now = absurd (unlike (ready_stays j entry past was ∙ sym was))
@@ -158,11 +152,11 @@ module _ (j : Job) (entry : Entry) (past : List Entry) (told held late : List Ev
       old_clock : (ys : List Event) → told_now ≡ told_on ys told → (events.came is_reply ys ≡ true → at_reply (events.time told) ys ≡ time past) → (k : ℕ) (q : Request) → slice_get (requests j past) k ≡ Some q
           → slice_get (requests j (entry ∷ past)) k ≡ Some (goes_on j entry past q) → IsSomeAnd (core.after j.task k told_now) (λ later. ClocksOn k told_now later (goes_on j entry past q))
       old_clock ys same clock k q h g =
-          let one = is_some_and (core.after j.task k told) (a.standing k q h) in
-          let two = is_some_and (core.after j.task k told) (c k q h) in
-          let three = is_some_and (core.after j.task k told_now) (b.standing k (goes_on j entry past q) g) in
+          let one = some_was _ (core.after j.task k told) (a.standing k q h) in
+          let two = some_was _ (core.after j.task k told) (c k q h) in
+          let three = some_was _ (core.after j.task k told_now) (b.standing k (goes_on j entry past q) g) in
           let after_is : core.after j.task k told_now ≡ Some (told_on ys one.0) = ap (core.after j.task k) same ∙ after_on j.task k ys told one.0 one.1 in
-          some_and (λ later. ClocksOn k told_now later (goes_on j entry past q)) (told_on ys one.0) after_is
+          some_and (λ later. ClocksOn k told_now later (goes_on j entry past q)) _ (told_on ys one.0) after_is
           (by one.0 one.2 (subst (λ v. ClocksOn k told v q) (same_Some _ _ (sym two.1 ∙ one.1)) two.2) (subst (λ v. AgreesOn j k v (goes_on j entry past q)) (same_Some _ _ (sym three.1 ∙ after_is)) three.2))
         where
           by : (later : List Event) → AgreesOn j k later q → ClocksOn k told later q → AgreesOn j k (told_on ys later) (goes_on j entry past q) → ClocksOn k told_now (told_on ys later) (goes_on j entry past q)
@@ -184,9 +178,9 @@ module _ (j : Job) (entry : Entry) (past : List Entry) (told held late : List Ev
       new_clock : (ys : List Event) → told_now ≡ told_on ys told → AreFew ys → (events.came is_mark ys ≡ true → at_mark (events.time told) ys ≡ time past) → (k : ℕ) (r : Request) → r.clock ≡ time past → reply r ≡ None
           → core.after j.task k told ≡ None → slice_get (requests j (entry ∷ past)) k ≡ Some r → IsSomeAnd (core.after j.task k told_now) (λ later. ClocksOn k told_now later r)
       new_clock ys same few clock k r at none new g =
-          let three = is_some_and (core.after j.task k told_now) (b.standing k r g) in
+          let three = some_was _ (core.after j.task k told_now) (b.standing k r g) in
           let after_is : core.after j.task k (told_on ys told) ≡ Some three.0 = ap (core.after j.task k) (sym same) ∙ three.1 in
-          some_and (λ later. ClocksOn k told_now later r) three.0 three.1
+          some_and (λ later. ClocksOn k told_now later r) _ three.0 three.1
           (record {
             stood = ap (λ v. events.time (drop (length three.0) v)) same ∙ mark_time j.task k ys told three.0 few new after_is
                 ∙ clock (marked (cases_Bool (events.came is_mark ys)) three.0 after_is) ∙ sym at;
@@ -198,7 +192,7 @@ module _ (j : Job) (entry : Entry) (past : List Entry) (told held late : List Ev
 
           marked : (events.came is_mark ys ≡ true) ⊎ (events.came is_mark ys ≡ false) → (later : List Event) → core.after j.task k (told_on ys told) ≡ Some later → events.came is_mark ys ≡ true
           marked (inl h) later s = h
-          marked (inr h) later s = absurd (none_some later (none_through j.task k ys told h new) s)
+          marked (inr h) later s = absurd (none-some later (sym (none_through j.task k ys told h new) ∙ s))
 
       -- each
       each_clock : (ys : List Event) → told_now ≡ told_on ys told → (events.came is_reply ys ≡ true → at_reply (events.time told) ys ≡ time past) → (next ≡ true → AreFew ys)
@@ -209,7 +203,7 @@ module _ (j : Job) (entry : Entry) (past : List Entry) (told held late : List Ev
           gone = map (goes_on j entry past) (requests j past)
 
           fresh_one : Request
-          fresh_one = with_interrupt j (entry ∷ past) (fresh (count_queued (length (asked j (entry ∷ past)).ids) (map (goes_on j entry past) (requests j past)) + 1) (time past))
+          fresh_one = with_interrupt j (entry ∷ past) (fresh (count_queued (length (ask_state j (entry ∷ past)).ids) (map (goes_on j entry past) (requests j past)) + 1) (time past))
 
           old : slice_get (map (goes_on j entry past) (requests j past)) k ≡ Some r → IsSomeAnd (core.after j.task k told_now) (λ later. ClocksOn k told_now later r)
           old e =
@@ -217,11 +211,11 @@ module _ (j : Job) (entry : Entry) (past : List Entry) (told held late : List Ev
               subst (λ v. IsSomeAnd (core.after j.task k told_now) (λ later. ClocksOn k told_now later v)) (sym q.2)
               (old_clock ys same clock k q.0 q.1 (h ∙ ap (λ v. Some v) q.2))
 
-          one_of : next ≡ true → IsIn (map (goes_on j entry past) (requests j past)) (with_interrupt j (entry ∷ past) (fresh (count_queued (length (asked j (entry ∷ past)).ids) (map (goes_on j entry past) (requests j past)) + 1) (time past))) k r
+          one_of : next ≡ true → IsIn (map (goes_on j entry past) (requests j past)) (with_interrupt j (entry ∷ past) (fresh (count_queued (length (ask_state j (entry ∷ past)).ids) (map (goes_on j entry past) (requests j past)) + 1) (time past))) k r
               → IsSomeAnd (core.after j.task k told_now) (λ later. ClocksOn k told_now later r)
           one_of n (before e) = old e
           one_of n (last e g) =
-              let below : k < length (requests j (entry ∷ past)) = get_below (requests j (entry ∷ past)) k r h in
+              let below : k < length (requests j (entry ∷ past)) = slice_get_within (requests j (entry ∷ past)) k r h in
               let most = (few_requests j (entry ∷ past)).1 in
               let l : length (map (goes_on j entry past) (requests j past)) ≡ length (requests j past) = length-map (requests j past) (goes_on j entry past) in
               new_clock ys same (few n) (mark n) k r (ap (λ (v : Request). v.clock) g) (ap reply g) (a.none k (omega (arith, below, most)) (omega (arith, e, l))) h

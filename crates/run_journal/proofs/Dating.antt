@@ -8,7 +8,7 @@ use Rattle.world.specs.declared.entry.Entry.{Entry}
 use Rattle.cell_core.specs.declared.event.Event.{Event}
 use Rattle.cell_core.specs.declared.event.Event.TheVariants as event
 use Rattle.cell_core.specs.Task.{Task}
-use Rattle.cell_core.specs.Deadlines.{is_first_look, is_unanswered, queued}
+use Rattle.cell_core.specs.Deadlines.{is_first_look, is_unanswered, is_queued}
 use Rattle.cell_core.specs.Events as events
 use Rattle.cell_core.specs.Requests as core
 use Rattle.run_journal.specs.Job.{Job}
@@ -102,9 +102,9 @@ started_more (Some t) ms = refl
 started_more None ms = refl
 
 -- the clock of the child's start
-pub start_is : (d : ℕ) (told : List Event) → events.started told ≡ (seen d told).start
+pub start_is : (d : ℕ) (told : List Event) → events.start_time told ≡ (seen d told).start
 start_is d [] = refl
-start_is d (event.Moment ms ∷ told) = started_more (events.started told) ms ∙ ap (λ o. or_later o (Some ms)) (start_is d told)
+start_is d (event.Moment ms ∷ told) = started_more (events.start_time told) ms ∙ ap (λ o. or_later o (Some ms)) (start_is d told)
 start_is d (event.Looked ∷ told) = start_is d told
 start_is d (event.Saved ∷ told) = start_is d told
 start_is d (event.Ready ∷ told) = start_is d told
@@ -181,10 +181,10 @@ module _ (d : ℕ) where
   or_some None false ms = refl
 
   -- there was one
-  pub held_is : (told : List Event) → events.held (events.is_turn_at d) told ≡ is_some (seen d told).first
+  pub held_is : (told : List Event) → events.ever (events.is_turn_at d) told ≡ is_some (seen d told).first
   held_is [] = refl
   held_is (event.Moment ms ∷ told) =
-      ap (λ b. b || events.held (events.is_turn_at d) told) (turn_is ms told)
+      ap (λ b. b || events.ever (events.is_turn_at d) told) (turn_is ms told)
       ∙ ap (λ b. passes d ms (seen d told) || b) (held_is told)
       ∙ sym (or_some (seen d told).first (passes d ms (seen d told)) ms)
   held_is (event.Looked ∷ told) = held_is told
@@ -196,10 +196,10 @@ module _ (d : ℕ) where
   held_is (event.Broken ∷ told) = held_is told
 
   -- a look followed it
-  pub found_is : (told : List Event) → events.looked (events.is_turn_at d) told ≡ (seen d told).found
+  pub found_is : (told : List Event) → events.look_since (events.is_turn_at d) told ≡ (seen d told).found
   found_is [] = refl
   found_is (event.Moment ms ∷ told) = found_is told
-  found_is (event.Looked ∷ told) = ap (λ b. b || events.looked (events.is_turn_at d) told) (held_is told) ∙ ap (λ b. is_some (seen d told).first || b) (found_is told)
+  found_is (event.Looked ∷ told) = ap (λ b. b || events.look_since (events.is_turn_at d) told) (held_is told) ∙ ap (λ b. is_some (seen d told).first || b) (found_is told)
   found_is (event.Saved ∷ told) = found_is told
   found_is (event.Ready ∷ told) = found_is told
   found_is (event.Io b ∷ told) = found_is told
@@ -258,16 +258,16 @@ module _ (d : ℕ) where
 
   -- where no reply came, no stream broke and no look found a loss, the interrupt was queued exactly where a look came with no
   -- clock entry between
-  pub queued_is : (task : Task) (k : ℕ) (told : List Event) → is_unanswered (core.after task k told) ≡ true → events.came events.is_broken told ≡ false → events.looked events.is_lost told ≡ false
-      → queued task k d told ≡ (seen d told).queued
+  pub queued_is : (task : Task) (k : ℕ) (told : List Event) → is_unanswered (core.after task k told) ≡ true → events.came events.is_broken told ≡ false → events.look_since events.is_lost told ≡ false
+      → is_queued task k d told ≡ (seen d told).queued
   queued_is task k [] u b l = refl
   queued_is task k (event.Looked ∷ told) u b l =
-      let p = or_parts (events.held events.is_lost told) (events.looked events.is_lost told) l in
+      let p = or_parts (events.ever events.is_lost told) (events.look_since events.is_lost told) l in
       let v = unanswered_before task k event.Looked told u in
-      ap (λ x. (is_first_look (events.since (events.is_turn_at d) told) && is_unanswered (core.after task k told) && not (events.came events.is_broken told) && not x) || queued task k d told) p.0
-      ∙ ap (λ x. (is_first_look (events.since (events.is_turn_at d) told) && is_unanswered (core.after task k told) && not x && true) || queued task k d told) b
-      ∙ ap (λ x. (is_first_look (events.since (events.is_turn_at d) told) && x && true && true) || queued task k d told) v
-      ∙ ap (λ x. x || queued task k d told) (three_true (is_first_look (events.since (events.is_turn_at d) told)) ∙ fresh_is told)
+      ap (λ x. (is_first_look (events.since (events.is_turn_at d) told) && is_unanswered (core.after task k told) && not (events.came events.is_broken told) && not x) || is_queued task k d told) p.0
+      ∙ ap (λ x. (is_first_look (events.since (events.is_turn_at d) told) && is_unanswered (core.after task k told) && not x && true) || is_queued task k d told) b
+      ∙ ap (λ x. (is_first_look (events.since (events.is_turn_at d) told) && x && true && true) || is_queued task k d told) v
+      ∙ ap (λ x. x || is_queued task k d told) (three_true (is_first_look (events.since (events.is_turn_at d) told)) ∙ fresh_is told)
       ∙ ap (λ x. (seen d told).fresh || x) (queued_is task k told v b p.1)
     where
       three_true : (x : Bool) → (x && true && true && true) ≡ x

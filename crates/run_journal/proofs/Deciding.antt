@@ -1,32 +1,29 @@
 -- Where the loop keeps its rules the core stops where the job does, and for the same cause.
-use Rattle.std.proofs.Common.{◌≡◌, inl, inr, ℕ, suc, ◌+◌, ◌<◌, List, [], length, Bool, true, false, ◌&&◌, not, cond, Option, Some, None, refl, sym, ◌∙◌, ap, subst}
+use Rattle.std.proofs.Common.{◌≡◌, ℕ, suc, ◌+◌, ◌<◌, List, [], length, Bool, true, false, ◌&&◌, not, cond, Option, Some, None, refl, sym, ◌∙◌, ap, subst}
 use Rattle.std.specs.Prelude.{is_some, is_none, option_map, slice_get}
-use Rattle.std.proofs.lemmas.Bool.{cases_Bool}
-use Rattle.std.proofs.lemmas.Option.{same_Some}
+use Rattle.std.proofs.lemmas.Option.{same_Some, none-some}
 use Rattle.kernel_lines.proofs.LineLemmas.{same_tests}
 use Rattle.world.specs.declared.entry.Entry.{Entry}
 use Rattle.cell_core.specs.declared.event.Event.{Event}
 use Rattle.cell_core.specs.declared.why.Why.TheVariants as cause
-use Rattle.cell_core.specs.Deadlines.{first_deadline, queued}
+use Rattle.cell_core.specs.Deadlines.{first_deadline, is_queued}
 use Rattle.cell_core.specs.Events as events
 use Rattle.cell_core.specs.Requests as core
 use Rattle.cell_core.specs.Saves as core_saves
 use Rattle.run_journal.specs.Codec.{Arrival}
 use Rattle.run_journal.specs.Job.{Job}
-use Rattle.run_journal.specs.Parts.{acked}
+use Rattle.run_journal.specs.Parts.{saves_of}
 use Rattle.run_journal.specs.Looks.{is_lost}
 use Rattle.run_journal.specs.Requests.{Request, reply, or_later, deadline, is_broken, requests, last_request}
 use Rattle.run_journal.specs.Why.{bad_stream, is_done, is_error, is_not_ready, is_no_idle, is_out, is_timed_out, last_deadline, cause_if, why}
 use Rattle.run_journal.specs.Decoding.{IsDecoding}
 use Rattle.run_journal.specs.Course.{course}
-use Rattle.run_journal.specs.Agreement.{AgreesOn, BeginsUnread, EndsLooks, Flows, KeepsTime, is_dated, at_once, Hears, KeepsRules}
+use Rattle.run_journal.specs.Agreement.{AgreesOn, BeginsUnread, EndsLooks, Flows, KeepsTime, is_dated, KeepsRules}
 use Rattle.run_journal.proofs.Asking.{Stands, nothing, last, stands, done_same, error_same}
 use Rattle.run_journal.proofs.Flowing.{course_agrees}
-use Rattle.run_journal.proofs.Telling.{broken_told, bad_is, some_is, at_once_same}
+use Rattle.run_journal.proofs.Telling.{broken_told, bad_is}
 use Rattle.run_journal.proofs.Finding.{lost_found, undated_unlooked, lost_seen, lost_parts, lost_waited}
 use Rattle.run_journal.proofs.Dropping.{dropped}
-use Rattle.run_journal.proofs.Lasting.{hears_kept, unanswered_open}
-use Rattle.run_journal.proofs.Stopping.{from_at_once}
 use Rattle.run_journal.proofs.Running.{RanAtWait}
 use Rattle.run_journal.proofs.Interrupting.{ever_lost}
 use Rattle.run_journal.proofs.Rowing.{not_ready_same, no_idle_last, last_is, none_last, on, out_same, interrupt_same, standing_after, plus_more}
@@ -55,9 +52,9 @@ module _ (jobs : List Job) (j : Job) (past : List Entry) (dec : IsDecoding j.cod
   abbrev standing : Option core.Standing
   standing = core.standing j.task told
 
-  lost_same : events.looked events.is_lost told ≡ is_lost j past
+  lost_same : events.look_since events.is_lost told ≡ is_lost j past
   lost_same =
-      same_tests (events.looked events.is_lost told) (is_lost j past)
+      same_tests (events.look_since events.is_lost told) (is_lost j past)
       (λ e. ever_lost jobs j past k h (lost_found j past e))
       (λ e. lost_seen j past (undated_unlooked (dropped j past) un) s none (h (lost_waited j past (lost_parts j past e).1)) e)
 
@@ -74,7 +71,7 @@ module _ (jobs : List Job) (j : Job) (past : List Entry) (dec : IsDecoding j.cod
     broken_core : events.came events.is_broken told ≡ false
     broken_core = broken_told j dec past u f none ∙ b
 
-    lost_core : events.looked events.is_lost told ≡ false
+    lost_core : events.look_since events.is_lost told ≡ false
     lost_core = lost_same ∙ lost
 
     timed_last : (m : ℕ) (q : Request) (later : List Event) → length (requests j past) ≡ suc m → slice_get (requests j past) m ≡ Some q → AgreesOn j m later q → core.after j.task m told ≡ Some later
@@ -111,17 +108,17 @@ module _ (jobs : List Job) (j : Job) (past : List Entry) (dec : IsDecoding j.cod
   pub why_open : core_saves.why j.task told ≡ why j past
   why_open =
       ap (λ v. cond v (Some cause.Done) (core_saves.why_not_done j.task standing told)) (done_same j told past (course_agrees j past f) plan)
-      ∙ ap (λ v. cond (is_done j (acked j past) (requests j past)) (Some cause.Done) (cond v (Some cause.CellError) (cond (events.came events.is_broken told) (Some cause.BadPeer) (cond (events.looked events.is_lost told) (Some cause.KernelLost) (core_saves.late_cause j.task standing told)))))
+      ∙ ap (λ v. cond (is_done j (saves_of j past) (requests j past)) (Some cause.Done) (cond v (Some cause.CellError) (cond (events.came events.is_broken told) (Some cause.BadPeer) (cond (events.look_since events.is_lost told) (Some cause.KernelLost) (core_saves.late_cause j.task standing told)))))
       (error_same j told past (course_agrees j past f))
-      ∙ ap (λ v. cond (is_done j (acked j past) (requests j past)) (Some cause.Done) (cond (is_error j (last_request 0 (requests j past))) (Some cause.CellError) (cond v (Some cause.BadPeer) (cond (events.looked events.is_lost told) (Some cause.KernelLost) (core_saves.late_cause j.task standing told)))))
+      ∙ ap (λ v. cond (is_done j (saves_of j past) (requests j past)) (Some cause.Done) (cond (is_error j (last_request 0 (requests j past))) (Some cause.CellError) (cond v (Some cause.BadPeer) (cond (events.look_since events.is_lost told) (Some cause.KernelLost) (core_saves.late_cause j.task standing told)))))
       broken_same
-      ∙ ap (λ v. cond (is_done j (acked j past) (requests j past)) (Some cause.Done) (cond (is_error j (last_request 0 (requests j past))) (Some cause.CellError) (cond (is_some (bad_stream j past)) (Some cause.BadPeer) (cond v (Some cause.KernelLost) (core_saves.late_cause j.task standing told)))))
+      ∙ ap (λ v. cond (is_done j (saves_of j past) (requests j past)) (Some cause.Done) (cond (is_error j (last_request 0 (requests j past))) (Some cause.CellError) (cond (is_some (bad_stream j past)) (Some cause.BadPeer) (cond v (Some cause.KernelLost) (core_saves.late_cause j.task standing told)))))
       lost_same
-      ∙ ap (λ v. cond (is_done j (acked j past) (requests j past)) (Some cause.Done) (cond (is_error j (last_request 0 (requests j past))) (Some cause.CellError) (cond (is_some (bad_stream j past)) (Some cause.BadPeer) (cond (is_lost j past) (Some cause.KernelLost)
+      ∙ ap (λ v. cond (is_done j (saves_of j past) (requests j past)) (Some cause.Done) (cond (is_error j (last_request 0 (requests j past))) (Some cause.CellError) (cond (is_some (bad_stream j past)) (Some cause.BadPeer) (cond (is_lost j past) (Some cause.KernelLost)
       (cond v (Some cause.NotReady) (cond (core_saves.is_no_idle standing told) (Some cause.NoIdle) (cond (core_saves.is_timed_out j.task standing told) (Some cause.TimedOut) None))))))) (not_ready_same jobs j past k h f t plan none un)
-      ∙ ap (λ v. cond (is_done j (acked j past) (requests j past)) (Some cause.Done) (cond (is_error j (last_request 0 (requests j past))) (Some cause.CellError) (cond (is_some (bad_stream j past)) (Some cause.BadPeer) (cond (is_lost j past) (Some cause.KernelLost)
+      ∙ ap (λ v. cond (is_done j (saves_of j past) (requests j past)) (Some cause.Done) (cond (is_error j (last_request 0 (requests j past))) (Some cause.CellError) (cond (is_some (bad_stream j past)) (Some cause.BadPeer) (cond (is_lost j past) (Some cause.KernelLost)
       (cond (is_not_ready j (requests j past) past) (Some cause.NotReady) (cond v (Some cause.NoIdle) (cond (core_saves.is_timed_out j.task standing told) (Some cause.TimedOut) None))))))) no_idle_same
-      ∙ same_rows (is_done j (acked j past) (requests j past)) (is_error j (last_request 0 (requests j past))) (is_some (bad_stream j past)) (is_lost j past)
+      ∙ same_rows (is_done j (saves_of j past) (requests j past)) (is_error j (last_request 0 (requests j past))) (is_some (bad_stream j past)) (is_lost j past)
       (is_not_ready j (requests j past) past) (is_no_idle j (last_request 0 (requests j past)) past) (core_saves.is_timed_out j.task standing told) (is_timed_out j (last_request 0 (requests j past)) past)
       (λ x y. timed_same (sym (bad_is j past) ∙ x) y)
     where
@@ -132,41 +129,22 @@ module _ (jobs : List Job) (j : Job) (past : List Entry) (dec : IsDecoding j.cod
 
   -- the last request has its interrupt queued for both
   pub interrupts_open : is_broken j past ≡ false → is_lost j past ≡ false → j.task.times.interrupt ≡ true → (m : ℕ) (q : Request) (c : ℕ) → last_request 0 (requests j past) ≡ Some (m, q) → reply q ≡ None
-      → deadline j q ≡ Some c → queued j.task m c told ≡ q.interrupted
+      → deadline j q ≡ Some c → is_queued j.task m c told ≡ q.interrupted
   interrupts_open b lost i m q c e r dead = by standing refl (stands j told past (course_agrees j past f))
     where
       no_last : ◌≡◌ {A = Option (ℕ × Request)} None (Some (m, q)) → ⊥
       no_last g = cc
 
       under : (o : Option ℕ) → j.task.times.limit_ms ≡ o → deadline j q ≡ Some c → q.clock < c
-      under None g d = absurd (no_some (sym (ap (option_map (λ limit. q.clock + limit)) g) ∙ d))
-        where
-          no_some : None ≡ Some c → ⊥
-          no_some x = cc
+      under None g d = absurd (none-some c (sym (ap (option_map (λ limit. q.clock + limit)) g) ∙ d))
       under (Some n) g d = subst (λ v. q.clock < v) (same_Some _ _ (sym (ap (option_map (λ limit. q.clock + limit)) g) ∙ d)) (plus_more q.clock n (limits n g))
 
-      by : (o : Option core.Standing) → core.standing j.task told ≡ o → Stands j told past o → queued j.task m c told ≡ q.interrupted
+      by : (o : Option core.Standing) → core.standing j.task told ≡ o → Stands j told past o → is_queued j.task m c told ≡ q.interrupted
       by None g (nothing l) = absurd (no_last (sym (none_last jobs j past k h f t plan l) ∙ e))
       by (Some _) g (last n p later l x a) =
           let same : ◌≡◌ {A = ℕ × Request} (n, p) (m, q) = same_Some (n, p) (m, q) (sym (last_is jobs j past k h f t plan n p l x) ∙ e) in
           let p_is : p ≡ q = ap (λ (v : ℕ × Request). v.1) same in
-          ap (λ (v : ℕ × Request). queued j.task v.0 c told) (sym same)
+          ap (λ (v : ℕ × Request). is_queued j.task v.0 c told) (sym same)
           ∙ interrupt_same jobs j past k h f t plan none un n p later l x a (standing_after j.task (length j.task.plan) told (record { request = n; later = later }) g) dec u b lost (broken_core b lost) (lost_core b lost) (ap reply p_is ∙ r) c
           (ap (deadline j) p_is ∙ dead) (subst (λ (v : Request). v.clock < c) (sym p_is) (under j.task.times.limit_ms refl dead)) i
           ∙ ap (λ (v : Request). v.interrupted) p_is
-
--- ---- where something may have come after the stop
-
-module _ (jobs : List Job) (j : Job) (past : List Entry) (dec : IsDecoding j.codec) (plan : 0 < length j.task.plan) (limits : (ms : ℕ) → j.task.times.limit_ms ≡ Some ms → 0 < ms) (k : KeepsRules jobs j past) (h : RanAtWait j past)
-    (u : BeginsUnread j past) (f : Flows j past) (t : KeepsTime j past) (s : EndsLooks j past) (l : Hears j past) (none : (course j past).held ≡ []) where
-  pub why_same : core_saves.why j.task (course j past).told ≡ why j past
-  why_same = elim (cases_Bool (is_some (at_once (why j past)))) [
-    | inl e ↦
-        let w = some_is (at_once (why j past)) e in
-        from_at_once (core_saves.why j.task (course j past).told) w.0 (at_once_same j dec plan past u f none ∙ w.1) ∙ sym (from_at_once (why j past) w.0 w.1)
-    | inr e ↦ why_open jobs j past dec plan limits k h u f t s none (hears_kept j dec plan past u l e)
-  ]
-
-  pub interrupts_same : is_broken j past ≡ false → is_lost j past ≡ false → j.task.times.interrupt ≡ true → (m : ℕ) (q : Request) (c : ℕ) → last_request 0 (requests j past) ≡ Some (m, q) → reply q ≡ None
-      → deadline j q ≡ Some c → queued j.task m c (course j past).told ≡ q.interrupted
-  interrupts_same b lost i m q c e r dead = interrupts_open jobs j past dec plan limits k h u f t s none (hears_kept j dec plan past u l (unanswered_open j past plan b m q e r)) b lost i m q c e r dead

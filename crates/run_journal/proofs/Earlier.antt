@@ -2,19 +2,20 @@
 use Rattle.std.proofs.Common.{◌≡◌, ◌⊎◌, inl, inr, ℕ, suc, ◌+◌, ◌<◌, List, [], ◌∷◌, ◌++◌, length, map, Bool, true, false, ◌&&◌, Option, Some, None, refl, sym, ◌∙◌, ap, subst, arith}
 use Rattle.std.specs.Prelude.{is_some, slice_get, nat_lt}
 use Rattle.std.proofs.lemmas.Bool.{and_parts, and_from, cond-true, cond-false, cases_Bool, lt-ltb}
+use Rattle.std.proofs.lemmas.Option.{slice_get_within}
 use Rattle.world.specs.declared.entry.Entry.{Entry}
 use Rattle.world.specs.Places.{time}
 use Rattle.run_journal.specs.Codec.{Arrival}
 use Rattle.run_journal.specs.Job.{Job}
-use Rattle.run_journal.specs.Parts.{acked, is_acknowledging}
-use Rattle.run_journal.specs.Arrivals.{asked, is_ready}
+use Rattle.run_journal.specs.Parts.{saves_of, is_acknowledging}
+use Rattle.run_journal.specs.Arrivals.{ask_state, is_ready}
 use Rattle.run_journal.specs.Looks.{ever, is_past}
 use Rattle.run_journal.specs.Requests.{Request, reply, goes_on, is_next, fresh, count_queued, with_interrupt, requests, last_request}
 use Rattle.run_journal.specs.Due.{all_along}
 use Rattle.run_journal.specs.Grow.{GoesOn, GoOn, no_more, one_more}
 use Rattle.run_journal.specs.Agreement.{rises}
 use Rattle.run_journal.proofs.Growth.{goes, begins_then, reply_stays, requests_go_on, go_self, length_on, goes_self}
-use Rattle.run_journal.proofs.Agreeing.{get_below, get_mapped, IsIn, before, last, get_pushed}
+use Rattle.run_journal.proofs.Agreeing.{get_mapped, IsIn, before, last, get_pushed}
 use Rattle.run_journal.proofs.Asking.{last_numbered}
 use Rattle.run_journal.proofs.Clocks.{first_new}
 use Rattle.run_journal.proofs.Lapse.{Before, here, earlier, ever_before, clock_from}
@@ -48,18 +49,18 @@ none_on (one_more g gs) e = cc
 -- a request that stands did before, or comes to stand now
 pub data CameBy (j : Job) (entry : Entry) (past : List Entry) (i : ℕ) (r : Request) : Type 0 where
   stood : (q : Request) → slice_get (requests j past) i ≡ Some q → r ≡ goes_on j entry past q → CameBy j entry past i r
-  anew : r ≡ with_interrupt j (entry ∷ past) (fresh (count_queued (length (asked j (entry ∷ past)).ids) (map (goes_on j entry past) (requests j past)) + 1) (time past)) → CameBy j entry past i r
+  anew : r ≡ with_interrupt j (entry ∷ past) (fresh (count_queued (length (ask_state j (entry ∷ past)).ids) (map (goes_on j entry past) (requests j past)) + 1) (time past)) → CameBy j entry past i r
 
 pub came_by : (j : Job) (entry : Entry) (past : List Entry) (i : ℕ) (r : Request) → slice_get (requests j (entry ∷ past)) i ≡ Some r → CameBy j entry past i r
 came_by j entry past i r e = by (cases_Bool next)
   where
     next : Bool
-    next = is_next j (is_acknowledging j (entry ∷ past)) (is_ready j (entry ∷ past)) (acked j (entry ∷ past)) (map (goes_on j entry past) (requests j past))
+    next = is_next j (is_acknowledging j (entry ∷ past)) (is_ready j (entry ∷ past)) (saves_of j (entry ∷ past)) (map (goes_on j entry past) (requests j past))
 
     old : slice_get (map (goes_on j entry past) (requests j past)) i ≡ Some r → CameBy j entry past i r
     old f = let q = get_mapped (goes_on j entry past) (requests j past) i r f in stood q.0 q.1 q.2
 
-    one_of : IsIn (map (goes_on j entry past) (requests j past)) (with_interrupt j (entry ∷ past) (fresh (count_queued (length (asked j (entry ∷ past)).ids) (map (goes_on j entry past) (requests j past)) + 1) (time past))) i r → CameBy j entry past i r
+    one_of : IsIn (map (goes_on j entry past) (requests j past)) (with_interrupt j (entry ∷ past) (fresh (count_queued (length (ask_state j (entry ∷ past)).ids) (map (goes_on j entry past) (requests j past)) + 1) (time past))) i r → CameBy j entry past i r
     one_of (before f) = old f
     one_of (last f g) = anew g
 
@@ -122,7 +123,7 @@ replied_before j d {q} (earlier {past} entry b) e f i r m g h l = by (λ o x y. 
 pub last_before : (j : Job) {q past : List Entry} → Before q past → (m : ℕ) (r : Request) → length (requests j past) ≡ suc m → (w : Was j q m r) → (length (requests j q) ≡ suc m) × (last_request 0 (requests j q) ≡ Some (m, w.old))
 last_before j {q} {past} b m r l w =
     let a = length_on (go_before j b) in
-    let c = get_below (requests j q) m w.old w.stands in
+    let c = slice_get_within (requests j q) m w.old w.stands in
     let n : length (requests j q) ≡ suc m = omega (arith, l, a, c) in
     let z : 0 + m ≡ m = omega arith in
     (n, last_numbered 0 m (requests j q) w.old n w.stands ∙ ap (λ i. Some (i, w.old)) z)
@@ -130,7 +131,7 @@ last_before j {q} {past} b m r l w =
 -- ---- readiness
 
 -- once the first save is acknowledged a kernel that is ready has a request to run, where one is planned
-pub ready_stands : (j : Job) (past : List Entry) → is_ready j past ≡ true → 0 < acked j past → 0 < length j.task.plan → requests j past ≡ [] → ⊥
+pub ready_stands : (j : Job) (past : List Entry) → is_ready j past ≡ true → 0 < saves_of j past → 0 < length j.task.plan → requests j past ≡ [] → ⊥
 ready_stands j [] r a p e = absurd (omega (arith, a))
 ready_stands j (entry ∷ past) r a p e = by (requests j past) refl
   where
@@ -140,10 +141,10 @@ ready_stands j (entry ∷ past) r a p e = by (requests j past) refl
 
     by : (rs : List Request) → requests j past ≡ rs → ⊥
     by [] f =
-        let some : is_next j (is_acknowledging j (entry ∷ past)) (is_ready j (entry ∷ past)) (acked j (entry ∷ past)) (map (goes_on j entry past) (requests j past)) ≡ true
-        = ap (λ rs. is_next j (is_acknowledging j (entry ∷ past)) (is_ready j (entry ∷ past)) (acked j (entry ∷ past)) (map (goes_on j entry past) rs)) f
-        ∙ and_from (is_ready j (entry ∷ past) && nat_lt 0 (acked j (entry ∷ past))) (nat_lt 0 (length j.task.plan))
-        (and_from (is_ready j (entry ∷ past)) (nat_lt 0 (acked j (entry ∷ past))) r (lt-ltb 0 (acked j (entry ∷ past)) a)) (lt-ltb 0 (length j.task.plan) p) in
+        let some : is_next j (is_acknowledging j (entry ∷ past)) (is_ready j (entry ∷ past)) (saves_of j (entry ∷ past)) (map (goes_on j entry past) (requests j past)) ≡ true
+        = ap (λ rs. is_next j (is_acknowledging j (entry ∷ past)) (is_ready j (entry ∷ past)) (saves_of j (entry ∷ past)) (map (goes_on j entry past) rs)) f
+        ∙ and_from (is_ready j (entry ∷ past) && nat_lt 0 (saves_of j (entry ∷ past))) (nat_lt 0 (length j.task.plan))
+        (and_from (is_ready j (entry ∷ past)) (nat_lt 0 (saves_of j (entry ∷ past))) r (lt-ltb 0 (saves_of j (entry ∷ past)) a)) (lt-ltb 0 (length j.task.plan) p) in
         none (map (goes_on j entry past) (requests j past)) _ (sym (cond-true _ _ _ some) ∙ e)
     by (x ∷ rs) f = absurd (some (sym f ∙ none_on (requests_go_on j entry past) e))
       where

@@ -5,7 +5,7 @@ use Rattle.jtext.proofs.Utf8s.{utf8_ascii}
 use Rattle.std.proofs.lemmas.Bool.{and_parts, and_right, and_from, cond-false, ltb-true}
 use Rattle.std.specs.List.{AllByRecursion, list_all}
 use Rattle.std.specs.Prelude.{is_some, nat_lt, ◌<◌, ◌&&◌, ◌||◌}
-use Rattle.jmsg.proofs.HeaderLemmas.{apart}
+use Rattle.jtext.proofs.Equals.{apart_bytes}
 use Rattle.jtext.specs.declared.json.Json.{Json}
 use Rattle.jtext.specs.declared.json.Json.TheVariants as json
 use Rattle.jtext.specs.Depth.{depth}
@@ -39,7 +39,7 @@ use Rattle.nb_migrate.proofs.Digits.{one_digit}
 use Rattle.zmtp_wire.specs.Meaning.{fault_in}
 use Rattle.kernel_talk.specs.Requests.{identifier}
 use Rattle.run_journal.specs.Job.{Job, Refuses}
-use Rattle.run_journal.specs.Looks.{looked, is_lost}
+use Rattle.run_journal.specs.Looks.{is_look, is_lost}
 use Rattle.run_journal.specs.Why.{bad_stream}
 use Rattle.run_journal.specs.Saves.{saves}
 use Rattle.run_journal.specs.Ends.{NotRead, status_of}
@@ -114,11 +114,11 @@ no_save : saves none unread ≡ []
 no_save = refl
 
 status_is : status_of none unread ≡ 3
-unfolding looked is_lost bad_stream fault_in
+unfolding is_look is_lost bad_stream fault_in
 status_is = refl
 
 lines_are : lines (none ∷ []) unread None ≡ Last (NotRead (codes "in")) (codes "out") ∷ []
-unfolding looked is_lost bad_stream fault_in
+unfolding is_look is_lost bad_stream fault_in
 lines_are = refl
 
 -- ---- an input that is run
@@ -172,7 +172,7 @@ keyed_cell =
     (keyed.pair (codes "metadata") _ _ (keyed.object [] keyed.no_pairs tt)
     (keyed.pair (codes "outputs") _ _ (keyed.array [] keyed.none)
     (keyed.pair (codes "source") _ _ (keyed.text (codes "1")) keyed.no_pairs))))))
-    ((apart (codes "execution_count") (codes "cell_type") refl, (apart (codes "id") (codes "cell_type") refl, (apart (codes "metadata") (codes "cell_type") refl, (apart (codes "outputs") (codes "cell_type") refl, (apart (codes "source") (codes "cell_type") refl, tt))))), ((apart (codes "id") (codes "execution_count") refl, (apart (codes "metadata") (codes "execution_count") refl, (apart (codes "outputs") (codes "execution_count") refl, (apart (codes "source") (codes "execution_count") refl, tt)))), ((apart (codes "metadata") (codes "id") refl, (apart (codes "outputs") (codes "id") refl, (apart (codes "source") (codes "id") refl, tt))), ((apart (codes "outputs") (codes "metadata") refl, (apart (codes "source") (codes "metadata") refl, tt)), ((apart (codes "source") (codes "outputs") refl, tt), (tt, tt))))))
+    ((apart_bytes (codes "execution_count") (codes "cell_type") refl, (apart_bytes (codes "id") (codes "cell_type") refl, (apart_bytes (codes "metadata") (codes "cell_type") refl, (apart_bytes (codes "outputs") (codes "cell_type") refl, (apart_bytes (codes "source") (codes "cell_type") refl, tt))))), ((apart_bytes (codes "id") (codes "execution_count") refl, (apart_bytes (codes "metadata") (codes "execution_count") refl, (apart_bytes (codes "outputs") (codes "execution_count") refl, (apart_bytes (codes "source") (codes "execution_count") refl, tt)))), ((apart_bytes (codes "metadata") (codes "id") refl, (apart_bytes (codes "outputs") (codes "id") refl, (apart_bytes (codes "source") (codes "id") refl, tt))), ((apart_bytes (codes "outputs") (codes "metadata") refl, (apart_bytes (codes "source") (codes "metadata") refl, tt)), ((apart_bytes (codes "source") (codes "outputs") refl, tt), (tt, tt))))))
 
 keyed_tree : Keyed tree
 keyed_tree =
@@ -181,7 +181,7 @@ keyed_tree =
     (keyed.pair (codes "metadata") _ _ (keyed.object [] keyed.no_pairs tt)
     (keyed.pair (codes "nbformat") _ _ (keyed.number (codes "4"))
     (keyed.pair (codes "nbformat_minor") _ _ (keyed.number (codes "5")) keyed.no_pairs))))
-    ((apart (codes "metadata") (codes "cells") refl, (apart (codes "nbformat") (codes "cells") refl, (apart (codes "nbformat_minor") (codes "cells") refl, tt))), ((apart (codes "nbformat") (codes "metadata") refl, (apart (codes "nbformat_minor") (codes "metadata") refl, tt)), ((apart (codes "nbformat_minor") (codes "nbformat") refl, tt), (tt, tt))))
+    ((apart_bytes (codes "metadata") (codes "cells") refl, (apart_bytes (codes "nbformat") (codes "cells") refl, (apart_bytes (codes "nbformat_minor") (codes "cells") refl, tt))), ((apart_bytes (codes "nbformat") (codes "metadata") refl, (apart_bytes (codes "nbformat_minor") (codes "metadata") refl, tt)), ((apart_bytes (codes "nbformat_minor") (codes "nbformat") refl, tt), (tt, tt))))
 
 -- it is nested four deep
 object_deep : (n : ℕ) (ps : List (List ℕ × Json)) → AllByRecursion (λ p. depth p.1 ≤ n) ps → depth (json.Obj ps) ≤ n + 1

@@ -6,7 +6,7 @@ use Rattle.world.specs.declared.entry.Entry.TheVariants as made
 use Rattle.run_journal.specs.Job.{Job}
 use Rattle.run_journal.specs.OfJob.{of_job}
 use Rattle.run_journal.specs.Arrivals.{arrive, is_shaken, can_ask, ask_on}
-use Rattle.run_journal.specs.Looks.{looked, can_ping, ping_on, is_silent, is_lost, ran_out}
+use Rattle.run_journal.specs.Looks.{is_look, can_ping, ping_on, is_silent, is_lost, ran_out}
 use Rattle.run_journal.specs.Requests.{is_broken, is_interrupted}
 use Rattle.run_journal.specs.Why.{bad_stream}
 use Rattle.run_journal.specs.Saves.{saves}
@@ -40,30 +40,30 @@ abbrev journal : List Entry
 journal = reverse told
 
 first_saves : map {B = ℕ × List ℕ} (λ s. (s.settled, s.text)) (saves one journal) ≡ (0, 0 ∷ 0 ∷ []) ∷ (1, 1 ∷ 0 ∷ 1 ∷ 255 ∷ []) ∷ []
-unfolding arrive is_shaken can_ask ask_on looked can_ping ping_on is_silent is_lost ran_out is_broken is_interrupted bad_stream
+unfolding arrive is_shaken can_ask ask_on is_look can_ping ping_on is_silent is_lost ran_out is_broken is_interrupted bad_stream
 first_saves = refl
 
 second_saves : map {B = ℕ × List ℕ} (λ s. (s.settled, s.text)) (saves two journal) ≡ (0, 0 ∷ 0 ∷ []) ∷ (1, 1 ∷ 1 ∷ 4 ∷ 255 ∷ []) ∷ []
-unfolding arrive is_shaken can_ask ask_on looked can_ping ping_on is_silent is_lost ran_out is_broken is_interrupted bad_stream
+unfolding arrive is_shaken can_ask ask_on is_look can_ping ping_on is_silent is_lost ran_out is_broken is_interrupted bad_stream
 second_saves = refl
 
 first_status : status_of one journal ≡ 0
-unfolding arrive is_shaken can_ask ask_on looked can_ping ping_on is_silent is_lost ran_out is_broken is_interrupted bad_stream
+unfolding arrive is_shaken can_ask ask_on is_look can_ping ping_on is_silent is_lost ran_out is_broken is_interrupted bad_stream
 first_status = refl
 
 second_status : status_of two journal ≡ 15
-unfolding arrive is_shaken can_ask ask_on looked can_ping ping_on is_silent is_lost ran_out is_broken is_interrupted bad_stream
+unfolding arrive is_shaken can_ask ask_on is_look can_ping ping_on is_silent is_lost ran_out is_broken is_interrupted bad_stream
 second_status = refl
 
 first_own_saves : map {B = ℕ × List ℕ} (λ s. (s.settled, s.text)) (saves one (of_job one journal)) ≡ (0, 0 ∷ 0 ∷ []) ∷ (1, 1 ∷ 0 ∷ 1 ∷ 255 ∷ []) ∷ []
-unfolding arrive is_shaken can_ask ask_on looked can_ping ping_on is_silent is_lost ran_out is_broken is_interrupted bad_stream
+unfolding arrive is_shaken can_ask ask_on is_look can_ping ping_on is_silent is_lost ran_out is_broken is_interrupted bad_stream
 first_own_saves = refl
 
 second_own_saves : map {B = ℕ × List ℕ} (λ s. (s.settled, s.text)) (saves two (of_job two journal)) ≡ (0, 0 ∷ 0 ∷ []) ∷ (1, 1 ∷ 1 ∷ 4 ∷ 255 ∷ []) ∷ []
-unfolding arrive is_shaken can_ask ask_on looked can_ping ping_on is_silent is_lost ran_out is_broken is_interrupted bad_stream
+unfolding arrive is_shaken can_ask ask_on is_look can_ping ping_on is_silent is_lost ran_out is_broken is_interrupted bad_stream
 second_own_saves = refl
 
 -- in the order in which the jobs end
 lines_are : lines (one ∷ two ∷ []) journal None ≡ Saved 0 1 (codes "out") ∷ Saved 0 1 (codes "out2") ∷ Saved 1 1 (codes "out") ∷ Last Done (codes "out") ∷ Saved 1 1 (codes "out2") ∷ Last (BadPeer (record { chan = Control; number = 1; at = 0 })) (codes "out2") ∷ []
-unfolding arrive is_shaken can_ask ask_on looked can_ping ping_on is_silent is_lost ran_out is_broken is_interrupted bad_stream
+unfolding arrive is_shaken can_ask ask_on is_look can_ping ping_on is_silent is_lost ran_out is_broken is_interrupted bad_stream
 lines_are = refl

@@ -8,7 +8,7 @@ use Rattle.world.specs.declared.read_file.ReadFile.TheVariants as found
 use Rattle.cell_core.specs.declared.why.Why.TheVariants as cause
 use Rattle.run_journal.specs.Job.{Job}
 use Rattle.run_journal.specs.Arrivals.{arrive, is_shaken, can_ask, ask_on}
-use Rattle.run_journal.specs.Looks.{looked, can_ping, ping_on, pings, pinged_of, is_silent, is_lost, ran_out}
+use Rattle.run_journal.specs.Looks.{is_look, can_ping, ping_on, pings, pinged_of, is_silent, is_lost, ran_out}
 use Rattle.run_journal.specs.Requests.{is_broken, is_interrupted}
 use Rattle.run_journal.specs.Why.{bad_stream, why}
 use Rattle.run_journal.specs.Ends.{Done, NotRead, BadSpec, NotSaved, NoNetwork, Spent, status_of, end_of}
@@ -36,67 +36,67 @@ abbrev short_too : Job
 short_too = record other { turns = 1 }
 
 input_fails : end_of job (made.Read (codes "in") 33554432 found.Failed ∷ []) ≡ Some (NotRead (codes "in"))
-unfolding arrive is_shaken can_ask ask_on looked can_ping ping_on is_silent is_lost ran_out is_broken is_interrupted bad_stream
+unfolding arrive is_shaken can_ask ask_on is_look can_ping ping_on is_silent is_lost ran_out is_broken is_interrupted bad_stream
 input_fails = refl
 
 no_name : end_of unnamed (read ∷ []) ≡ Some (BadSpec (codes "no name"))
-unfolding arrive is_shaken can_ask ask_on looked can_ping ping_on is_silent is_lost ran_out is_broken is_interrupted bad_stream
+unfolding arrive is_shaken can_ask ask_on is_look can_ping ping_on is_silent is_lost ran_out is_broken is_interrupted bad_stream
 no_name = refl
 
 spec_fails : end_of job (made.Read (codes "k/kernel.json") 1048576 found.Failed ∷ read ∷ []) ≡ Some (NotRead (codes "k/kernel.json"))
-unfolding arrive is_shaken can_ask ask_on looked can_ping ping_on is_silent is_lost ran_out is_broken is_interrupted bad_stream
+unfolding arrive is_shaken can_ask ask_on is_look can_ping ping_on is_silent is_lost ran_out is_broken is_interrupted bad_stream
 spec_fails = refl
 
 spec_refused : end_of unfit (made.Read (codes "k/kernel.json") 1048576 (found.Whole []) ∷ read ∷ []) ≡ Some (BadSpec (codes "no argv"))
-unfolding arrive is_shaken can_ask ask_on looked can_ping ping_on is_silent is_lost ran_out is_broken is_interrupted bad_stream
+unfolding arrive is_shaken can_ask ask_on is_look can_ping ping_on is_silent is_lost ran_out is_broken is_interrupted bad_stream
 spec_refused = refl
 
 -- where the input of another job was read last, the spec is that job's
 spec_of_another : end_of unfit (made.Read (codes "k/kernel.json") 1048576 (found.Whole []) ∷ made.Read (codes "in2") 33554432 (found.Whole []) ∷ read ∷ []) ≡ None
-unfolding arrive is_shaken can_ask ask_on looked can_ping ping_on is_silent is_lost ran_out is_broken is_interrupted bad_stream
+unfolding arrive is_shaken can_ask ask_on is_look can_ping ping_on is_silent is_lost ran_out is_broken is_interrupted bad_stream
 spec_of_another = refl
 
 no_word : status_of job (made.Word None ∷ read ∷ []) ≡ 6
-unfolding arrive is_shaken can_ask ask_on looked can_ping ping_on is_silent is_lost ran_out is_broken is_interrupted bad_stream
+unfolding arrive is_shaken can_ask ask_on is_look can_ping ping_on is_silent is_lost ran_out is_broken is_interrupted bad_stream
 no_word = refl
 
 no_ports : end_of job (made.Ports 0 None ∷ reverse (saved job)) ≡ Some NoNetwork
-unfolding arrive is_shaken can_ask ask_on looked can_ping ping_on is_silent is_lost ran_out is_broken is_interrupted bad_stream
+unfolding arrive is_shaken can_ask ask_on is_look can_ping ping_on is_silent is_lost ran_out is_broken is_interrupted bad_stream
 no_ports = refl
 
 no_file : end_of job (made.Created (codes "out.nbrun-kernel.json") did.Failed ∷ reverse (saved job)) ≡ Some (NotSaved (codes "connection file"))
-unfolding arrive is_shaken can_ask ask_on looked can_ping ping_on is_silent is_lost ran_out is_broken is_interrupted bad_stream
+unfolding arrive is_shaken can_ask ask_on is_look can_ping ping_on is_silent is_lost ran_out is_broken is_interrupted bad_stream
 no_file = refl
 
 no_child : status_of job (made.Started 0 (codes "k" ∷ []) [] (codes ".") did.Failed ∷ reverse (saved job)) ≡ 6
-unfolding arrive is_shaken can_ask ask_on looked can_ping ping_on is_silent is_lost ran_out is_broken is_interrupted bad_stream
+unfolding arrive is_shaken can_ask ask_on is_look can_ping ping_on is_silent is_lost ran_out is_broken is_interrupted bad_stream
 no_child = refl
 
 -- a failed sync of the folder counts for the job whose rename stands directly before it
 its_sync_fails : status_of job (made.DirSynced (codes ".") did.Failed ∷ made.Renamed (codes "out.nbrun-tmp") (codes "out") did.Done ∷ []) ≡ 10
-unfolding arrive is_shaken can_ask ask_on looked can_ping ping_on is_silent is_lost ran_out is_broken is_interrupted bad_stream
+unfolding arrive is_shaken can_ask ask_on is_look can_ping ping_on is_silent is_lost ran_out is_broken is_interrupted bad_stream
 its_sync_fails = refl
 
 -- and for no other job
 others_sync_fails : status_of other (made.DirSynced (codes ".") did.Failed ∷ made.Renamed (codes "out.nbrun-tmp") (codes "out") did.Done ∷ []) ≡ 16
-unfolding arrive is_shaken can_ask ask_on looked can_ping ping_on is_silent is_lost ran_out is_broken is_interrupted bad_stream
+unfolding arrive is_shaken can_ask ask_on is_look can_ping ping_on is_silent is_lost ran_out is_broken is_interrupted bad_stream
 others_sync_fails = refl
 
 -- a failed wait ends each job, in their order
 waits_fail : lines (job ∷ other ∷ []) (made.Waited 500 (record { ready = [] }) did.Failed ∷ reverse (saved job ++ start job ++ saved other ++ start other)) None ≡ Saved 0 2 (codes "out") ∷ Saved 0 2 (codes "out2") ∷ Last NoNetwork (codes "out") ∷ Last NoNetwork (codes "out2") ∷ []
-unfolding arrive is_shaken can_ask ask_on looked can_ping ping_on is_silent is_lost ran_out is_broken is_interrupted bad_stream
+unfolding arrive is_shaken can_ask ask_on is_look can_ping ping_on is_silent is_lost ran_out is_broken is_interrupted bad_stream
 waits_fail = refl
 
 waits_are_spent : lines (short ∷ short_too ∷ []) (reverse (saved short ++ start short ++ saved short_too ++ start short_too ++ (wait 500 [] ∷ made.Moment 510 ∷ []))) None ≡ Saved 0 2 (codes "out") ∷ Saved 0 2 (codes "out2") ∷ Last Spent (codes "out") ∷ Last Spent (codes "out2") ∷ []
-unfolding arrive is_shaken can_ask ask_on looked can_ping ping_on is_silent is_lost ran_out is_broken is_interrupted bad_stream
+unfolding arrive is_shaken can_ask ask_on is_look can_ping ping_on is_silent is_lost ran_out is_broken is_interrupted bad_stream
 waits_are_spent = refl
 
 memory_is_refused : lines (job ∷ []) (reverse (saved job)) (Some (Early (codes "nbrun") (codes "no memory"))) ≡ Saved 0 2 (codes "out") ∷ Early (codes "nbrun") (codes "no memory") ∷ []
-unfolding arrive is_shaken can_ask ask_on looked can_ping ping_on is_silent is_lost ran_out is_broken is_interrupted bad_stream
+unfolding arrive is_shaken can_ask ask_on is_look can_ping ping_on is_silent is_lost ran_out is_broken is_interrupted bad_stream
 memory_is_refused = refl
 
 done_is_said : line_text (Last Done (codes "out")) ≡ codes "out: done" ++ 10 ∷ []
-unfolding arrive is_shaken can_ask ask_on looked can_ping ping_on is_silent is_lost ran_out is_broken is_interrupted bad_stream
+unfolding arrive is_shaken can_ask ask_on is_look can_ping ping_on is_silent is_lost ran_out is_broken is_interrupted bad_stream
 done_is_said = refl
 
 -- ---- pings
@@ -117,24 +117,24 @@ pinged = saved beating ++ start beating ++ (begun beating Heart ∷ []) ++ turn 
     ++ beat 50 ++ beat 3050 ++ beat 6050 ++ beat 9050 ++ beat 12050 ++ beat 15050 ++ beat 18050 ++ beat 21050 ++ beat 24050 ++ beat 27050
 
 ten_are_queued : length (pings beating (reverse pinged)).queued ≡ 10
-unfolding arrive is_shaken can_ask ask_on looked can_ping ping_on is_silent is_lost ran_out is_broken is_interrupted bad_stream
+unfolding arrive is_shaken can_ask ask_on is_look can_ping ping_on is_silent is_lost ran_out is_broken is_interrupted bad_stream
 ten_are_queued = refl
 
 -- the tenth ends behind the greeting and ten pings of three octets
 tenth_is : (pinged_of (pings beating (reverse pinged))).tenth ≡ Some (record { at = 27050; end = 31 })
-unfolding arrive is_shaken can_ask ask_on looked can_ping ping_on is_silent is_lost ran_out is_broken is_interrupted bad_stream
+unfolding arrive is_shaken can_ask ask_on is_look can_ping ping_on is_silent is_lost ran_out is_broken is_interrupted bad_stream
 tenth_is = refl
 
 not_lost_yet : why beating (reverse (pinged ++ (wait 500 [] ∷ made.Moment 30049 ∷ made.Looked 0 None ∷ wait 0 [] ∷ []))) ≡ None
-unfolding arrive is_shaken can_ask ask_on looked can_ping ping_on is_silent is_lost ran_out is_broken is_interrupted bad_stream
+unfolding arrive is_shaken can_ask ask_on is_look can_ping ping_on is_silent is_lost ran_out is_broken is_interrupted bad_stream
 not_lost_yet = refl
 
 -- 3,000 ms past the tenth, with a look
 lost_then : why beating (reverse (pinged ++ (wait 500 [] ∷ made.Moment 30050 ∷ made.Looked 0 None ∷ wait 0 [] ∷ []))) ≡ Some cause.KernelLost
-unfolding arrive is_shaken can_ask ask_on looked can_ping ping_on is_silent is_lost ran_out is_broken is_interrupted bad_stream
+unfolding arrive is_shaken can_ask ask_on is_look can_ping ping_on is_silent is_lost ran_out is_broken is_interrupted bad_stream
 lost_then = refl
 
 -- a message on the heartbeat counts them anew
 echo_saves : why beating (reverse (pinged ++ (got beating Heart (0 ∷ 0 ∷ []) ∷ wait 500 [] ∷ made.Moment 30050 ∷ made.Looked 0 None ∷ wait 0 [] ∷ []))) ≡ None
-unfolding arrive is_shaken can_ask ask_on looked can_ping ping_on is_silent is_lost ran_out is_broken is_interrupted bad_stream
+unfolding arrive is_shaken can_ask ask_on is_look can_ping ping_on is_silent is_lost ran_out is_broken is_interrupted bad_stream
 echo_saves = refl

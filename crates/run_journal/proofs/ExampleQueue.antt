@@ -5,10 +5,10 @@ use Rattle.world.specs.declared.entry.Entry.{Entry}
 use Rattle.world.specs.declared.entry.Entry.TheVariants as made
 use Rattle.run_journal.specs.Job.{Job}
 use Rattle.run_journal.specs.Arrivals.{arrive, is_shaken, can_ask, ask_on}
-use Rattle.run_journal.specs.Looks.{looked, can_ping, ping_on, is_silent, is_lost, ran_out}
+use Rattle.run_journal.specs.Looks.{is_look, can_ping, ping_on, is_silent, is_lost, ran_out}
 use Rattle.run_journal.specs.Requests.{is_broken, is_interrupted}
 use Rattle.run_journal.specs.Why.{bad_stream}
-use Rattle.run_journal.specs.Due.{due}
+use Rattle.run_journal.specs.Due.{dues}
 use Rattle.run_journal.proofs.Toy.{job, saved, got, put, begun, closed, turn, start, printed}
 
 -- one cell, with a heartbeat
@@ -24,20 +24,20 @@ journal = reverse (saved beating ++ start beating ++ (begun beating Heart ∷ []
     ++ turn 50 ++ printed beating 2 21 ++ saved beating ++ (made.Moment 99 ∷ closed beating Shell ∷ made.Moment 120 ∷ []))
 
 -- the PONG comes before the request that the same entry brings
-shell_is : due beating Shell journal ≡ 100 ∷ 201 ∷ 1 ∷ 30 ∷ 108 ∷ 77 ∷ 202 ∷ 2 ∷ 40 ∷ []
-unfolding arrive is_shaken can_ask ask_on looked can_ping ping_on is_silent is_lost ran_out is_broken is_interrupted bad_stream
+shell_is : dues beating Shell journal ≡ 100 ∷ 201 ∷ 1 ∷ 30 ∷ 108 ∷ 77 ∷ 202 ∷ 2 ∷ 40 ∷ []
+unfolding arrive is_shaken can_ask ask_on is_look can_ping ping_on is_silent is_lost ran_out is_broken is_interrupted bad_stream
 shell_is = refl
 
 -- the date of the last message is that of the end
-control_is : due beating Control journal ≡ 100 ∷ 205 ∷ 3 ∷ 50 ∷ []
-unfolding arrive is_shaken can_ask ask_on looked can_ping ping_on is_silent is_lost ran_out is_broken is_interrupted bad_stream
+control_is : dues beating Control journal ≡ 100 ∷ 205 ∷ 3 ∷ 50 ∷ []
+unfolding arrive is_shaken can_ask ask_on is_look can_ping ping_on is_silent is_lost ran_out is_broken is_interrupted bad_stream
 control_is = refl
 
 -- the first ping is due at once: at 50, the first clock entry after readiness
-heart_is : due beating Heart journal ≡ 100 ∷ 204 ∷ 0 ∷ 0 ∷ []
-unfolding arrive is_shaken can_ask ask_on looked can_ping ping_on is_silent is_lost ran_out is_broken is_interrupted bad_stream
+heart_is : dues beating Heart journal ≡ 100 ∷ 204 ∷ 0 ∷ 0 ∷ []
+unfolding arrive is_shaken can_ask ask_on is_look can_ping ping_on is_silent is_lost ran_out is_broken is_interrupted bad_stream
 heart_is = refl
 
-iopub_is : due beating Iopub journal ≡ 100 ∷ 101 ∷ []
-unfolding arrive is_shaken can_ask ask_on looked can_ping ping_on is_silent is_lost ran_out is_broken is_interrupted bad_stream
+iopub_is : dues beating Iopub journal ≡ 100 ∷ 101 ∷ []
+unfolding arrive is_shaken can_ask ask_on is_look can_ping ping_on is_silent is_lost ran_out is_broken is_interrupted bad_stream
 iopub_is = refl

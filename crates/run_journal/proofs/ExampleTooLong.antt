@@ -5,7 +5,7 @@ use Rattle.world.specs.declared.entry.Entry.{Entry}
 use Rattle.cell_core.specs.declared.why.Why.TheVariants as cause
 use Rattle.run_journal.specs.Job.{Job}
 use Rattle.run_journal.specs.Arrivals.{arrive, is_shaken, can_ask, ask_on}
-use Rattle.run_journal.specs.Looks.{looked, can_ping, ping_on, is_silent, is_lost, ran_out}
+use Rattle.run_journal.specs.Looks.{is_look, can_ping, ping_on, is_silent, is_lost, ran_out}
 use Rattle.run_journal.specs.Requests.{own, requests, is_broken, is_interrupted}
 use Rattle.run_journal.specs.Why.{bad_stream, why}
 use Rattle.run_journal.specs.Saves.{saves}
@@ -37,29 +37,29 @@ abbrev silent : List Entry
 silent = asked ++ turn 11100 ++ dried ++ (wait 0 [] ∷ []) ++ saved limited
 
 interrupt_is_queued : map {B = ℕ × ℕ × ℕ × ℕ × Bool} (λ r. (r.number, r.clock, length (own r), length r.replies, r.interrupted)) (requests limited (reverse asked)) ≡ (2, 40, 0, 0, true) ∷ []
-unfolding arrive is_shaken can_ask ask_on looked can_ping ping_on is_silent is_lost ran_out is_broken is_interrupted bad_stream
+unfolding arrive is_shaken can_ask ask_on is_look can_ping ping_on is_silent is_lost ran_out is_broken is_interrupted bad_stream
 interrupt_is_queued = refl
 
 answered_why : why limited (reverse answered) ≡ Some cause.CellError
-unfolding arrive is_shaken can_ask ask_on looked can_ping ping_on is_silent is_lost ran_out is_broken is_interrupted bad_stream
+unfolding arrive is_shaken can_ask ask_on is_look can_ping ping_on is_silent is_lost ran_out is_broken is_interrupted bad_stream
 answered_why = refl
 
 answered_status : status_of limited (reverse answered) ≡ 1
-unfolding arrive is_shaken can_ask ask_on looked can_ping ping_on is_silent is_lost ran_out is_broken is_interrupted bad_stream
+unfolding arrive is_shaken can_ask ask_on is_look can_ping ping_on is_silent is_lost ran_out is_broken is_interrupted bad_stream
 answered_status = refl
 
 waited_why : why limited (reverse waited) ≡ None
-unfolding arrive is_shaken can_ask ask_on looked can_ping ping_on is_silent is_lost ran_out is_broken is_interrupted bad_stream
+unfolding arrive is_shaken can_ask ask_on is_look can_ping ping_on is_silent is_lost ran_out is_broken is_interrupted bad_stream
 waited_why = refl
 
 silent_why : why limited (reverse silent) ≡ Some cause.TimedOut
-unfolding arrive is_shaken can_ask ask_on looked can_ping ping_on is_silent is_lost ran_out is_broken is_interrupted bad_stream
+unfolding arrive is_shaken can_ask ask_on is_look can_ping ping_on is_silent is_lost ran_out is_broken is_interrupted bad_stream
 silent_why = refl
 
 silent_saves : map {B = ℕ × List ℕ} (λ s. (s.settled, s.text)) (saves limited (reverse silent)) ≡ (0, 0 ∷ 0 ∷ []) ∷ (1, 1 ∷ 1 ∷ 255 ∷ []) ∷ []
-unfolding arrive is_shaken can_ask ask_on looked can_ping ping_on is_silent is_lost ran_out is_broken is_interrupted bad_stream
+unfolding arrive is_shaken can_ask ask_on is_look can_ping ping_on is_silent is_lost ran_out is_broken is_interrupted bad_stream
 silent_saves = refl
 
 silent_status : status_of limited (reverse silent) ≡ 9
-unfolding arrive is_shaken can_ask ask_on looked can_ping ping_on is_silent is_lost ran_out is_broken is_interrupted bad_stream
+unfolding arrive is_shaken can_ask ask_on is_look can_ping ping_on is_silent is_lost ran_out is_broken is_interrupted bad_stream
 silent_status = refl

@@ -11,7 +11,7 @@ use Rattle.cell_core.specs.Acts.{is_empty_list}
 use Rattle.cell_core.specs.Events as events
 use Rattle.run_journal.specs.Job.{Job}
 use Rattle.run_journal.specs.Parts.{is_acknowledging, is_running}
-use Rattle.run_journal.specs.Looks.{looked, ever, is_silent, shows_lost, is_lost}
+use Rattle.run_journal.specs.Looks.{is_look, ever, is_silent, shows_lost, is_lost}
 use Rattle.run_journal.specs.Due.{all_along}
 use Rattle.run_journal.specs.Course.{when_so, in_look, ends_look, is_late, events_at, tell, late_then, told_saved, course}
 use Rattle.run_journal.specs.Agreement.{is_dated, HearsLooks, ends_looks, EndsLooks}
@@ -27,7 +27,7 @@ use Rattle.run_journal.proofs.Truths.{not_both}
 record Along (j : Job) (past : List Entry) : Type 0 where
   known : knows (course j past) ≡ true → ever (shows_lost j) past ≡ true
   late : events.came is_loss (course j past).late ≡ true → ever (shows_lost j) past ≡ true
-  before : in_look j past ≡ true → looked j past ≡ false → knows (course j past) ≡ true → ever (shows_lost j) (before_wait past) ≡ true
+  before : in_look j past ≡ true → is_look j past ≡ false → knows (course j past) ≡ true → ever (shows_lost j) (before_wait past) ≡ true
   found : finds (course j past) ≡ true → ever (is_lost j) past ≡ true
 
 -- a wait shows no loss
@@ -61,13 +61,13 @@ both_of : (b x : Bool) → cond b x false ≡ true → (b ≡ true) × (x ≡ tr
 both_of true x e = (refl, e)
 both_of false x e = cc
 
-pub lost_is : (j : Job) (past : List Entry) → looked j past ≡ true → ever (shows_lost j) (before_wait past) ≡ true → is_lost j past ≡ true
+pub lost_is : (j : Job) (past : List Entry) → is_look j past ≡ true → ever (shows_lost j) (before_wait past) ≡ true → is_lost j past ≡ true
 unfolding is_lost
-lost_is j past e f = and_from (looked j past) (ever (shows_lost j) (before_wait past)) e f
+lost_is j past e f = and_from (is_look j past) (ever (shows_lost j) (before_wait past)) e f
 
 module _ (j : Job) (entry : Entry) (past : List Entry) (i : Along j past) where
   -- a loss that is known of in a look, before its end, was shown before its wait
-  settled : in_look j (entry ∷ past) ≡ true → (is_wait entry ≡ true) ⊎ (looked j past ≡ false)
+  settled : in_look j (entry ∷ past) ≡ true → (is_wait entry ≡ true) ⊎ (is_look j past ≡ false)
       → ((shows_lost j (entry ∷ past) && not (is_late j entry past)) || knows (course j past)) ≡ true → ever (shows_lost j) (before_wait (entry ∷ past)) ≡ true
   settled e open_ h = by (cases_Bool (is_wait entry)) (or_cases (shows_lost j (entry ∷ past) && not (is_late j entry past)) (knows (course j past)) h)
     where
@@ -77,7 +77,7 @@ module _ (j : Job) (entry : Entry) (past : List Entry) (i : Along j past) where
           ∙ sym (ap (λ at. (is_wait entry || has_wait past) && is_called_for j at) (cond-false (is_wait entry) past (before_wait past) w))
           ∙ e
 
-      unlooked : is_wait entry ≡ false → (is_wait entry ≡ true) ⊎ (looked j past ≡ false) → looked j past ≡ false
+      unlooked : is_wait entry ≡ false → (is_wait entry ≡ true) ⊎ (is_look j past ≡ false) → is_look j past ≡ false
       unlooked w (inl v) = absurd (not_both (is_wait entry) v w)
       unlooked w (inr k) = k
 
@@ -87,7 +87,7 @@ module _ (j : Job) (entry : Entry) (past : List Entry) (i : Along j past) where
       by (inl w) (inr k) = ap (ever (shows_lost j)) (cond-true (is_wait entry) past (before_wait past) w) ∙ i.known k
       by (inr w) (inl k) =
           absurd (not_both (shows_lost j (entry ∷ past) && not (is_late j entry past)) k
-          (late_in_look (shows_lost j (entry ∷ past)) (in_look j past) (looked j past) (in_past w) (unlooked w open_)))
+          (late_in_look (shows_lost j (entry ∷ past)) (in_look j past) (is_look j past) (in_past w) (unlooked w open_)))
       by (inr w) (inr k) = ap (ever (shows_lost j)) (cond-false (is_wait entry) past (before_wait past) w) ∙ i.before (in_past w) (unlooked w open_) k
 
   -- one that waited for a look, or does so now, was shown
@@ -98,7 +98,7 @@ module _ (j : Job) (entry : Entry) (past : List Entry) (i : Along j past) where
       by (inl k) = or_right (shows_lost j (entry ∷ past)) (ever (shows_lost j) past) (i.late k)
       by (inr k) =
           or_left (shows_lost j (entry ∷ past)) (ever (shows_lost j) past)
-          (and_parts (shows_lost j (entry ∷ past)) (in_look j past) (and_parts (shows_lost j (entry ∷ past) && in_look j past) (not (looked j past)) k).0).0
+          (and_parts (shows_lost j (entry ∷ past)) (in_look j past) (and_parts (shows_lost j (entry ∷ past) && in_look j past) (not (is_look j past)) k).0).0
 
   -- one that the entry gives: now, or at the end of a look
   given : events.came is_loss (events_at j entry past (course j past).late) ≡ true
@@ -111,15 +111,15 @@ module _ (j : Job) (entry : Entry) (past : List Entry) (i : Along j past) where
       by (inr k) = inr (both_of (ends_look j entry past) _ k)
 
   -- the parts of a look's end
-  ends_parts : ends_look j entry past ≡ true → (in_look j (entry ∷ past) ≡ true) × (looked j (entry ∷ past) ≡ true) × ((is_wait entry ≡ true) ⊎ (looked j past ≡ false))
+  ends_parts : ends_look j entry past ≡ true → (in_look j (entry ∷ past) ≡ true) × (is_look j (entry ∷ past) ≡ true) × ((is_wait entry ≡ true) ⊎ (is_look j past ≡ false))
   ends_parts h =
-      let p = and_parts (in_look j (entry ∷ past) && looked j (entry ∷ past)) (is_wait entry || not (looked j past)) h in
-      let q = and_parts (in_look j (entry ∷ past)) (looked j (entry ∷ past)) p.0 in
-      (q.0, q.1, by (or_cases (is_wait entry) (not (looked j past)) p.1))
+      let p = and_parts (in_look j (entry ∷ past) && is_look j (entry ∷ past)) (is_wait entry || not (is_look j past)) h in
+      let q = and_parts (in_look j (entry ∷ past)) (is_look j (entry ∷ past)) p.0 in
+      (q.0, q.1, by (or_cases (is_wait entry) (not (is_look j past)) p.1))
     where
-      by : (is_wait entry ≡ true) ⊎ (not (looked j past) ≡ true) → (is_wait entry ≡ true) ⊎ (looked j past ≡ false)
+      by : (is_wait entry ≡ true) ⊎ (not (is_look j past) ≡ true) → (is_wait entry ≡ true) ⊎ (is_look j past ≡ false)
       by (inl w) = inl w
-      by (inr k) = inr (not-true (looked j past) k)
+      by (inr k) = inr (not-true (is_look j past) k)
 
   next_known : knows (course j (entry ∷ past)) ≡ true → ever (shows_lost j) (entry ∷ past) ≡ true
   next_known e = by (or_cases (knows (course j past)) _ (knows_next j entry past e))
@@ -133,18 +133,18 @@ module _ (j : Job) (entry : Entry) (past : List Entry) (i : Along j past) where
       by (inl k) = or_right (shows_lost j (entry ∷ past)) (ever (shows_lost j) past) (i.known k)
       by (inr k) = by_given (given k)
 
-  next_before : in_look j (entry ∷ past) ≡ true → looked j (entry ∷ past) ≡ false → knows (course j (entry ∷ past)) ≡ true → ever (shows_lost j) (before_wait (entry ∷ past)) ≡ true
-  next_before e unlooked h = settled e (by (cases_Bool (is_wait entry)) (cases_Bool (looked j past))) (known (or_cases (knows (course j past)) _ (knows_next j entry past h)))
+  next_before : in_look j (entry ∷ past) ≡ true → is_look j (entry ∷ past) ≡ false → knows (course j (entry ∷ past)) ≡ true → ever (shows_lost j) (before_wait (entry ∷ past)) ≡ true
+  next_before e unlooked h = settled e (by (cases_Bool (is_wait entry)) (cases_Bool (is_look j past))) (known (or_cases (knows (course j past)) _ (knows_next j entry past h)))
     where
-      by : (is_wait entry ≡ true) ⊎ (is_wait entry ≡ false) → (looked j past ≡ true) ⊎ (looked j past ≡ false) → (is_wait entry ≡ true) ⊎ (looked j past ≡ false)
+      by : (is_wait entry ≡ true) ⊎ (is_wait entry ≡ false) → (is_look j past ≡ true) ⊎ (is_look j past ≡ false) → (is_wait entry ≡ true) ⊎ (is_look j past ≡ false)
       by (inl w) k = inl w
-      by (inr w) (inl k) = absurd (not_both (looked j (entry ∷ past)) (looked_stays j entry past w k) unlooked)
+      by (inr w) (inl k) = absurd (not_both (is_look j (entry ∷ past)) (looked_stays j entry past w k) unlooked)
       by (inr w) (inr k) = inr k
 
       by_given : ((shows_lost j (entry ∷ past) && not (is_late j entry past)) ≡ true) ⊎ ((ends_look j entry past ≡ true) × ((events.came is_loss (course j past).late || is_late j entry past) ≡ true))
           → ((shows_lost j (entry ∷ past) && not (is_late j entry past)) || knows (course j past)) ≡ true
       by_given (inl k) = or_left _ (knows (course j past)) k
-      by_given (inr k) = absurd (not_both (looked j (entry ∷ past)) (ends_parts k.0).1 unlooked)
+      by_given (inr k) = absurd (not_both (is_look j (entry ∷ past)) (ends_parts k.0).1 unlooked)
 
       known : (knows (course j past) ≡ true) ⊎ (events.came is_loss (events_at j entry past (course j past).late) ≡ true)
           → ((shows_lost j (entry ∷ past) && not (is_late j entry past)) || knows (course j past)) ≡ true
@@ -174,8 +174,8 @@ along j [] = record { known = λ e. e; late = λ e. e; before = λ e k h. h; fou
 along j (entry ∷ past) = next j entry past (along j past)
 
 -- where the core has seen a look after a loss, the kernel is lost by the journal
-pub lost_found : (j : Job) (past : List Entry) → events.looked events.is_lost (course j past).told ≡ true → ever (is_lost j) past ≡ true
-lost_found j past e = (along j past).found (or_left (events.looked events.is_lost (course j past).told) _ e)
+pub lost_found : (j : Job) (past : List Entry) → events.look_since events.is_lost (course j past).told ≡ true → ever (is_lost j) past ≡ true
+lost_found j past e = (along j past).found (or_left (events.look_since events.is_lost (course j past).told) _ e)
 
 -- the same of what waits for a save too
 pub finds_lost : (j : Job) (past : List Entry) → finds (course j past) ≡ true → ever (is_lost j) past ≡ true
@@ -227,9 +227,9 @@ record Back (j : Job) (past : List Entry) : Type 0 where
   known : ever (shows_lost j) (before_wait past) ≡ true → (knows (course j past) ≡ true) ⊎ (stops j (course j past).told ≡ true)
   found : is_running j (before_wait past) ≡ true → is_lost j past ≡ true → finds (course j past) ≡ true
 
-pub lost_parts : (j : Job) (past : List Entry) → is_lost j past ≡ true → (looked j past ≡ true) × (ever (shows_lost j) (before_wait past) ≡ true)
+pub lost_parts : (j : Job) (past : List Entry) → is_lost j past ≡ true → (is_look j past ≡ true) × (ever (shows_lost j) (before_wait past) ≡ true)
 unfolding is_lost
-lost_parts j past e = and_parts (looked j past) (ever (shows_lost j) (before_wait past)) e
+lost_parts j past e = and_parts (is_look j past) (ever (shows_lost j) (before_wait past)) e
 
 module _ (j : Job) (entry : Entry) (past : List Entry) (u : events.came events.is_looked (dropped j (entry ∷ past)) ≡ false) (s : EndsLooks j (entry ∷ past)) (i : Back j past) where
   -- no look came after the stop now
@@ -271,23 +271,23 @@ module _ (j : Job) (entry : Entry) (past : List Entry) (u : events.came events.i
       by (inr w) k = i.known (ap (ever (shows_lost j)) (sym (cond-false (is_wait entry) past (before_wait past) w)) ∙ e)
 
   -- the look that shows the kernel lost ends with this entry
-  found_now : is_running j (before_wait (entry ∷ past)) ≡ true → is_lost j (entry ∷ past) ≡ true → (is_wait entry ≡ true) ⊎ (looked j past ≡ false) → finds (course j (entry ∷ past)) ≡ true
+  found_now : is_running j (before_wait (entry ∷ past)) ≡ true → is_lost j (entry ∷ past) ≡ true → (is_wait entry ≡ true) ⊎ (is_look j past ≡ false) → finds (course j (entry ∷ past)) ≡ true
   found_now runs lost new = by (known_before p.1)
     where
-      p : (looked j (entry ∷ past) ≡ true) × (ever (shows_lost j) (before_wait (entry ∷ past)) ≡ true)
+      p : (is_look j (entry ∷ past) ≡ true) × (ever (shows_lost j) (before_wait (entry ∷ past)) ≡ true)
       p = lost_parts j (entry ∷ past) lost
 
-      is_new : (is_wait entry ≡ true) ⊎ (looked j past ≡ false) → (is_wait entry || not (looked j past)) ≡ true
-      is_new (inl w) = or_left (is_wait entry) (not (looked j past)) w
-      is_new (inr k) = or_right (is_wait entry) (not (looked j past)) (not_from_false (looked j past) k)
+      is_new : (is_wait entry ≡ true) ⊎ (is_look j past ≡ false) → (is_wait entry || not (is_look j past)) ≡ true
+      is_new (inl w) = or_left (is_wait entry) (not (is_look j past)) w
+      is_new (inr k) = or_right (is_wait entry) (not (is_look j past)) (not_from_false (is_look j past) k)
 
       called : is_called_for j (before_wait (entry ∷ past)) ≡ true
       called = and_from (is_running j (before_wait (entry ∷ past))) _ runs (or_left (ever (shows_lost j) (before_wait (entry ∷ past))) _ p.1)
 
       ended : ends_look j entry past ≡ true
       ended =
-          and_from (in_look j (entry ∷ past) && looked j (entry ∷ past)) (is_wait entry || not (looked j past))
-          (and_from (in_look j (entry ∷ past)) (looked j (entry ∷ past)) (and_from (has_wait (entry ∷ past)) (is_called_for j (before_wait (entry ∷ past))) (lost_waited j (entry ∷ past) p.1) called) p.0)
+          and_from (in_look j (entry ∷ past) && is_look j (entry ∷ past)) (is_wait entry || not (is_look j past))
+          (and_from (in_look j (entry ∷ past)) (is_look j (entry ∷ past)) (and_from (has_wait (entry ∷ past)) (is_called_for j (before_wait (entry ∷ past))) (lost_waited j (entry ∷ past) p.1) called) p.0)
           (is_new new)
 
       by : (knows (course j past) ≡ true) ⊎ (stops j (course j past).told ≡ true) → finds (course j (entry ∷ past)) ≡ true
@@ -305,12 +305,12 @@ module _ (j : Job) (entry : Entry) (past : List Entry) (u : events.came events.i
           ∙ or_right (events.came events.is_looked (course j past).held) _ (gives_look j entry past (course j past).late ended)) unlooked)
 
   back_found : is_running j (before_wait (entry ∷ past)) ≡ true → is_lost j (entry ∷ past) ≡ true → finds (course j (entry ∷ past)) ≡ true
-  back_found runs lost = by (cases_Bool (is_wait entry)) (cases_Bool (looked j past))
+  back_found runs lost = by (cases_Bool (is_wait entry)) (cases_Bool (is_look j past))
     where
-      p : (looked j (entry ∷ past) ≡ true) × (ever (shows_lost j) (before_wait (entry ∷ past)) ≡ true)
+      p : (is_look j (entry ∷ past) ≡ true) × (ever (shows_lost j) (before_wait (entry ∷ past)) ≡ true)
       p = lost_parts j (entry ∷ past) lost
 
-      by : (is_wait entry ≡ true) ⊎ (is_wait entry ≡ false) → (looked j past ≡ true) ⊎ (looked j past ≡ false) → finds (course j (entry ∷ past)) ≡ true
+      by : (is_wait entry ≡ true) ⊎ (is_wait entry ≡ false) → (is_look j past ≡ true) ⊎ (is_look j past ≡ false) → finds (course j (entry ∷ past)) ≡ true
       by (inl w) k = found_now runs lost (inl w)
       by (inr w) (inr k) = found_now runs lost (inr k)
       by (inr w) (inl k) =
@@ -328,12 +328,12 @@ back j (entry ∷ past) u s =
 
 -- where the kernel is lost by the journal, the core has seen a look after a loss, as long as no look came after its stop
 pub lost_seen : (j : Job) (past : List Entry) → events.came events.is_looked (dropped j past) ≡ false → EndsLooks j past → (course j past).held ≡ [] → is_running j (before_wait past) ≡ true → is_lost j past ≡ true
-    → events.looked events.is_lost (course j past).told ≡ true
+    → events.look_since events.is_lost (course j past).told ≡ true
 lost_seen j past u s none runs lost =
-    sym (or-false (events.looked events.is_lost (course j past).told))
-    ∙ ap (λ es. events.looked events.is_lost (course j past).told || found_in (events.came is_loss (course j past).told) es) (sym none)
+    sym (or-false (events.look_since events.is_lost (course j past).told))
+    ∙ ap (λ es. events.look_since events.is_lost (course j past).told || found_in (events.came is_loss (course j past).told) es) (sym none)
     ∙ (back j past u s).found runs lost
 
 pub found_lost : (j : Job) (past : List Entry) → HearsLooks j past → EndsLooks j past → (course j past).held ≡ [] → is_running j (before_wait past) ≡ true → is_lost j past ≡ true
-    → events.looked events.is_lost (course j past).told ≡ true
+    → events.look_since events.is_lost (course j past).told ≡ true
 found_lost j past h s none runs lost = lost_seen j past (undated_unlooked (dropped j past) (looks_kept j past h)) s none runs lost

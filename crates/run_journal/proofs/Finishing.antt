@@ -18,7 +18,7 @@ use Rattle.cell_core.specs.declared.event.Event.TheVariants as event
 use Rattle.cell_core.specs.Acts.{is_empty_list}
 use Rattle.run_journal.specs.Job.{Job}
 use Rattle.run_journal.specs.Parts.{channels, connection, is_shut}
-use Rattle.run_journal.specs.Looks.{is_short_wait, is_drained, is_read_through, looked, shows_lost}
+use Rattle.run_journal.specs.Looks.{is_short_wait, is_drained, is_read_through, is_look, shows_lost}
 use Rattle.run_journal.specs.Due.{all_along}
 use Rattle.run_journal.specs.Awake.{implies, is_awake, is_closed, is_called_for, is_look_due, reads_all, looks_once}
 use Rattle.run_journal.specs.Course.{when_so, in_look, ends_look, is_late, tell, late_then, told_saved, course}
@@ -88,15 +88,15 @@ read_through jobs j (made.Waited ms reports how) past m w e s = all_channels (λ
     all_channels test f = and_from (test Shell) _ (f Shell) (and_from (test Control) _ (f Control) (and_from (test Iopub) _ (f Iopub) (and_from (test Heart) true (f Heart) refl)))
 read_through jobs j _ past m w e s = cc
 
-looked_from : (j : Job) (past : List Entry) → is_short_wait (to_wait past) ≡ true → is_read_through j past ≡ true → looked j past ≡ true
-unfolding looked
+looked_from : (j : Job) (past : List Entry) → is_short_wait (to_wait past) ≡ true → is_read_through j past ≡ true → is_look j past ≡ true
+unfolding is_look
 looked_from j past e f = and_from (is_short_wait (to_wait past)) (is_read_through j past) e f
 
 -- ---- what waits for a look
 
 -- a look is called for, and isn't over
 abbrev IsOpen : Job → List Entry → Type 0
-IsOpen j past = is_empty_list (course j past).late ≡ false → (in_look j past ≡ true) × (looked j past ≡ false)
+IsOpen j past = is_empty_list (course j past).late ≡ false → (in_look j past ≡ true) × (is_look j past ≡ false)
 
 late_left : (j : Job) (told late es : List Event) → is_empty_list (tell j told late es).late ≡ false → is_empty_list late ≡ false
 late_left j told late [] e = e
@@ -118,7 +118,7 @@ module _ (jobs : List Job) (j : Job) (entry : Entry) (past : List Entry) (k : Ke
           let p = i g in
           let q = and_parts (has_wait past) (is_called_for j (before_wait past)) p.0 in
           let done = or_off (is_wait entry && has_wait past) (is_done_wait (to_wait past)) w (and_from (is_wait entry) (has_wait past) f q.0) in
-          absurd (not_both (looked j past)
+          absurd (not_both (is_look j past)
           (looked_from j past
           (short_wait jobs j past k.among (rules_before jobs j entry past k).awake.looks q.0 done q.1)
           (read_through jobs j entry past k.among f (and_parts (reads_all jobs (entry ∷ past)) (all_along (reads_all jobs) past) k.awake.reads_each).0 (running_parts j past (runs_at_wait jobs j entry past k h f)).1)) p.1)
@@ -126,10 +126,10 @@ module _ (jobs : List Job) (j : Job) (entry : Entry) (past : List Entry) (k : Ke
   open_next : IsOpen j (entry ∷ past)
   open_next e = by (ends_look j entry past) refl (late_left j (told_saved j entry past (course j past).told) (late_then j entry past (course j past).late) _ e)
     where
-      goes : ends_look j entry past ≡ false → is_wait entry ≡ false → in_look j past ≡ true → looked j past ≡ false → (in_look j (entry ∷ past) ≡ true) × (looked j (entry ∷ past) ≡ false)
+      goes : ends_look j entry past ≡ false → is_wait entry ≡ false → in_look j past ≡ true → is_look j past ≡ false → (in_look j (entry ∷ past) ≡ true) × (is_look j (entry ∷ past) ≡ false)
       goes f g l o =
           let now : in_look j (entry ∷ past) ≡ true = ap (λ b. (b || has_wait past) && is_called_for j (before_wait (entry ∷ past))) g ∙ ap (λ at. has_wait past && is_called_for j at) (cond-false (is_wait entry) past (before_wait past) g) ∙ l in
-          (now, over (in_look j (entry ∷ past)) (looked j (entry ∷ past)) (is_wait entry) (looked j past) f now o)
+          (now, over (in_look j (entry ∷ past)) (is_look j (entry ∷ past)) (is_wait entry) (is_look j past) f now o)
         where
           over : (a b x y : Bool) → ((a && b) && (x || not y)) ≡ false → a ≡ true → y ≡ false → b ≡ false
           over true true x false f g l = absurd (not_both true refl (sym (or-true x) ∙ f))
@@ -141,14 +141,14 @@ module _ (jobs : List Job) (j : Job) (entry : Entry) (past : List Entry) (k : Ke
       unwaited true f g = absurd (g f)
       unwaited false f g = f
 
-      one : ends_look j entry past ≡ false → (is_empty_list (course j past).late ≡ false) ⊎ (is_late j entry past ≡ true) → (in_look j (entry ∷ past) ≡ true) × (looked j (entry ∷ past) ≡ false)
+      one : ends_look j entry past ≡ false → (is_empty_list (course j past).late ≡ false) ⊎ (is_late j entry past ≡ true) → (in_look j (entry ∷ past) ≡ true) × (is_look j (entry ∷ past) ≡ false)
       one f (inl g) = let p = i g in goes f (unwaited (is_wait entry) refl (λ x. not_both (is_empty_list (course j past).late) (on_time x) g)) p.0 p.1
       one f (inr g) =
-          let p = and_parts (shows_lost j (entry ∷ past) && in_look j past) (not (looked j past)) g in
+          let p = and_parts (shows_lost j (entry ∷ past) && in_look j past) (not (is_look j past)) g in
           let q = and_parts (shows_lost j (entry ∷ past)) (in_look j past) p.0 in
-          goes f (unwaited (is_wait entry) refl (λ x. not_both (shows_lost j (entry ∷ past)) q.0 (wait_shows_none j entry past x))) q.1 (not-true (looked j past) p.1)
+          goes f (unwaited (is_wait entry) refl (λ x. not_both (shows_lost j (entry ∷ past)) q.0 (wait_shows_none j entry past x))) q.1 (not-true (is_look j past) p.1)
 
-      by : (b : Bool) → ends_look j entry past ≡ b → is_empty_list (cond b [] ((course j past).late ++ when_so (is_late j entry past) event.Lost)) ≡ false → (in_look j (entry ∷ past) ≡ true) × (looked j (entry ∷ past) ≡ false)
+      by : (b : Bool) → ends_look j entry past ≡ b → is_empty_list (cond b [] ((course j past).late ++ when_so (is_late j entry past) event.Lost)) ≡ false → (in_look j (entry ∷ past) ≡ true) × (is_look j (entry ∷ past) ≡ false)
       by true f g = cc
       by false f g = one f (both_empty (course j past).late (is_late j entry past) g)
 

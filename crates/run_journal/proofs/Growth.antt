@@ -16,8 +16,8 @@ use Rattle.out_fold.specs.Cells.{says_idle}
 use Rattle.zmtp_wire.specs.Meaning.{Begins}
 use Rattle.run_journal.specs.Codec.{Arrival}
 use Rattle.run_journal.specs.Job.{Job, Given, Refuses, Prepares, Runs}
-use Rattle.run_journal.specs.Parts.{acked, is_acknowledging, is_shut, before_shut}
-use Rattle.run_journal.specs.Arrivals.{ask_on, asked, is_ready, is_asked, can_ask}
+use Rattle.run_journal.specs.Parts.{saves_of, is_acknowledging, is_shut, before_shut}
+use Rattle.run_journal.specs.Arrivals.{ask_on, ask_state, is_ready, is_asked, can_ask}
 use Rattle.run_journal.specs.Requests.{Request, through_idle, has_idle, own, first, reply, reply_date, as_used, use_of, is_over, is_fatal, is_passed, is_last_passed, with_interrupt, goes_on, is_next, count_queued, fresh, and_next, requests, or_later}
 use Rattle.run_journal.specs.Why.{cause_if, is_done, plan_end, why}
 use Rattle.run_journal.specs.Saves.{Save, save, passes, is_marked, last_cell, stop_save, stopping, is_complete, closing, run_saves, saves_for, saves_by, saves}
@@ -32,22 +32,22 @@ both_stay a b x y e = let p = and_parts a b e in and_from (a || x) (b || y) (or_
 -- a kernel that is ready stays ready
 pub ready_stays : (j : Job) (entry : Entry) (past : List Entry) → is_ready j past ≡ true → is_ready j (entry ∷ past) ≡ true
 unfolding ask_on
-ready_stays j entry past e = both_stay (asked j past).told (asked j past).heard _ _ e
+ready_stays j entry past e = both_stay (ask_state j past).told (ask_state j past).heard _ _ e
 
 not_asked : (can : Bool) (a : Asked) (clock : Option ℕ) → (a.told && a.heard) ≡ true → is_asked can a clock ≡ false
 not_asked can a None e = refl
 not_asked can a (Some ms) e = and_left (can && not (a.told && a.heard)) _ (and_right can _ (not_from_true (a.told && a.heard) e))
 
 -- and isn't asked any more
-pub asked_stays : (j : Job) (entry : Entry) (past : List Entry) → is_ready j past ≡ true → (asked j (entry ∷ past)).ids ≡ (asked j past).ids
+pub asked_stays : (j : Job) (entry : Entry) (past : List Entry) → is_ready j past ≡ true → (ask_state j (entry ∷ past)).ids ≡ (ask_state j past).ids
 unfolding ask_on
-asked_stays j entry past e = cond-false (is_asked (can_ask j past) (asked j past) (moment_of entry)) _ _ (not_asked (can_ask j past) (asked j past) (moment_of entry) e)
+asked_stays j entry past e = cond-false (is_asked (can_ask j past) (ask_state j past) (moment_of entry)) _ _ (not_asked (can_ask j past) (ask_state j past) (moment_of entry) e)
 
 -- ---- acknowledged saves
 
 -- none is taken back, and one entry acknowledges at most one
-pub acked_grows : (j : Job) (entry : Entry) (past : List Entry) → (acked j past ≤ acked j (entry ∷ past)) × (acked j (entry ∷ past) ≤ acked j past + 1)
-acked_grows j entry past = cond_both (is_acknowledging j (entry ∷ past)) (acked j past + 1) (acked j past) (λ n. (acked j past ≤ n) × (n ≤ acked j past + 1)) (λ e. (omega arith, omega arith)) (λ e. (omega arith, omega arith))
+pub acked_grows : (j : Job) (entry : Entry) (past : List Entry) → (saves_of j past ≤ saves_of j (entry ∷ past)) × (saves_of j (entry ∷ past) ≤ saves_of j past + 1)
+acked_grows j entry past = cond_both (is_acknowledging j (entry ∷ past)) (saves_of j past + 1) (saves_of j past) (λ n. (saves_of j past ≤ n) × (n ≤ saves_of j past + 1)) (λ e. (omega arith, omega arith)) (λ e. (omega arith, omega arith))
 
 -- ---- one request
 
@@ -160,8 +160,8 @@ go_append ts (one_more g gs) = one_more g (go_append ts gs)
 pub requests_go_on : (j : Job) (entry : Entry) (past : List Entry) → GoOn (requests j past) (requests j (entry ∷ past))
 requests_go_on j entry past =
     let rs : List Request = map (goes_on j entry past) (requests j past) in
-    cond_both (is_next j (is_acknowledging j (entry ∷ past)) (is_ready j (entry ∷ past)) (acked j (entry ∷ past)) rs)
-    (rs ++ with_interrupt j (entry ∷ past) (fresh (count_queued (length (asked j (entry ∷ past)).ids) rs + 1) (time past)) ∷ []) rs
+    cond_both (is_next j (is_acknowledging j (entry ∷ past)) (is_ready j (entry ∷ past)) (saves_of j (entry ∷ past)) rs)
+    (rs ++ with_interrupt j (entry ∷ past) (fresh (count_queued (length (ask_state j (entry ∷ past)).ids) rs + 1) (time past)) ∷ []) rs
     (λ ss. GoOn (requests j past) ss)
     (λ e. go_append _ (go_map j entry past (requests j past)))
     (λ e. go_map j entry past (requests j past))
@@ -215,8 +215,8 @@ no_row false w later e = refl
 pub no_requests : (j : Job) (past : List Entry) → length j.task.plan ≡ 0 → requests j past ≡ []
 no_requests j [] e = refl
 no_requests j (entry ∷ past) e =
-    let not_next : is_next j (is_acknowledging j (entry ∷ past)) (is_ready j (entry ∷ past)) (acked j (entry ∷ past)) [] ≡ false
-    = and_right (is_ready j (entry ∷ past) && nat_lt 0 (acked j (entry ∷ past))) (nat_lt 0 (length j.task.plan)) (ap (nat_lt 0) e) in
+    let not_next : is_next j (is_acknowledging j (entry ∷ past)) (is_ready j (entry ∷ past)) (saves_of j (entry ∷ past)) [] ≡ false
+    = and_right (is_ready j (entry ∷ past) && nat_lt 0 (saves_of j (entry ∷ past))) (nat_lt 0 (length j.task.plan)) (ap (nat_lt 0) e) in
     ap (λ rs. and_next j entry past (map (goes_on j entry past) rs)) (no_requests j past e) ∙ cond-false _ _ _ not_next
 
 -- where no request stands a stop makes no save
@@ -276,7 +276,7 @@ saves_by_grow j entry past none = given_grow j j.given (requests j past) (reques
   | inr some ↦
       subst (λ w. Begins (run_saves j (requests j past) w) (run_saves j (requests j (entry ∷ past)) (why j (entry ∷ past)))) (sym none)
       (run_saves_grow j (requests j past) (requests j (entry ∷ past)) (why j (entry ∷ past)) (requests_go_on j entry past)
-      (not_complete j (acked j past) (requests j past) some (no_row (is_done j (acked j past) (requests j past)) cause.Done _ none)))
+      (not_complete j (saves_of j past) (requests j past) some (no_row (is_done j (saves_of j past) (requests j past)) cause.Done _ none)))
 ])
 
 -- ---- up to the job's end

@@ -19,8 +19,8 @@ use Rattle.cell_core.specs.Requests as core
 use Rattle.out_fold.specs.Cells.{says_idle}
 use Rattle.run_journal.specs.Codec.{Arrival}
 use Rattle.run_journal.specs.Job.{Job}
-use Rattle.run_journal.specs.Parts.{acked, is_acknowledging}
-use Rattle.run_journal.specs.Arrivals.{arrive, asked, is_ready}
+use Rattle.run_journal.specs.Parts.{saves_of, is_acknowledging}
+use Rattle.run_journal.specs.Arrivals.{arrive, ask_state, is_ready}
 use Rattle.run_journal.specs.Requests.{Request, through_idle, has_idle, first, reply, is_over, is_fatal, is_parent, is_exec_reply, with_interrupt, goes_on, fresh, count_queued, is_next, requests, last_request}
 use Rattle.run_journal.specs.Grow.{ArePassed}
 use Rattle.run_journal.specs.Course.{brief_of, ios, replies, came_for}
@@ -40,9 +40,9 @@ none_unready j (entry ∷ past) e =
     let before : is_ready j past ≡ false = by (is_ready j past) refl in
     let old : requests j past ≡ [] = none_unready j past before in
     let none : map (goes_on j entry past) (requests j past) ≡ [] = ap (map (goes_on j entry past)) old in
-    cond-false (is_next j (is_acknowledging j (entry ∷ past)) (is_ready j (entry ∷ past)) (acked j (entry ∷ past)) (map (goes_on j entry past) (requests j past))) _ _
-    (ap (is_next j (is_acknowledging j (entry ∷ past)) (is_ready j (entry ∷ past)) (acked j (entry ∷ past))) none
-    ∙ and_left (is_ready j (entry ∷ past) && nat_lt 0 (acked j (entry ∷ past))) _ (and_left (is_ready j (entry ∷ past)) _ e))
+    cond-false (is_next j (is_acknowledging j (entry ∷ past)) (is_ready j (entry ∷ past)) (saves_of j (entry ∷ past)) (map (goes_on j entry past) (requests j past))) _ _
+    (ap (is_next j (is_acknowledging j (entry ∷ past)) (is_ready j (entry ∷ past)) (saves_of j (entry ∷ past))) none
+    ∙ and_left (is_ready j (entry ∷ past) && nat_lt 0 (saves_of j (entry ∷ past))) _ (and_left (is_ready j (entry ∷ past)) _ e))
     ∙ none
   where
     by : (b : Bool) → is_ready j past ≡ b → b ≡ false
@@ -50,7 +50,7 @@ none_unready j (entry ∷ past) e =
     by false h = refl
 
 module _ (j : Job) (entry : Entry) (told : List Event) (past : List Entry) (acks : is_acknowledging j (entry ∷ past) ≡ false) (a : Agrees j told past) where
-  saves_same : acked j (entry ∷ past) ≡ acked j past
+  saves_same : saves_of j (entry ∷ past) ≡ saves_of j past
   saves_same = cond-false (is_acknowledging j (entry ∷ past)) _ _ acks
 
   module _ (was : is_ready j past ≡ false) (now : is_ready j (entry ∷ past) ≡ true) where
@@ -58,24 +58,24 @@ module _ (j : Job) (entry : Entry) (told : List Event) (past : List Entry) (acks
     none_before = none_unready j past was
 
     abbrev fresh_one : Request
-    fresh_one = with_interrupt j (entry ∷ past) (fresh (count_queued (length (asked j (entry ∷ past)).ids) [] + 1) (time past))
+    fresh_one = with_interrupt j (entry ∷ past) (fresh (count_queued (length (ask_state j (entry ∷ past)).ids) [] + 1) (time past))
 
     abbrev next : Bool
-    next = is_next j (is_acknowledging j (entry ∷ past)) (is_ready j (entry ∷ past)) (acked j (entry ∷ past)) []
+    next = is_next j (is_acknowledging j (entry ∷ past)) (is_ready j (entry ∷ past)) (saves_of j (entry ∷ past)) []
 
     requests_are : requests j (entry ∷ past) ≡ cond next (fresh_one ∷ []) []
-    requests_are = ap (λ rs. cond (is_next j (is_acknowledging j (entry ∷ past)) (is_ready j (entry ∷ past)) (acked j (entry ∷ past)) rs)
-        (rs ++ with_interrupt j (entry ∷ past) (fresh (count_queued (length (asked j (entry ∷ past)).ids) rs + 1) (time past)) ∷ []) rs) (ap (map (goes_on j entry past)) none_before)
+    requests_are = ap (λ rs. cond (is_next j (is_acknowledging j (entry ∷ past)) (is_ready j (entry ∷ past)) (saves_of j (entry ∷ past)) rs)
+        (rs ++ with_interrupt j (entry ∷ past) (fresh (count_queued (length (ask_state j (entry ∷ past)).ids) rs + 1) (time past)) ∷ []) rs) (ap (map (goes_on j entry past)) none_before)
 
     -- the first request comes to stand for both
     first_both : 0 < length j.task.plan → stands_at j.task 0 (event.Ready ∷ told) ≡ next
     first_both p =
         ap (nat_lt 0) (a.acked ∙ sym saves_same)
-        ∙ sym (ap (λ b. (b && nat_lt 0 (acked j (entry ∷ past))) && nat_lt 0 (length j.task.plan)) now
-        ∙ and_true (nat_lt 0 (acked j (entry ∷ past))) (nat_lt 0 (length j.task.plan)) (lt-ltb 0 (length j.task.plan) p))
+        ∙ sym (ap (λ b. (b && nat_lt 0 (saves_of j (entry ∷ past))) && nat_lt 0 (length j.task.plan)) now
+        ∙ and_true (nat_lt 0 (saves_of j (entry ∷ past))) (nat_lt 0 (length j.task.plan)) (lt-ltb 0 (length j.task.plan) p))
 
     next_planned : next ≡ true → 0 < length j.task.plan
-    next_planned e = ltb-true 0 (length j.task.plan) (and_parts (is_ready j (entry ∷ past) && nat_lt 0 (acked j (entry ∷ past))) (nat_lt 0 (length j.task.plan)) e).1
+    next_planned e = ltb-true 0 (length j.task.plan) (and_parts (is_ready j (entry ∷ past) && nat_lt 0 (saves_of j (entry ∷ past))) (nat_lt 0 (length j.task.plan)) e).1
 
     no_length : length (requests j past) ≡ 0
     no_length = ap length none_before
@@ -157,9 +157,9 @@ coming_ready (io b) = refl
 coming_ready (replied f) = refl
 
 -- they tell no acknowledgement and no readiness
-acked_on : (es told : List Event) → AreComing es → events.acked (told_on es told) ≡ events.acked told
+acked_on : (es told : List Event) → AreComing es → events.ack_count (told_on es told) ≡ events.ack_count told
 acked_on [] told c = refl
-acked_on (e ∷ es) told c = acked_on es (e ∷ told) c.1 ∙ cond-false (events.is_saved e) (events.acked told + 1) (events.acked told) (coming_saved c.0)
+acked_on (e ∷ es) told c = acked_on es (e ∷ told) c.1 ∙ cond-false (events.is_saved e) (events.ack_count told + 1) (events.ack_count told) (coming_saved c.0)
 
 ready_on : (es told : List Event) → AreComing es → events.came events.is_ready (told_on es told) ≡ events.came events.is_ready told
 ready_on [] told c = refl
@@ -324,9 +324,9 @@ module _ (j : Job) (entry : Entry) (told : List Event) (past : List Entry) (acks
   came_are = coming_for j (last_request 0 (requests j past)) entry past
 
   gone_on : requests j (entry ∷ past) ≡ map (goes_on j entry past) (requests j past)
-  gone_on = cond-false (is_next j (is_acknowledging j (entry ∷ past)) (is_ready j (entry ∷ past)) (acked j (entry ∷ past)) (map (goes_on j entry past) (requests j past))) _ _
-      (next_none j (is_acknowledging j (entry ∷ past)) (is_ready j (entry ∷ past)) (acked j (entry ∷ past)) (goes_on j entry past) (requests j past) acks
-      (ap (λ b. is_next j false b (acked j (entry ∷ past)) (requests j past)) ready
+  gone_on = cond-false (is_next j (is_acknowledging j (entry ∷ past)) (is_ready j (entry ∷ past)) (saves_of j (entry ∷ past)) (map (goes_on j entry past) (requests j past))) _ _
+      (next_none j (is_acknowledging j (entry ∷ past)) (is_ready j (entry ∷ past)) (saves_of j (entry ∷ past)) (goes_on j entry past) (requests j past) acks
+      (ap (λ b. is_next j false b (saves_of j (entry ∷ past)) (requests j past)) ready
       ∙ ap (λ n. is_next j false (is_ready j past) n (requests j past)) (saves_same j entry told past acks a) ∙ no_next j past))
 
   one_on : (k : ℕ) (q : Request) (later : List Event) → slice_get (requests j past) k ≡ Some q → AgreesOn j k later q → AgreesOn j k (told_on es later) (goes_on j entry past q)

@@ -4,6 +4,7 @@ use Rattle.std.specs.Prelude.{is_some, option_map, option_to_list, slice_get, if
 use Rattle.std.specs.List.{list_any}
 use Rattle.std.proofs.lemmas.List.Folds.{list_any-append}
 use Rattle.std.proofs.lemmas.Bool.{and_parts, and_from, or_left, or_right, cond-true, cond-false, cases_Bool, false_from_ne_true, not_from_false, or_cases}
+use Rattle.std.proofs.lemmas.Option.{slice_get_within}
 use Rattle.world.specs.declared.chan.Chan.{Chan}
 use Rattle.world.specs.declared.chan.Chan.TheVariants.{Shell, Iopub}
 use Rattle.world.specs.declared.entry.Entry.{Entry}
@@ -12,7 +13,7 @@ use Rattle.world.specs.Waits.{is_wait, has_wait, before_wait}
 use Rattle.cell_core.specs.declared.why.Why.TheVariants as cause
 use Rattle.run_journal.specs.Codec.{Arrival}
 use Rattle.run_journal.specs.Job.{Job}
-use Rattle.run_journal.specs.Parts.{acked, is_running}
+use Rattle.run_journal.specs.Parts.{saves_of, is_running}
 use Rattle.run_journal.specs.Arrivals.{arrive}
 use Rattle.run_journal.specs.Looks.{ever, shows_lost, is_lost, is_past}
 use Rattle.run_journal.specs.Requests.{Request, reply, or_later, first_clock, just_ran_out, deadline, is_just_out, is_broken, is_interrupted, with_news, goes_on, requests, last_request}
@@ -32,7 +33,6 @@ use Rattle.run_journal.proofs.Running.{rules_before, RanAtWait, ran_before, runs
 use Rattle.run_journal.proofs.Turning.{first_waited, dates, dates_clock}
 use Rattle.run_journal.proofs.Lapse.{Before, here, earlier, wait_was, ever_before, clock_from, first_ever, first_before, wait_unstopped, ends_parts, clocks_kept, end_queues, then_seen, whole_is, still_now, just_parts, just_from, just_queued}
 use Rattle.run_journal.proofs.Earlier.{go_before, CameBy, stood, anew, came_by, stood_before, last_before}
-use Rattle.run_journal.proofs.Agreeing.{get_below}
 use Rattle.run_journal.proofs.Truths.{not_both, too_late}
 
 -- ---- what has not stopped a job
@@ -53,7 +53,7 @@ rows_none false false false false false false false f = (refl, refl, refl, refl)
 pub none_holds : (j : Job) (past : List Entry) → why j past ≡ None
     → (is_lost j past ≡ false) × (is_not_ready j (requests j past) past ≡ false) × (is_no_idle j (last_request 0 (requests j past)) past ≡ false) × (is_timed_out j (last_request 0 (requests j past)) past ≡ false)
 none_holds j past e =
-    rows_none (is_done j (acked j past) (requests j past)) (is_error j (last_request 0 (requests j past))) (is_some (bad_stream j past)) (is_lost j past)
+    rows_none (is_done j (saves_of j past) (requests j past)) (is_error j (last_request 0 (requests j past))) (is_some (bad_stream j past)) (is_lost j past)
     (is_not_ready j (requests j past) past) (is_no_idle j (last_request 0 (requests j past)) past) (is_timed_out j (last_request 0 (requests j past)) past) e
 
 -- a kernel that isn't lost wasn't before
@@ -205,7 +205,7 @@ module _ (d : ℕ) (jobs : List Job) (j : Job) where
           let at : o.clock ≡ r.clock = ap (λ (v : Request). v.clock) (sym m) in
           let dead : deadline j o ≡ Some d = same_deadline j r o at ∙ c in
           let under : o.clock < d = subst (λ v. v < d) (sym at) u in
-          let count : length (requests j past) ≡ suc i = (let a = length_on (go_before j {q = past} {past = entry ∷ past} (earlier entry here)) in let b = get_below (requests j past) i o s in omega (arith, l, a, b)) in
+          let count : length (requests j past) ≡ suc i = (let a = length_on (go_before j {q = past} {past = entry ∷ past} (earlier entry here)) in let b = slice_get_within (requests j past) i o s in omega (arith, l, a, b)) in
           elim q [
             | inl f ↦ queued_stays entry past k h (ih o s count none dead under f)
             | inr f ↦ now_queued entry past k h i o s count none dead under f.0 (sym (just_out j d (entry ∷ past) (deadline j (news o)) dead) ∙ interrupted_parts j (entry ∷ past) (news o) f.1)

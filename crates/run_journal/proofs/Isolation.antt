@@ -15,10 +15,10 @@ use Rattle.cell_core.specs.Deadlines.{interrupt_ms, idle_ms}
 use Rattle.kernel_talk.specs.Asking.{Asked}
 use Rattle.run_journal.specs.Codec.{Arrival}
 use Rattle.run_journal.specs.Job.{Job}
-use Rattle.run_journal.specs.Parts.{channels, bytes_got, turn_clock, is_acknowledging, acked, is_shut, before_shut}
+use Rattle.run_journal.specs.Parts.{channels, bytes_got, turn_clock, is_acknowledging, saves_of, is_shut, before_shut}
 use Rattle.run_journal.specs.OfJob.{is_of, of_job}
-use Rattle.run_journal.specs.Arrivals.{arrive, has_some, can_ask, asked, is_ready}
-use Rattle.run_journal.specs.Looks.{looked, can_ping, ping_end, pings, is_lost, is_at_least}
+use Rattle.run_journal.specs.Arrivals.{arrive, has_some, can_ask, ask_state, is_ready}
+use Rattle.run_journal.specs.Looks.{is_look, can_ping, ping_end, pings, is_lost, is_at_least}
 use Rattle.run_journal.specs.Requests.{Request, reply, or_later, is_broken, first_clock, before_clock, deadline, is_just_out, is_interrupted, with_news, with_interrupt, goes_on, is_next, is_over, fresh, count_queued, with_next, and_next, requests, last_request}
 use Rattle.run_journal.specs.Why.{BadStream, bad_by, fault_on, bad_stream, starts, child_clock, is_out, is_not_ready, is_no_idle, last_deadline, is_timed_out, is_done, is_error, cause_if, why}
 use Rattle.run_journal.specs.Saves.{saves_for, saves_by, saves}
@@ -39,8 +39,8 @@ module _ (j : Job) where
   just_out_alike None a = refl
   just_out_alike {p} {q} (Some at) a =
       ap (λ b. b && is_some (first_clock at (before_wait p)) && not (is_some (first_clock at (before_clock p)))) (looked_alike j a)
-      ∙ ap (λ (o : Option ℕ). looked j q && is_some o && not (is_some (first_clock at (before_clock p)))) (first_clock_alike at (before_wait_alike j a))
-      ∙ ap (λ (o : Option ℕ). looked j q && is_some (first_clock at (before_wait q)) && not (is_some o)) (first_clock_alike at (before_clock_alike j a))
+      ∙ ap (λ (o : Option ℕ). is_look j q && is_some o && not (is_some (first_clock at (before_clock p)))) (first_clock_alike at (before_wait_alike j a))
+      ∙ ap (λ (o : Option ℕ). is_look j q && is_some (first_clock at (before_wait q)) && not (is_some o)) (first_clock_alike at (before_clock_alike j a))
 
   broken_alike : {p q : List Entry} → Near j p q → is_broken j p ≡ is_broken j q
   unfolding is_broken
@@ -73,14 +73,14 @@ module _ (j : Job) where
 
   -- the next request comes to stand in both
   next_ours : {entry own : Entry} {p q : List Entry} (rs : List Request) → Near j p q → Near j (entry ∷ p) (own ∷ q)
-      → is_acknowledging j (entry ∷ p) ≡ is_acknowledging j (own ∷ q) → acked j (entry ∷ p) ≡ acked j (own ∷ q) → and_next j entry p rs ≡ and_next j own q rs
+      → is_acknowledging j (entry ∷ p) ≡ is_acknowledging j (own ∷ q) → saves_of j (entry ∷ p) ≡ saves_of j (own ∷ q) → and_next j entry p rs ≡ and_next j own q rs
   next_ours {entry} {own} {p} {q} rs a both here acks =
-      ap (λ x. with_next (is_next j x (is_ready j (entry ∷ p)) (acked j (entry ∷ p)) rs) (with_interrupt j (entry ∷ p) (fresh (count_queued (length (asked j (entry ∷ p)).ids) rs + 1) (time p))) rs) here
-      ∙ ap (λ b. with_next (is_next j (is_acknowledging j (own ∷ q)) b (acked j (entry ∷ p)) rs) (with_interrupt j (entry ∷ p) (fresh (count_queued (length (asked j (entry ∷ p)).ids) rs + 1) (time p))) rs) (ready_alike j both)
-      ∙ ap (λ n. with_next (is_next j (is_acknowledging j (own ∷ q)) (is_ready j (own ∷ q)) n rs) (with_interrupt j (entry ∷ p) (fresh (count_queued (length (asked j (entry ∷ p)).ids) rs + 1) (time p))) rs) acks
-      ∙ ap (λ (x : Asked). with_next (is_next j (is_acknowledging j (own ∷ q)) (is_ready j (own ∷ q)) (acked j (own ∷ q)) rs) (with_interrupt j (entry ∷ p) (fresh (count_queued (length x.ids) rs + 1) (time p))) rs) (asked_alike j both)
-      ∙ ap (λ t. with_next (is_next j (is_acknowledging j (own ∷ q)) (is_ready j (own ∷ q)) (acked j (own ∷ q)) rs) (with_interrupt j (entry ∷ p) (fresh (count_queued (length (asked j (own ∷ q)).ids) rs + 1) t)) rs) (time_alike j a)
-      ∙ ap (λ r. with_next (is_next j (is_acknowledging j (own ∷ q)) (is_ready j (own ∷ q)) (acked j (own ∷ q)) rs) r rs) (with_interrupt_alike (fresh (count_queued (length (asked j (own ∷ q)).ids) rs + 1) (time q)) both)
+      ap (λ x. with_next (is_next j x (is_ready j (entry ∷ p)) (saves_of j (entry ∷ p)) rs) (with_interrupt j (entry ∷ p) (fresh (count_queued (length (ask_state j (entry ∷ p)).ids) rs + 1) (time p))) rs) here
+      ∙ ap (λ b. with_next (is_next j (is_acknowledging j (own ∷ q)) b (saves_of j (entry ∷ p)) rs) (with_interrupt j (entry ∷ p) (fresh (count_queued (length (ask_state j (entry ∷ p)).ids) rs + 1) (time p))) rs) (ready_alike j both)
+      ∙ ap (λ n. with_next (is_next j (is_acknowledging j (own ∷ q)) (is_ready j (own ∷ q)) n rs) (with_interrupt j (entry ∷ p) (fresh (count_queued (length (ask_state j (entry ∷ p)).ids) rs + 1) (time p))) rs) acks
+      ∙ ap (λ (x : Asked). with_next (is_next j (is_acknowledging j (own ∷ q)) (is_ready j (own ∷ q)) (saves_of j (own ∷ q)) rs) (with_interrupt j (entry ∷ p) (fresh (count_queued (length x.ids) rs + 1) (time p))) rs) (asked_alike j both)
+      ∙ ap (λ t. with_next (is_next j (is_acknowledging j (own ∷ q)) (is_ready j (own ∷ q)) (saves_of j (own ∷ q)) rs) (with_interrupt j (entry ∷ p) (fresh (count_queued (length (ask_state j (own ∷ q)).ids) rs + 1) t)) rs) (time_alike j a)
+      ∙ ap (λ r. with_next (is_next j (is_acknowledging j (own ∷ q)) (is_ready j (own ∷ q)) (saves_of j (own ∷ q)) rs) r rs) (with_interrupt_alike (fresh (count_queued (length (ask_state j (own ∷ q)).ids) rs + 1) (time q)) both)
 
   -- ---- what holds of the requests of each journal
 
@@ -105,8 +105,8 @@ module _ (j : Job) where
   requests_checked [] = tt
   requests_checked (entry ∷ p) =
       let rs : List Request = map (goes_on j entry p) (requests j p) in
-      let r : Request = fresh (count_queued (length (asked j (entry ∷ p)).ids) rs + 1) (time p) in
-      cond_both (is_next j (is_acknowledging j (entry ∷ p)) (is_ready j (entry ∷ p)) (acked j (entry ∷ p)) rs) (rs ++ with_interrupt j (entry ∷ p) r ∷ []) rs (λ ss. Checked (entry ∷ p) ss)
+      let r : Request = fresh (count_queued (length (ask_state j (entry ∷ p)).ids) rs + 1) (time p) in
+      cond_both (is_next j (is_acknowledging j (entry ∷ p)) (is_ready j (entry ∷ p)) (saves_of j (entry ∷ p)) rs) (rs ++ with_interrupt j (entry ∷ p) r ∷ []) rs (λ ss. Checked (entry ∷ p) ss)
       (λ e. checked_push (entry ∷ p) rs r (checked_map entry p (requests j p)) (checked_one (entry ∷ p) r, tt))
       (λ e. checked_map entry p (requests j p))
 
@@ -121,14 +121,14 @@ module _ (j : Job) where
   no_ack_next b ready saves (r ∷ rs) e = refl
 
   -- the next request doesn't come to stand a moment later without a cause
-  pub no_next : (p : List Entry) → is_next j false (is_ready j p) (acked j p) (requests j p) ≡ false
+  pub no_next : (p : List Entry) → is_next j false (is_ready j p) (saves_of j p) (requests j p) ≡ false
   no_next [] = refl
   no_next (entry ∷ p) =
       let rs : List Request = map (goes_on j entry p) (requests j p) in
-      let r : Request = with_interrupt j (entry ∷ p) (fresh (count_queued (length (asked j (entry ∷ p)).ids) rs + 1) (time p)) in
-      cond_both (is_next j (is_acknowledging j (entry ∷ p)) (is_ready j (entry ∷ p)) (acked j (entry ∷ p)) rs) (rs ++ r ∷ []) rs (λ ss. is_next j false (is_ready j (entry ∷ p)) (acked j (entry ∷ p)) ss ≡ false)
-      (λ e. next_idle (is_ready j (entry ∷ p)) (acked j (entry ∷ p)) r rs)
-      (λ e. no_ack_next (is_acknowledging j (entry ∷ p)) (is_ready j (entry ∷ p)) (acked j (entry ∷ p)) rs e)
+      let r : Request = with_interrupt j (entry ∷ p) (fresh (count_queued (length (ask_state j (entry ∷ p)).ids) rs + 1) (time p)) in
+      cond_both (is_next j (is_acknowledging j (entry ∷ p)) (is_ready j (entry ∷ p)) (saves_of j (entry ∷ p)) rs) (rs ++ r ∷ []) rs (λ ss. is_next j false (is_ready j (entry ∷ p)) (saves_of j (entry ∷ p)) ss ≡ false)
+      (λ e. next_idle (is_ready j (entry ∷ p)) (saves_of j (entry ∷ p)) r rs)
+      (λ e. no_ack_next (is_acknowledging j (entry ∷ p)) (is_ready j (entry ∷ p)) (saves_of j (entry ∷ p)) rs e)
 
   absorb : (x y : Bool) → (y ≡ true → x ≡ true) → (x || y) ≡ x
   absorb true y h = refl
@@ -155,10 +155,10 @@ module _ (j : Job) where
     pub acks : is_acknowledging j (entry ∷ past) ≡ false
 
   -- nothing comes of it of the asking
-  pub asked_untold : (entry : Entry) (p : List Entry) → IsUntold entry p → asked j (entry ∷ p) ≡ asked j p
+  pub asked_untold : (entry : Entry) (p : List Entry) → IsUntold entry p → ask_state j (entry ∷ p) ≡ ask_state j p
   asked_untold entry p u =
       ask_alike j refl refl u.clock refl (arrive_nothing j entry p Shell (u.got Shell)) (arrive_nothing j entry p Iopub (u.got Iopub))
-      ∙ ask_nothing j (asked j p) (can_ask j p) (j.msg_id (length (asked j p).ids + 1))
+      ∙ ask_nothing j (ask_state j p) (can_ask j p) (j.msg_id (length (ask_state j p).ids + 1))
 
   -- no ping
   pub pings_untold : (entry : Entry) (p : List Entry) → IsUntold entry p → pings j (entry ∷ p) ≡ pings j p
@@ -166,19 +166,19 @@ module _ (j : Job) where
       ping_alike j refl refl u.clock refl (ap has_some (arrive_nothing j entry p Heart (u.got Heart))) ∙ ping_nothing j (pings j p) (can_ping j p) (ping_end j p (length (pings j p).queued))
 
   -- no acknowledged save
-  pub acked_untold : (entry : Entry) (p : List Entry) → IsUntold entry p → acked j (entry ∷ p) ≡ acked j p
+  pub acked_untold : (entry : Entry) (p : List Entry) → IsUntold entry p → saves_of j (entry ∷ p) ≡ saves_of j p
   acked_untold entry p u = cond-false (is_acknowledging j (entry ∷ p)) _ _ u.acks
 
   -- the requests stay, but that an interrupt may be queued where it ends a look
   pub requests_untold : (entry : Entry) (p : List Entry) → IsUntold entry p → ((r : Request) → is_interrupted j (entry ∷ p) r ≡ is_interrupted j p r) → requests j (entry ∷ p) ≡ requests j p
   requests_untold entry p u flags =
-      let e : is_next j (is_acknowledging j (entry ∷ p)) (is_ready j (entry ∷ p)) (acked j (entry ∷ p)) (requests j p) ≡ false
-      = ap (λ b. is_next j b (is_ready j (entry ∷ p)) (acked j (entry ∷ p)) (requests j p)) u.acks
-      ∙ ap (λ (x : Asked). is_next j false (x.told && x.heard) (acked j (entry ∷ p)) (requests j p)) (asked_untold entry p u)
+      let e : is_next j (is_acknowledging j (entry ∷ p)) (is_ready j (entry ∷ p)) (saves_of j (entry ∷ p)) (requests j p) ≡ false
+      = ap (λ b. is_next j b (is_ready j (entry ∷ p)) (saves_of j (entry ∷ p)) (requests j p)) u.acks
+      ∙ ap (λ (x : Asked). is_next j false (x.told && x.heard) (saves_of j (entry ∷ p)) (requests j p)) (asked_untold entry p u)
       ∙ ap (λ n. is_next j false (is_ready j p) n (requests j p)) (acked_untold entry p u)
       ∙ no_next p in
       ap (and_next j entry p) (map_nowhere entry p u.got flags (requests j p) (requests_checked p))
-      ∙ cond-false (is_next j (is_acknowledging j (entry ∷ p)) (is_ready j (entry ∷ p)) (acked j (entry ∷ p)) (requests j p)) _ _ e
+      ∙ cond-false (is_next j (is_acknowledging j (entry ∷ p)) (is_ready j (entry ∷ p)) (saves_of j (entry ∷ p)) (requests j p)) _ _ e
 
   -- at a quiet entry the requests stay, but that the next one may come to stand
   pub requests_quiet : {entry : Entry} (p : List Entry) → Quiet j entry → requests j (entry ∷ p) ≡ and_next j entry p (requests j p)
@@ -252,7 +252,7 @@ module _ (j : Job) where
       ∙ ap (λ o. or_later t (or_later u (or_later v (or_later w (or_later x (or_later y o)))))) e7
 
   -- what stopped a job, by its first row and by the requests
-  pub why_but_done : {p q : List Entry} → Near j p q → cause_if (is_done j (acked j p) (requests j p)) cause.Done ≡ cause_if (is_done j (acked j q) (requests j q)) cause.Done
+  pub why_but_done : {p q : List Entry} → Near j p q → cause_if (is_done j (saves_of j p) (requests j p)) cause.Done ≡ cause_if (is_done j (saves_of j q) (requests j q)) cause.Done
       → requests j p ≡ requests j q → why j p ≡ why j q
   why_but_done {p} {q} a done rs =
       rows_alike
@@ -267,7 +267,7 @@ module _ (j : Job) where
   -- the same stopped it
   pub why_alike : {p q : List Entry} → Alike j p q → why j p ≡ why j q
   why_alike {p} {q} a =
-      why_but_done (near a) (ap (λ n. cause_if (is_done j n (requests j p)) cause.Done) (acked_alike j a) ∙ ap (λ rs. cause_if (is_done j (acked j q) rs) cause.Done) (requests_alike a)) (requests_alike a)
+      why_but_done (near a) (ap (λ n. cause_if (is_done j n (requests j p)) cause.Done) (acked_alike j a) ∙ ap (λ rs. cause_if (is_done j (saves_of j q) rs) cause.Done) (requests_alike a)) (requests_alike a)
 
   -- the same saves are due
   pub saves_by_alike : {p q : List Entry} → Alike j p q → saves_by j p ≡ saves_by j q
@@ -319,7 +319,7 @@ module _ (j : Job) where
   own_requests past = sym (requests_alike (own_alike j past))
 
   -- how many saves are acknowledged
-  pub own_acked : (past : List Entry) → acked j (of_job j past) ≡ acked j past
+  pub own_acked : (past : List Entry) → saves_of j (of_job j past) ≡ saves_of j past
   own_acked past = sym (acked_alike j (own_alike j past))
 
   -- an entry of another job changes none of these
@@ -335,5 +335,5 @@ module _ (j : Job) where
   requests_foreign entry past e = requests_alike (alike_foreign j entry past e)
 
   -- how many saves are acknowledged
-  pub acked_foreign : (entry : Entry) (past : List Entry) → is_of j entry past ≡ false → acked j (entry ∷ past) ≡ acked j past
+  pub acked_foreign : (entry : Entry) (past : List Entry) → is_of j entry past ≡ false → saves_of j (entry ∷ past) ≡ saves_of j past
   acked_foreign entry past e = acked_alike j (alike_foreign j entry past e)

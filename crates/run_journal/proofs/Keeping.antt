@@ -8,12 +8,12 @@ use Rattle.cell_core.specs.declared.event.Event.{Event}
 use Rattle.cell_core.specs.declared.event.Event.TheVariants as event
 use Rattle.cell_core.specs.Task.{Task}
 use Rattle.cell_core.specs.Acts.{awaits_saved, has_stopped, heard, is_empty}
-use Rattle.cell_core.specs.Deadlines.{idle_ms, replied_at, first_deadline, second_deadline, entry_and_more, queued, looked_by, start_deadline}
+use Rattle.cell_core.specs.Deadlines.{idle_ms, replied_at, first_deadline, second_deadline, entry_and_more, is_queued, looked_by, start_deadline}
 use Rattle.cell_core.specs.Events as events
 use Rattle.cell_core.specs.Requests as core
 use Rattle.cell_core.specs.Saves as core_saves
 use Rattle.run_journal.specs.Job.{Job}
-use Rattle.run_journal.specs.Parts.{acked, is_acknowledging}
+use Rattle.run_journal.specs.Parts.{saves_of, is_acknowledging}
 use Rattle.run_journal.specs.Course.{events_at, Course, tell, late_then, told_saved, course}
 use Rattle.run_journal.specs.Agreement.{Agrees, Flows}
 use Rattle.run_journal.proofs.Agreeing.{after_more, stands_at, agree_saved}
@@ -61,13 +61,13 @@ more_than (suc a) (suc b) h n = let g : a < b = more_than a b (omega (arith, h))
 module _ (task : Task) (told : List Event) where
   -- the next doesn't come to stand where the one before it isn't passed
   next_not : (k : ℕ) → core.is_passed_in (core.after task k told) ≡ false → stands_at task (suc k) (event.Saved ∷ told) ≡ false
-  next_not k e = and_left (events.acked told == k + 1 && core.is_passed_in (core.after task k told)) _ (and_right (events.acked told == k + 1) (core.is_passed_in (core.after task k told)) e)
+  next_not k e = and_left (events.ack_count told == k + 1 && core.is_passed_in (core.after task k told)) _ (and_right (events.ack_count told == k + 1) (core.is_passed_in (core.after task k told)) e)
 
   after_none : (k : ℕ) → core.after task k told ≡ None → stands_at task k (event.Saved ∷ told) ≡ false → core.after task k (event.Saved ∷ told) ≡ None
   after_none k e s = after_more task k event.Saved told ∙ ap (events.since_more (stands_at task k) event.Saved told) e ∙ cond-false (stands_at task k (event.Saved ∷ told)) (Some []) None s
 
   -- where none stands, none comes to stand once the first save was acknowledged
-  module _ (none : (k : ℕ) → k < length task.plan → core.after task k told ≡ None) (some : 0 < events.acked told) where
+  module _ (none : (k : ℕ) → k < length task.plan → core.after task k told ≡ None) (some : 0 < events.ack_count told) where
     first_not : 0 < length task.plan → stands_at task 0 (event.Saved ∷ told) ≡ false
     first_not p = and_left (events.came events.is_ready (event.Saved ∷ told)) _ (by told some (none 0 p))
       where
@@ -76,10 +76,10 @@ module _ (task : Task) (told : List Event) where
         off true false e f = cc
         off false b e f = refl
 
-        by : (es : List Event) → 0 < events.acked es → events.since core.both_came es ≡ None → events.came events.is_ready es ≡ false
+        by : (es : List Event) → 0 < events.ack_count es → events.since core.both_came es ≡ None → events.came events.is_ready es ≡ false
         by [] s e = absurd (omega (arith, s))
         by (x ∷ es) s e =
-            off (events.came events.is_ready (x ∷ es)) (nat_lt 0 (events.acked (x ∷ es))) (lt-ltb 0 (events.acked (x ∷ es)) s) (since_test core.both_came x es (events.since core.both_came es) e)
+            off (events.came events.is_ready (x ∷ es)) (nat_lt 0 (events.ack_count (x ∷ es))) (lt-ltb 0 (events.ack_count (x ∷ es)) s) (since_test core.both_came x es (events.since core.both_came es) e)
 
     none_then : (k : ℕ) → k < length task.plan → core.after task k (event.Saved ∷ told) ≡ None
     none_then zero p = after_none 0 (none 0 p) (first_not p)
@@ -123,11 +123,11 @@ module _ (task : Task) (told : List Event) where
 
   out_saved : (k : ℕ) (o : Option ℕ) → core_saves.is_out_of_time task k o (event.Saved ∷ told) ≡ core_saves.is_out_of_time task k o told
   out_saved k None = refl
-  out_saved k (Some c) = ap (λ v. if task.times.interrupt then queued task k c told && v else events.looked (events.is_turn_at c) told) (ap (λ o. looked_by o (event.Saved ∷ told)) (second_saved c) ∙ looked_saved (second_deadline c told) told)
+  out_saved k (Some c) = ap (λ v. if task.times.interrupt then is_queued task k c told && v else events.look_since (events.is_turn_at c) told) (ap (λ o. looked_by o (event.Saved ∷ told)) (second_saved c) ∙ looked_saved (second_deadline c told) told)
 
 -- ---- the cause, with one more acknowledgement
 
-module _ (j : Job) (entry : Entry) (past : List Entry) (told : List Event) (plan : 0 < length j.task.plan) (acks : is_acknowledging j (entry ∷ past) ≡ true) (a : Agrees j told past) (first : acked j past ≡ 0 → told ≡ []) where
+module _ (j : Job) (entry : Entry) (past : List Entry) (told : List Event) (plan : 0 < length j.task.plan) (acks : is_acknowledging j (entry ∷ past) ≡ true) (a : Agrees j told past) (first : saves_of j past ≡ 0 → told ≡ []) where
   abbrev more : List Event
   more = event.Saved ∷ told
 
@@ -143,16 +143,16 @@ module _ (j : Job) (entry : Entry) (past : List Entry) (told : List Event) (plan
   abbrev late_of : Option core.Standing → List Event → Bool
   late_of o es = core_saves.is_not_ready j.task o es || (core_saves.is_no_idle o es || core_saves.is_timed_out j.task o es)
 
-  some_acked : (o : Option ℕ) → looked_by o told ≡ true → 0 < events.acked told
-  some_acked o e = by (acked j past) refl
+  some_acked : (o : Option ℕ) → looked_by o told ≡ true → 0 < events.ack_count told
+  some_acked o e = by (saves_of j past) refl
     where
       none_looked : (v : Option ℕ) → looked_by v [] ≡ false
       none_looked None = refl
       none_looked (Some d) = refl
 
-      by : (n : ℕ) → acked j past ≡ n → 0 < events.acked told
+      by : (n : ℕ) → saves_of j past ≡ n → 0 < events.ack_count told
       by zero f = absurd (not_both (looked_by o told) e (ap (looked_by o) (first f) ∙ none_looked o))
-      by (suc n) f = let g : events.acked told ≡ suc n = a.acked ∙ f in omega (arith, g)
+      by (suc n) f = let g : events.ack_count told ≡ suc n = a.acked ∙ f in omega (arith, g)
 
   late_same : (o : Option core.Standing) → old ≡ o → Stands j told past o → late_of o told ≡ true → late_of new more ≡ true
   late_same None w (nothing l) e =
@@ -173,7 +173,7 @@ module _ (j : Job) (entry : Entry) (past : List Entry) (told : List Event) (plan
     where
       open_ : late_of (Some (record { request = m; later = later })) told ≡ true → core.is_passed later ≡ false
       open_ f =
-          by (core.reply later) (core.has_idle (core.own later)) (events.looked (events.is_turn_at (replied_at (record { request = m; later = later }) told + idle_ms)) told)
+          by (core.reply later) (core.has_idle (core.own later)) (events.look_since (events.is_turn_at (replied_at (record { request = m; later = later }) told + idle_ms)) told)
           (core_saves.is_out_of_time j.task m (first_deadline j.task (record { request = m; later = later }) told) told) f
         where
           by : (r : Option Bool) (i x y : Bool) → (((is_some r && not (is_some r && i)) && x) || (is_none r && y)) ≡ true → ((is_some r && i) && not (core.is_true_in r)) ≡ false
@@ -187,34 +187,34 @@ module _ (j : Job) (entry : Entry) (past : List Entry) (told : List Event) (plan
   -- a cause stays one
   pub cause_stays : is_some (core_saves.why j.task told) ≡ true → is_some (core_saves.why j.task more) ≡ true
   cause_stays e =
-      any_core (core_saves.is_done j.task more) (core_saves.is_cell_error new) (events.came events.is_broken more) (events.looked events.is_lost more) (core_saves.is_not_ready j.task new more) (core_saves.is_no_idle new more) (core_saves.is_timed_out j.task new more)
+      any_core (core_saves.is_done j.task more) (core_saves.is_cell_error new) (events.came events.is_broken more) (events.look_since events.is_lost more) (core_saves.is_not_ready j.task new more) (core_saves.is_no_idle new more) (core_saves.is_timed_out j.task new more)
       ∙ by_done (or_cases (core_saves.is_done j.task told) _
-      (sym (any_core (core_saves.is_done j.task told) (core_saves.is_cell_error old) (events.came events.is_broken told) (events.looked events.is_lost told) (core_saves.is_not_ready j.task old told) (core_saves.is_no_idle old told) (core_saves.is_timed_out j.task old told)) ∙ e))
+      (sym (any_core (core_saves.is_done j.task told) (core_saves.is_cell_error old) (events.came events.is_broken told) (events.look_since events.is_lost told) (core_saves.is_not_ready j.task old told) (core_saves.is_no_idle old told) (core_saves.is_timed_out j.task old told)) ∙ e))
     where
       by_late : (late_of old told ≡ true) → late_of new more ≡ true
       by_late f = late_same old refl (stands j told past a) f
 
-      by_lost : (events.looked events.is_lost told || late_of old told) ≡ true → (events.looked events.is_lost more || late_of new more) ≡ true
-      by_lost f = elim (or_cases (events.looked events.is_lost told) _ f) [
-        | inl g ↦ or_left (events.looked events.is_lost told) (late_of new more) g
-        | inr g ↦ or_right (events.looked events.is_lost told) (late_of new more) (by_late g)
+      by_lost : (events.look_since events.is_lost told || late_of old told) ≡ true → (events.look_since events.is_lost more || late_of new more) ≡ true
+      by_lost f = elim (or_cases (events.look_since events.is_lost told) _ f) [
+        | inl g ↦ or_left (events.look_since events.is_lost told) (late_of new more) g
+        | inr g ↦ or_right (events.look_since events.is_lost told) (late_of new more) (by_late g)
       ]
 
-      by_broken : (events.came events.is_broken told || (events.looked events.is_lost told || late_of old told)) ≡ true → (events.came events.is_broken more || (events.looked events.is_lost more || late_of new more)) ≡ true
+      by_broken : (events.came events.is_broken told || (events.look_since events.is_lost told || late_of old told)) ≡ true → (events.came events.is_broken more || (events.look_since events.is_lost more || late_of new more)) ≡ true
       by_broken f = elim (or_cases (events.came events.is_broken told) _ f) [
         | inl g ↦ or_left (events.came events.is_broken told) _ g
         | inr g ↦ or_right (events.came events.is_broken told) _ (by_lost g)
       ]
 
-      by_error : (core_saves.is_cell_error old || (events.came events.is_broken told || (events.looked events.is_lost told || late_of old told))) ≡ true
-          → (core_saves.is_cell_error new || (events.came events.is_broken more || (events.looked events.is_lost more || late_of new more))) ≡ true
+      by_error : (core_saves.is_cell_error old || (events.came events.is_broken told || (events.look_since events.is_lost told || late_of old told))) ≡ true
+          → (core_saves.is_cell_error new || (events.came events.is_broken more || (events.look_since events.is_lost more || late_of new more))) ≡ true
       by_error f = elim (or_cases (core_saves.is_cell_error old) _ f) [
         | inl g ↦ or_left (core_saves.is_cell_error new) _ (error_same j more (entry ∷ past) then_agrees ∙ error_stays j entry past (sym (error_same j told past a) ∙ g))
         | inr g ↦ or_right (core_saves.is_cell_error new) _ (by_broken g)
       ]
 
-      by_done : (core_saves.is_done j.task told ≡ true) ⊎ ((core_saves.is_cell_error old || (events.came events.is_broken told || (events.looked events.is_lost told || late_of old told))) ≡ true)
-          → (core_saves.is_done j.task more || (core_saves.is_cell_error new || (events.came events.is_broken more || (events.looked events.is_lost more || late_of new more)))) ≡ true
+      by_done : (core_saves.is_done j.task told ≡ true) ⊎ ((core_saves.is_cell_error old || (events.came events.is_broken told || (events.look_since events.is_lost told || late_of old told))) ≡ true)
+          → (core_saves.is_done j.task more || (core_saves.is_cell_error new || (events.came events.is_broken more || (events.look_since events.is_lost more || late_of new more)))) ≡ true
       by_done (inl f) = or_left (core_saves.is_done j.task more) _ (done_same j more (entry ∷ past) then_agrees plan ∙ done_stays j entry past plan (sym (done_same j told past a plan) ∙ f))
       by_done (inr f) = or_right (core_saves.is_done j.task more) _ (by_error f)
 
@@ -246,7 +246,7 @@ module _ (j : Job) where
   saved_heard told false s = unstopped_heard told s
 
   has_cause : (told : List Event) → stops j told ≡ true → heard j.task told ≡ told → is_some (core_saves.why j.task told) ≡ true
-  has_cause told s e = (and_parts (is_some (core_saves.why j.task told)) (is_empty (core_saves.unacked j.task told)) (sym (ap (has_stopped j.task) e) ∙ s)).0
+  has_cause told s e = (and_parts (is_some (core_saves.why j.task told)) (is_empty (core_saves.pending_saves j.task told)) (sym (ap (has_stopped j.task) e) ∙ s)).0
 
   -- once it has stopped it has a cause
   pub stopped_cause : 0 < length j.task.plan → (past : List Entry) → Flows j past → stops j (course j past).told ≡ true → is_some (core_saves.why j.task (course j past).told) ≡ true

@@ -11,8 +11,8 @@ use Rattle.cell_core.specs.declared.event.Event.{Event}
 use Rattle.cell_core.specs.declared.event.Event.TheVariants as event
 use Rattle.cell_core.specs.Events as events
 use Rattle.run_journal.specs.Job.{Job}
-use Rattle.run_journal.specs.Parts.{turn_clock, acked, is_running, before_shut}
-use Rattle.run_journal.specs.Looks.{is_short_wait, looked, is_read_through, ever, is_at_least, is_past, ran_out}
+use Rattle.run_journal.specs.Parts.{turn_clock, saves_of, is_running, before_shut}
+use Rattle.run_journal.specs.Looks.{is_short_wait, is_look, is_read_through, ever, is_at_least, is_past, ran_out}
 use Rattle.run_journal.specs.Requests.{or_later, first_clock, before_clock, just_ran_out}
 use Rattle.run_journal.specs.Why.{why}
 use Rattle.run_journal.specs.Saves.{saves}
@@ -108,39 +108,39 @@ first_before d {q} (earlier {past} entry b) e =
 
 -- ---- looks
 
-pub ran_parts : (j : Job) (d : ℕ) (past : List Entry) → ran_out j d past ≡ true → (looked j past ≡ true) × (ever (is_past d) (before_wait past) ≡ true)
+pub ran_parts : (j : Job) (d : ℕ) (past : List Entry) → ran_out j d past ≡ true → (is_look j past ≡ true) × (ever (is_past d) (before_wait past) ≡ true)
 unfolding ran_out
-ran_parts j d past e = and_parts (looked j past) (ever (is_past d) (before_wait past)) e
+ran_parts j d past e = and_parts (is_look j past) (ever (is_past d) (before_wait past)) e
 
-pub ran_from : (j : Job) (d : ℕ) (past : List Entry) → looked j past ≡ true → ever (is_past d) (before_wait past) ≡ true → ran_out j d past ≡ true
+pub ran_from : (j : Job) (d : ℕ) (past : List Entry) → is_look j past ≡ true → ever (is_past d) (before_wait past) ≡ true → ran_out j d past ≡ true
 unfolding ran_out
-ran_from j d past e f = and_from (looked j past) (ever (is_past d) (before_wait past)) e f
+ran_from j d past e f = and_from (is_look j past) (ever (is_past d) (before_wait past)) e f
 
-pub short_look : (j : Job) (past : List Entry) → looked j past ≡ true → is_short_wait (to_wait past) ≡ true
-unfolding looked
+pub short_look : (j : Job) (past : List Entry) → is_look j past ≡ true → is_short_wait (to_wait past) ≡ true
+unfolding is_look
 short_look j past e = (and_parts (is_short_wait (to_wait past)) (is_read_through j past) e).0
 
 pub ends_parts : (j : Job) (entry : Entry) (past : List Entry) → ends_look j entry past ≡ true
-    → (has_wait (entry ∷ past) ≡ true) × (is_called_for j (before_wait (entry ∷ past)) ≡ true) × (looked j (entry ∷ past) ≡ true)
+    → (has_wait (entry ∷ past) ≡ true) × (is_called_for j (before_wait (entry ∷ past)) ≡ true) × (is_look j (entry ∷ past) ≡ true)
 ends_parts j entry past e =
-    let p = and_parts (in_look j (entry ∷ past) && looked j (entry ∷ past)) (is_wait entry || not (looked j past)) e in
-    let q = and_parts (in_look j (entry ∷ past)) (looked j (entry ∷ past)) p.0 in
+    let p = and_parts (in_look j (entry ∷ past) && is_look j (entry ∷ past)) (is_wait entry || not (is_look j past)) e in
+    let q = and_parts (in_look j (entry ∷ past)) (is_look j (entry ∷ past)) p.0 in
     let r = and_parts (has_wait (entry ∷ past)) (is_called_for j (before_wait (entry ∷ past))) q.0 in
     (r.0, r.1, q.1)
 
-pub ends_from : (j : Job) (entry : Entry) (past : List Entry) → has_wait (entry ∷ past) ≡ true → is_called_for j (before_wait (entry ∷ past)) ≡ true → looked j (entry ∷ past) ≡ true
-    → (is_wait entry || not (looked j past)) ≡ true → ends_look j entry past ≡ true
+pub ends_from : (j : Job) (entry : Entry) (past : List Entry) → has_wait (entry ∷ past) ≡ true → is_called_for j (before_wait (entry ∷ past)) ≡ true → is_look j (entry ∷ past) ≡ true
+    → (is_wait entry || not (is_look j past)) ≡ true → ends_look j entry past ≡ true
 ends_from j entry past w c l n =
-    and_from (in_look j (entry ∷ past) && looked j (entry ∷ past)) (is_wait entry || not (looked j past))
-    (and_from (in_look j (entry ∷ past)) (looked j (entry ∷ past)) (and_from (has_wait (entry ∷ past)) (is_called_for j (before_wait (entry ∷ past))) w c) l) n
+    and_from (in_look j (entry ∷ past) && is_look j (entry ∷ past)) (is_wait entry || not (is_look j past))
+    (and_from (in_look j (entry ∷ past)) (is_look j (entry ∷ past)) (and_from (has_wait (entry ∷ past)) (is_called_for j (before_wait (entry ∷ past))) w c) l) n
 
 -- at a wait nothing has stopped the job
 pub wait_unstopped : (jobs : List Job) (j : Job) (entry : Entry) (past : List Entry) → IsAmong j jobs → is_wait entry ≡ true → keeps_up jobs (entry ∷ past) ≡ true → is_running j past ≡ true → why j past ≡ None
 wait_unstopped jobs j (made.Waited ms reports how) past m w e r =
     let p = (and_parts _ _ e).1 in
-    let q : implies (is_running j past) (acked j past == length (saves j past) && not (is_some (why j (before_shut j past)))) ≡ true
-    = all_of (λ i. implies (is_running i past) (acked i past == length (saves i past) && not (is_some (why i (before_shut i past))))) jobs j m p in
-    let n = (and_parts (acked j past == length (saves j past)) (not (is_some (why j (before_shut j past)))) (sym (cond-true (is_running j past) _ true r) ∙ q)).1 in
+    let q : implies (is_running j past) (saves_of j past == length (saves j past) && not (is_some (why j (before_shut j past)))) ≡ true
+    = all_of (λ i. implies (is_running i past) (saves_of i past == length (saves i past) && not (is_some (why i (before_shut i past))))) jobs j m p in
+    let n = (and_parts (saves_of j past == length (saves j past)) (not (is_some (why j (before_shut j past)))) (sym (cond-true (is_running j past) _ true r) ∙ q)).1 in
     sym (ap (why j) (before_all j past (running_parts j past r).1)) ∙ none_is (why j (before_shut j past)) n
   where
     none_is : (o : Option Why) → not (is_some o) ≡ true → o ≡ None
@@ -272,10 +272,10 @@ module _ (d : ℕ) (jobs : List Job) (j : Job) where
 
   -- one that is new now, or was before
   abbrev pub IsNew : Entry → List Entry → Type 0
-  IsNew entry past = ((is_wait entry || not (looked j past)) ≡ true) ⊎ ((is_wait entry ≡ false) × (looked j past ≡ true))
+  IsNew entry past = ((is_wait entry || not (is_look j past)) ≡ true) ⊎ ((is_wait entry ≡ false) × (is_look j past ≡ true))
 
   pub new_or_old : (entry : Entry) (past : List Entry) → IsNew entry past
-  new_or_old entry past = by (is_wait entry) (looked j past)
+  new_or_old entry past = by (is_wait entry) (is_look j past)
     where
       by : (a b : Bool) → ((a || not b) ≡ true) ⊎ ((a ≡ false) × (b ≡ true))
       by true b = inl refl
@@ -287,7 +287,7 @@ module _ (d : ℕ) (jobs : List Job) (j : Job) where
   ran_found [] k h e c = absurd (not_both (ever (is_past d) []) (ran_parts j d [] e).1 refl)
   ran_found (entry ∷ past) k h e c = by (λ x y. ran_found past (rules_before jobs j entry past k) (ran_before jobs j entry past k h) x y) (new_or_old entry past)
     where
-      p : (looked j (entry ∷ past) ≡ true) × (ever (is_past d) (before_wait (entry ∷ past)) ≡ true)
+      p : (is_look j (entry ∷ past) ≡ true) × (ever (is_past d) (before_wait (entry ∷ past)) ≡ true)
       p = ran_parts j d (entry ∷ past) e
 
       passed : is_some (then_seen entry past k h).first ≡ true
@@ -305,23 +305,23 @@ module _ (d : ℕ) (jobs : List Job) (j : Job) where
           ((clocks_kept d j entry past (whole d j past)).0
           ∙ ih (ran_from j d past o.1 (ap (ever (is_past d)) (sym same) ∙ p.1)) (ap (is_called_for j) (sym same) ∙ c))
 
-  pub just_parts : (past : List Entry) → just_ran_out j d past ≡ true → (looked j past ≡ true) × (is_some (first_clock d (before_wait past)) ≡ true) × (is_some (first_clock d (before_clock past)) ≡ false)
+  pub just_parts : (past : List Entry) → just_ran_out j d past ≡ true → (is_look j past ≡ true) × (is_some (first_clock d (before_wait past)) ≡ true) × (is_some (first_clock d (before_clock past)) ≡ false)
   just_parts past e =
-      let p = and_parts (looked j past && is_some (first_clock d (before_wait past))) (not (is_some (first_clock d (before_clock past)))) e in
-      let q = and_parts (looked j past) (is_some (first_clock d (before_wait past))) p.0 in
+      let p = and_parts (is_look j past && is_some (first_clock d (before_wait past))) (not (is_some (first_clock d (before_clock past)))) e in
+      let q = and_parts (is_look j past) (is_some (first_clock d (before_wait past))) p.0 in
       (q.0, q.1, not-true (is_some (first_clock d (before_clock past))) p.1)
 
-  pub just_from : (past : List Entry) → looked j past ≡ true → is_some (first_clock d (before_wait past)) ≡ true → is_some (first_clock d (before_clock past)) ≡ false → just_ran_out j d past ≡ true
+  pub just_from : (past : List Entry) → is_look j past ≡ true → is_some (first_clock d (before_wait past)) ≡ true → is_some (first_clock d (before_clock past)) ≡ false → just_ran_out j d past ≡ true
   just_from past e f g =
-      and_from (looked j past && is_some (first_clock d (before_wait past))) (not (is_some (first_clock d (before_clock past))))
-      (and_from (looked j past) (is_some (first_clock d (before_wait past))) e f) (not_from_false (is_some (first_clock d (before_clock past))) g)
+      and_from (is_look j past && is_some (first_clock d (before_wait past))) (not (is_some (first_clock d (before_clock past))))
+      (and_from (is_look j past) (is_some (first_clock d (before_wait past))) e f) (not_from_false (is_some (first_clock d (before_clock past))) g)
 
   -- the look directly after the first clock entry, where it was called for, queues for the core
   pub just_queued : (past : List Entry) → KeepsRules jobs j past → RanAtWait j past → just_ran_out j d past ≡ true → is_called_for j (before_wait past) ≡ true → (whole d j past).queued ≡ true
   just_queued [] k h e c = absurd (not_both (is_some (first_clock d [])) (just_parts [] e).1 refl)
   just_queued (entry ∷ past) k h e c = by (λ x y. just_queued past (rules_before jobs j entry past k) (ran_before jobs j entry past k h) x y) (new_or_old entry past)
     where
-      p : (looked j (entry ∷ past) ≡ true) × (is_some (first_clock d (before_wait (entry ∷ past))) ≡ true) × (is_some (first_clock d (before_clock (entry ∷ past))) ≡ false)
+      p : (is_look j (entry ∷ past) ≡ true) × (is_some (first_clock d (before_wait (entry ∷ past))) ≡ true) × (is_some (first_clock d (before_clock (entry ∷ past))) ≡ false)
       p = just_parts (entry ∷ past) e
 
       first_then : is_some (first_clock d (entry ∷ past)) ≡ true

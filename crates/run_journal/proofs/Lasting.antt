@@ -4,13 +4,14 @@ use Rattle.std.specs.Prelude.{is_some, nat_lt, ◌==◌}
 use Rattle.std.proofs.Math.Bool.{and-false}
 use Rattle.std.proofs.lemmas.Bool.{and_parts, and_from, or_left, or_right, cond-false, eqb-true, eq-eqb, ltb-true, false_from_ne_true, not-true, or_cases, and_right}
 use Rattle.std.proofs.lemmas.Option.{same_Some}
+use Rattle.std.proofs.lemmas.List.{length-map}
 use Rattle.world.specs.declared.chan.Chan.{Chan}
 use Rattle.world.specs.declared.entry.Entry.{Entry}
 use Rattle.cell_core.specs.declared.why.Why.{Why}
 use Rattle.cell_core.specs.Events as events
 use Rattle.run_journal.specs.Codec.{Arrival}
 use Rattle.run_journal.specs.Job.{Job}
-use Rattle.run_journal.specs.Parts.{acked, is_acknowledging}
+use Rattle.run_journal.specs.Parts.{saves_of, is_acknowledging}
 use Rattle.run_journal.specs.Arrivals.{is_ready}
 use Rattle.run_journal.specs.Looks.{is_lost}
 use Rattle.run_journal.specs.Requests.{Request, has_idle, reply, is_over, is_fatal, is_last_passed, is_broken, is_next, goes_on, requests, last_request}
@@ -27,10 +28,6 @@ use Rattle.run_journal.proofs.Dropping.{dropped}
 use Rattle.run_journal.proofs.Truths.{not_both}
 
 -- ---- the last request
-
-length_mapped : (f : Request → Request) (rs : List Request) → length (map f rs) ≡ length rs
-length_mapped f [] = refl
-length_mapped f (r ∷ rs) = ap (λ n. suc n) (length_mapped f rs)
 
 -- one that is as long as one has no more
 only : (r s : Request) (ss : List Request) → length (s ∷ ss) ≡ length (r ∷ []) → ss ≡ []
@@ -73,7 +70,7 @@ module _ (j : Job) (entry : Entry) (past : List Entry) where
   mapped = map (goes_on j entry past) (requests j past)
 
   abbrev next : Bool
-  next = is_next j (is_acknowledging j (entry ∷ past)) (is_ready j (entry ∷ past)) (acked j (entry ∷ past)) mapped
+  next = is_next j (is_acknowledging j (entry ∷ past)) (is_ready j (entry ∷ past)) (saves_of j (entry ∷ past)) mapped
 
   -- where none comes to stand
   pub none_next : next ≡ false → requests j (entry ∷ past) ≡ mapped
@@ -96,13 +93,13 @@ module _ (j : Job) (entry : Entry) (past : List Entry) where
       by false b c d e = refl
 
   -- an executed plan stays so
-  pub done_stays : 0 < length j.task.plan → is_done j (acked j past) (requests j past) ≡ true → is_done j (acked j (entry ∷ past)) (requests j (entry ∷ past)) ≡ true
+  pub done_stays : 0 < length j.task.plan → is_done j (saves_of j past) (requests j past) ≡ true → is_done j (saves_of j (entry ∷ past)) (requests j (entry ∷ past)) ≡ true
   done_stays plan e =
       let some : (length j.task.plan == 0) ≡ false = false_from_ne_true (length j.task.plan == 0) (λ f. let z = eqb-true (length j.task.plan) 0 f in absurd (omega (arith, z, plan))) in
       let p = and_parts (length (requests j past) == length j.task.plan) (is_last_passed j 0 (requests j past)) (sym (cond-false (length j.task.plan == 0) _ _ some) ∙ e) in
       let full = eqb-true (length (requests j past)) (length j.task.plan) p.0 in
-      let same = length_mapped (goes_on j entry past) (requests j past) in
-      let is = none_next (full_next mapped (is_acknowledging j (entry ∷ past)) (is_ready j (entry ∷ past)) (acked j (entry ∷ past)) plan (same ∙ full)) in
+      let same = length-map (requests j past) (goes_on j entry past) in
+      let is = none_next (full_next mapped (is_acknowledging j (entry ∷ past)) (is_ready j (entry ∷ past)) (saves_of j (entry ∷ past)) plan (same ∙ full)) in
       cond-false (length j.task.plan == 0) _ _ some
       ∙ ap (λ rs. length rs == length j.task.plan && is_last_passed j 0 rs) is
       ∙ and_from (length mapped == length j.task.plan) (is_last_passed j 0 mapped) (eq-eqb _ _ (same ∙ full)) (last_passed_on j 0 (go_map j entry past (requests j past)) same p.1)
@@ -110,12 +107,12 @@ module _ (j : Job) (entry : Entry) (past : List Entry) where
   -- so a fatal reply
   pub error_stays : is_error j (last_request 0 (requests j past)) ≡ true → is_error j (last_request 0 (requests j (entry ∷ past))) ≡ true
   error_stays e =
-      let f = error_on j 0 (go_map j entry past (requests j past)) (length_mapped (goes_on j entry past) (requests j past)) e in
+      let f = error_on j 0 (go_map j entry past (requests j past)) (length-map (requests j past) (goes_on j entry past)) e in
       ap (λ rs. is_error j (last_request 0 rs)) (none_next (by mapped refl f)) ∙ f
     where
       by : (rs : List Request) → mapped ≡ rs → is_error j (last_request 0 mapped) ≡ true → next ≡ false
       by [] g f = absurd (not_both (is_error j (last_request 0 mapped)) f (ap (λ rs. is_error j (last_request 0 rs)) g))
-      by (x ∷ xs) g f = unpassed_next mapped (is_acknowledging j (entry ∷ past)) (is_ready j (entry ∷ past)) (acked j (entry ∷ past)) x xs g (error_unpassed j 0 mapped f)
+      by (x ∷ xs) g f = unpassed_next mapped (is_acknowledging j (entry ∷ past)) (is_ready j (entry ∷ past)) (saves_of j (entry ∷ past)) x xs g (error_unpassed j 0 mapped f)
 
 -- ---- causes at once
 
@@ -125,12 +122,12 @@ rows_some false true b = refl
 rows_some false false true = refl
 rows_some false false false = refl
 
-pub once_rows : (j : Job) (past : List Entry) → is_some (at_once (why j past)) ≡ (is_done j (acked j past) (requests j past) || (is_error j (last_request 0 (requests j past)) || is_broken j past))
+pub once_rows : (j : Job) (past : List Entry) → is_some (at_once (why j past)) ≡ (is_done j (saves_of j past) (requests j past) || (is_error j (last_request 0 (requests j past)) || is_broken j past))
 once_rows j past =
-    ap (λ (o : Option Why). is_some o) (journal_rows (is_done j (acked j past) (requests j past)) (is_error j (last_request 0 (requests j past))) (is_some (bad_stream j past)) (is_lost j past)
+    ap (λ (o : Option Why). is_some o) (journal_rows (is_done j (saves_of j past) (requests j past)) (is_error j (last_request 0 (requests j past))) (is_some (bad_stream j past)) (is_lost j past)
     (is_not_ready j (requests j past) past) (is_no_idle j (last_request 0 (requests j past)) past) (is_timed_out j (last_request 0 (requests j past)) past))
-    ∙ rows_some (is_done j (acked j past) (requests j past)) (is_error j (last_request 0 (requests j past))) (is_some (bad_stream j past))
-    ∙ ap (λ b. is_done j (acked j past) (requests j past) || (is_error j (last_request 0 (requests j past)) || b)) (bad_is j past)
+    ∙ rows_some (is_done j (saves_of j past) (requests j past)) (is_error j (last_request 0 (requests j past))) (is_some (bad_stream j past))
+    ∙ ap (λ b. is_done j (saves_of j past) (requests j past) || (is_error j (last_request 0 (requests j past)) || b)) (bad_is j past)
 
 -- a request without a reply stops nothing, and no job at once where no stream is broken
 unreplied_last : (j : Job) (k : ℕ) (rs : List Request) (m : ℕ) (q : Request) → last_request k rs ≡ Some (m, q) → reply q ≡ None → (is_last_passed j k rs ≡ false) × (is_error j (last_request k rs) ≡ false)
@@ -168,10 +165,10 @@ module _ (j : Job) (dec : IsDecoding j.codec) (plan : 0 < length j.task.plan) wh
       by_two (inl f) = or_left _ _ (error_stays j entry past f)
       by_two (inr f) = or_right (is_error j (last_request 0 (requests j (entry ∷ past)))) _ (stays_broken j dec entry past u f)
 
-      by : (is_done j (acked j past) (requests j past) ≡ true) ⊎ ((is_error j (last_request 0 (requests j past)) || is_broken j past) ≡ true)
-          → (is_done j (acked j (entry ∷ past)) (requests j (entry ∷ past)) || (is_error j (last_request 0 (requests j (entry ∷ past))) || is_broken j (entry ∷ past))) ≡ true
+      by : (is_done j (saves_of j past) (requests j past) ≡ true) ⊎ ((is_error j (last_request 0 (requests j past)) || is_broken j past) ≡ true)
+          → (is_done j (saves_of j (entry ∷ past)) (requests j (entry ∷ past)) || (is_error j (last_request 0 (requests j (entry ∷ past))) || is_broken j (entry ∷ past))) ≡ true
       by (inl f) = or_left _ _ (done_stays j entry past plan f)
-      by (inr f) = or_right (is_done j (acked j (entry ∷ past)) (requests j (entry ∷ past))) _ (by_two (or_cases _ _ f))
+      by (inr f) = or_right (is_done j (saves_of j (entry ∷ past)) (requests j (entry ∷ past))) _ (by_two (or_cases _ _ f))
 
   pub open_before : (entry : Entry) (past : List Entry) → ((c : Chan) → begins_unread j c (entry ∷ past) ≡ true) → is_some (at_once (why j (entry ∷ past))) ≡ false → is_some (at_once (why j past)) ≡ false
   open_before entry past u e = false_from_ne_true (is_some (at_once (why j past))) (λ f. not_both (is_some (at_once (why j (entry ∷ past)))) (once_stays entry past u f) e)

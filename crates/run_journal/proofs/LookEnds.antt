@@ -10,8 +10,8 @@ use Rattle.cell_core.specs.declared.event.Event.{Event}
 use Rattle.cell_core.specs.declared.event.Event.TheVariants as event
 use Rattle.cell_core.specs.Events as events
 use Rattle.run_journal.specs.Job.{Job}
-use Rattle.run_journal.specs.Parts.{acked, is_acknowledging}
-use Rattle.run_journal.specs.Looks.{looked}
+use Rattle.run_journal.specs.Parts.{saves_of, is_acknowledging}
+use Rattle.run_journal.specs.Looks.{is_look}
 use Rattle.run_journal.specs.Due.{all_along}
 use Rattle.run_journal.specs.Awake.{is_called_for, reads_clock}
 use Rattle.run_journal.specs.Course.{begins_at, when_so, in_look, ends_look, is_late, events_at, Course, late_then, told_saved, course}
@@ -71,14 +71,14 @@ adds_lost {told} (one_more {ys} {now} x a) =
     ∙ ap (λ b. b || events.came is_loss told) (sym (came_append is_loss ys (x ∷ [])))
 adds_lost (saved_more a) = adds_lost a
 
-pub adds_looked : {told ys now : List Event} → Adds told ys now → events.looked events.is_lost now ≡ (events.looked events.is_lost told || found_in (events.came is_loss told) ys)
-adds_looked {told} nothing = sym (or-false (events.looked events.is_lost told))
+pub adds_looked : {told ys now : List Event} → Adds told ys now → events.look_since events.is_lost now ≡ (events.look_since events.is_lost told || found_in (events.came is_loss told) ys)
+adds_looked {told} nothing = sym (or-false (events.look_since events.is_lost told))
 adds_looked {told} (one_more {ys} {now} x a) =
     let l : Bool = events.came is_loss told in
-    ap (λ b. (events.is_looked x && b) || events.looked events.is_lost now) (loss_is now ∙ adds_lost a)
+    ap (λ b. (events.is_looked x && b) || events.look_since events.is_lost now) (loss_is now ∙ adds_lost a)
     ∙ ap (λ b. (events.is_looked x && (events.came is_loss ys || l)) || b) (adds_looked a)
-    ∙ looked_then (events.looked events.is_lost told) (found_in l ys) (events.is_looked x && (events.came is_loss ys || l))
-    ∙ ap (λ b. events.looked events.is_lost told || b) (sym (found_append l ys (x ∷ [])))
+    ∙ looked_then (events.look_since events.is_lost told) (found_in l ys) (events.is_looked x && (events.came is_loss ys || l))
+    ∙ ap (λ b. events.look_since events.is_lost told || b) (sym (found_append l ys (x ∷ [])))
 adds_looked (saved_more a) = adds_looked a
 
 -- ---- since a moment
@@ -202,7 +202,7 @@ module _ (j : Job) (entry : Entry) (past : List Entry) where
 module _ (jobs : List Job) (j : Job) where
   module _ (entry : Entry) (past : List Entry) (k : KeepsRules jobs j (entry ∷ past)) (h : RanAtWait j (entry ∷ past)) where
     -- after the end of a look, and before the next wait, no entry gives anything of the clock or of looks
-    quiet_then : is_wait entry ≡ false → looked j past ≡ true → has_wait past ≡ true → is_called_for j (before_wait past) ≡ true → events.came is_dated (events_at j entry past (course j past).late) ≡ false
+    quiet_then : is_wait entry ≡ false → is_look j past ≡ true → has_wait past ≡ true → is_called_for j (before_wait past) ≡ true → events.came is_dated (events_at j entry past (course j past).late) ≡ false
     quiet_then w l waited called =
         ap (events.came is_dated) (events_are j entry past (course j past).late)
         ∙ add_none is_dated (core_at j entry past) (rest_at j entry past (course j past).late) false (none_core is_dated j entry past (λ b. refl) (λ f. refl) refl)
@@ -216,7 +216,7 @@ module _ (jobs : List Job) (j : Job) where
         was_not : draws j entry ≡ true → is_some (drawn_clock j past) ≡ false
         was_not e =
             not-true (is_some (drawn_clock j past))
-            (and_parts (not (is_some (drawn_clock j past))) (nat_lt 0 (acked j past))
+            (and_parts (not (is_some (drawn_clock j past))) (nat_lt 0 (saves_of j past))
             (or_off (draws j entry) _ (start_parts j entry past (and_parts (starts_in_turn j (entry ∷ past)) (all_along (starts_in_turn j) past) k.start).0).0 e)).0
 
         undrawn : draws j entry ≡ false
@@ -232,7 +232,7 @@ module _ (jobs : List Job) (j : Job) where
         parts = or_parts (events.came is_dated (begins_at j entry past)) (events.came is_dated (turn_at j entry past)) (sym (came_append is_dated (begins_at j entry past) (turn_at j entry past)) ∙ ap (events.came is_dated) none)
 
         open_ : ends_look j entry past ≡ false
-        open_ = off (in_look j (entry ∷ past) && looked j (entry ∷ past)) (is_wait entry) (looked j past) w l
+        open_ = off (in_look j (entry ∷ past) && is_look j (entry ∷ past)) (is_wait entry) (is_look j past) w l
           where
             off : (x y z : Bool) → y ≡ false → z ≡ true → (x && (y || not z)) ≡ false
             off true false true e f = refl
@@ -240,11 +240,11 @@ module _ (jobs : List Job) (j : Job) where
             off x true z e f = cc
             off x false false e f = cc
 
-  pub look_end : (past : List Entry) → KeepsRules jobs j past → RanAtWait j past → has_wait past ≡ true → is_called_for j (before_wait past) ≡ true → looked j past ≡ true → LookEnd j past
+  pub look_end : (past : List Entry) → KeepsRules jobs j past → RanAtWait j past → has_wait past ≡ true → is_called_for j (before_wait past) ≡ true → is_look j past ≡ true → LookEnd j past
   look_end [] k h w c l = cc
   look_end (entry ∷ past) k h w c l = by (λ x y z. look_end past (rules_before jobs j entry past k) (ran_before jobs j entry past k h) x y z) (new_or_old 0 jobs j entry past)
     where
-      by : (has_wait past ≡ true → is_called_for j (before_wait past) ≡ true → looked j past ≡ true → LookEnd j past) → IsNew 0 jobs j entry past → LookEnd j (entry ∷ past)
+      by : (has_wait past ≡ true → is_called_for j (before_wait past) ≡ true → is_look j past ≡ true → LookEnd j past) → IsNew 0 jobs j entry past → LookEnd j (entry ∷ past)
       by ih (inl n) = new_end j entry past (ends_from j entry past w c l n)
       by ih (inr o) =
           let waited : has_wait past ≡ true = ap (λ v. v || has_wait past) (sym o.0) ∙ w in
@@ -284,10 +284,10 @@ module _ (j : Job) (q past : List Entry) (pre post ds : List Event) (open_ : sto
     queued_then f =
         sym (unlooked_kept d pre (whole d j q) un).1 ∙ ap (λ (v : Seen). v.queued) (sym all_of) ∙ run_queued d ds (seen d (course j past).told) f
 
-  pub lost_then : events.looked events.is_lost (course j past).told ≡ true → finds (course j q) ≡ true
+  pub lost_then : events.look_since events.is_lost (course j past).told ≡ true → finds (course j q) ≡ true
   lost_then f =
       let l : Bool = events.came is_loss (course j q).told in
-      ap (λ b. events.looked events.is_lost (course j q).told || b)
+      ap (λ b. events.look_since events.is_lost (course j q).told || b)
       (sym (or-false (found_in l (course j q).held)) ∙ ap (λ b. found_in l (course j q).held || b) (sym (none_found (events.came is_loss (course j q).held || l) pre un))
       ∙ sym (found_append l (course j q).held pre) ∙ ap (found_in l) e ∙ found_append l s.ys ds)
-      ∙ or_more (events.looked events.is_lost (course j q).told) (found_in l s.ys) (found_in (events.came is_loss s.ys || l) ds) (sym (adds_looked s.adds) ∙ f)
+      ∙ or_more (events.look_since events.is_lost (course j q).told) (found_in l s.ys) (found_in (events.came is_loss s.ys || l) ds) (sym (adds_looked s.adds) ∙ f)

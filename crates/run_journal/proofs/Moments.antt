@@ -2,7 +2,7 @@
 use Rattle.std.proofs.Common.{◌≡◌, ◌⊎◌, inl, inr, ℕ, suc, List, [], ◌∷◌, ◌++◌, length, drop, Bool, true, false, ◌||◌, Option, Some, None, refl, sym, ◌∙◌, ap}
 use Rattle.std.specs.Prelude.{is_some}
 use Rattle.std.proofs.lemmas.Bool.{or_parts, cond-true, cond-false, cases_Bool}
-use Rattle.std.proofs.lemmas.Option.{same_Some}
+use Rattle.std.proofs.lemmas.Option.{same_Some, none-some}
 use Rattle.cell_core.specs.declared.event.Event.{Event}
 use Rattle.cell_core.specs.declared.event.Event.TheVariants as event
 use Rattle.cell_core.specs.Task.{Task}
@@ -17,12 +17,6 @@ use Rattle.run_journal.proofs.Telling.{came_append}
 use Rattle.run_journal.proofs.Truths.{not_both}
 
 -- ---- one event after another
-
-pub none_some : {o : Option (List Event)} (later : List Event) → o ≡ None → o ≡ Some later → ⊥
-none_some later e f = by (sym e ∙ f)
-  where
-    by : None ≡ Some later → ⊥
-    by e = cc
 
 -- the clock when a request came to stand stays
 pub stood_on : (es later told : List Event) → events.time (drop (length (told_on es later)) (told_on es told)) ≡ events.time (drop (length later) told)
@@ -198,7 +192,7 @@ some_once test e told (Some later) n h = cc
 -- a request that comes to stand among these has the clock at that event
 pub mark_time : (task : Task) (k : ℕ) (es told later : List Event) → AreFew es → core.after task k told ≡ None → core.after task k (told_on es told) ≡ Some later
     → events.time (drop (length later) (told_on es told)) ≡ at_mark (events.time told) es
-mark_time task k [] told later f n s = absurd (none_some later n s)
+mark_time task k [] told later f n s = absurd (none-some later (sym n ∙ s))
 mark_time task k (e ∷ es) told later f n s = by (cases_Bool (stands_at task k (e ∷ told))) (cases_Bool (is_mark e)) (mark_time task k es (e ∷ told) later f.1)
   where
     stood : stands_at task k (e ∷ told) ≡ true → events.time (drop (length later) (told_on es (e ∷ told))) ≡ events.time (e ∷ told)
@@ -212,7 +206,7 @@ mark_time task k (e ∷ es) told later f n s = by (cases_Bool (stands_at task k 
     by (inl h) (inl m) rec = stood h ∙ marked_time e told es m
     by (inl h) (inr m) rec = absurd (not_both (stands_at task k (e ∷ told)) h (none_now task k e told m n))
     by (inr h) (inl m) rec =
-        absurd (none_some later (none_through task k es (e ∷ told) (f.0 m) (after_more task k e told ∙ none_more (stands_at task k) e told (core.after task k told) n h)) s)
+        absurd (none-some later (sym (none_through task k es (e ∷ told) (f.0 m) (after_more task k e told ∙ none_more (stands_at task k) e told (core.after task k told) n h)) ∙ s))
     by (inr h) (inr m) rec =
         rec (after_more task k e told ∙ none_more (stands_at task k) e told (core.after task k told) n h) s ∙ unmarked_time e told es m
 

@@ -17,7 +17,7 @@ use Rattle.cell_core.specs.declared.why.Why.TheVariants as cause
 use Rattle.out_fold.specs.declared.used.Used.{Used}
 use Rattle.run_journal.specs.Codec.{Arrival}
 use Rattle.run_journal.specs.Job.{Job, Given, Refuses, Prepares, Runs}
-use Rattle.run_journal.specs.Parts.{place, connection, bytes_got, acked}
+use Rattle.run_journal.specs.Parts.{place, connection, bytes_got, saves_of}
 use Rattle.run_journal.specs.Arrivals.{heard, arrive, arrivals}
 use Rattle.run_journal.specs.Requests.{Request, as_used, is_exec_reply, is_parent, through_idle, has_idle, own, first, reply, reply_date, use_of, used_of, is_over, is_fatal, is_passed, is_last_passed, requests, or_later, last_request}
 use Rattle.run_journal.specs.Looks.{is_lost}
@@ -320,14 +320,14 @@ was_error true b c d e f g h = cc
 was_error false true c d e f g h = (refl, refl)
 was_error false false c d e f g h = absurd (no_error c d e f g h)
 
-done_is : (j : Job) (past : List Entry) → why j past ≡ Some cause.Done → is_done j (acked j past) (requests j past) ≡ true
+done_is : (j : Job) (past : List Entry) → why j past ≡ Some cause.Done → is_done j (saves_of j past) (requests j past) ≡ true
 done_is j past e =
-    was_done (is_done j (acked j past) (requests j past)) (is_error j (last_request 0 (requests j past))) (is_some (bad_stream j past)) (is_lost j past)
+    was_done (is_done j (saves_of j past) (requests j past)) (is_error j (last_request 0 (requests j past))) (is_some (bad_stream j past)) (is_lost j past)
     (is_not_ready j (requests j past) past) (is_no_idle j (last_request 0 (requests j past)) past) (is_timed_out j (last_request 0 (requests j past)) past) e
 
-error_is : (j : Job) (past : List Entry) → why j past ≡ Some cause.CellError → (is_done j (acked j past) (requests j past) ≡ false) × (is_error j (last_request 0 (requests j past)) ≡ true)
+error_is : (j : Job) (past : List Entry) → why j past ≡ Some cause.CellError → (is_done j (saves_of j past) (requests j past) ≡ false) × (is_error j (last_request 0 (requests j past)) ≡ true)
 error_is j past e =
-    was_error (is_done j (acked j past) (requests j past)) (is_error j (last_request 0 (requests j past))) (is_some (bad_stream j past)) (is_lost j past)
+    was_error (is_done j (saves_of j past) (requests j past)) (is_error j (last_request 0 (requests j past))) (is_some (bad_stream j past)) (is_lost j past)
     (is_not_ready j (requests j past) past) (is_no_idle j (last_request 0 (requests j past)) past) (is_timed_out j (last_request 0 (requests j past)) past) e
 
 -- where the one is done, no reply of the other was fatal

@@ -4,19 +4,19 @@ use Rattle.std.specs.Prelude.{filter, nat_lt, nat_le, if◌then◌else◌, slice
 use Rattle.std.proofs.lemmas.List.{map-append, length-map}
 use Rattle.std.proofs.lemmas.List.Elements.{filter-append}
 use Rattle.std.proofs.lemmas.Bool.{cond-true, cond-false, cond_both, cases_Bool, cases_lt, and_left, lt-ltb, le-ltb, lt-leb, le-leb}
-use Rattle.std.proofs.lemmas.Option.{same_Some}
+use Rattle.std.proofs.lemmas.Option.{same_Some, slice_get-map}
 use Rattle.world.specs.declared.chan.Chan.{Chan}
 use Rattle.world.specs.declared.chan.Chan.TheVariants.{Shell, Iopub}
 use Rattle.world.specs.declared.entry.Entry.{Entry}
 use Rattle.world.specs.Places.{time}
 use Rattle.run_journal.specs.Codec.{Arrival}
 use Rattle.run_journal.specs.Job.{Job}
-use Rattle.run_journal.specs.Parts.{acked, is_acknowledging}
-use Rattle.run_journal.specs.Arrivals.{arrive, arrivals, asked, is_ready}
+use Rattle.run_journal.specs.Parts.{saves_of, is_acknowledging}
+use Rattle.run_journal.specs.Arrivals.{arrive, arrivals, ask_state, is_ready}
 use Rattle.run_journal.specs.Requests.{Request, with_interrupt, goes_on, fresh, count_queued, is_next, requests, or_later}
 use Rattle.run_journal.specs.Literal.{start_at, alone, later_with, is_for, is_reply_for, Literally}
 use Rattle.run_journal.proofs.Growth.{requests_go_on, length_on}
-use Rattle.run_journal.proofs.Agreeing.{get_some}
+use Rattle.jtext.proofs.Lists.{some_at}
 
 -- each arrival stands at a position before this one
 abbrev AllBelow : ℕ → List (ℕ × Arrival) → Type 0
@@ -68,11 +68,6 @@ not_started j k (entry ∷ past) h =
     let fewer : length (requests j past) ≤ length (requests j (entry ∷ past)) = length_on (requests_go_on j entry past) in
     ap (λ o. or_later o (if nat_le k (length (requests j (entry ∷ past))) then Some (length past) else None)) (not_started j k past (omega (arith, h, fewer)))
     ∙ cond-false (nat_le k (length (requests j (entry ∷ past)))) _ _ (lt-leb k (length (requests j (entry ∷ past))) h)
-
-get_map : (f : Request → Request) (rs : List Request) (i : ℕ) (r : Request) → slice_get rs i ≡ Some r → slice_get (map f rs) i ≡ Some (f r)
-get_map f [] i r e = cc
-get_map f (x ∷ rs) zero r e = ap (option_map f) e
-get_map f (x ∷ rs) (suc i) r e = get_map f rs i r e
 
 get_front : (rs ss : List Request) (i : ℕ) (r : Request) → slice_get rs i ≡ Some r → slice_get (rs ++ ss) i ≡ Some r
 get_front [] ss i r e = cc
@@ -129,8 +124,8 @@ module _ (j : Job) where
   literal [] i r e = cc
   literal (entry ∷ past) i r e = elim (cases_lt i (length (requests j past))) [
     | inl below ↦
-        let old = get_some (requests j past) i below in
-        let is : slice_get (requests j (entry ∷ past)) i ≡ Some (goes_on j entry past old.0) = kept (get_map (goes_on j entry past) (requests j past) i old.0 old.1) in
+        let old = some_at (requests j past) i below in
+        let is : slice_get (requests j (entry ∷ past)) i ≡ Some (goes_on j entry past old.0) = kept (slice_get-map (goes_on j entry past) (requests j past) i ∙ ap (option_map (goes_on j entry past)) old.1) in
         let same : r ≡ goes_on j entry past old.0 = same_Some _ _ (sym e ∙ is) in
         subst (λ s. Literally j i (entry ∷ past) s) (sym same) (literal_on i entry past old.0 (literal past i old.0 old.1))
     | inr above ↦ fresh_one (omega (arith, above, length-map (requests j past) (goes_on j entry past))) e
@@ -140,10 +135,10 @@ module _ (j : Job) where
       rs = map (goes_on j entry past) (requests j past)
 
       next : Bool
-      next = is_next j (is_acknowledging j (entry ∷ past)) (is_ready j (entry ∷ past)) (acked j (entry ∷ past)) rs
+      next = is_next j (is_acknowledging j (entry ∷ past)) (is_ready j (entry ∷ past)) (saves_of j (entry ∷ past)) rs
 
       q : Request
-      q = with_interrupt j (entry ∷ past) (fresh (count_queued (length (asked j (entry ∷ past)).ids) rs + 1) (time past))
+      q = with_interrupt j (entry ∷ past) (fresh (count_queued (length (ask_state j (entry ∷ past)).ids) rs + 1) (time past))
 
       kept : {s : Request} → slice_get rs i ≡ Some s → slice_get (requests j (entry ∷ past)) i ≡ Some s
       kept {s} h = cond_both next (rs ++ q ∷ []) rs (λ ss. slice_get ss i ≡ Some s) (λ e. get_front rs (q ∷ []) i s h) (λ e. h)

@@ -7,13 +7,13 @@ use Rattle.world.specs.Places.{time}
 use Rattle.world.specs.Waits.{has_wait, before_wait}
 use Rattle.cell_core.specs.declared.event.Event.{Event}
 use Rattle.cell_core.specs.Task.{Task}
-use Rattle.cell_core.specs.Deadlines.{idle_ms, interrupt_ms, replied_at, second_deadline, entry_and_more, start_from, start_deadline as core_start, is_unanswered, queued, looked_by}
+use Rattle.cell_core.specs.Deadlines.{idle_ms, interrupt_ms, replied_at, second_deadline, entry_and_more, start_from, start_deadline as core_start, is_unanswered, is_queued, looked_by}
 use Rattle.cell_core.specs.Events as events
 use Rattle.cell_core.specs.Requests as core
 use Rattle.cell_core.specs.Saves as core_saves
 use Rattle.run_journal.specs.Codec.{Arrival}
 use Rattle.run_journal.specs.Job.{Job}
-use Rattle.run_journal.specs.Parts.{acked, is_running}
+use Rattle.run_journal.specs.Parts.{saves_of, is_running}
 use Rattle.run_journal.specs.Arrivals.{is_ready}
 use Rattle.run_journal.specs.Looks.{ever, is_lost, is_past, ran_out}
 use Rattle.run_journal.specs.Requests.{Request, has_idle, reply, is_over, first_clock, before_clock, deadline, is_broken, requests, last_request}
@@ -129,7 +129,7 @@ module _ (jobs : List Job) (j : Job) (past : List Entry) (k : KeepsRules jobs j 
       d : ℕ
       d = c + j.task.times.start_ms
 
-      acks : 0 < acked j past
+      acks : 0 < saves_of j past
       acks = drawn_acked j past k.start (ap (λ (o : Option ℕ). is_some o) (child_drawn j past k.start c g))
 
       unready : is_ready j (before_wait past) ≡ false
@@ -262,11 +262,11 @@ module _ (jobs : List Job) (j : Job) (past : List Entry) (k : KeepsRules jobs j 
   told = (course j past).told
 
   -- what was found
-  found_told : (d : ℕ) → events.looked (events.is_turn_at d) told ≡ (whole d j past).found
+  found_told : (d : ℕ) → events.look_since (events.is_turn_at d) told ≡ (whole d j past).found
   found_told d = found_is d told ∙ ap (λ (s : Seen). s.found) (sym (told_whole j d past none un))
 
   -- a look is found by both, where it was called for, and where it held at no wait
-  found_same : (d : ℕ) → Calls jobs j past k h f t plan d → events.looked (events.is_turn_at d) told ≡ ran_out j d past
+  found_same : (d : ℕ) → Calls jobs j past k h f t plan d → events.look_since (events.is_turn_at d) told ≡ ran_out j d past
   found_same d c =
       found_told d
       ∙ same_tests (whole d j past).found (ran_out j d past)
@@ -278,7 +278,7 @@ module _ (jobs : List Job) (j : Job) (past : List Entry) (k : KeepsRules jobs j 
 
   -- ---- no readiness
 
-  start_told : events.started told ≡ drawn_clock j past
+  start_told : events.start_time told ≡ drawn_clock j past
   start_told = start_is 0 told ∙ ap (λ (s : Seen). s.start) (sym (told_whole j 0 past none un)) ∙ (dates 0 jobs j past k h).start
 
   not_ready_open : requests j past ≡ [] → looked_by (core_start j.task told) told ≡ is_out j j.task.times.start_ms (child_clock j past) past
@@ -290,7 +290,7 @@ module _ (jobs : List Job) (j : Job) (past : List Entry) (k : KeepsRules jobs j 
       undrawn g None = refl
       undrawn g (Some c) =
           let d = c + j.task.times.start_ms in
-          false_from_ne_true (events.looked (events.is_turn_at d) told) (λ y.
+          false_from_ne_true (events.look_since (events.is_turn_at d) told) (λ y.
           not_both (is_some (child_clock j past)) (child_found jobs j past k h f t plan d (sym (found_told d) ∙ y)) (ap (λ (o : Option ℕ). is_some o) g))
 
       by : (o : Option ℕ) → child_clock j past ≡ o → looked_by (start_from j.task (drawn_clock j past)) told ≡ is_out j j.task.times.start_ms o past
@@ -320,26 +320,26 @@ module _ (jobs : List Job) (j : Job) (past : List Entry) (k : KeepsRules jobs j 
         ∙ by (reply q) refl (is_over q) refl
       where
         looked_at : Bool
-        looked_at = events.looked (events.is_turn_at (replied_at (record { request = m; later = later }) told + idle_ms)) told
+        looked_at = events.look_since (events.is_turn_at (replied_at (record { request = m; later = later }) told + idle_ms)) told
 
         by : (o : Option (Arrival × ℕ)) → reply q ≡ o → (b : Bool) → is_over q ≡ b
             → ((is_some (option_map (λ v. j.fatal m v.0.content) o) && not b) && looked_at) ≡ (not b && is_out j idle_ms (option_map (λ v. v.1) o) past)
         by None r b c = sym (and-false (not b))
         by (Some x) r true c = refl
         by (Some x) r false c =
-            ap (λ n. events.looked (events.is_turn_at (n + idle_ms)) told) ((on jobs j past k h f t plan m q l e later s).replied x r)
+            ap (λ n. events.look_since (events.is_turn_at (n + idle_ms)) told) ((on jobs j past k h f t plan m q l e later s).replied x r)
             ∙ found_same (x.1 + idle_ms) (no_idle_calls jobs j past k h f t plan m q l e x r c)
 
     -- ---- no reply
 
-    module _ (dec : IsDecoding j.codec) (u : BeginsUnread j past) (b : is_broken j past ≡ false) (lost : is_lost j past ≡ false) (bc : events.came events.is_broken told ≡ false) (lc : events.looked events.is_lost told ≡ false)
+    module _ (dec : IsDecoding j.codec) (u : BeginsUnread j past) (b : is_broken j past ≡ false) (lost : is_lost j past ≡ false) (bc : events.came events.is_broken told ≡ false) (lc : events.look_since events.is_lost told ≡ false)
         (r : reply q ≡ None) (c : ℕ) (dead : deadline j q ≡ Some c) (under : q.clock < c) where
       -- without an interrupt
-      plain_out : j.task.times.interrupt ≡ false → events.looked (events.is_turn_at c) told ≡ ran_out j c past
+      plain_out : j.task.times.interrupt ≡ false → events.look_since (events.is_turn_at c) told ≡ ran_out j c past
       plain_out i = found_same c (plain_calls jobs j past k h f t plan m q l e r c dead under i)
 
       -- with one, which is queued
-      second_out : j.task.times.interrupt ≡ true → q.interrupted ≡ true → (ms : ℕ) → first_clock c past ≡ Some ms → events.looked (events.is_turn_at (ms + interrupt_ms)) told ≡ ran_out j (ms + interrupt_ms) past
+      second_out : j.task.times.interrupt ≡ true → q.interrupted ≡ true → (ms : ℕ) → first_clock c past ≡ Some ms → events.look_since (events.is_turn_at (ms + interrupt_ms)) told ≡ ran_out j (ms + interrupt_ms) past
       second_out i flag ms first = found_same (ms + interrupt_ms) (second_calls jobs j past k h f t plan m q l e r c dead under i flag ms first)
 
       second_is : second_deadline c told ≡ option_map (λ n. n + interrupt_ms) (first_clock c past)
@@ -348,7 +348,7 @@ module _ (jobs : List Job) (j : Job) (past : List Entry) (k : KeepsRules jobs j 
           ∙ ap (option_map (λ n. n + interrupt_ms)) (ap (λ (v : Seen). v.first) (sym (told_whole j c past none un)) ∙ (dates c jobs j past k h).first)
 
       -- the interrupt is queued for both
-      pub interrupt_same : j.task.times.interrupt ≡ true → queued j.task m c told ≡ q.interrupted
+      pub interrupt_same : j.task.times.interrupt ≡ true → is_queued j.task m c told ≡ q.interrupted
       interrupt_same i =
           queued_is c j.task m told open_ bc lc
           ∙ ap (λ (v : Seen). v.queued) (sym (told_whole j c past none un))
@@ -369,7 +369,7 @@ module _ (jobs : List Job) (j : Job) (past : List Entry) (k : KeepsRules jobs j 
           second i false g o f = refl
 
           by : (i : Bool) → j.task.times.interrupt ≡ i
-              → (if i then queued j.task m c told && looked_by (second_deadline c told) told else events.looked (events.is_turn_at c) told)
+              → (if i then is_queued j.task m c told && looked_by (second_deadline c told) told else events.look_since (events.is_turn_at c) told)
               ≡ is_out j 0 (if i then (if q.interrupted then option_map (λ ms. ms + interrupt_ms) (first_clock c past) else None) else Some c) past
           by true g =
               ap (λ v. v && looked_by (second_deadline c told) told) (interrupt_same g)

@@ -9,12 +9,13 @@ use Rattle.world.specs.Places.{time}
 use Rattle.world.specs.Waits.{is_wait, has_wait, before_wait, is_after_wait}
 use Rattle.world.specs.Jobs.{closes}
 use Rattle.run_journal.specs.Job.{Job}
-use Rattle.run_journal.specs.Parts.{acked, begins, is_shut, is_running}
+use Rattle.run_journal.specs.Parts.{saves_of, begins, is_shut, is_running}
 use Rattle.run_journal.specs.Requests.{or_later}
 use Rattle.run_journal.specs.Why.{starts, child_clock}
 use Rattle.run_journal.specs.Due.{all_along}
 use Rattle.run_journal.specs.Awake.{Awake, implies, in_order, waits_last, waits_short, reads_all, reads_few, keeps_up, reads_clock, looks_once, begins_again, begins_refused, begins_early, has_room}
-use Rattle.run_journal.specs.Agreement.{IsAmong, rises, draws, drawn_clock, is_clock, starts_in_turn, KeepsRules}
+use Rattle.run_journal.specs.Agreement.{IsAmong, rises, draws, drawn_clock, starts_in_turn, KeepsRules}
+use Rattle.run_journal.specs.OfJob.{is_number}
 use Rattle.run_journal.proofs.Growth.{acked_grows}
 use Rattle.run_journal.proofs.Truths.{not_both}
 use Rattle.run_journal.proofs.Telling.{some_is}
@@ -159,17 +160,17 @@ any_before j (entry ∷ past) e = or_right (begins j entry) (list_any (begins j)
 -- ---- its start
 
 pub start_parts : (j : Job) (entry : Entry) (past : List Entry) → starts_in_turn j (entry ∷ past) ≡ true
-    → ((not (draws j entry) || (not (is_some (drawn_clock j past)) && nat_lt 0 (acked j past))) ≡ true) × ((not (starts j entry) || is_clock (time past) (drawn_clock j past)) ≡ true)
+    → ((not (draws j entry) || (not (is_some (drawn_clock j past)) && nat_lt 0 (saves_of j past))) ≡ true) × ((not (starts j entry) || is_number (time past) (drawn_clock j past)) ≡ true)
     × ((not (begins j entry) || is_some (child_clock j past)) ≡ true)
 start_parts j entry past e =
-    let p = and_parts (not (draws j entry) || (not (is_some (drawn_clock j past)) && nat_lt 0 (acked j past))) _ e in
-    let q = and_parts (not (starts j entry) || is_clock (time past) (drawn_clock j past)) (not (begins j entry) || is_some (child_clock j past)) p.1 in
+    let p = and_parts (not (draws j entry) || (not (is_some (drawn_clock j past)) && nat_lt 0 (saves_of j past))) _ e in
+    let q = and_parts (not (starts j entry) || is_number (time past) (drawn_clock j past)) (not (begins j entry) || is_some (child_clock j past)) p.1 in
     (p.0, q.0, q.1)
 
 module _ (j : Job) where
-  pub is_clock_is : (ms : ℕ) (o : Option ℕ) → is_clock ms o ≡ true → o ≡ Some ms
-  is_clock_is ms None e = cc
-  is_clock_is ms (Some clock) e = ap (λ n. Some n) (eqb-true clock ms e)
+  pub is_number_is : (ms : ℕ) (o : Option ℕ) → is_number ms o ≡ true → o ≡ Some ms
+  is_number_is ms None e = cc
+  is_number_is ms (Some clock) e = ap (λ n. Some n) (eqb-true clock ms e)
 
   -- the child was started by the clock by which its ports were drawn
   pub child_drawn : (past : List Entry) → all_along (starts_in_turn j) past ≡ true → (clock : ℕ) → child_clock j past ≡ Some clock → drawn_clock j past ≡ Some clock
@@ -183,7 +184,7 @@ module _ (j : Job) where
       more ms g = ap (λ o. or_later o (if draws j entry then Some (time past) else None)) g
 
       started : (b : Bool) → starts j entry ≡ b → (if b then Some (time past) else None) ≡ Some clock → drawn_clock j (entry ∷ past) ≡ Some clock
-      started true g i = more (time past) (is_clock_is (time past) (drawn_clock j past) (or_off (starts j entry) _ (start_parts j entry past p.0).1 g)) ∙ i
+      started true g i = more (time past) (is_number_is (time past) (drawn_clock j past) (or_off (starts j entry) _ (start_parts j entry past p.0).1 g)) ∙ i
       started false g i = cc
 
       by : (child_clock j past ≡ Some clock → drawn_clock j past ≡ Some clock) → (o : Option ℕ) → child_clock j past ≡ o → drawn_clock j (entry ∷ past) ≡ Some clock
@@ -213,13 +214,13 @@ module _ (j : Job) where
   later_none None false ms e = cc
 
   -- after its first save was acknowledged
-  pub drawn_acked : (past : List Entry) → all_along (starts_in_turn j) past ≡ true → is_some (drawn_clock j past) ≡ true → 0 < acked j past
+  pub drawn_acked : (past : List Entry) → all_along (starts_in_turn j) past ≡ true → is_some (drawn_clock j past) ≡ true → 0 < saves_of j past
   drawn_acked [] e b = cc
   drawn_acked (entry ∷ past) e b =
       let p = and_parts (starts_in_turn j (entry ∷ past)) (all_along (starts_in_turn j) past) e in
       let g = (acked_grows j entry past).0 in
-      let was : 0 < acked j past = elim (later_none (drawn_clock j past) (draws j entry) (time past) b) [
+      let was : 0 < saves_of j past = elim (later_none (drawn_clock j past) (draws j entry) (time past) b) [
         | inl f ↦ drawn_acked past p.1 f
-        | inr f ↦ ltb-true 0 (acked j past) (and_parts (not (is_some (drawn_clock j past))) (nat_lt 0 (acked j past)) (or_off (draws j entry) _ (start_parts j entry past p.0).0 f)).1
+        | inr f ↦ ltb-true 0 (saves_of j past) (and_parts (not (is_some (drawn_clock j past))) (nat_lt 0 (saves_of j past)) (or_off (draws j entry) _ (start_parts j entry past p.0).0 f)).1
       ] in
       omega (arith, g, was)

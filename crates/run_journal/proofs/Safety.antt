@@ -3,8 +3,7 @@ use Rattle.std.proofs.Common.{◌≡◌, ◌⊎◌, inl, inr, ℕ, zero, suc, �
 use Rattle.std.specs.Prelude.{nat_lt, ◌==◌, slice_get, IsSomeAnd}
 use Rattle.std.specs.Str.{bytes_eq}
 use Rattle.std.proofs.lemmas.List.{length-map, map-append}
-use Rattle.std.proofs.lemmas.Bool.{and_parts, and_left, and_right, cond-true, cond-false, cond_both, cases_Bool, ltb-true, eqb-true, ne_eqb, not_from_true, or_parts, both_ways, false_from_ne_true}
-use Rattle.std.proofs.lemmas.Slice.Eq.{bytes_eq-Decides}
+use Rattle.std.proofs.lemmas.Bool.{and_parts, and_left, and_right, cond-true, cond-false, cond_both, cases_Bool, ltb-true, eqb-true, ne_eqb, not_from_true, or_parts}
 use Rattle.world.specs.declared.did.Did.TheVariants.{Done, Failed}
 use Rattle.world.specs.declared.entry.Entry.{Entry}
 use Rattle.world.specs.declared.entry.Entry.TheVariants as made
@@ -14,15 +13,15 @@ use Rattle.world.specs.Disk.{Place, place, Among, settled_place, folder_of}
 use Rattle.world.specs.Moments.{Since, start as begin, more as later}
 use Rattle.world.specs.Parts.{OnDisk, part_of}
 use Rattle.world.specs.Places.{time}
-use Rattle.save_disk.specs.Places.{acknowledged}
+use Rattle.save_disk.specs.Places.{save_count}
 use Rattle.progress_save.specs.Safe.{IsText, IsLastOrNext, IsPlace, IsSafe}
 use Rattle.cell_core.specs.declared.why.Why.{Why}
 use Rattle.cell_core.specs.declared.why.Why.TheVariants as cause
 use Rattle.zmtp_wire.specs.Meaning.{Begins}
 use Rattle.run_journal.specs.Job.{Job}
-use Rattle.run_journal.specs.Parts.{acked, is_acknowledging, is_shut}
+use Rattle.run_journal.specs.Parts.{saves_of, is_acknowledging, is_shut}
 use Rattle.run_journal.specs.OfJob.{is_own_path, is_of}
-use Rattle.run_journal.specs.Arrivals.{asked, is_ready}
+use Rattle.run_journal.specs.Arrivals.{ask_state, is_ready}
 use Rattle.run_journal.specs.Requests.{Request, is_last_passed, is_next, with_interrupt, goes_on, fresh, count_queued, requests}
 use Rattle.run_journal.specs.Why.{cause_if, is_done, are_acked, plain_count, why}
 use Rattle.run_journal.specs.Saves.{Save, save, passes, is_marked, stopping, is_complete, run_saves, saves_by, saves, texts}
@@ -31,6 +30,7 @@ use Rattle.run_journal.specs.Safety.{IsSafeNow, StepsSafely}
 use Rattle.run_journal.proofs.Alike.{Quiet, near_self, skips, quiet_by}
 use Rattle.run_journal.proofs.Growth.{passed_stays, goes, begins_self, begins_then, begins_as, no_stop, acked_grows, before_all, saves_end, go_append, go_self, open_saves, run_begins, unplanned_grow, given_grow}
 use Rattle.run_journal.proofs.Isolation.{requests_quiet, why_but_done}
+use Rattle.jtext.proofs.Equals.{turned_bytes}
 
 -- ---- never two requests at once
 
@@ -70,10 +70,10 @@ all_but_last j [] = tt
 all_but_last j (entry ∷ past) =
     let rs : List Request = map (goes_on j entry past) (requests j past) in
     let h : ArePassed j 0 rs = passed_map j entry past 0 (requests j past) (all_but_last j past) in
-    cond_both (is_next j (is_acknowledging j (entry ∷ past)) (is_ready j (entry ∷ past)) (acked j (entry ∷ past)) rs)
-    (rs ++ with_interrupt j (entry ∷ past) (fresh (count_queued (length (asked j (entry ∷ past)).ids) rs + 1) (time past)) ∷ []) rs
+    cond_both (is_next j (is_acknowledging j (entry ∷ past)) (is_ready j (entry ∷ past)) (saves_of j (entry ∷ past)) rs)
+    (rs ++ with_interrupt j (entry ∷ past) (fresh (count_queued (length (ask_state j (entry ∷ past)).ids) rs + 1) (time past)) ∷ []) rs
     (λ ss. ArePassed j 0 ss)
-    (λ e. passed_next j (is_acknowledging j (entry ∷ past)) (is_ready j (entry ∷ past)) (acked j (entry ∷ past)) rs _ h e)
+    (λ e. passed_next j (is_acknowledging j (entry ∷ past)) (is_ready j (entry ∷ past)) (saves_of j (entry ∷ past)) rs _ h e)
     (λ e. h)
 
 -- ---- a request for each acknowledged save, at most, and for each cell
@@ -88,17 +88,17 @@ few_next j acks ready saves (r ∷ rs) e =
     (omega (arith, s), f.planned)
 
 -- no more requests stand than saves are acknowledged, and than cells are to run
-pub few_requests : (j : Job) (past : List Entry) → (length (requests j past) ≤ acked j past) × (length (requests j past) ≤ length j.task.plan)
+pub few_requests : (j : Job) (past : List Entry) → (length (requests j past) ≤ saves_of j past) × (length (requests j past) ≤ length j.task.plan)
 few_requests j [] = (omega arith, omega arith)
 few_requests j (entry ∷ past) =
     let rs : List Request = map (goes_on j entry past) (requests j past) in
     let old = few_requests j past in
     let grow = acked_grows j entry past in
     let same : length rs ≡ length (requests j past) = length-map (requests j past) (goes_on j entry past) in
-    cond_both (is_next j (is_acknowledging j (entry ∷ past)) (is_ready j (entry ∷ past)) (acked j (entry ∷ past)) rs)
-    (rs ++ with_interrupt j (entry ∷ past) (fresh (count_queued (length (asked j (entry ∷ past)).ids) rs + 1) (time past)) ∷ []) rs
-    (λ ss. (length ss ≤ acked j (entry ∷ past)) × (length ss ≤ length j.task.plan))
-    (λ e. let n = few_next j (is_acknowledging j (entry ∷ past)) (is_ready j (entry ∷ past)) (acked j (entry ∷ past)) rs e in (one_longer rs _ _ n.0, one_longer rs _ _ n.1))
+    cond_both (is_next j (is_acknowledging j (entry ∷ past)) (is_ready j (entry ∷ past)) (saves_of j (entry ∷ past)) rs)
+    (rs ++ with_interrupt j (entry ∷ past) (fresh (count_queued (length (ask_state j (entry ∷ past)).ids) rs + 1) (time past)) ∷ []) rs
+    (λ ss. (length ss ≤ saves_of j (entry ∷ past)) × (length ss ≤ length j.task.plan))
+    (λ e. let n = few_next j (is_acknowledging j (entry ∷ past)) (is_ready j (entry ∷ past)) (saves_of j (entry ∷ past)) rs e in (one_longer rs _ _ n.0, one_longer rs _ _ n.1))
     (λ e. (omega (arith, old.0, grow.0, same), omega (arith, old.1, same)))
   where
     one_longer : (rs : List Request) (q : Request) (n : ℕ) → length rs < n → length (rs ++ q ∷ []) ≤ n
@@ -127,25 +127,25 @@ done_alike j m n rs some = cond-false (length j.task.plan == 0) (are_acked (plai
 why_quiet : (j : Job) (entry : Entry) (past : List Entry) → Quiet j entry → (length j.task.plan == 0) ≡ false → requests j (entry ∷ past) ≡ requests j past → why j (entry ∷ past) ≡ why j past
 why_quiet j entry past f some same =
     why_but_done j (skips f (near_self j past))
-    (ap (λ b. cause_if b cause.Done) (done_alike j (acked j (entry ∷ past)) (acked j past) (requests j (entry ∷ past)) some ∙ ap (is_done j (acked j past)) same)) same
+    (ap (λ b. cause_if b cause.Done) (done_alike j (saves_of j (entry ∷ past)) (saves_of j past) (requests j (entry ∷ past)) some ∙ ap (is_done j (saves_of j past)) same)) same
 
 saves_by_quiet : (j : Job) (entry : Entry) (past : List Entry) → Quiet j entry → Begins (saves_by j past) (saves_by j (entry ∷ past))
 saves_by_quiet j entry past f = given_grow j j.given (requests j past) (requests j (entry ∷ past)) (why j past) (why j (entry ∷ past)) (elim (cases_Bool (length j.task.plan == 0)) [
   | inl empty ↦ unplanned_grow j entry past empty
-  | inr some ↦ elim (cases_Bool (is_next j (is_acknowledging j (entry ∷ past)) (is_ready j (entry ∷ past)) (acked j (entry ∷ past)) (requests j past))) [
+  | inr some ↦ elim (cases_Bool (is_next j (is_acknowledging j (entry ∷ past)) (is_ready j (entry ∷ past)) (saves_of j (entry ∷ past)) (requests j past))) [
     | inl e ↦
-        let q : Request = with_interrupt j (entry ∷ past) (fresh (count_queued (length (asked j (entry ∷ past)).ids) (requests j past) + 1) (time past)) in
+        let q : Request = with_interrupt j (entry ∷ past) (fresh (count_queued (length (ask_state j (entry ∷ past)).ids) (requests j past) + 1) (time past)) in
         let new : requests j (entry ∷ past) ≡ requests j past ++ q ∷ []
-        = requests_quiet j past f ∙ cond-true (is_next j (is_acknowledging j (entry ∷ past)) (is_ready j (entry ∷ past)) (acked j (entry ∷ past)) (requests j past)) _ _ e in
+        = requests_quiet j past f ∙ cond-true (is_next j (is_acknowledging j (entry ∷ past)) (is_ready j (entry ∷ past)) (saves_of j (entry ∷ past)) (requests j past)) _ _ e in
         let w : Option Why = why j (entry ∷ past) in
         let ss : List Request = requests j past ++ q ∷ [] in
         let after : Begins (run_saves j (requests j past) (why j past)) (run_saves j ss w)
-        = subst (λ xs. Begins xs (run_saves j ss w)) (sym (due_next j (is_acknowledging j (entry ∷ past)) (is_ready j (entry ∷ past)) (acked j (entry ∷ past)) (requests j past) (why j past) e))
+        = subst (λ xs. Begins xs (run_saves j ss w)) (sym (due_next j (is_acknowledging j (entry ∷ past)) (is_ready j (entry ∷ past)) (saves_of j (entry ∷ past)) (requests j past) (why j past) e))
         (run_begins j (requests j past) ss w (go_append (q ∷ []) (go_self (requests j past)))) in
         subst (λ rs. Begins (run_saves j (requests j past) (why j past)) (run_saves j rs w)) (sym new) after
     | inr e ↦
         let same : requests j (entry ∷ past) ≡ requests j past
-        = requests_quiet j past f ∙ cond-false (is_next j (is_acknowledging j (entry ∷ past)) (is_ready j (entry ∷ past)) (acked j (entry ∷ past)) (requests j past)) _ _ e in
+        = requests_quiet j past f ∙ cond-false (is_next j (is_acknowledging j (entry ∷ past)) (is_ready j (entry ∷ past)) (saves_of j (entry ∷ past)) (requests j past)) _ _ e in
         let w : why j (entry ∷ past) ≡ why j past = why_quiet j entry past f some same in
         begins_as (begins_self _) (ap (λ rs. run_saves j rs (why j (entry ∷ past))) same ∙ ap (run_saves j (requests j past)) w)
   ]
@@ -185,12 +185,9 @@ quiet_on_disk j _ e = quiet_by j _ refl (λ was. refl) refl (λ c clock s. refl)
 
 -- ---- what other jobs leave at the output
 
-other_way : (p q : List ℕ) → bytes_eq p q ≡ false → bytes_eq q p ≡ false
-other_way p q e = false_from_ne_true (bytes_eq q p) (λ t. both_ways (bytes_eq p q) e ((bytes_eq-Decides p q).1 (sym ((bytes_eq-Decides q p).0 t))))
-
 -- a path that isn't the job's isn't its output
 unnamed : (j : Job) (path : List ℕ) → is_own_path j path ≡ false → bytes_eq path j.output ≡ false
-unnamed j path e = other_way j.output path (or_parts (bytes_eq j.output path) _ (or_parts (bytes_eq j.output path || bytes_eq j.input path) _ (or_parts _ _ e).0).0).0
+unnamed j path e = turned_bytes path j.output ∙ (or_parts (bytes_eq j.output path) _ (or_parts (bytes_eq j.output path || bytes_eq j.input path) _ (or_parts _ _ e).0).0).0
 
 module _ (Test : Left → Type 0) where
   only : (o x : Left) → Test x → Among o (x ∷ []) → Test o
@@ -264,8 +261,8 @@ texts_begin j past now b = record {
 -- an output that is safe by what is due now is safe by what is due later
 pub safe_later : (j : Job) (now end : List Entry) → Begins (saves j now) (saves j end) → IsSafeNow j now → IsSafe j.output (texts j end) now
 safe_later j now end b s =
-    place_more (IsLastOrNext (texts j now) (acknowledged j.output now)) (IsLastOrNext (texts j end) (acknowledged j.output now))
-    (λ o. last_more (texts j now) (texts j end) (texts_begin j now end b) (acknowledged j.output now) o) (place now j.output) s
+    place_more (IsLastOrNext (texts j now) (save_count j.output now)) (IsLastOrNext (texts j end) (save_count j.output now))
+    (λ o. last_more (texts j now) (texts j end) (texts_begin j now end b) (save_count j.output now) o) (place now j.output) s
 
 -- where each entry keeps the saves and leaves the output safe, it was safe at each moment by what is due in the end
 pub safe_in_the_end : {j : Job} {before now : List Entry} → Since (StepsSafely j) before now → (end : List Entry) → Begins (saves j now) (saves j end) → Since (IsSafe j.output (texts j end)) before now

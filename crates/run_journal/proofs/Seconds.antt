@@ -9,8 +9,8 @@ use Rattle.world.specs.Places.{time}
 use Rattle.world.specs.Waits.{has_wait, before_wait, moment_of}
 use Rattle.run_journal.specs.Job.{Job}
 use Rattle.run_journal.specs.Parts.{turn_clock}
-use Rattle.run_journal.specs.Arrivals.{arrive, asked, is_ready}
-use Rattle.run_journal.specs.Looks.{looked, ever, is_lost, is_at_least, is_past}
+use Rattle.run_journal.specs.Arrivals.{arrive, ask_state, is_ready}
+use Rattle.run_journal.specs.Looks.{is_look, ever, is_lost, is_at_least, is_past}
 use Rattle.run_journal.specs.Requests.{Request, reply, or_later, first_clock, before_clock, just_ran_out, deadline, is_just_out, is_broken, is_interrupted, with_news, fresh, count_queued, goes_on, requests}
 use Rattle.run_journal.specs.Why.{child_clock, starts}
 use Rattle.run_journal.specs.Due.{all_along}
@@ -124,7 +124,7 @@ flagged_before j c d {q} (earlier {past} entry b) e f two i r g l dead int = by 
     not_now v x y =
         let z : just_ran_out j c (entry ∷ past) ≡ true = sym (ap (is_just_out j (entry ∷ past)) x) ∙ interrupted_parts j (entry ∷ past) v y in
         not_both (is_some (first_clock c (before_clock (entry ∷ past)))) (two_more c (earlier entry b) two)
-        (not-true (is_some (first_clock c (before_clock (entry ∷ past)))) (and_parts (looked j (entry ∷ past) && is_some (first_clock c (before_wait (entry ∷ past)))) (not (is_some (first_clock c (before_clock (entry ∷ past))))) z).1)
+        (not-true (is_some (first_clock c (before_clock (entry ∷ past)))) (and_parts (is_look j (entry ∷ past) && is_some (first_clock c (before_wait (entry ∷ past)))) (not (is_some (first_clock c (before_clock (entry ∷ past))))) z).1)
 
     by : ((o : Request) → slice_get (requests j past) i ≡ Some o → o.clock < d → deadline j o ≡ Some c → o.interrupted ≡ true → (w : Was j q i o) × (w.old.interrupted ≡ true)) → CameBy j entry past i r
         → (w : Was j q i r) × (w.old.interrupted ≡ true)
@@ -151,4 +151,4 @@ uninterrupted j e (entry ∷ past) i r g = by (λ o x. uninterrupted j e past i 
 
     by : ((o : Request) → slice_get (requests j past) i ≡ Some o → o.interrupted ≡ false) → CameBy j entry past i r → r.interrupted ≡ false
     by ih (stood o s n) = ap (λ (v : Request). v.interrupted) n ∙ or_from o.interrupted _ (ih o s) (no (with_news j o (arrive j Iopub entry past) (arrive j Shell entry past) (time past)))
-    by ih (anew n) = ap (λ (v : Request). v.interrupted) n ∙ no (fresh (count_queued (length (asked j (entry ∷ past)).ids) (map (goes_on j entry past) (requests j past)) + 1) (time past))
+    by ih (anew n) = ap (λ (v : Request). v.interrupted) n ∙ no (fresh (count_queued (length (ask_state j (entry ∷ past)).ids) (map (goes_on j entry past) (requests j past)) + 1) (time past))

@@ -7,12 +7,12 @@ use Rattle.world.specs.Waits.{is_wait}
 use Rattle.cell_core.specs.declared.event.Event.{Event}
 use Rattle.cell_core.specs.declared.event.Event.TheVariants as event
 use Rattle.cell_core.specs.declared.why.Why.{Why}
-use Rattle.cell_core.specs.Deadlines.{interrupt_ms, queued}
+use Rattle.cell_core.specs.Deadlines.{interrupt_ms, is_queued}
 use Rattle.cell_core.specs.Events as events
 use Rattle.cell_core.specs.Saves as core_saves
 use Rattle.run_journal.specs.Job.{Job}
-use Rattle.run_journal.specs.Parts.{acked}
-use Rattle.run_journal.specs.Looks.{looked, is_lost, ran_out}
+use Rattle.run_journal.specs.Parts.{saves_of}
+use Rattle.run_journal.specs.Looks.{is_look, is_lost, ran_out}
 use Rattle.run_journal.specs.Requests.{Request, reply, deadline, is_broken, requests, last_request}
 use Rattle.run_journal.specs.Why.{is_done, is_error, why}
 use Rattle.run_journal.specs.Due.{all_along}
@@ -68,10 +68,10 @@ module _ (jobs : List Job) (j : Job) (dec : IsDecoding j.codec) (plan : 0 < leng
   open_at {q} (earlier {past} entry b) u e = let v = unread_before j entry past u in open_at b v.1 (open_before j dec plan entry past v.0 e)
 
   -- before the end of a look it wasn't over, or nothing had stopped the job
-  new_parts : (entry : Entry) (q : List Entry) → ends_look j entry q ≡ true → (is_wait entry ≡ true) ⊎ (looked j q ≡ false)
-  new_parts entry q e = elim (or_cases (is_wait entry) (not (looked j q)) (and_parts (in_look j (entry ∷ q) && looked j (entry ∷ q)) (is_wait entry || not (looked j q)) e).1) [
+  new_parts : (entry : Entry) (q : List Entry) → ends_look j entry q ≡ true → (is_wait entry ≡ true) ⊎ (is_look j q ≡ false)
+  new_parts entry q e = elim (or_cases (is_wait entry) (not (is_look j q)) (and_parts (in_look j (entry ∷ q) && is_look j (entry ∷ q)) (is_wait entry || not (is_look j q)) e).1) [
     | inl w ↦ inl w
-    | inr l ↦ inr (not-true (looked j q) l)
+    | inr l ↦ inr (not-true (is_look j q) l)
   ]
 
   pub unstopped_at : (entry : Entry) (q : List Entry) → Given jobs j (entry ∷ q) → is_wait entry ≡ true → why j q ≡ None
@@ -89,10 +89,10 @@ module _ (jobs : List Job) (j : Job) (dec : IsDecoding j.codec) (plan : 0 < leng
       b : Given jobs j q
       b = given_before jobs j entry q g
 
-      by : (is_wait entry ≡ true) ⊎ (looked j q ≡ false) → Shown jobs j q b.rules b.ran b.flows b.time plan dec b.unread limits → ⊥
+      by : (is_wait entry ≡ true) ⊎ (is_look j q ≡ false) → Shown jobs j q b.rules b.ran b.flows b.time plan dec b.unread limits → ⊥
       by n (at y) = not_both (is_some (at_once (why j q))) y o
       by (inl w) (look x c l y) = none_some (why j q) (unstopped_at entry q g w) y
-      by (inr n) (look x c l y) = not_both (looked j q) l n
+      by (inr n) (look x c l y) = not_both (is_look j q) l n
 
   module _ (past : List Entry) (g : Given jobs j past) (o : is_some (at_once (why j past)) ≡ false) (cause : is_some (core_saves.why j.task (course j past).told) ≡ true) where
     -- the look was told
@@ -110,13 +110,13 @@ module _ (jobs : List Job) (j : Job) (dec : IsDecoding j.codec) (plan : 0 < leng
       unlost : is_lost j q ≡ false
       unlost = elim (new_parts entry q ends) [
         | inl w ↦ (none_holds j q (unstopped_at entry q then_ w)).0
-        | inr l ↦ false_from_ne_true (is_lost j q) (λ y. not_both (looked j q) (lost_parts j q y).0 l)
+        | inr l ↦ false_from_ne_true (is_lost j q) (λ y. not_both (is_look j q) (lost_parts j q y).0 l)
       ]
 
       unbroken : is_broken j q ≡ false
       unbroken =
           (or_parts (is_error j (last_request 0 (requests j q))) (is_broken j q)
-          (or_parts (is_done j (acked j q) (requests j q)) (is_error j (last_request 0 (requests j q)) || is_broken j q) (sym (once_rows j q) ∙ open_at q_before g.unread o)).1).1
+          (or_parts (is_done j (saves_of j q) (requests j q)) (is_error j (last_request 0 (requests j q)) || is_broken j q) (sym (once_rows j q) ∙ open_at q_before g.unread o)).1).1
 
       flag : Flagged jobs j past g.rules g.ran g.flows g.time plan dec g.unread limits
       flag m r c ms n h rep dead under i w x z =
@@ -139,7 +139,7 @@ module _ (jobs : List Job) (j : Job) (dec : IsDecoding j.codec) (plan : 0 < leng
           by (late d y calls row) = elim (found_ran d jobs j q was_then.rules was_then.ran (found_then j q past pre post ds open_ un s e d y)) [
             | inl r ↦ elim (new_parts entry q ends) [
               | inl w ↦ calls.left (left_along (ran_out j d) j before (left_now jobs j entry q then_.rules then_.ran (ran_out j d) w r))
-              | inr l ↦ not_both (looked j q) (ran_parts j d q r).0 l
+              | inr l ↦ not_both (is_look j q) (ran_parts j d q r).0 l
             ]
             | inr l ↦ calls.left (left_along (ran_out j d) j q_before l)
           ]
@@ -206,6 +206,6 @@ module _ (jobs : List Job) (j : Job) (past : List Entry) (dec : IsDecoding j.cod
   ]
 
   pub interrupts_settled : is_broken j past ≡ false → is_lost j past ≡ false → j.task.times.interrupt ≡ true → (m : ℕ) (q : Request) (c : ℕ) → last_request 0 (requests j past) ≡ Some (m, q) → reply q ≡ None
-      → deadline j q ≡ Some c → queued j.task m c (course j past).told ≡ q.interrupted
+      → deadline j q ≡ Some c → is_queued j.task m c (course j past).told ≡ q.interrupted
   interrupts_settled b unlost i m q c e r dead =
       interrupts_open jobs j past dec plan limits k h u f t s none (undropped jobs j dec plan limits past k h f t u (unanswered_open j past plan b m q e r)) b unlost i m q c e r dead

@@ -10,14 +10,14 @@ use Rattle.cell_core.specs.declared.event.Event.{Event}
 use Rattle.cell_core.specs.declared.event.Event.TheVariants as event
 use Rattle.cell_core.specs.declared.why.Why.{Why}
 use Rattle.cell_core.specs.declared.why.Why.TheVariants as cause
-use Rattle.cell_core.specs.Deadlines.{idle_ms, interrupt_ms, replied_at, second_deadline, start_from, is_unanswered, queued, looked_by}
+use Rattle.cell_core.specs.Deadlines.{idle_ms, interrupt_ms, replied_at, second_deadline, start_from, is_unanswered, is_queued, looked_by}
 use Rattle.cell_core.specs.Events as events
 use Rattle.cell_core.specs.Requests as core
 use Rattle.cell_core.specs.Saves as core_saves
 use Rattle.run_journal.specs.Codec.{Arrival}
 use Rattle.run_journal.specs.Job.{Job}
-use Rattle.run_journal.specs.Parts.{acked, is_running}
-use Rattle.run_journal.specs.Looks.{looked, ever, shows_lost, is_lost, is_past, ran_out}
+use Rattle.run_journal.specs.Parts.{saves_of, is_running}
+use Rattle.run_journal.specs.Looks.{is_look, ever, shows_lost, is_lost, is_past, ran_out}
 use Rattle.run_journal.specs.Requests.{Request, reply, is_over, first_clock, deadline, or_later, is_broken, requests, last_request}
 use Rattle.run_journal.specs.Why.{child_clock, bad_stream, is_out, is_done, is_error, is_not_ready, is_no_idle, is_timed_out, last_deadline, cause_if, why}
 use Rattle.run_journal.specs.Decoding.{IsDecoding}
@@ -127,16 +127,16 @@ abbrev pub rest_of : Job → List Entry → Bool
 rest_of j past = is_not_ready j (requests j past) past || (is_no_idle j (last_request 0 (requests j past)) past || is_timed_out j (last_request 0 (requests j past)) past)
 
 module _ (j : Job) (past : List Entry) where
-  why_any : is_some (why j past) ≡ (is_done j (acked j past) (requests j past) || (is_error j (last_request 0 (requests j past)) || (is_some (bad_stream j past) || (is_lost j past || rest_of j past))))
+  why_any : is_some (why j past) ≡ (is_done j (saves_of j past) (requests j past) || (is_error j (last_request 0 (requests j past)) || (is_some (bad_stream j past) || (is_lost j past || rest_of j past))))
   why_any =
-      any_row (is_done j (acked j past) (requests j past)) (is_error j (last_request 0 (requests j past))) (is_some (bad_stream j past)) (is_lost j past)
+      any_row (is_done j (saves_of j past) (requests j past)) (is_error j (last_request 0 (requests j past))) (is_some (bad_stream j past)) (is_lost j past)
       (is_not_ready j (requests j past) past) (is_no_idle j (last_request 0 (requests j past)) past) (is_timed_out j (last_request 0 (requests j past)) past)
 
   lost_why : is_lost j past ≡ true → is_some (why j past) ≡ true
-  lost_why e = why_any ∙ or_right (is_done j (acked j past) (requests j past)) _ (or_right (is_error j (last_request 0 (requests j past))) _ (or_right (is_some (bad_stream j past)) _ (or_left (is_lost j past) _ e)))
+  lost_why e = why_any ∙ or_right (is_done j (saves_of j past) (requests j past)) _ (or_right (is_error j (last_request 0 (requests j past))) _ (or_right (is_some (bad_stream j past)) _ (or_left (is_lost j past) _ e)))
 
   rest_why : rest_of j past ≡ true → is_some (why j past) ≡ true
-  rest_why e = why_any ∙ or_right (is_done j (acked j past) (requests j past)) _ (or_right (is_error j (last_request 0 (requests j past))) _ (or_right (is_some (bad_stream j past)) _ (or_right (is_lost j past) _ e)))
+  rest_why e = why_any ∙ or_right (is_done j (saves_of j past) (requests j past)) _ (or_right (is_error j (last_request 0 (requests j past))) _ (or_right (is_some (bad_stream j past)) _ (or_right (is_lost j past) _ e)))
 
   once_why : is_some (at_once (why j past)) ≡ true → is_some (why j past) ≡ true
   once_why e = by (why j past) e
@@ -163,7 +163,7 @@ module _ (jobs : List Job) (j : Job) (past : List Entry) (k : KeepsRules jobs j 
   pub up_queued : (d : ℕ) → (seen d told).queued ≡ true → (whole d j past).queued ≡ true
   up_queued d e = ap (λ (s : Seen). s.queued) (whole_told j d past) ∙ run_queued d left_es (seen d told) e
 
-  up_start : (c : ℕ) → events.started told ≡ Some c → drawn_clock j past ≡ Some c
+  up_start : (c : ℕ) → events.start_time told ≡ Some c → drawn_clock j past ≡ Some c
   up_start c e = sym (dates 0 jobs j past k h).start ∙ ap (λ (s : Seen). s.start) (whole_told j 0 past) ∙ run_start 0 left_es (seen 0 told) c (sym (start_is 0 told) ∙ e)
 
   up_first : (d c : ℕ) → (seen d told).first ≡ Some c → first_clock d past ≡ Some c
@@ -172,7 +172,7 @@ module _ (jobs : List Job) (j : Job) (past : List Entry) (k : KeepsRules jobs j 
   -- A row that the core has: one that needs no look; a loss found by a look; or a deadline.
   pub data CoreRow : Type 0 where
     once : is_some (at_once (why j past)) ≡ true → CoreRow
-    lost : events.looked events.is_lost told ≡ true → CoreRow
+    lost : events.look_since events.is_lost told ≡ true → CoreRow
     late : (d : ℕ) → (seen d told).found ≡ true → Calls jobs j past k h f t plan d → (ran_out j d past ≡ true → is_some (why j past) ≡ true) → CoreRow
 
   -- how an interrupt that the core has queued is one of the request's
@@ -183,7 +183,7 @@ module _ (jobs : List Job) (j : Job) (past : List Entry) (k : KeepsRules jobs j 
   not_ready_row : core_saves.is_not_ready j.task (core.standing j.task told) told ≡ true → CoreRow
   not_ready_row e = by (core.standing j.task told) (stands j told past (course_agrees j past f)) e
     where
-      one : requests j past ≡ [] → (o : Option ℕ) → events.started told ≡ o → looked_by (start_from j.task o) told ≡ true → CoreRow
+      one : requests j past ≡ [] → (o : Option ℕ) → events.start_time told ≡ o → looked_by (start_from j.task o) told ≡ true → CoreRow
       one r None g y = cc
       one r (Some c) g y =
           let d : ℕ = c + j.task.times.start_ms in
@@ -196,7 +196,7 @@ module _ (jobs : List Job) (j : Job) (past : List Entry) (k : KeepsRules jobs j 
           (λ z. rest_why j past (or_left (is_not_ready j (requests j past) past) _ (ap (λ rs. is_not_ready j rs past) r ∙ ap (λ o. is_out j j.task.times.start_ms o past) at ∙ z)))
 
       by : (o : Option core.Standing) → Stands j told past o → core_saves.is_not_ready j.task o told ≡ true → CoreRow
-      by None (nothing l) y = one (nil_from_length (requests j past) l) (events.started told) refl y
+      by None (nothing l) y = one (nil_from_length (requests j past) l) (events.start_time told) refl y
       by (Some _) (last m q later l g a) y = cc
 
   no_idle_row : core_saves.is_no_idle (core.standing j.task told) told ≡ true → CoreRow
@@ -204,12 +204,12 @@ module _ (jobs : List Job) (j : Job) (past : List Entry) (k : KeepsRules jobs j 
     where
       one : (m : ℕ) (q : Request) (later : List Event) → length (requests j past) ≡ suc m → slice_get (requests j past) m ≡ Some q → AgreesOn j m later q → core.after j.task m told ≡ Some later
           → (x : Option (Arrival × ℕ)) → reply q ≡ x → is_some (core.reply later) ≡ true → core.is_over later ≡ false
-          → events.looked (events.is_turn_at (replied_at (record { request = m; later = later }) told + idle_ms)) told ≡ true → CoreRow
+          → events.look_since (events.is_turn_at (replied_at (record { request = m; later = later }) told + idle_ms)) told ≡ true → CoreRow
       one m q later l g a s None r y o z = absurd (not_both (is_some (core.reply later)) y (ap (λ (v : Option Bool). is_some v) (a.reply ∙ ap (option_map (λ v. j.fatal m v.0.content)) r)))
       one m q later l g a s (Some x) r y o z =
           let d : ℕ = x.1 + idle_ms in
           let over : is_over q ≡ false = sym (over_same j m later q a) ∙ o in
-          late d (sym (found_is d told) ∙ ap (λ n. events.looked (events.is_turn_at (n + idle_ms)) told) (sym ((on jobs j past k h f t plan m q l g later s).replied x r)) ∙ z)
+          late d (sym (found_is d told) ∙ ap (λ n. events.look_since (events.is_turn_at (n + idle_ms)) told) (sym ((on jobs j past k h f t plan m q l g later s).replied x r)) ∙ z)
           (no_idle_calls jobs j past k h f t plan m q l g x r over)
           (λ w. rest_why j past (or_right (is_not_ready j (requests j past) past) _ (or_left (is_no_idle j (last_request 0 (requests j past)) past) _
           (ap (λ v. is_no_idle j v past) (last_is jobs j past k h f t plan m q l g) ∙ ap (λ b. not b && is_out j idle_ms (option_map (λ v. v.1) (reply q)) past) over ∙ ap (λ v. is_out j idle_ms (option_map (λ v. v.1) v) past) r ∙ w))))
@@ -221,7 +221,7 @@ module _ (jobs : List Job) (j : Job) (past : List Entry) (k : KeepsRules jobs j 
           let r = and_parts (is_some (core.reply later)) (not (core.is_over later)) p.0 in
           one m q later l g a (standing_after j.task (length j.task.plan) told (record { request = m; later = later }) w) (reply q) refl r.0 (not-true (core.is_over later) r.1) p.1
 
-  module _ (m : ℕ) (q : Request) (later : List Event) (l : length (requests j past) ≡ suc m) (g : slice_get (requests j past) m ≡ Some q) (a : AgreesOn j m later q) (s : core.after j.task m told ≡ Some later) (r : reply q ≡ None) (flag : Flagged) (bc : events.came events.is_broken told ≡ false) (lc : events.looked events.is_lost told ≡ false) where
+  module _ (m : ℕ) (q : Request) (later : List Event) (l : length (requests j past) ≡ suc m) (g : slice_get (requests j past) m ≡ Some q) (a : AgreesOn j m later q) (s : core.after j.task m told ≡ Some later) (r : reply q ≡ None) (flag : Flagged) (bc : events.came events.is_broken told ≡ false) (lc : events.look_since events.is_lost told ≡ false) where
     timed_why : (d c : ℕ) → deadline j q ≡ Some c → last_deadline j q past (Some c) ≡ Some d → q.clock < c → ran_out j d past ≡ true → is_some (why j past) ≡ true
     timed_why d c dead w under z =
         rest_why j past (or_right (is_not_ready j (requests j past) past) _ (or_right (is_no_idle j (last_request 0 (requests j past)) past) _
@@ -232,10 +232,10 @@ module _ (jobs : List Job) (j : Job) (past : List Entry) (k : KeepsRules jobs j 
         ∙ plus_none j d past
         ∙ z)))
 
-    plain_row : (c : ℕ) → deadline j q ≡ Some c → q.clock < c → j.task.times.interrupt ≡ false → events.looked (events.is_turn_at c) told ≡ true → CoreRow
+    plain_row : (c : ℕ) → deadline j q ≡ Some c → q.clock < c → j.task.times.interrupt ≡ false → events.look_since (events.is_turn_at c) told ≡ true → CoreRow
     plain_row c dead under i y = late c (sym (found_is c told) ∙ y) (plain_calls jobs j past k h f t plan m q l g r c dead under i) (timed_why c c dead (cond-false j.task.times.interrupt _ (Some c) i) under)
 
-    second_row : (c : ℕ) → deadline j q ≡ Some c → q.clock < c → j.task.times.interrupt ≡ true → queued j.task m c told ≡ true → (o : Option ℕ) → (seen c told).first ≡ o → looked_by (option_map (λ n. n + interrupt_ms) o) told ≡ true → CoreRow
+    second_row : (c : ℕ) → deadline j q ≡ Some c → q.clock < c → j.task.times.interrupt ≡ true → is_queued j.task m c told ≡ true → (o : Option ℕ) → (seen c told).first ≡ o → looked_by (option_map (λ n. n + interrupt_ms) o) told ≡ true → CoreRow
     second_row c dead under i y None x z = cc
     second_row c dead under i y (Some ms) x z =
         let d : ℕ = ms + interrupt_ms in
@@ -259,13 +259,13 @@ module _ (jobs : List Job) (j : Job) (past : List Entry) (k : KeepsRules jobs j 
         under : q.clock < c
         under = plus_more q.clock n (limits n w)
 
-        by_interrupt : (i : Bool) → j.task.times.interrupt ≡ i → (if i then queued j.task m c told && looked_by (second_deadline c told) told else events.looked (events.is_turn_at c) told) ≡ true → CoreRow
+        by_interrupt : (i : Bool) → j.task.times.interrupt ≡ i → (if i then is_queued j.task m c told && looked_by (second_deadline c told) told else events.look_since (events.is_turn_at c) told) ≡ true → CoreRow
         by_interrupt true i z =
-            let p = and_parts (queued j.task m c told) (looked_by (second_deadline c told) told) z in
+            let p = and_parts (is_queued j.task m c told) (looked_by (second_deadline c told) told) z in
             second_row c dead under i p.0 (seen c told).first refl (ap (λ o. looked_by o told) (sym (second_by c told)) ∙ p.1)
         by_interrupt false i z = plain_row c dead under i z
 
-  timed_row : Flagged → events.came events.is_broken told ≡ false → events.looked events.is_lost told ≡ false → core_saves.is_timed_out j.task (core.standing j.task told) told ≡ true → CoreRow
+  timed_row : Flagged → events.came events.is_broken told ≡ false → events.look_since events.is_lost told ≡ false → core_saves.is_timed_out j.task (core.standing j.task told) told ≡ true → CoreRow
   timed_row flag bc lc e = by (core.standing j.task told) refl (stands j told past (course_agrees j past f)) e
     where
       no_reply : {A B : Type 0} (g : A → B) (o : Option A) → is_none (option_map g o) ≡ true → o ≡ None
@@ -283,20 +283,20 @@ module _ (jobs : List Job) (j : Job) (past : List Entry) (k : KeepsRules jobs j 
 
   -- each cause of the core is such a row
   pub core_row : Flagged → is_some (core_saves.why j.task told) ≡ true → CoreRow
-  core_row flag e = by (cases_Bool (events.came events.is_broken told)) (cases_Bool (events.looked events.is_lost told))
-      (sym (any_core (core_saves.is_done j.task told) (core_saves.is_cell_error standing) (events.came events.is_broken told) (events.looked events.is_lost told)
+  core_row flag e = by (cases_Bool (events.came events.is_broken told)) (cases_Bool (events.look_since events.is_lost told))
+      (sym (any_core (core_saves.is_done j.task told) (core_saves.is_cell_error standing) (events.came events.is_broken told) (events.look_since events.is_lost told)
       (core_saves.is_not_ready j.task standing told) (core_saves.is_no_idle standing told) (core_saves.is_timed_out j.task standing told)) ∙ e)
     where
-      by_done : is_done j (acked j past) (requests j past) ≡ true → CoreRow
-      by_done y = once (once_rows j past ∙ or_left (is_done j (acked j past) (requests j past)) _ y)
+      by_done : is_done j (saves_of j past) (requests j past) ≡ true → CoreRow
+      by_done y = once (once_rows j past ∙ or_left (is_done j (saves_of j past) (requests j past)) _ y)
 
       by_error : is_error j (last_request 0 (requests j past)) ≡ true → CoreRow
-      by_error y = once (once_rows j past ∙ or_right (is_done j (acked j past) (requests j past)) _ (or_left (is_error j (last_request 0 (requests j past))) _ y))
+      by_error y = once (once_rows j past ∙ or_right (is_done j (saves_of j past) (requests j past)) _ (or_left (is_error j (last_request 0 (requests j past))) _ y))
 
       by_broken : is_broken j past ≡ true → CoreRow
-      by_broken y = once (once_rows j past ∙ or_right (is_done j (acked j past) (requests j past)) _ (or_right (is_error j (last_request 0 (requests j past))) _ y))
+      by_broken y = once (once_rows j past ∙ or_right (is_done j (saves_of j past) (requests j past)) _ (or_right (is_error j (last_request 0 (requests j past))) _ y))
 
-      by_time : events.came events.is_broken told ≡ false → events.looked events.is_lost told ≡ false
+      by_time : events.came events.is_broken told ≡ false → events.look_since events.is_lost told ≡ false
           → (core_saves.is_not_ready j.task standing told || (core_saves.is_no_idle standing told || core_saves.is_timed_out j.task standing told)) ≡ true → CoreRow
       by_time b l y = elim (or_cases (core_saves.is_not_ready j.task standing told) _ y) [
         | inl z ↦ not_ready_row z
@@ -306,8 +306,8 @@ module _ (jobs : List Job) (j : Job) (past : List Entry) (k : KeepsRules jobs j 
         ]
       ]
 
-      by : (events.came events.is_broken told ≡ true) ⊎ (events.came events.is_broken told ≡ false) → (events.looked events.is_lost told ≡ true) ⊎ (events.looked events.is_lost told ≡ false)
-          → (core_saves.is_done j.task told || (core_saves.is_cell_error standing || (events.came events.is_broken told || (events.looked events.is_lost told
+      by : (events.came events.is_broken told ≡ true) ⊎ (events.came events.is_broken told ≡ false) → (events.look_since events.is_lost told ≡ true) ⊎ (events.look_since events.is_lost told ≡ false)
+          → (core_saves.is_done j.task told || (core_saves.is_cell_error standing || (events.came events.is_broken told || (events.look_since events.is_lost told
           || (core_saves.is_not_ready j.task standing told || (core_saves.is_no_idle standing told || core_saves.is_timed_out j.task standing told)))))) ≡ true → CoreRow
       by (inl b) l y = by_broken (sym (among_broken j dec past u f) ∙ or_left (events.came events.is_broken told) _ b)
       by (inr b) (inl l) y = lost l
@@ -317,7 +317,7 @@ module _ (jobs : List Job) (j : Job) (past : List Entry) (k : KeepsRules jobs j 
           | inl w ↦ by_error (sym (error_same j told past (course_agrees j past f)) ∙ w)
           | inr w ↦ by_time b l
               (sym (ap (λ x. x || (core_saves.is_not_ready j.task standing told || (core_saves.is_no_idle standing told || core_saves.is_timed_out j.task standing told))) l)
-              ∙ sym (ap (λ x. x || (events.looked events.is_lost told || (core_saves.is_not_ready j.task standing told || (core_saves.is_no_idle standing told || core_saves.is_timed_out j.task standing told)))) b)
+              ∙ sym (ap (λ x. x || (events.look_since events.is_lost told || (core_saves.is_not_ready j.task standing told || (core_saves.is_no_idle standing told || core_saves.is_timed_out j.task standing told)))) b)
               ∙ w)
         ]
       ]
@@ -327,7 +327,7 @@ module _ (jobs : List Job) (j : Job) (past : List Entry) (k : KeepsRules jobs j 
   -- It stops the job at once, or by a look that is over.
   pub data Shown : Type 0 where
     at : is_some (at_once (why j past)) ≡ true → Shown
-    look : has_wait past ≡ true → is_called_for j (before_wait past) ≡ true → looked j past ≡ true → is_some (why j past) ≡ true → Shown
+    look : has_wait past ≡ true → is_called_for j (before_wait past) ≡ true → is_look j past ≡ true → is_some (why j past) ≡ true → Shown
 
   lost_shown : is_lost j past ≡ true → Shown
   lost_shown e =
@@ -349,7 +349,7 @@ module _ (jobs : List Job) (j : Job) (past : List Entry) (k : KeepsRules jobs j 
       ]
 
       by : (is_broken j past ≡ true) ⊎ (is_broken j past ≡ false) → (is_lost j past ≡ true) ⊎ (is_lost j past ≡ false) → Shown
-      by (inl b) l = at (once_rows j past ∙ or_right (is_done j (acked j past) (requests j past)) _ (or_right (is_error j (last_request 0 (requests j past))) _ b))
+      by (inl b) l = at (once_rows j past ∙ or_right (is_done j (saves_of j past) (requests j past)) _ (or_right (is_error j (last_request 0 (requests j past))) _ b))
       by (inr b) (inl l) = lost_shown l
       by (inr b) (inr l) = of_row (core_row (λ m q c ms n g r dead under i w x z. queued_interrupted c jobs j dec i past k h u b l m q g r dead under (up_queued c w)) e)
 

@@ -16,11 +16,12 @@ use Rattle.cell_core.specs.declared.event.Event.TheVariants as event
 use Rattle.cell_core.specs.Events as events
 use Rattle.run_journal.specs.Job.{Job}
 use Rattle.run_journal.specs.Parts.{channels, place, connection, turn_clock, is_acknowledging, is_running}
-use Rattle.run_journal.specs.Looks.{is_short_wait, ends_reading, is_drained, looked, shows_lost}
+use Rattle.run_journal.specs.Looks.{is_short_wait, ends_reading, is_drained, is_look, shows_lost}
 use Rattle.run_journal.specs.Course.{begins_at, when_so, ends_look, is_late, events_at, Course, late_then, told_saved, course}
 use Rattle.run_journal.specs.Agreement.{told_on}
 use Rattle.run_journal.proofs.Flowing.{Tells, front, tell_front, rest_at, core_at, events_are, broken_at, turn_at, lost_at, look_at}
 use Rattle.run_journal.proofs.Telling.{or_swap, came_append, came_on, add_none, none_then, came_saved, none_when, none_begins, none_turn, none_core, none_late, is_loss, loss_is, lost_when}
+use Rattle.jtext.proofs.Lists.{all_more}
 
 -- ---- tests
 
@@ -65,12 +66,8 @@ drained_stays j c entry past w e = by (or_cases (list_any (ends_reading (place j
         (ap (list_any (ends_reading (place j c))) (cond-false (is_wait entry) [] (entry ∷ since_wait past) w) ∙ or_right (ends_reading (place j c) entry) _ h)
     by (inr h) = or_right (list_any (ends_reading (place j c)) (since_wait (entry ∷ past))) _ (count_stays (place j c) (time past) entry (connection j c past) w h)
 
-pub all_more : (f g : Chan → Bool) → ((c : Chan) → f c ≡ true → g c ≡ true) → (cs : List Chan) → list_all f cs ≡ true → list_all g cs ≡ true
-all_more f g h [] e = e
-all_more f g h (c ∷ cs) e = let p = and_parts (f c) (list_all f cs) e in and_from (g c) (list_all g cs) (h c p.0) (all_more f g h cs p.1)
-
-pub looked_stays : (j : Job) (entry : Entry) (past : List Entry) → is_wait entry ≡ false → looked j past ≡ true → looked j (entry ∷ past) ≡ true
-unfolding looked
+pub looked_stays : (j : Job) (entry : Entry) (past : List Entry) → is_wait entry ≡ false → is_look j past ≡ true → is_look j (entry ∷ past) ≡ true
+unfolding is_look
 looked_stays j entry past w e =
     let same : to_wait (entry ∷ past) ≡ to_wait past = cond-false (is_wait entry) (entry ∷ past) (to_wait past) w in
     let p = and_parts _ (list_all (λ c. not (connection j c (to_wait past)).awake || is_drained j c past) channels) e in
@@ -101,12 +98,12 @@ loss_at (event.Moment ms) told = refl
 loss_at event.Looked told = refl
 loss_at event.Broken told = refl
 
-pub found_on : (es told : List Event) → events.looked events.is_lost (told_on es told) ≡ (events.looked events.is_lost told || found_in (events.came is_loss told) es)
-found_on [] told = sym (or-false (events.looked events.is_lost told))
+pub found_on : (es told : List Event) → events.look_since events.is_lost (told_on es told) ≡ (events.look_since events.is_lost told || found_in (events.came is_loss told) es)
+found_on [] told = sym (or-false (events.look_since events.is_lost told))
 found_on (e ∷ es) told =
     found_on es (e ∷ told)
-    ∙ sym (or_swap (events.is_looked e && events.held events.is_lost told) (events.looked events.is_lost told) (found_in (events.came is_loss (e ∷ told)) es))
-    ∙ ap (λ b. events.looked events.is_lost told || ((events.is_looked e && b) || found_in (events.came is_loss (e ∷ told)) es)) (loss_is told)
+    ∙ sym (or_swap (events.is_looked e && events.ever events.is_lost told) (events.look_since events.is_lost told) (found_in (events.came is_loss (e ∷ told)) es))
+    ∙ ap (λ b. events.look_since events.is_lost told || ((events.is_looked e && b) || found_in (events.came is_loss (e ∷ told)) es)) (loss_is told)
 
 pub found_append : (lost : Bool) (xs ys : List Event) → found_in lost (xs ++ ys) ≡ (found_in lost xs || found_in (events.came is_loss xs || lost) ys)
 found_append lost [] ys = refl
@@ -175,9 +172,9 @@ knows c = events.came is_loss c.told || events.came is_loss c.held
 
 -- a look found one, among what was told, or among that and what waits for a save
 abbrev pub finds : Course → Bool
-finds c = events.looked events.is_lost c.told || found_in (events.came is_loss c.told) c.held
+finds c = events.look_since events.is_lost c.told || found_in (events.came is_loss c.told) c.held
 
-pub found_saved : (acks : Bool) (told : List Event) → events.looked events.is_lost (cond acks (event.Saved ∷ told) told) ≡ events.looked events.is_lost told
+pub found_saved : (acks : Bool) (told : List Event) → events.look_since events.is_lost (cond acks (event.Saved ∷ told) told) ≡ events.look_since events.is_lost told
 found_saved true told = refl
 found_saved false told = refl
 
@@ -241,12 +238,12 @@ module _ (j : Job) (entry : Entry) (past : List Entry) where
       by : Tells j (told_saved j entry past c.told) (c.held ++ events_at j entry past c.late) (course j (entry ∷ past))
           → (b : Bool) × ((finds (course j past) || found_in (knows (course j past)) (events_at j entry past (course j past).late)) ≡ (finds (course j (entry ∷ past)) || found_in b (course j (entry ∷ past)).unheard))
       by (front xs f g) =
-          let a : (events.looked events.is_lost t || found_in lost (xs ++ now.held)) ≡ finds now =
-          ap (λ b. events.looked events.is_lost t || b) (found_append lost xs now.held)
-          ∙ sym (or_assoc (events.looked events.is_lost t) (found_in lost xs) (found_in (events.came is_loss xs || lost) now.held))
+          let a : (events.look_since events.is_lost t || found_in lost (xs ++ now.held)) ≡ finds now =
+          ap (λ b. events.look_since events.is_lost t || b) (found_append lost xs now.held)
+          ∙ sym (or_assoc (events.look_since events.is_lost t) (found_in lost xs) (found_in (events.came is_loss xs || lost) now.held))
           ∙ ap (λ b. b || found_in (events.came is_loss xs || lost) now.held) (sym (found_on xs t))
-          ∙ ap (λ b. events.looked events.is_lost (told_on xs t) || found_in b now.held) (sym (came_on is_loss xs t))
-          ∙ ap (λ v. events.looked events.is_lost v || found_in (events.came is_loss v) now.held) (sym g)
+          ∙ ap (λ b. events.look_since events.is_lost (told_on xs t) || found_in b now.held) (sym (came_on is_loss xs t))
+          ∙ ap (λ v. events.look_since events.is_lost v || found_in (events.came is_loss v) now.held) (sym g)
           in
           let last : Bool = events.came is_loss (xs ++ now.held) || lost in
           let whole : found_in lost (c.held ++ events_at j entry past c.late) ≡ (found_in lost (xs ++ now.held) || found_in last now.unheard) =
@@ -254,13 +251,13 @@ module _ (j : Job) (entry : Entry) (past : List Entry) where
           in
           let same : lost ≡ events.came is_loss c.told = came_saved is_loss (is_acknowledging j (entry ∷ past)) c.told refl in (
             last,
-            or_assoc (events.looked events.is_lost c.told) (found_in (events.came is_loss c.told) c.held) (found_in (knows c) (events_at j entry past c.late))
-                ∙ ap (λ b. events.looked events.is_lost c.told || (found_in (events.came is_loss c.told) c.held || found_in b (events_at j entry past c.late))) (or_comm (events.came is_loss c.told) (events.came is_loss c.held))
-                ∙ ap (λ b. events.looked events.is_lost c.told || b) (sym (found_append (events.came is_loss c.told) c.held (events_at j entry past c.late)))
-                ∙ ap (λ b. events.looked events.is_lost c.told || found_in b (c.held ++ events_at j entry past c.late)) (sym same)
+            or_assoc (events.look_since events.is_lost c.told) (found_in (events.came is_loss c.told) c.held) (found_in (knows c) (events_at j entry past c.late))
+                ∙ ap (λ b. events.look_since events.is_lost c.told || (found_in (events.came is_loss c.told) c.held || found_in b (events_at j entry past c.late))) (or_comm (events.came is_loss c.told) (events.came is_loss c.held))
+                ∙ ap (λ b. events.look_since events.is_lost c.told || b) (sym (found_append (events.came is_loss c.told) c.held (events_at j entry past c.late)))
+                ∙ ap (λ b. events.look_since events.is_lost c.told || found_in b (c.held ++ events_at j entry past c.late)) (sym same)
                 ∙ ap (λ b. b || found_in lost (c.held ++ events_at j entry past c.late)) (sym (found_saved (is_acknowledging j (entry ∷ past)) c.told))
-                ∙ ap (λ b. events.looked events.is_lost t || b) whole
-                ∙ sym (or_assoc (events.looked events.is_lost t) (found_in lost (xs ++ now.held)) (found_in last now.unheard))
+                ∙ ap (λ b. events.look_since events.is_lost t || b) whole
+                ∙ sym (or_assoc (events.look_since events.is_lost t) (found_in lost (xs ++ now.held)) (found_in last now.unheard))
                 ∙ ap (λ b. b || found_in last now.unheard) a,
           )
 

@@ -14,17 +14,18 @@ use Rattle.save_disk.specs.Messages.{message}
 use Rattle.cell_core.specs.declared.why.Why.{Why}
 use Rattle.cell_core.specs.declared.why.Why.TheVariants as cause
 use Rattle.run_journal.specs.Job.{Job}
-use Rattle.run_journal.specs.Parts.{acked, before_shut}
+use Rattle.run_journal.specs.Parts.{saves_of, before_shut}
 use Rattle.run_journal.specs.OfJob.{is_own_path, after_read, reads_for, is_onto, is_of, own_reports, of_job}
 use Rattle.run_journal.specs.Requests.{or_later, last_request}
 use Rattle.run_journal.specs.Why.{why}
 use Rattle.run_journal.specs.Saves.{Save, last_cell, saves}
-use Rattle.run_journal.specs.Ends.{End, NotStarted, NotSaved, CellError, TimedOut, NoIdle, Ended, index_or_zero, name_of, peer_end, end_if, file_end, input_end, spec_end, fault_at, end_by, stop_of, ended_now, ended, end_alone, status_or_spent, status_of}
+use Rattle.run_journal.specs.Ends.{End, NotStarted, NotSaved, CellError, TimedOut, NoIdle, Ended, index_or_zero, name_of, peer_end, end_if, file_end, input_end, spec_end, fault_at, end_by, stop_of, ended_now, ending_of, end_alone, status_or_spent, status_of}
 use Rattle.run_journal.proofs.Alike.{Alike, own_onto, own_alike, alike_foreign}
 use Rattle.run_journal.proofs.AlikeLooks.{acked_alike}
 use Rattle.run_journal.proofs.Isolation.{requests_alike, bad_stream_alike, why_alike, saves_alike, before_shut_alike}
 use Rattle.run_journal.proofs.Alike.{near}
 use Rattle.run_journal.proofs.Truths.{not_both}
+use Rattle.jtext.proofs.Lists.{option_map_alike}
 
 -- ---- truth values
 
@@ -133,18 +134,14 @@ end_by_alike j a cause.TimedOut = ap (λ rs. TimedOut (index_or_zero (last_cell 
 end_by_alike j a cause.NoIdle = ap (λ rs. NoIdle (index_or_zero (last_cell j.task.plan rs))) (requests_alike j a)
 end_by_alike j a cause.BadPeer = ap peer_end (bad_stream_alike j (near a))
 
-map_alike : (f g : Why → End) → ((w : Why) → f w ≡ g w) → (o : Option Why) → option_map f o ≡ option_map g o
-map_alike f g e None = refl
-map_alike f g e (Some w) = ap (λ x. Some x) (e w)
-
 -- the same stops the job
 pub stop_alike : (j : Job) {p q : List Entry} → Alike j p q → stop_of j p ≡ stop_of j q
 stop_alike j {p} {q} a =
     let b = before_shut_alike j a in
-    ap (λ (ss : List Save). cond (nat_le (length ss) (acked j p)) (option_map (end_by j (before_shut j p)) (why j (before_shut j p))) None) (saves_alike j a)
+    ap (λ (ss : List Save). cond (nat_le (length ss) (saves_of j p)) (option_map (end_by j (before_shut j p)) (why j (before_shut j p))) None) (saves_alike j a)
     ∙ ap (λ n. cond (nat_le (length (saves j q)) n) (option_map (end_by j (before_shut j p)) (why j (before_shut j p))) None) (acked_alike j a)
-    ∙ ap (λ o. cond (nat_le (length (saves j q)) (acked j q)) o None)
-    (ap (option_map (end_by j (before_shut j p))) (why_alike j b) ∙ map_alike (end_by j (before_shut j p)) (end_by j (before_shut j q)) (end_by_alike j b) (why j (before_shut j q)))
+    ∙ ap (λ o. cond (nat_le (length (saves j q)) (saves_of j q)) o None)
+    (ap (option_map (end_by j (before_shut j p))) (why_alike j b) ∙ option_map_alike (end_by j (before_shut j p)) (end_by j (before_shut j q)) (end_by_alike j b) (why j (before_shut j q)))
 
 -- ---- the end
 
@@ -161,7 +158,7 @@ alone_or (Some e) now end = refl
 
 -- the end by one more entry
 end_after : (j : Job) (entry : Entry) (past : List Entry) → end_alone j (entry ∷ past) ≡ or_later (end_alone j past) (or_later (fault_at j entry past) (stop_of j (entry ∷ past)))
-end_after j entry past = alone_or (ended j past) (entry ∷ past) (or_later (fault_at j entry past) (stop_of j (entry ∷ past)))
+end_after j entry past = alone_or (ending_of j past) (entry ∷ past) (or_later (fault_at j entry past) (stop_of j (entry ∷ past)))
 
 twice : (o : Option End) → or_later o o ≡ o
 twice None = refl

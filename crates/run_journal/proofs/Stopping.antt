@@ -9,7 +9,7 @@ use Rattle.cell_core.specs.Events as events
 use Rattle.cell_core.specs.Requests as core
 use Rattle.cell_core.specs.Saves as core_saves
 use Rattle.run_journal.specs.Job.{Job}
-use Rattle.run_journal.specs.Parts.{acked, is_running}
+use Rattle.run_journal.specs.Parts.{saves_of, is_running}
 use Rattle.run_journal.specs.Looks.{is_lost}
 use Rattle.run_journal.specs.Requests.{or_later, requests, last_request}
 use Rattle.run_journal.specs.Why.{bad_stream, is_done, is_error, is_not_ready, is_no_idle, is_timed_out, cause_if, why}
@@ -65,13 +65,13 @@ module _ (j : Job) (d : IsDecoding j.codec) (plan : 0 < length j.task.plan) (pas
   lost : why j past ≡ Some cause.KernelLost → core_saves.why j.task (course j past).told ≡ Some cause.KernelLost
   lost e =
       let stands : Option core.Standing = core.standing j.task (course j past).told in
-      core_lost (core_saves.is_done j.task (course j past).told) (core_saves.is_cell_error stands) (events.came events.is_broken (course j past).told) (events.looked events.is_lost (course j past).told)
+      core_lost (core_saves.is_done j.task (course j past).told) (core_saves.is_cell_error stands) (events.came events.is_broken (course j past).told) (events.look_since events.is_lost (course j past).told)
       (core_saves.is_not_ready j.task stands (course j past).told) (core_saves.is_no_idle stands (course j past).told) (core_saves.is_timed_out j.task stands (course j past).told)
-      (sym (core_rows (core_saves.is_done j.task (course j past).told) (core_saves.is_cell_error stands) (events.came events.is_broken (course j past).told) (events.looked events.is_lost (course j past).told)
+      (sym (core_rows (core_saves.is_done j.task (course j past).told) (core_saves.is_cell_error stands) (events.came events.is_broken (course j past).told) (events.look_since events.is_lost (course j past).told)
       (core_saves.is_not_ready j.task stands (course j past).told) (core_saves.is_no_idle stands (course j past).told) (core_saves.is_timed_out j.task stands (course j past).told))
       ∙ same ∙ ap at_once e)
       (lost_seen j past (undated_unlooked (dropped j past) (hears_kept j d plan past u h (unfound e))) s none runs
-      (journal_lost (is_done j (acked j past) (requests j past)) (is_error j (last_request 0 (requests j past))) (is_some (bad_stream j past)) (is_lost j past)
+      (journal_lost (is_done j (saves_of j past) (requests j past)) (is_error j (last_request 0 (requests j past))) (is_some (bad_stream j past)) (is_lost j past)
       (is_not_ready j (requests j past) past) (is_no_idle j (last_request 0 (requests j past)) past) (is_timed_out j (last_request 0 (requests j past)) past) e))
 
   pub undated_same : (w : Why) → is_undated w ≡ true → why j past ≡ Some w → core_saves.why j.task (course j past).told ≡ Some w

@@ -19,8 +19,8 @@ use Rattle.cell_core.specs.Events as events
 use Rattle.cell_core.specs.Requests as core
 use Rattle.cell_core.specs.Saves as core_saves
 use Rattle.run_journal.specs.Job.{Job}
-use Rattle.run_journal.specs.Parts.{channels, bytes_got, turn_clock, acked, is_acknowledging, is_running}
-use Rattle.run_journal.specs.Looks.{looked, ever, shows_lost, is_lost}
+use Rattle.run_journal.specs.Parts.{channels, bytes_got, turn_clock, saves_of, is_acknowledging, is_running}
+use Rattle.run_journal.specs.Looks.{is_look, ever, shows_lost, is_lost}
 use Rattle.run_journal.specs.Requests.{or_later, is_broken, requests, last_request}
 use Rattle.run_journal.specs.Why.{fault_on, bad_stream, is_done, is_error, is_not_ready, is_no_idle, is_timed_out, cause_if, why}
 use Rattle.run_journal.specs.Decoding.{IsDecoding}
@@ -255,7 +255,7 @@ is_loss (event.Moment ms) = false
 is_loss event.Looked = false
 is_loss event.Broken = false
 
-pub loss_is : (es : List Event) → events.held events.is_lost es ≡ events.came is_loss es
+pub loss_is : (es : List Event) → events.ever events.is_lost es ≡ events.came is_loss es
 loss_is [] = refl
 loss_is (event.Lost ∷ es) = refl
 loss_is (event.Saved ∷ es) = loss_is es
@@ -325,12 +325,12 @@ among_lost j (entry ∷ past) e =
     ∙ ap (λ es. (is_among is_loss c || events.came is_loss (events_at j entry past c.late)) || events.came is_loss es) late
     ∙ ap (λ b. (is_among is_loss c || b) || events.came is_loss (late_then j entry past c.late)) (gives_lost j entry past c.late)
     ∙ ap (λ b. (is_among is_loss c || given) || b) (then_lost (ends_look j entry past) l c.late)
-    ∙ losses_join (is_among is_loss c) (events.came is_loss c.late) (shows_lost j (entry ∷ past)) (in_look j past) (not (looked j past)) (ends_look j entry past)
+    ∙ losses_join (is_among is_loss c) (events.came is_loss c.late) (shows_lost j (entry ∷ past)) (in_look j past) (not (is_look j past)) (ends_look j entry past)
     ∙ ap (λ b. shows_lost j (entry ∷ past) || b) (among_lost j past p.1)
 
 -- where nothing waits, the core knows of a loss exactly where an entry showed one
 pub lost_told : (j : Job) (past : List Entry) → IsHeard j past → (course j past).held ≡ [] → (course j past).late ≡ []
-    → events.held events.is_lost (course j past).told ≡ ever (shows_lost j) past
+    → events.ever events.is_lost (course j past).told ≡ ever (shows_lost j) past
 lost_told j past e none on_time =
     let c : Course = course j past in
     loss_is c.told
@@ -402,12 +402,12 @@ at_once_same j d plan past u e none =
     let told : List Event = (course j past).told in
     let a : Agrees j told past = course_agrees j past e in
     let last : Option core.Standing = core.standing j.task told in
-    core_rows (core_saves.is_done j.task told) (core_saves.is_cell_error last) (events.came events.is_broken told) (events.looked events.is_lost told)
+    core_rows (core_saves.is_done j.task told) (core_saves.is_cell_error last) (events.came events.is_broken told) (events.look_since events.is_lost told)
     (core_saves.is_not_ready j.task last told) (core_saves.is_no_idle last told) (core_saves.is_timed_out j.task last told)
     ∙ ap (λ b. first_rows b (core_saves.is_cell_error last) (events.came events.is_broken told)) (done_same j told past a plan)
-    ∙ ap (λ b. first_rows (is_done j (acked j past) (requests j past)) b (events.came events.is_broken told)) (error_same j told past a)
-    ∙ ap (first_rows (is_done j (acked j past) (requests j past)) (is_error j (last_request 0 (requests j past)))) (broken_told j d past u e none ∙ sym (bad_is j past))
-    ∙ sym (journal_rows (is_done j (acked j past) (requests j past)) (is_error j (last_request 0 (requests j past))) (is_some (bad_stream j past)) (is_lost j past)
+    ∙ ap (λ b. first_rows (is_done j (saves_of j past) (requests j past)) b (events.came events.is_broken told)) (error_same j told past a)
+    ∙ ap (first_rows (is_done j (saves_of j past) (requests j past)) (is_error j (last_request 0 (requests j past)))) (broken_told j d past u e none ∙ sym (bad_is j past))
+    ∙ sym (journal_rows (is_done j (saves_of j past) (requests j past)) (is_error j (last_request 0 (requests j past))) (is_some (bad_stream j past)) (is_lost j past)
     (is_not_ready j (requests j past) past) (is_no_idle j (last_request 0 (requests j past)) past) (is_timed_out j (last_request 0 (requests j past)) past))
 
 -- where no clock entry waits for a save, none does now

@@ -11,7 +11,7 @@ use Rattle.world.specs.Waits.{is_wait, has_wait, before_wait, to_wait, is_after_
 use Rattle.cell_core.specs.declared.event.Event.{Event}
 use Rattle.cell_core.specs.declared.event.Event.TheVariants as event
 use Rattle.run_journal.specs.Job.{Job}
-use Rattle.run_journal.specs.Parts.{turn_clock, acked, is_running}
+use Rattle.run_journal.specs.Parts.{turn_clock, saves_of, is_running}
 use Rattle.run_journal.specs.Looks.{is_short_wait, is_at_least}
 use Rattle.run_journal.specs.Requests.{or_later, first_clock, before_clock}
 use Rattle.run_journal.specs.Due.{all_along}
@@ -212,7 +212,7 @@ module _ (d : ℕ) (jobs : List Job) (j : Job) (entry : Entry) (past : List Entr
       t = still d entry past (draws_moment j entry e)
 
       none : is_some (drawn_clock j past) ≡ false
-      none = not-true (is_some (drawn_clock j past)) (and_parts (not (is_some (drawn_clock j past))) (nat_lt 0 (acked j past)) (or_off (draws j entry) _ (start_parts j entry past start_now).0 e)).0
+      none = not-true (is_some (drawn_clock j past)) (and_parts (not (is_some (drawn_clock j past))) (nat_lt 0 (saves_of j past)) (or_off (draws j entry) _ (start_parts j entry past start_now).0 e)).0
 
       unread : is_some s.start ≡ false
       unread = ap (λ (o : Option ℕ). is_some o) i.start ∙ none

@@ -17,8 +17,8 @@ use Rattle.cell_core.specs.Events as events
 use Rattle.cell_core.specs.Requests as core
 use Rattle.cell_core.specs.Saves as core_saves
 use Rattle.run_journal.specs.Job.{Job, Runs}
-use Rattle.run_journal.specs.Parts.{turn_clock, acked, is_acknowledging, is_running, before_shut}
-use Rattle.run_journal.specs.Looks.{looked}
+use Rattle.run_journal.specs.Parts.{turn_clock, saves_of, is_acknowledging, is_running, before_shut}
+use Rattle.run_journal.specs.Looks.{is_look}
 use Rattle.run_journal.specs.Requests.{is_broken, requests}
 use Rattle.run_journal.specs.Why.{why}
 use Rattle.run_journal.specs.Saves.{Save, saves, saves_by, saves_for, run_saves}
@@ -48,10 +48,10 @@ use Rattle.run_journal.proofs.Truths.{not_both, if_some}
 -- ---- where the core awaits no save
 
 -- as many saves are acknowledged as are due
-unawaited : (j : Job) (told : List Event) → stops j told ≡ false → length (core_saves.saves j.task told) ≤ events.acked told → awaits_saved j.task told ≡ false
+unawaited : (j : Job) (told : List Event) → stops j told ≡ false → length (core_saves.saves j.task told) ≤ events.ack_count told → awaits_saved j.task told ≡ false
 unawaited j told s h =
-    ap (λ es. not (is_empty (core_saves.unacked j.task es))) (unstopped_heard j told s)
-    ∙ ap (λ (ps : List core_saves.Prefix). not (is_empty ps)) (drop_all (events.acked told) (core_saves.saves j.task told) h)
+    ap (λ es. not (is_empty (core_saves.pending_saves j.task es))) (unstopped_heard j told s)
+    ∙ ap (λ (ps : List core_saves.Prefix). not (is_empty ps)) (drop_all (events.ack_count told) (core_saves.saves j.task told) h)
 
 none_is : (o : Option Why) → (is_some o ≡ true → ⊥) → o ≡ None
 none_is None f = refl
@@ -69,12 +69,12 @@ module _ (task : Task) (told : List Event) (none : (k : ℕ) → k < length task
       ap (λ ps. ps ++ (if core.is_passed_in (core.after task n told) then record { settled = cell_of task n + 1; stopping_cell = None } ∷ [] else [])) (none_passes n (omega (arith, p)))
       ∙ ap (λ o. if core.is_passed_in o then record { settled = cell_of task n + 1; stopping_cell = None } ∷ [] else []) (none n (omega (arith, p)))
 
-  one_save : 0 < length task.plan → core_saves.saves task told ≡ core_saves.prepared ∷ []
+  one_save : 0 < length task.plan → core_saves.saves task told ≡ core_saves.after_preparation ∷ []
   one_save plan =
       let some : (length task.plan == 0) ≡ false = false_from_ne_true (length task.plan == 0) (λ e. let z = eqb-true (length task.plan) 0 e in absurd (omega (arith, z, plan))) in
-      ap (λ o. ((core_saves.prepared ∷ core_saves.passes task (length task.plan) told) ++ core_saves.stopping task o (core_saves.why task told)) ++ core_saves.closing_after task o (core_saves.passes task (length task.plan) told)) (none_below (length task.plan) (omega arith))
-      ∙ ap (λ ps. ((core_saves.prepared ∷ ps) ++ []) ++ core_saves.closing_after task None ps) (none_passes (length task.plan) (omega arith))
-      ∙ ap (λ b. core_saves.prepared ∷ (if b && nat_lt (core_saves.last_settled 0 []) task.cells then record { settled = task.cells; stopping_cell = None } ∷ [] else [])) some
+      ap (λ o. ((core_saves.after_preparation ∷ core_saves.passes task (length task.plan) told) ++ core_saves.stopping task o (core_saves.why task told)) ++ core_saves.closing_after task o (core_saves.passes task (length task.plan) told)) (none_below (length task.plan) (omega arith))
+      ∙ ap (λ ps. ((core_saves.after_preparation ∷ ps) ++ []) ++ core_saves.closing_after task None ps) (none_passes (length task.plan) (omega arith))
+      ∙ ap (λ b. core_saves.after_preparation ∷ (if b && nat_lt (core_saves.last_settled 0 []) task.cells then record { settled = task.cells; stopping_cell = None } ∷ [] else [])) some
 
 module _ (jobs : List Job) (j : Job) (dec : IsDecoding j.codec) (plan : 0 < length j.task.plan) (limits : (ms : ℕ) → j.task.times.limit_ms ≡ Some ms → 0 < ms) where
   abbrev Stopped : (past : List Entry) → Given jobs j past → Type 0
@@ -89,12 +89,12 @@ module _ (jobs : List Job) (j : Job) (dec : IsDecoding j.codec) (plan : 0 < leng
 
   -- ---- at a wait
 
-  wait_acked : (entry : Entry) (past : List Entry) → IsAmong j jobs → is_wait entry ≡ true → keeps_up jobs (entry ∷ past) ≡ true → is_running j past ≡ true → acked j past ≡ length (saves j past)
+  wait_acked : (entry : Entry) (past : List Entry) → IsAmong j jobs → is_wait entry ≡ true → keeps_up jobs (entry ∷ past) ≡ true → is_running j past ≡ true → saves_of j past ≡ length (saves j past)
   wait_acked (made.Waited ms reports how) past m w e r =
       let p = (and_parts _ _ e).1 in
-      let q : implies (is_running j past) (acked j past == length (saves j past) && not (is_some (why j (before_shut j past)))) ≡ true
-      = all_of (λ i. implies (is_running i past) (acked i past == length (saves i past) && not (is_some (why i (before_shut i past))))) jobs j m p in
-      eqb-true (acked j past) (length (saves j past)) (and_parts (acked j past == length (saves j past)) (not (is_some (why j (before_shut j past)))) (sym (cond-true (is_running j past) _ true r) ∙ q)).0
+      let q : implies (is_running j past) (saves_of j past == length (saves j past) && not (is_some (why j (before_shut j past)))) ≡ true
+      = all_of (λ i. implies (is_running i past) (saves_of i past == length (saves i past) && not (is_some (why i (before_shut i past))))) jobs j m p in
+      eqb-true (saves_of j past) (length (saves j past)) (and_parts (saves_of j past == length (saves j past)) (not (is_some (why j (before_shut j past)))) (sym (cond-true (is_running j past) _ true r) ∙ q)).0
   wait_acked _ past m w e r = cc
 
   -- the core awaits no save
@@ -122,14 +122,14 @@ module _ (jobs : List Job) (j : Job) (dec : IsDecoding j.codec) (plan : 0 < leng
           ∙ ap (λ (ns : List ℕ). length ns) (saves_agree j told past (course_agrees j past b.flows) (c.1 ∙ sym none))
           ∙ length-map (run_saves j (requests j past) (why j past)) (λ (v : Save). v.settled)
 
-      counted : length (core_saves.saves j.task told) ≡ events.acked told
+      counted : length (core_saves.saves j.task told) ≡ events.ack_count told
       counted =
           settled ∙ ap (λ (v : List Save). length v) (sym due)
           ∙ sym (wait_acked entry past g.rules.among w (and_parts (keeps_up jobs (entry ∷ past)) (all_along (keeps_up jobs) past) g.rules.awake.up_to_date).0 running)
           ∙ sym (course_agrees j past b.flows).acked
 
   -- before the first wait
-  calm_first : (past : List Entry) → Given jobs j past → has_wait past ≡ false → 0 < acked j past → (stops j (course j past).told ≡ false) × (awaits_saved j.task (course j past).told ≡ false)
+  calm_first : (past : List Entry) → Given jobs j past → has_wait past ≡ false → 0 < saves_of j past → (stops j (course j past).told ≡ false) × (awaits_saved j.task (course j past).told ≡ false)
   calm_first past g w n = (c.0, unawaited j told c.0 (let a = counted.0 in let b = counted.1 in omega (arith, a, b, n)))
     where
       told : List Event
@@ -145,7 +145,7 @@ module _ (jobs : List Job) (j : Job) (dec : IsDecoding j.codec) (plan : 0 < leng
       no_requests : length (requests j past) ≡ 0
       no_requests = ap (λ rs. length rs) (none_unready j past (not_ready jobs j g.rules.among past g.rules.awake.only_awake w))
 
-      counted : (length (core_saves.saves j.task told) ≡ 1) × (events.acked told ≡ acked j past)
+      counted : (length (core_saves.saves j.task told) ≡ 1) × (events.ack_count told ≡ saves_of j past)
       counted = (
         ap (λ (ps : List core_saves.Prefix). length ps) (one_save j.task told (λ k p. (course_agrees j past g.flows).none k p (omega (arith, no_requests))) plan),
         (course_agrees j past g.flows).acked,
@@ -155,9 +155,9 @@ module _ (jobs : List Job) (j : Job) (dec : IsDecoding j.codec) (plan : 0 < leng
 
   -- that wait gave nothing
   ends_none : (entry : Entry) (last : Entry) (past : List Entry) → IsAmong j jobs → is_wait last ≡ true → is_some (moment_of entry) ≡ true → reads_clock jobs (entry ∷ last ∷ past) ≡ true → ends_look j last past ≡ false
-  unfolding looked
+  unfolding is_look
   ends_none (made.Moment ms) (made.Waited limit reports did.Done) past m w e r =
-      off (is_called_for j past) (looked j (made.Waited limit reports did.Done ∷ past)) (false_from_ne_true (is_called_for j past) (λ f. not_both (is_look_due jobs past) (any_of (λ i. is_called_for i past) jobs j m f) (not-true (is_look_due jobs past) r)))
+      off (is_called_for j past) (is_look j (made.Waited limit reports did.Done ∷ past)) (false_from_ne_true (is_called_for j past) (λ f. not_both (is_look_due jobs past) (any_of (λ i. is_called_for i past) jobs j m f) (not-true (is_look_due jobs past) r)))
     where
       off : (x y : Bool) → x ≡ false → ((x && y) && true) ≡ false
       off true y f = cc
@@ -219,12 +219,12 @@ module _ (jobs : List Job) (j : Job) (dec : IsDecoding j.codec) (plan : 0 < leng
       none : (draws j entry ≡ false) → turn_clock (entry ∷ past) ≡ None → ⊥
       none d t = not_both (events.came events.is_moment (clocks_at j entry past)) e (ap (events.came events.is_moment) (clocks_none 0 jobs j entry past g.rules g.ran d t))
 
-      start : draws j entry ≡ true → (not (is_some (drawn_clock j past)) && nat_lt 0 (acked j past)) ≡ true
+      start : draws j entry ≡ true → (not (is_some (drawn_clock j past)) && nat_lt 0 (saves_of j past)) ≡ true
       start d = or_off (draws j entry) _ (start_parts j entry past (and_parts (starts_in_turn j (entry ∷ past)) (all_along (starts_in_turn j) past) g.rules.start).0).0 d
 
       undrawn : has_wait past ≡ true → draws j entry ≡ false
       undrawn w = false_from_ne_true (draws j entry) (λ d.
-          not_both (is_some (drawn_clock j past)) (drawn_then 0 jobs j entry past g.rules g.ran w) (not-true (is_some (drawn_clock j past)) (and_parts (not (is_some (drawn_clock j past))) (nat_lt 0 (acked j past)) (start d)).0))
+          not_both (is_some (drawn_clock j past)) (drawn_then 0 jobs j entry past g.rules g.ran w) (not-true (is_some (drawn_clock j past)) (and_parts (not (is_some (drawn_clock j past))) (nat_lt 0 (saves_of j past)) (start d)).0))
 
       waited : has_wait past ≡ true → (o : Option ℕ) → moment_of entry ≡ o → (stops j (course j past).told ≡ false) × (awaits_saved j.task (course j past).told ≡ false)
       waited w None f = absurd (none (undrawn w) (turn_none entry past f))
@@ -233,8 +233,8 @@ module _ (jobs : List Job) (j : Job) (dec : IsDecoding j.codec) (plan : 0 < leng
           (if_some (is_after_wait past) (moment_of entry) ms (sym (turn_is jobs entry past (and_parts (reads_clock jobs (entry ∷ past)) (all_along (reads_clock jobs) past) g.rules.awake.clock).0) ∙ cond-true (has_wait past) (moment_of entry) None w ∙ f))
           (ap (λ (o : Option ℕ). is_some o) f)
 
-      first : has_wait past ≡ false → (draws j entry ≡ true) ⊎ (draws j entry ≡ false) → 0 < acked j past
-      first w (inl d) = ltb-true 0 (acked j past) (and_parts (not (is_some (drawn_clock j past))) (nat_lt 0 (acked j past)) (start d)).1
+      first : has_wait past ≡ false → (draws j entry ≡ true) ⊎ (draws j entry ≡ false) → 0 < saves_of j past
+      first w (inl d) = ltb-true 0 (saves_of j past) (and_parts (not (is_some (drawn_clock j past))) (nat_lt 0 (saves_of j past)) (start d)).1
       first w (inr d) = absurd (none d (cond-false (has_wait past) (moment_of entry) None w))
 
   unheld_next : (entry : Entry) (past : List Entry) → Given jobs j (entry ∷ past) → Given jobs j past → j.given ≡ Runs → events.came events.is_moment (course j past).held ≡ false → events.came events.is_moment (course j (entry ∷ past)).held ≡ false

@@ -17,7 +17,7 @@ use Rattle.cell_core.specs.Requests as core
 use Rattle.cell_core.specs.Deadlines.{stood_at, replied_at}
 use Rattle.run_journal.specs.Codec.{Arrival}
 use Rattle.run_journal.specs.Job.{Job}
-use Rattle.run_journal.specs.Parts.{place, connection, bytes_got, acked, is_acknowledging, begins}
+use Rattle.run_journal.specs.Parts.{place, connection, bytes_got, saves_of, is_acknowledging, begins}
 use Rattle.run_journal.specs.Arrivals.{is_ready}
 use Rattle.run_journal.specs.Requests.{Request, has_idle, reply, or_later, first_clock, requests, last_request}
 use Rattle.run_journal.specs.Why.{starts, child_clock, why}
@@ -25,6 +25,7 @@ use Rattle.run_journal.specs.Due.{all_along}
 use Rattle.run_journal.specs.Order.{is_nothing, begins_unread}
 use Rattle.run_journal.specs.Awake.{Awake}
 use Rattle.run_journal.specs.Course.{came_for, course}
+use Rattle.run_journal.specs.OfJob.{is_number}
 
 -- What the core was told since request k came to stand is what came for it: whether its idle did, and whether its reply did
 -- and is fatal.
@@ -35,7 +36,7 @@ pub record AgreesOn (j : Job) (k : ℕ) (later : List Event) (r : Request) : Typ
 -- The events, the newest first, tell as many acknowledged saves as the journal, whether the kernel is ready, and the same
 -- requests.
 pub record Agrees (j : Job) (told : List Event) (past : List Entry) : Type 0 where
-  pub acked : events.acked told ≡ acked j past
+  pub acked : events.ack_count told ≡ saves_of j past
   pub ready : events.came events.is_ready told ≡ is_ready j past
   pub standing : (k : ℕ) (r : Request) → slice_get (requests j past) k ≡ Some r → IsSomeAnd (core.after j.task k told) (λ later. AgreesOn j k later r)
   pub none : (k : ℕ) → k < length j.task.plan → length (requests j past) ≤ k → core.after j.task k told ≡ None
@@ -198,18 +199,13 @@ abbrev pub drawn_clock : Job → List Entry → Option ℕ
 drawn_clock j [] = None
 drawn_clock j (entry ∷ past) = or_later (drawn_clock j past) (if draws j entry then Some (time past) else None)
 
--- it was this one
-abbrev pub is_clock : ℕ → Option ℕ → Bool
-is_clock ms None = false
-is_clock ms (Some clock) = clock == ms
-
 -- The job's ports are drawn once, after its first save was acknowledged; its child is started by the same clock; and its
 -- connections are begun after that.
 abbrev pub starts_in_turn : Job → List Entry → Bool
 starts_in_turn j [] = true
 starts_in_turn j (entry ∷ past) =
-    (not (draws j entry) || (not (is_some (drawn_clock j past)) && nat_lt 0 (acked j past)))
-    && ((not (starts j entry) || is_clock (time past) (drawn_clock j past))
+    (not (draws j entry) || (not (is_some (drawn_clock j past)) && nat_lt 0 (saves_of j past)))
+    && ((not (starts j entry) || is_number (time past) (drawn_clock j past))
     && (not (begins j entry) || is_some (child_clock j past)))
 
 -- The loop keeps its rules over these jobs, of which this is one; the clock doesn't fall, and the job starts in turn.

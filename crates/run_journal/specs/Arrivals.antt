@@ -7,7 +7,8 @@ use Rattle.world.specs.declared.entry.Entry.{Entry}
 use Rattle.world.specs.Waits.{moment_of}
 use Rattle.jcontent.specs.declared.content.Content.{Content}
 use Rattle.jcontent.specs.declared.content.Content.TheVariants as content
-use Rattle.kernel_talk.specs.Asking.{Asked, unasked, asks, is_among}
+use Rattle.kernel_talk.specs.Asking.{Asked, no_asking, asks}
+use Rattle.jtext.specs.Texts.{is_among}
 use Rattle.kernel_talk.specs.Asking as asking
 use Rattle.run_journal.specs.Codec.{Arrival}
 use Rattle.run_journal.specs.Job.{Job}
@@ -77,12 +78,12 @@ ask_on a can clock id shell iopub = record {
 }
 
 -- What has come of the asking. The first messages of a job are its `kernel_info_request`s.
-abbrev pub asked : Job → List Entry → Asked
-asked j [] = unasked
-asked j (entry ∷ past) =
-    ask_on (asked j past) (can_ask j past) (moment_of entry) (j.msg_id (length (asked j past).ids + 1)) (arrive j Shell entry past)
+abbrev pub ask_state : Job → List Entry → Asked
+ask_state j [] = no_asking
+ask_state j (entry ∷ past) =
+    ask_on (ask_state j past) (can_ask j past) (moment_of entry) (j.msg_id (length (ask_state j past).ids + 1)) (arrive j Shell entry past)
     (arrive j Iopub entry past)
 
 -- the kernel is ready
 abbrev pub is_ready : Job → List Entry → Bool
-is_ready j past = asking.is_ready (asked j past)
+is_ready j past = asking.is_ready (ask_state j past)

@@ -18,7 +18,7 @@ use Rattle.nb_load.specs.declared.load_fault.LoadFault.TheVariants as fault
 use Rattle.nb_load.specs.Loaded.{Accepts, Refuses as RefusesBytes}
 use Rattle.nb_load.specs.Reasons.{reason}
 use Rattle.progress_save.specs.Prefix.{prefix}
-use Rattle.progress_save.specs.Saved.{text_of}
+use Rattle.nb_text.specs.Notebooks.{text_of}
 use Rattle.cell_core.specs.Task.{Task, cell_of}
 use Rattle.cell_core.specs.Allowed.{is_allowed}
 use Rattle.kernel_talk.specs.Requests.{identifier, message_id}

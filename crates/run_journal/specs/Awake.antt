@@ -13,13 +13,13 @@ use Rattle.kernel_talk.specs.Asking.{next_ask}
 use Rattle.kernel_talk.specs.Pinging.{next_ping}
 use Rattle.cell_core.specs.Deadlines.{interrupt_ms, idle_ms}
 use Rattle.run_journal.specs.Job.{Job}
-use Rattle.run_journal.specs.Parts.{channels, place, connection, bytes_put, acked, begins, is_running, before_shut}
-use Rattle.run_journal.specs.Arrivals.{asked, is_ready, can_ask}
+use Rattle.run_journal.specs.Parts.{channels, place, connection, bytes_put, saves_of, begins, is_running, before_shut}
+use Rattle.run_journal.specs.Arrivals.{ask_state, is_ready, can_ask}
 use Rattle.run_journal.specs.Looks.{is_drained, ever, shows_lost, is_past, pings, pinged_of, can_ping}
 use Rattle.run_journal.specs.Requests.{Request, reply, is_over, requests, deadline, first_clock, last_request}
 use Rattle.run_journal.specs.Why.{why, child_clock}
 use Rattle.run_journal.specs.Saves.{saves}
-use Rattle.run_journal.specs.Due.{due, all_along}
+use Rattle.run_journal.specs.Due.{dues, all_along}
 
 -- ---- deadlines that are not answered
 
@@ -58,7 +58,7 @@ is_called_for j past = is_running j past && (ever (shows_lost j) past || has_pas
 
 -- the next request whether the kernel is ready
 abbrev pub next_asking : Job → List Entry → List ℕ
-next_asking j past = option_to_list (next_ask (asked j past) (can_ask j past) (time past))
+next_asking j past = option_to_list (next_ask (ask_state j past) (can_ask j past) (time past))
 
 -- the next ping
 abbrev pub next_pings : Job → List Entry → List ℕ
@@ -105,7 +105,7 @@ is_awake past j c = (connection j c past).awake
 
 -- a connection is open to writing, and not all that is due was taken
 abbrev pub has_due : List Entry → Job → Chan → Bool
-has_due past j c = (connection j c past).writable && nat_lt (length (bytes_put j c past)) (length (due j c past))
+has_due past j c = (connection j c past).writable && nat_lt (length (bytes_put j c past)) (length (dues j c past))
 
 -- a connection is the job's of a channel
 abbrev pub is_its : Job → Chan → Conn → Bool
@@ -171,7 +171,7 @@ reads_few jobs past = each_connection jobs (λ j c. nat_le (connection j c past)
 abbrev pub keeps_up : List Job → List Entry → Bool
 keeps_up jobs (made.Waited ms reports did ∷ past) =
     list_any (λ j. is_running j past) jobs
-    && list_all (λ j. implies (is_running j past) (acked j past == length (saves j past) && not (is_some (why j (before_shut j past))))) jobs
+    && list_all (λ j. implies (is_running j past) (saves_of j past == length (saves j past) && not (is_some (why j (before_shut j past))))) jobs
 keeps_up jobs _ = true
 
 -- the clock is read directly after a done wait at which no last look is called for, and after the first wait only there

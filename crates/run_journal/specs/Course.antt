@@ -15,7 +15,7 @@ use Rattle.run_journal.specs.Codec.{Arrival}
 use Rattle.run_journal.specs.Job.{Job}
 use Rattle.run_journal.specs.Parts.{turn_clock, is_acknowledging, is_running}
 use Rattle.run_journal.specs.Arrivals.{arrive, is_ready}
-use Rattle.run_journal.specs.Looks.{looked, shows_lost}
+use Rattle.run_journal.specs.Looks.{is_look, shows_lost}
 use Rattle.run_journal.specs.Requests.{Request, is_exec_reply, is_parent, through_idle, has_idle, reply, is_over, is_broken, requests, last_request}
 use Rattle.run_journal.specs.Awake.{is_called_for}
 
@@ -65,11 +65,11 @@ in_look j past = has_wait past && is_called_for j (before_wait past)
 
 -- the look ends with this entry
 abbrev pub ends_look : Job → Entry → List Entry → Bool
-ends_look j entry past = in_look j (entry ∷ past) && looked j (entry ∷ past) && (is_wait entry || not (looked j past))
+ends_look j entry past = in_look j (entry ∷ past) && is_look j (entry ∷ past) && (is_wait entry || not (is_look j past))
 
 -- the kernel's loss that shows in a look waits for its end
 abbrev pub is_late : Job → Entry → List Entry → Bool
-is_late j entry past = shows_lost j (entry ∷ past) && in_look j past && not (looked j past)
+is_late j entry past = shows_lost j (entry ∷ past) && in_look j past && not (is_look j past)
 
 -- ---- the course
 

@@ -8,10 +8,10 @@ use Rattle.world.specs.Places.{chan_number, time}
 use Rattle.run_journal.specs.Codec.{Sending, Info, Execute, Interrupt, Ping, Shutdown}
 use Rattle.run_journal.specs.Job.{Job}
 use Rattle.run_journal.specs.Parts.{channels, bytes_got, bytes_put}
-use Rattle.run_journal.specs.Arrivals.{asked, is_shaken}
+use Rattle.run_journal.specs.Arrivals.{ask_state, is_shaken}
 use Rattle.run_journal.specs.Looks.{pings}
 use Rattle.run_journal.specs.Requests.{Request, requests, count_queued}
-use Rattle.run_journal.specs.Ends.{ended, is_spent, up_to_end}
+use Rattle.run_journal.specs.Ends.{ending_of, is_spent, up_to_end}
 
 -- what is queued: its number among the job's messages with a header, and the clock
 pub record Queued : Type 0 where
@@ -29,7 +29,7 @@ channel_of Shutdown = Control
 
 -- how many messages with a header were queued by now
 abbrev pub count_messages : Job → List Entry → ℕ
-count_messages j past = count_queued (length (asked j past).ids) (requests j past)
+count_messages j past = count_queued (length (ask_state j past).ids) (requests j past)
 
 -- it is queued, where there are more than before
 abbrev pub grown : ℕ → ℕ → Queued → List Queued
@@ -42,7 +42,7 @@ interrupts j past = count_by (λ (r : Request). r.interrupted) (requests j past)
 -- the messages that are queued in the handling of the newest entry
 abbrev pub news : Job → List Entry → List Entry → List Queued
 news j now past =
-    grown (length (asked j past).ids) (length (asked j now).ids) (record { what = Info; number = count_messages j past + 1; date = time now })
+    grown (length (ask_state j past).ids) (length (ask_state j now).ids) (record { what = Info; number = count_messages j past + 1; date = time now })
     ++ grown (length (requests j past)) (length (requests j now)) (record { what = Execute (length (requests j past)); number = count_messages j past + 1; date = time now })
     ++ grown (interrupts j past) (interrupts j now) (record { what = Interrupt; number = count_messages j past + 1; date = time now })
     ++ grown (length (pings j past).queued) (length (pings j now).queued) (record { what = Ping; number = 0; date = 0 })
@@ -67,7 +67,7 @@ farewell j end = record { what = Shutdown; number = count_messages j end + 1; da
 
 -- the job has ended, by itself or since no wait is left
 abbrev pub has_ended : Job → List Entry → Bool
-has_ended j past = is_some (ended j past) || is_spent j past
+has_ended j past = is_some (ending_of j past) || is_spent j past
 
 -- what follows greeting and READY on a channel; on control nothing before its handshake is finished
 abbrev pub due_after : Job → Chan → List Entry → List ℕ
@@ -76,12 +76,12 @@ due_after j c past =
     else queue j c (up_to_end j past) ++ (if has_ended j past then octets_on j c (farewell j (up_to_end j past)) else [])
 
 -- what is due on a channel
-abbrev pub due : Job → Chan → List Entry → List ℕ
-due j c past = j.codec.opening c ++ due_after j c past
+abbrev pub dues : Job → Chan → List Entry → List ℕ
+dues j c past = j.codec.opening c ++ due_after j c past
 
 -- what was put so far is a beginning of what is due
 abbrev pub is_sent : Job → List Entry → Bool
-is_sent j past = list_all (λ c. starts_with nat_eq (due j c past) (bytes_put j c past)) channels
+is_sent j past = list_all (λ c. starts_with nat_eq (dues j c past) (bytes_put j c past)) channels
 
 -- a test holds at every moment
 abbrev pub all_along : (List Entry → Bool) → List Entry → Bool

@@ -2,7 +2,7 @@
 use Rattle.std.specs.Prelude.{ℕ, ◌==◌, List, [], ◌∷◌, ◌++◌, codes, Bool, Option, Some, None, if◌then◌else◌, length, nat_le, option_map}
 use Rattle.std.specs.Str.{bytes_eq}
 use Rattle.std.specs.Fmt.{decimal}
-use Rattle.jtext.specs.Print.{quoted}
+use Rattle.jtext.specs.Print.{quote}
 use Rattle.jcontent.specs.declared.content.Content.{Content}
 use Rattle.jcontent.specs.declared.content.Content.TheVariants as content
 use Rattle.jcontent.specs.declared.reply.ReplyIs.TheVariants as reply_is
@@ -21,7 +21,7 @@ use Rattle.cell_core.specs.declared.why.Why.{Why}
 use Rattle.cell_core.specs.declared.why.Why.TheVariants as cause
 use Rattle.run_journal.specs.Codec.{Arrival}
 use Rattle.run_journal.specs.Job.{Job, Given, Refuses, Prepares, Runs}
-use Rattle.run_journal.specs.Parts.{acked, before_shut}
+use Rattle.run_journal.specs.Parts.{saves_of, before_shut}
 use Rattle.run_journal.specs.OfJob.{is_own_path, after_read, reads_for, is_onto}
 use Rattle.run_journal.specs.Requests.{Request, reply, requests, or_later, last_request}
 use Rattle.run_journal.specs.Why.{BadStream, bad_stream, why}
@@ -143,7 +143,7 @@ end_by j past cause.BadPeer = peer_end (bad_stream j past)
 -- what stops the job, once all saves that are due are acknowledged
 abbrev pub stop_of : Job → List Entry → Option End
 stop_of j now =
-    if nat_le (length (saves j now)) (acked j now) then option_map (end_by j (before_shut j now)) (why j (before_shut j now)) else None
+    if nat_le (length (saves j now)) (saves_of j now) then option_map (end_by j (before_shut j now)) (why j (before_shut j now)) else None
 
 -- ---- the end
 
@@ -157,13 +157,13 @@ abbrev pub ended_now : List Entry → Option End → Option Ended
 ended_now now end = option_map (λ e. record { end = e; journal = now }) end
 
 -- how the job has ended by itself, if it has: by the first refusal, failed call or stop
-abbrev pub ended : Job → List Entry → Option Ended
-ended j [] = ended_now [] (stop_of j [])
-ended j (entry ∷ past) = or_later (ended j past) (ended_now (entry ∷ past) (or_later (fault_at j entry past) (stop_of j (entry ∷ past))))
+abbrev pub ending_of : Job → List Entry → Option Ended
+ending_of j [] = ended_now [] (stop_of j [])
+ending_of j (entry ∷ past) = or_later (ending_of j past) (ended_now (entry ∷ past) (or_later (fault_at j entry past) (stop_of j (entry ∷ past))))
 
 -- the same without the journal
 abbrev pub end_alone : Job → List Entry → Option End
-end_alone j past = option_map (λ (e : Ended). e.end) (ended j past)
+end_alone j past = option_map (λ (e : Ended). e.end) (ending_of j past)
 
 -- no wait is left
 abbrev pub is_spent : Job → List Entry → Bool
@@ -175,7 +175,7 @@ end_of j past = or_later (end_alone j past) (end_if (is_spent j past) Spent)
 
 -- the journal up to the entry by which the job ended by itself, or else up to its first close
 abbrev pub up_to_end : Job → List Entry → List Entry
-up_to_end j past = or_all (ended j past)
+up_to_end j past = or_all (ending_of j past)
   where
     or_all : Option Ended → List Entry
     or_all None = before_shut j past
@@ -218,7 +218,7 @@ of_cell i what = codes "cell " ++ decimal i ++ codes ": " ++ what
 -- what is said of an end, after the output's path
 abbrev pub reason : End → List ℕ
 reason Done = codes "done"
-reason (CellError i ename) = of_cell i (codes "error " ++ quoted ename)
+reason (CellError i ename) = of_cell i (codes "error " ++ quote ename)
 reason NotReady = codes "kernel not ready"
 reason KernelLost = codes "kernel lost"
 reason (TimedOut i) = of_cell i (codes "timed out")

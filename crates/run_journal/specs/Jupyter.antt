@@ -8,12 +8,12 @@ use Rattle.zmtp_wire.specs.declared.role.Role.TheVariants as role
 use Rattle.zmtp_wire.specs.Fault.{number_of}
 use Rattle.zmtp_wire.specs.Meaning.{Place, messages_in, is_shaken, fault_in}
 use Rattle.zmtp_wire.specs.Writing.{greeting_octets, ready_octets, message_octets}
-use Rattle.zmtp_peer.specs.Envelope.{enveloped, bodies_of}
+use Rattle.zmtp_peer.specs.Envelope.{with_envelope, bodies_of}
 use Rattle.zmtp_peer.specs.Reply.{subscription_to, owed_octets}
 use Rattle.jsign.specs.History.{fresh_items}
 use Rattle.jmsg.specs.declared.message.Message.{Message}
-use Rattle.jmsg.specs.Decoding.{after_delimiter, decoded}
-use Rattle.jmsg.specs.Encoded.{encoded}
+use Rattle.jmsg.specs.Decoding.{after_delimiter, decode}
+use Rattle.jmsg.specs.Encoded.{encode}
 use Rattle.kernel_talk.specs.Requests.{request}
 use Rattle.kernel_lines.specs.Lines.{role_on}
 use Rattle.jcontent.specs.declared.content.Content.TheVariants as content
@@ -49,7 +49,7 @@ signature_frame parts = first_frame (unwrap_or (after_delimiter parts) [])
 
 -- a message with its signature, where the parts are one that is signed under the key
 abbrev pub signed_item : List ℕ → List (List ℕ) → Option (List ℕ × Arrival)
-signed_item key parts = option_map (λ m. (signature_frame parts, arrival_of m)) (decoded key parts)
+signed_item key parts = option_map (λ m. (signature_frame parts, arrival_of m)) (decode key parts)
 
 -- the signed messages among the bodies, with their signatures
 abbrev pub signed_items : List ℕ → List (List (List ℕ)) → List (List ℕ × Arrival)
@@ -76,14 +76,14 @@ numbered_place p = (number_of p.0, p.1)
 
 -- a message of the session, as it goes on shell and control
 abbrev pub session_octets : Speaker → ℕ → ℕ → List ℕ → Json → List ℕ
-session_octets s number ms kind content = message_octets (enveloped role.Dealer (encoded s.key (request s.session number ms kind content)))
+session_octets s number ms kind content = message_octets (with_envelope role.Dealer (encode s.key (request s.session number ms kind content)))
 
 -- what is sent, by its number among the job's messages and the clock
 abbrev pub octets_of : Speaker → Sending → ℕ → ℕ → List ℕ
 octets_of s Info number ms = session_octets s number ms (codes "kernel_info_request") contents.empty
 octets_of s (Execute k) number ms = session_octets s number ms (codes "execute_request") (contents.execute (s.code k) (s.stop_on_error k))
 octets_of s Interrupt number ms = session_octets s number ms (codes "interrupt_request") contents.empty
-octets_of s Ping number ms = message_octets (enveloped role.Req (codes "ping" ∷ []))
+octets_of s Ping number ms = message_octets (with_envelope role.Req (codes "ping" ∷ []))
 octets_of s Shutdown number ms = session_octets s number ms (codes "shutdown_request") contents.shutdown
 
 -- the reading and writing of a speaker's connections

@@ -3,10 +3,10 @@ use Rattle.std.specs.Prelude.{ℕ, List, [], ◌∷◌, ◌++◌, Option, Some, 
 use Rattle.world.specs.declared.entry.Entry.{Entry}
 use Rattle.said_lines.specs.Lines.{saved_line, spoken_line}
 use Rattle.run_journal.specs.Job.{Job}
-use Rattle.run_journal.specs.Parts.{acked, is_acknowledging}
+use Rattle.run_journal.specs.Parts.{saves_of, is_acknowledging}
 use Rattle.run_journal.specs.Requests.{or_later}
 use Rattle.run_journal.specs.Saves.{Save, saves}
-use Rattle.run_journal.specs.Ends.{End, Spent, Ended, ended, end_if, is_spent, fault_at, stop_of, reason}
+use Rattle.run_journal.specs.Ends.{End, Spent, Ended, ending_of, end_if, is_spent, fault_at, stop_of, reason}
 
 -- a line: of an acknowledged save, by the settled cells, all cells and the output; the last one of a job; or the last one of
 -- a run that ends before its jobs do, by what it speaks of and what it says
@@ -19,7 +19,7 @@ pub data Line : Type 0 where
 abbrev pub saved_lines : Job → List Entry → List Entry → List Line
 saved_lines j now past =
     if is_acknowledging j now
-    then option_to_list (option_map (λ (s : Save). Saved s.settled j.task.cells j.output) (slice_get (saves j now) (acked j past)))
+    then option_to_list (option_map (λ (s : Save). Saved s.settled j.task.cells j.output) (slice_get (saves j now) (saves_of j past)))
     else []
 
 -- the last line of a job that ends by itself at the newest entry, if it had not ended before
@@ -30,7 +30,7 @@ last_lines j None end = option_to_list (option_map (λ e. Last e j.output) end)
 -- the lines of one job at the newest entry
 abbrev pub lines_at : Job → Entry → List Entry → List Line
 lines_at j entry past =
-    saved_lines j (entry ∷ past) past ++ last_lines j (ended j past) (or_later (fault_at j entry past) (stop_of j (entry ∷ past)))
+    saved_lines j (entry ∷ past) past ++ last_lines j (ending_of j past) (or_later (fault_at j entry past) (stop_of j (entry ∷ past)))
 
 -- the lines up to the end of each job that ends by itself, in the order of the entries, and at one entry in that of the jobs
 abbrev pub lines_by : List Job → List Entry → List Line
@@ -39,7 +39,7 @@ lines_by jobs (entry ∷ past) = lines_by jobs past ++ flat_map (λ j. lines_at 
 
 -- the last line of a job that didn't end by itself, where no wait is left
 abbrev pub spent_line : List Entry → Job → List Line
-spent_line past j = last_lines j (ended j past) (end_if (is_spent j past) Spent)
+spent_line past j = last_lines j (ending_of j past) (end_if (is_spent j past) Spent)
 
 -- the lines of the jobs in a whole journal
 abbrev pub job_lines : List Job → List Entry → List Line

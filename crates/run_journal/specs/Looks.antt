@@ -41,8 +41,8 @@ is_read_through j past = list_all (λ c. not (connection j c (to_wait past)).awa
 
 -- A look at the job is done: after a short wait each connection of it that was awake was drained. It is a look after all
 -- that stands before that wait.
-unfoldable pub looked : Job → List Entry → Bool
-looked j past = is_short_wait (to_wait past) && is_read_through j past
+unfoldable pub is_look : Job → List Entry → Bool
+is_look j past = is_short_wait (to_wait past) && is_read_through j past
 
 -- a test held at some moment
 abbrev pub ever : (List Entry → Bool) → List Entry → Bool
@@ -123,7 +123,7 @@ shows_lost j (entry ∷ past) = ends j entry || is_silent j (moment_of entry) pa
 
 -- a look is done after an entry that shows it
 unfoldable pub is_lost : Job → List Entry → Bool
-is_lost j past = looked j past && ever (shows_lost j) (before_wait past)
+is_lost j past = is_look j past && ever (shows_lost j) (before_wait past)
 
 -- a clock is at or past this moment
 abbrev pub is_at_least : ℕ → Option ℕ → Bool
@@ -136,4 +136,4 @@ is_past deadline past = is_at_least deadline (turn_clock past)
 
 -- a look is done after such an entry
 unfoldable pub ran_out : Job → ℕ → List Entry → Bool
-ran_out j deadline past = looked j past && ever (is_past deadline) (before_wait past)
+ran_out j deadline past = is_look j past && ever (is_past deadline) (before_wait past)

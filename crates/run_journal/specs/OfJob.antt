@@ -33,7 +33,7 @@ abbrev pub is_onto : Job → List Entry → Bool
 is_onto j [] = false
 is_onto j (entry ∷ past) = renames_onto j entry
 
--- this is the job's number
+-- it is this number, where there is one
 abbrev pub is_number : ℕ → Option ℕ → Bool
 is_number number None = false
 is_number number (Some other) = other == number

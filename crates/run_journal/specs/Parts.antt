@@ -44,8 +44,8 @@ turn_clock (entry ∷ past) = if has_wait past then moment_of entry else None
 -- ---- acknowledged saves
 
 -- how many saves were acknowledged
-abbrev pub acked : Job → List Entry → ℕ
-acked j past = acks.acked (temporary_of j.output) j.output past
+abbrev pub saves_of : Job → List Entry → ℕ
+saves_of j past = acks.ack_count (temporary_of j.output) j.output past
 
 -- the newest entry is a sync that acknowledges a save
 abbrev pub is_acknowledging : Job → List Entry → Bool

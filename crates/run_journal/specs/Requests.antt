@@ -13,9 +13,9 @@ use Rattle.out_fold.specs.declared.used.Used.{Used}
 use Rattle.out_fold.specs.Cells.{says_idle}
 use Rattle.run_journal.specs.Codec.{Arrival}
 use Rattle.run_journal.specs.Job.{Job}
-use Rattle.run_journal.specs.Parts.{channels, bytes_got, turn_clock, acked, is_acknowledging}
-use Rattle.run_journal.specs.Arrivals.{arrive, asked, is_ready}
-use Rattle.run_journal.specs.Looks.{looked, is_lost, is_past}
+use Rattle.run_journal.specs.Parts.{channels, bytes_got, turn_clock, saves_of, is_acknowledging}
+use Rattle.run_journal.specs.Arrivals.{arrive, ask_state, is_ready}
+use Rattle.run_journal.specs.Looks.{is_look, is_lost, is_past}
 
 -- a request that stands
 pub record Request : Type 0 where
@@ -123,7 +123,7 @@ before_clock (entry ∷ past) = if is_some (moment_of entry) then past else befo
 -- the last clock entry is the first at or past the deadline, and a look at the job followed it
 abbrev pub just_ran_out : Job → ℕ → List Entry → Bool
 just_ran_out j deadline past =
-    looked j past && is_some (first_clock deadline (before_wait past)) && not (is_some (first_clock deadline (before_clock past)))
+    is_look j past && is_some (first_clock deadline (before_wait past)) && not (is_some (first_clock deadline (before_clock past)))
 
 -- the first deadline of a request, where a limit is given
 abbrev pub deadline : Job → Request → Option ℕ
@@ -182,8 +182,8 @@ with_next next r rs = if next then rs ++ r ∷ [] else rs
 -- these requests, and the next one where it comes to stand at an entry
 abbrev pub and_next : Job → Entry → List Entry → List Request → List Request
 and_next j entry past rs =
-    with_next (is_next j (is_acknowledging j (entry ∷ past)) (is_ready j (entry ∷ past)) (acked j (entry ∷ past)) rs)
-    (with_interrupt j (entry ∷ past) (fresh (count_queued (length (asked j (entry ∷ past)).ids) rs + 1) (time past))) rs
+    with_next (is_next j (is_acknowledging j (entry ∷ past)) (is_ready j (entry ∷ past)) (saves_of j (entry ∷ past)) rs)
+    (with_interrupt j (entry ∷ past) (fresh (count_queued (length (ask_state j (entry ∷ past)).ids) rs + 1) (time past))) rs
 
 -- the requests that stand by now, in order
 abbrev pub requests : Job → List Entry → List Request

@@ -14,7 +14,7 @@ use Rattle.world.specs.Places.{time}
 use Rattle.words.specs.Paths.{connection_of}
 use Rattle.kernel_start.specs.Launch.{from_root}
 use Rattle.run_journal.specs.Job.{Job}
-use Rattle.run_journal.specs.Parts.{acked}
+use Rattle.run_journal.specs.Parts.{saves_of}
 use Rattle.run_journal.specs.Due.{all_along}
 
 -- what a job starts its child by: the kernel's spec and its folder, the working folder, the child's folder, and the key
@@ -81,5 +81,5 @@ StartsRightly launch j (_ ∷ past) = StartsRightly launch j past
 abbrev pub StartsAt : Launch → Job → ℕ → List Entry → Type 0
 StartsAt launch j clock [] = ⊥
 StartsAt launch j clock (made.Started job argv env dir did ∷ past) =
-    ((job ≡ j.number) × (time past ≡ clock) × (0 < acked j past) × StartsBy launch j argv env dir past) ⊎ StartsAt launch j clock past
+    ((job ≡ j.number) × (time past ≡ clock) × (0 < saves_of j past) × StartsBy launch j argv env dir past) ⊎ StartsAt launch j clock past
 StartsAt launch j clock (_ ∷ past) = StartsAt launch j clock past

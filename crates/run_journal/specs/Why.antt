@@ -9,7 +9,7 @@ use Rattle.cell_core.specs.declared.why.Why.{Why}
 use Rattle.cell_core.specs.declared.why.Why.TheVariants as cause
 use Rattle.cell_core.specs.Deadlines.{interrupt_ms, idle_ms}
 use Rattle.run_journal.specs.Job.{Job, Given, Refuses, Prepares, Runs}
-use Rattle.run_journal.specs.Parts.{bytes_got, acked}
+use Rattle.run_journal.specs.Parts.{bytes_got, saves_of}
 use Rattle.run_journal.specs.Looks.{is_lost, ran_out}
 use Rattle.run_journal.specs.Requests.{Request, reply, is_over, is_fatal, is_last_passed, requests, last_request, or_later, first_clock, deadline}
 
@@ -107,7 +107,7 @@ cause_if holds why = if holds then Some why else None
 -- what has stopped the job, if something has
 abbrev pub why : Job → List Entry → Option Why
 why j past =
-    or_later (cause_if (is_done j (acked j past) (requests j past)) cause.Done)
+    or_later (cause_if (is_done j (saves_of j past) (requests j past)) cause.Done)
     (or_later (cause_if (is_error j (last_request 0 (requests j past))) cause.CellError)
     (or_later (cause_if (is_some (bad_stream j past)) cause.BadPeer)
     (or_later (cause_if (is_lost j past) cause.KernelLost)

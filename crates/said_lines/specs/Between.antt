@@ -2,7 +2,7 @@
 use Rattle.std.specs.Prelude.{◌≡◌, ◌<◌, List, [], Option}
 use Rattle.world.specs.declared.entry.Entry.{Entry}
 use Rattle.world.specs.Counts.{Counts, Rose}
-pub use Rattle.world.specs.Told.{Between}
+use Rattle.world.specs.Told.{Between}
 
 -- the journal was empty at the start, and this holds of it at the end
 abbrev pub FromStart : {W : Type 0} → (W → Option (List Entry)) → W → W → (List Entry → Type 0) → Type 0

@@ -12,8 +12,8 @@ number_on Iopub shell control iopub heart = iopub
 number_on Heart shell control iopub heart = heart
 
 -- as many bytes as are left and have room
-abbrev pub poured : ℕ → ℕ → Given
-poured left room = if left == 0 then Waits else Hands (replicate (min left room) 7)
+abbrev pub pour : ℕ → ℕ → Given
+pour left room = if left == 0 then Waits else Hands (replicate (min left room) 7)
 
 -- the exit status of a kernel that ends at this moment, if it does, at a moment
 abbrev pub end_by : Option ℕ → ℕ → Option ℤ

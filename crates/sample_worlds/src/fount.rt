@@ -1,7 +1,7 @@
 //! A kernel that hands out bytes.
 ghost use Rattle.std.specs.Prelude.{◌≡◌, ◌<◌, length, true};
 ghost use Rattle.world.specs.Kernel.{Gives};
-ghost use Rattle.sample_worlds.specs.Fount.{end_by, number_on, poured};
+ghost use Rattle.sample_worlds.specs.Fount.{end_by, number_on, pour};
 
 use jtext::NoMemory;
 use std::alloc::Global;
@@ -42,7 +42,7 @@ impl KernelSide for Fount {
     ghost accepts = { λ k chan now. true };
 
     ghost gives = { λ k chan now room.
-        poured (number_on chan k.shell k.control k.iopub k.heart) room };
+        pour (number_on chan k.shell k.control k.iopub k.heart) room };
 
     ghost exits = { λ k now. end_by k.ends_ms now };
 
@@ -93,7 +93,7 @@ impl KernelSide for Fount {
 // Hands out as many bytes as are left and have room.
 fn pour(left: &mut usize, buf: &mut [u8]) -> Give
     requires { 0 < length buf.old }
-    ensures { Gives (poured left.old (length buf.old)) result buf.new }
+    ensures { Gives (pour left.old (length buf.old)) result buf.new }
 {
     if *left == 0 {
         return Give::Nothing;

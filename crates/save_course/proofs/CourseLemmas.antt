@@ -1,8 +1,7 @@
 -- Courses of saves, step by step.
-use Rattle.std.proofs.Common.{◌≡◌, ◌≢◌, inl, ℕ, ◌+◌, ◌≤◌, Bool, true, false, List, [], ◌∷◌, ◌++◌, length, Result, Ok, Err, Some, refl, sym, ◌∙◌, ap, subst, length-append}
+use Rattle.std.proofs.Common.{◌≡◌, ◌≢◌, inl, ℕ, ◌+◌, ◌≤◌, Bool, true, false, List, [], ◌∷◌, ◌++◌, Result, Ok, Err, Some, refl, sym, ◌∙◌, ap, subst}
 use Rattle.std.specs.Prelude.{slice_get, map}
-use Rattle.std.specs.List.{AllByRecursion}
-use Rattle.std.proofs.lemmas.List.{map_push}
+use Rattle.std.proofs.lemmas.List.{map_push, length_push}
 use Rattle.world.specs.declared.entry.Entry.{Entry}
 use Rattle.world.specs.declared.entry.Entry.TheVariants as made
 use Rattle.world.specs.Disk.{place, untouched_place}
@@ -13,7 +12,7 @@ use Rattle.world.proofs.MomentsLemmas.{since_then, since_as}
 use Rattle.world.proofs.PartsLemmas.{acked_other, is_not_of}
 use Rattle.save_disk.specs.declared.save_fault.SaveFault.{SaveFault}
 use Rattle.save_disk.specs.Entries.{SaveOf}
-use Rattle.save_disk.specs.Places.{acknowledged}
+use Rattle.save_disk.specs.Places.{save_count}
 use Rattle.world.specs.Save.{temporary_of}
 use Rattle.said_lines.specs.Speech.{Says, whole, none}
 use Rattle.said_lines.proofs.SpeechLemmas.{says_since}
@@ -27,12 +26,10 @@ use Rattle.progress_save.proofs.SavedLemmas.{ended}
 use Rattle.out_fold.specs.Fit.{AreRead}
 use Rattle.nb_model.specs.declared.notebook.Notebook.{Notebook}
 use Rattle.save_course.specs.Course.{PrefixSave, prefix_text, Course, begins, passes, saves, fails, Rises, IsSavedAs, IsSavedSo, open_after, settled_after}
+use Rattle.jtext.proofs.Lists.{last_at}
+use Rattle.jtext.proofs.Keys.{all-push}
 
 -- ---- lists
-
-all_with : {A : Type 0} (P : A → Type 0) (xs : List A) (x : A) → AllByRecursion P xs → P x → AllByRecursion P (xs ++ x ∷ [])
-all_with P [] x h p = (p, tt)
-all_with P (y ∷ ys) x h p = (h.0, all_with P ys x h.1 p)
 
 -- how many cells the last of these saves settles
 abbrev last_settled : ℕ → List PrefixSave → ℕ
@@ -47,44 +44,37 @@ last_with : (from : ℕ) (saved : List PrefixSave) (s : PrefixSave) → last_set
 last_with from [] s = refl
 last_with from (t ∷ rest) s = last_with t.settled rest s
 
-last_of : (texts : List (List ℕ)) (text : List ℕ) → slice_get (texts ++ text ∷ []) (length texts) ≡ Some text
-last_of [] text = refl
-last_of (t ∷ ts) text = last_of ts text
-
-one_more : (texts : List (List ℕ)) (text : List ℕ) → length (texts ++ text ∷ []) ≡ length texts + 1
-one_more texts text = length-append texts (text ∷ [])
-
 -- ---- safety
 
 held_safe : (output : List ℕ) (texts : List (List ℕ)) (now : List Entry) → IsHeld output texts now → IsSafe output texts now
 held_safe output texts now h = weaker_place (λ o t. inl t) h
 
 more_safe : (output : List ℕ) (texts others : List (List ℕ)) (now : List Entry) → IsSafe output texts now → IsSafe output (texts ++ others) now
-more_safe output texts others now h = weaker_place (last_or_next_before (acknowledged output now) texts others) h
+more_safe output texts others now h = weaker_place (last_or_next_before (save_count output now) texts others) h
 
-begins_safe : (output : List ℕ) (before : List Entry) → place before output ≡ untouched_place → acknowledged output before ≡ 0 → IsSavedAs output [] true before before
+begins_safe : (output : List ℕ) (before : List Entry) → place before output ≡ untouched_place → save_count output before ≡ 0 → IsSavedAs output [] true before before
 begins_safe output before untouched none_yet =
     let held = untouched_held output [] before untouched none_yet in
     record { moments = start; end = held_safe output [] before held; held = λ e. held; whole = λ e. none_yet; but_one = λ e. absurd (cc) }
 
 passes_safe : (output : List ℕ) (texts : List (List ℕ)) (is_open : Bool) (before past : List Entry) (entry : Entry) → touches output entry ≡ false
-    → acknowledged output (entry ∷ past) ≡ acknowledged output past → IsSavedAs output texts is_open before past → IsSavedAs output texts is_open before (entry ∷ past)
+    → save_count output (entry ∷ past) ≡ save_count output past → IsSavedAs output texts is_open before past → IsSavedAs output texts is_open before (entry ∷ past)
 passes_safe output texts is_open before past entry spared same s =
     let safe : IsSafe output texts (entry ∷ past) =
     subst (λ n. IsPlace (IsLastOrNext texts n) (place (entry ∷ past) output)) (sym same)
-    (spared_stays (IsLastOrNext texts (acknowledged output past)) output entry past spared s.end) in
+    (spared_stays (IsLastOrNext texts (save_count output past)) output entry past spared s.end) in
     record {
       moments = later s.moments safe;
       end = safe;
       held = λ e. subst (λ n. IsPlace (IsText texts n) (place (entry ∷ past) output)) (sym same)
-          (spared_stays (IsText texts (acknowledged output past)) output entry past spared (s.held e));
+          (spared_stays (IsText texts (save_count output past)) output entry past spared (s.held e));
       whole = λ e. same ∙ s.whole e;
       but_one = λ e. ap (λ n. n + 1) same ∙ s.but_one e;
     }
 
 -- the text is the next one
 is_next : (output : List ℕ) (texts : List (List ℕ)) (text : List ℕ) (before past : List Entry) → IsSavedAs output texts true before past → IsNext output (texts ++ text ∷ []) text past
-is_next output texts text before past s = subst (λ n. slice_get (texts ++ text ∷ []) n ≡ Some text) (sym (s.whole refl)) (last_of texts text)
+is_next output texts text before past s = subst (λ n. slice_get (texts ++ text ∷ []) n ≡ Some text) (sym (s.whole refl)) (last_at texts text)
 
 stays : (output : List ℕ) (texts : List (List ℕ)) (text : List ℕ) (before past after : List Entry) (result : Result (Unit {0}) ProgressFault) → IsSavedAs output texts true before past
     → SavesAs output text [] ⊥ result past after → StaysSafe output (texts ++ text ∷ []) result past after
@@ -106,7 +96,7 @@ saves_safe output texts text before past after s saved =
       moments = all_moments output texts text before past after s kept.moments;
       end = kept.end;
       held = λ e. kept.done;
-      whole = λ e. end.count_is ∙ ap (λ n. n + 1) (s.whole refl) ∙ sym (one_more texts text);
+      whole = λ e. end.count_is ∙ ap (λ n. n + 1) (s.whole refl) ∙ sym (length_push texts text);
       but_one = λ e. absurd (cc);
     }
 
@@ -120,7 +110,7 @@ fails_safe output texts text f before past after s failed =
       end = kept.end;
       held = λ e. absurd (cc);
       whole = λ e. absurd (cc);
-      but_one = λ e. ap (λ n. n + 1) (end.count_is ∙ s.whole refl) ∙ sym (one_more texts text);
+      but_one = λ e. ap (λ n. n + 1) (end.count_is ∙ s.whole refl) ∙ sym (length_push texts text);
     }
 
 -- a course with its saves
@@ -128,7 +118,7 @@ record Followed (output : List ℕ) (merge : Bool) (first : Notebook) (from : �
   saved : IsSavedSo output merge first from is_open before after
   last : last_settled from saved.saves ≡ settled
 
-module _ (output : List ℕ) (merge : Bool) (first : Notebook) (from : ℕ) (before : List Entry) (untouched : place before output ≡ untouched_place) (none_yet : acknowledged output before ≡ 0) where
+module _ (output : List ℕ) (merge : Bool) (first : Notebook) (from : ℕ) (before : List Entry) (untouched : place before output ≡ untouched_place) (none_yet : save_count output before ≡ 0) where
   abbrev texts_of : List PrefixSave → List (List ℕ)
   texts_of saved = map (prefix_text merge first) saved
 
@@ -140,7 +130,7 @@ module _ (output : List ℕ) (merge : Bool) (first : Notebook) (from : ℕ) (bef
         saved = record {
           saves = f.saved.saves ++ s ∷ [];
           rising = rises_with from f.saved.saves s f.saved.rising (subst (λ n. n ≤ s.settled) (sym f.last) more);
-          read = all_with (λ (t : PrefixSave). AreRead t.us) f.saved.saves s f.saved.read read;
+          read = all-push (λ (t : PrefixSave). AreRead t.us) f.saved.saves s f.saved.read read;
           so = subst (λ ts. IsSavedAs output ts is_open before after) (sym (map_push (prefix_text merge first) f.saved.saves s)) so;
         };
         last = last_with from f.saved.saves s;

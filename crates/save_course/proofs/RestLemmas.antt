@@ -6,13 +6,12 @@ use Rattle.nb_model.specs.declared.notebook.Notebook.{Notebook}
 use Rattle.world.specs.declared.entry.Entry.{Entry}
 use Rattle.world.specs.declared.entry.Entry.TheVariants as made
 use Rattle.world.specs.declared.did.Did.TheVariants as did
-use Rattle.world.specs.Acked.{acked, renames, syncs_folder, is_renamed}
+use Rattle.world.specs.Acked.{ack_count, renames, syncs_folder, is_renamed}
 use Rattle.world.specs.Moments.{Since, start, more as later}
 use Rattle.world.specs.Parts.{IsNotOf, OnDisk, OnSay, part_of}
 use Rattle.world.specs.Touched.{touches, Spares}
 use Rattle.world.proofs.MomentsLemmas.{since_as}
 use Rattle.world.proofs.PartsLemmas.{is_not_of}
-use Rattle.world.proofs.PlaceLemmas.{same_bytes}
 use Rattle.world.proofs.SaveLemmas.{renames_is}
 use Rattle.save_disk.specs.declared.save_fault.SaveFault.{SaveFault}
 use Rattle.save_disk.specs.declared.save_fault.SaveFault.TheVariants as failed_at
@@ -24,6 +23,7 @@ use Rattle.progress_save.specs.declared.progress_fault.ProgressFault.{ProgressFa
 use Rattle.progress_save.specs.declared.progress_fault.ProgressFault.TheVariants as fault
 use Rattle.progress_save.specs.Saved.{SavesAs, done, failure}
 use Rattle.save_course.specs.Course.{Course, passes, IsRested}
+use Rattle.jtext.proofs.Equals.{same_bytes}
 
 -- a test that also asks for what is false
 pub neither : (b : Bool) (x y : ℕ) → (if b && false then x else y) ≡ y
@@ -39,10 +39,10 @@ spared_name from to entry spared =
     absurd (cc))
 
 -- an entry acknowledges nothing where no rename comes before it
-pub none_waits : (from to : List ℕ) (entry : Entry) (past : List Entry) → is_renamed from to past ≡ false → acked from to (entry ∷ past) ≡ acked from to past
+pub none_waits : (from to : List ℕ) (entry : Entry) (past : List Entry) → is_renamed from to past ≡ false → ack_count from to (entry ∷ past) ≡ ack_count from to past
 none_waits from to entry past rested =
-    subst (λ b. (if syncs_folder to entry && b then acked from to past + 1 else acked from to past) ≡ acked from to past) (sym rested)
-    (neither (syncs_folder to entry) (acked from to past + 1) (acked from to past))
+    subst (λ b. (if syncs_folder to entry && b then ack_count from to past + 1 else ack_count from to past) ≡ ack_count from to past) (sym rested)
+    (neither (syncs_folder to entry) (ack_count from to past + 1) (ack_count from to past))
 
 pub spared_rest : (output : List ℕ) {past after : List Entry} → IsRested output past → Since (Spares output) past after → IsRested output after
 spared_rest output rested start = rested

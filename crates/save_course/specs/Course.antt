@@ -11,13 +11,14 @@ use Rattle.world.specs.Moments.{Since}
 use Rattle.world.specs.Touched.{touches}
 use Rattle.save_disk.specs.declared.save_fault.SaveFault.{SaveFault}
 use Rattle.save_disk.specs.Entries.{SaveOf}
-use Rattle.save_disk.specs.Places.{acknowledged}
+use Rattle.save_disk.specs.Places.{save_count}
 use Rattle.world.specs.Save.{temporary_of}
 use Rattle.progress_save.specs.declared.progress_fault.ProgressFault.{ProgressFault}
 use Rattle.progress_save.specs.declared.progress_fault.ProgressFault.TheVariants as fault
 use Rattle.progress_save.specs.Prefix.{prefix}
 use Rattle.progress_save.specs.Safe.{IsSafe, IsHeld}
-use Rattle.progress_save.specs.Saved.{text_of, done, failure}
+use Rattle.progress_save.specs.Saved.{done, failure}
+use Rattle.nb_text.specs.Notebooks.{text_of}
 
 -- a save: the messages that were used for the requests until then, how many cells it settles, and the cell at which the run
 -- stopped
@@ -36,7 +37,7 @@ prefix_text merge first s = text_of (prefix merge s.us s.settled s.stop first)
 pub data Course (output : List ℕ) (merge : Bool) (first : Notebook) (from : ℕ) (before : List Entry) : Bool → ℕ → List Entry → Type 0 where
   begins : Course output merge first from before true from before
   passes : {is_open : Bool} {settled : ℕ} {entry : Entry} {past : List Entry} → Course output merge first from before is_open settled past
-      → touches output entry ≡ false → acknowledged output (entry ∷ past) ≡ acknowledged output past
+      → touches output entry ≡ false → save_count output (entry ∷ past) ≡ save_count output past
       → Course output merge first from before is_open settled (entry ∷ past)
   saves : {settled : ℕ} {past after : List Entry} (s : PrefixSave) → Course output merge first from before true settled past → settled ≤ s.settled
       → AreRead s.us → SaveOf output (prefix_text merge first s) done past after → Course output merge first from before true s.settled after
@@ -55,8 +56,8 @@ pub record IsSavedAs (output : List ℕ) (texts : List (List ℕ)) (is_open : Bo
   pub moments : Since (IsSafe output texts) before after
   pub end : IsSafe output texts after
   pub held : is_open ≡ true → IsHeld output texts after
-  pub whole : is_open ≡ true → acknowledged output after ≡ length texts
-  pub but_one : is_open ≡ false → acknowledged output after + 1 ≡ length texts
+  pub whole : is_open ≡ true → save_count output after ≡ length texts
+  pub but_one : is_open ≡ false → save_count output after + 1 ≡ length texts
 
 -- that is so for the texts of some prefixes, which settle more and more cells by messages whose contents were read
 pub record IsSavedSo (output : List ℕ) (merge : Bool) (first : Notebook) (from : ℕ) (is_open : Bool) (before after : List Entry) : Type 0 where

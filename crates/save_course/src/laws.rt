@@ -6,7 +6,7 @@ ghost use Rattle.world.specs.declared.entry.Entry.{Entry};
 ghost use Rattle.world.specs.Disk.{place, untouched_place};
 ghost use Rattle.world.specs.Moments.{Since};
 ghost use Rattle.world.specs.Parts.{IsNotOf, OnDisk};
-ghost use Rattle.save_disk.specs.Places.{acknowledged};
+ghost use Rattle.save_disk.specs.Places.{save_count};
 ghost use Rattle.progress_save.specs.declared.progress_fault.ProgressFault.{ProgressFault};
 ghost use Rattle.progress_save.specs.Saved.{SavesAs};
 ghost use Rattle.save_course.specs.Course.{PrefixSave, prefix_text, Course, IsSavedSo};
@@ -19,7 +19,7 @@ ghost use Rattle.world.specs.Touched.{Spares};
 pub fn courses_are_safe()
     ensures { (output : List ℕ) (merge : Bool) (first : Notebook) (from settled : ℕ)
         (is_open : Bool) (before after : List Entry) →
-        place before output ≡ untouched_place → acknowledged output before ≡ 0 →
+        place before output ≡ untouched_place → save_count output before ≡ 0 →
         Course output merge first from before is_open settled after →
         IsSavedSo output merge first from is_open before after }
 {}

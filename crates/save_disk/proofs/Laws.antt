@@ -1,8 +1,7 @@
 -- What the entries of a save make of the output, moment by moment.
-use Rattle.std.proofs.Common.{◌≡◌, ◌≢◌, inl, inr, ℕ, ◌+◌, List, [], ◌∷◌, ◌++◌, length, take, drop, false, ◌&&◌, Some, Result, Ok, Err, codes, refl, sym, ◌∙◌, ap, subst, arith, length-append, append_assoc}
+use Rattle.std.proofs.Common.{◌≡◌, inl, inr, ℕ, ◌+◌, List, [], ◌∷◌, ◌++◌, length, take, drop, false, ◌&&◌, Some, Result, Ok, Err, codes, refl, sym, ◌∙◌, ap, subst, arith, length-append, append_assoc}
 use Rattle.std.proofs.lemmas.List.{take-append-drop, append-nil}
-use Rattle.std.proofs.lemmas.Slice.Eq.{bytes_eq-Decides}
-use Rattle.std.proofs.lemmas.Bool.{false_from_ne_true, cond-true}
+use Rattle.std.proofs.lemmas.Bool.{cond-true}
 use Rattle.std.specs.Str.{bytes_eq}
 use Rattle.world.specs.declared.entry.Entry.{Entry}
 use Rattle.world.specs.declared.entry.Entry.TheVariants.{Created, Wrote, Synced, Renamed, DirSynced}
@@ -13,18 +12,16 @@ use Rattle.world.specs.Disk.{Place, place, target_place, place_in_synced_dir, fo
 use Rattle.world.specs.Moments.{Since, start, more as later}
 use Rattle.world.specs.Parts.{IsOf, OnDisk}
 use Rattle.world.specs.Touched.{Spares}
-use Rattle.world.proofs.PlaceLemmas.{same_bytes, renamed_to_own, dir_synced_own}
+use Rattle.world.proofs.PlaceLemmas.{renamed_to_own, dir_synced_own}
 use Rattle.save_disk.specs.declared.save_fault.SaveFault.{SaveFault}
 use Rattle.save_disk.specs.declared.save_fault.SaveFault.TheVariants as fault
 use Rattle.world.specs.Save.{temporary_of}
 use Rattle.save_disk.specs.Entries.{Writes, none, more, SaveOf}
-use Rattle.save_disk.specs.Places.{acknowledged, SaveEnd, SaveMoment, as_before, renamed, unsure, durable}
-
-differ : (p q : List ℕ) → p ≢ q → bytes_eq p q ≡ false
-differ p q ne = false_from_ne_true _ (λ e. ne ((bytes_eq-Decides p q).0 e))
+use Rattle.save_disk.specs.Places.{save_count, SaveEnd, SaveMoment, as_before, renamed, unsure, durable}
+use Rattle.jtext.proofs.Equals.{same_bytes, other_bytes}
 
 apart : (output : List ℕ) → bytes_eq (temporary_of output) output ≡ false
-apart output = differ (temporary_of output) output (λ e.
+apart output = other_bytes (temporary_of output) output (λ e.
     let l : length (temporary_of output) ≡ length output = ap length e in omega (arith, length-append output (codes ".nbrun-tmp")))
 
 -- ---- what the writes leave
@@ -51,11 +48,11 @@ module _ (tmp out text : List ℕ) (ne : bytes_eq tmp out ≡ false) where
       }
 
 module _ (out text : List ℕ) (ne : bytes_eq (temporary_of out) out ≡ false) where
-  writes_acked : {begin : List Entry} {rest : List ℕ} {past : List Entry} → Writes (temporary_of out) text begin rest past → acknowledged out past ≡ acknowledged out begin
+  writes_acked : {begin : List Entry} {rest : List ℕ} {past : List Entry} → Writes (temporary_of out) text begin rest past → save_count out past ≡ save_count out begin
   writes_acked none = refl
   writes_acked (more n before) = writes_acked before
 
-  writes_moments : {before begin : List Entry} {rest : List ℕ} {past : List Entry} → place begin out ≡ place before out → acknowledged out begin ≡ acknowledged out before
+  writes_moments : {before begin : List Entry} {rest : List ℕ} {past : List Entry} → place begin out ≡ place before out → save_count out begin ≡ save_count out before
       → Since (SaveMoment out text before) before begin → Writes (temporary_of out) text begin rest past → Since (SaveMoment out text before) before past
   writes_moments e a since none = since
   writes_moments {before} e a since (more {rest} {past} n writes) =
@@ -72,7 +69,7 @@ module _ (out text : List ℕ) (before past : List Entry) (writes : Writes (temp
   elsewhere : place past out ≡ place before out
   elsewhere = writes_elsewhere (temporary_of out) out text (apart out) writes ∙ rw (apart out)
 
-  no_more_acked : acknowledged out past ≡ acknowledged out before
+  no_more_acked : save_count out past ≡ save_count out before
   no_more_acked = writes_acked out text (apart out) writes
 
   written : Since (SaveMoment out text before) before past
@@ -108,7 +105,7 @@ module _ (out text : List ℕ) (before past : List Entry) (writes : Writes (temp
   end_place : (did : Did) → place (DirSynced (folder_of out) did ∷ with_rename Done) out ≡ place_in_synced_dir (target_place settled_place (place before out) Done) did
   end_place did = dir_synced_own out did (with_rename Done) ∙ ap (λ p. place_in_synced_dir p did) (rename_place Done)
 
-  one_more : acknowledged out (DirSynced (folder_of out) Done ∷ with_rename Done) ≡ acknowledged out before + 1
+  one_more : save_count out (DirSynced (folder_of out) Done ∷ with_rename Done) ≡ save_count out before + 1
   one_more =
       cond-true (bytes_eq (folder_of out) (folder_of out) && (bytes_eq (temporary_of out) (temporary_of out) && bytes_eq out out)) _ _ (rw (same_bytes (folder_of out), same_bytes (temporary_of out), same_bytes out))
       ∙ ap (λ n. n + 1) no_more_acked

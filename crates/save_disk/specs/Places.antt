@@ -2,15 +2,15 @@
 use Rattle.std.specs.Prelude.{◌≡◌, ℕ, ◌+◌, List, [], ◌∷◌, ◌++◌, Some, None, Result, Ok, Err}
 use Rattle.world.specs.declared.entry.Entry.{Entry}
 use Rattle.world.specs.declared.left.Left.TheVariants.{Whole}
-use Rattle.world.specs.Acked.{acked}
+use Rattle.world.specs.Acked.{ack_count}
 use Rattle.world.specs.Disk.{Place, place}
 use Rattle.world.specs.Save.{temporary_of}
 use Rattle.save_disk.specs.declared.save_fault.SaveFault.{SaveFault}
 use Rattle.save_disk.specs.declared.save_fault.SaveFault.TheVariants as fault
 
 -- how many saves of the output were acknowledged
-abbrev pub acknowledged : List ℕ → List Entry → ℕ
-acknowledged output journal = acked (temporary_of output) output journal
+abbrev pub save_count : List ℕ → List Entry → ℕ
+save_count output journal = ack_count (temporary_of output) output journal
 
 -- the folder was synced: a crash leaves the text
 abbrev pub durable_place : List ℕ → Place
@@ -40,11 +40,11 @@ acknowledged_after (Err e) n = n
 -- what has come of a save in the end
 pub record SaveEnd {U : Type 0} (output text : List ℕ) (result : Result U SaveFault) (before after : List Entry) : Type 0 where
   pub place_is : place after output ≡ place_after text result (place before output)
-  pub count_is : acknowledged output after ≡ acknowledged_after result (acknowledged output before)
+  pub count_is : save_count output after ≡ acknowledged_after result (save_count output before)
 
 -- At a moment of a save the output is as before, renamed or unsure, and nothing was acknowledged since; or it is durable, and this save was.
 pub data SaveMoment (output text : List ℕ) (before now : List Entry) : Type 0 where
-  as_before : acknowledged output now ≡ acknowledged output before → place now output ≡ place before output → SaveMoment output text before now
-  renamed : acknowledged output now ≡ acknowledged output before → place now output ≡ renamed_place text (place before output) → SaveMoment output text before now
-  unsure : acknowledged output now ≡ acknowledged output before → place now output ≡ unsure_place text (place before output) → SaveMoment output text before now
-  durable : acknowledged output now ≡ acknowledged output before + 1 → place now output ≡ durable_place text → SaveMoment output text before now
+  as_before : save_count output now ≡ save_count output before → place now output ≡ place before output → SaveMoment output text before now
+  renamed : save_count output now ≡ save_count output before → place now output ≡ renamed_place text (place before output) → SaveMoment output text before now
+  unsure : save_count output now ≡ save_count output before → place now output ≡ unsure_place text (place before output) → SaveMoment output text before now
+  durable : save_count output now ≡ save_count output before + 1 → place now output ≡ durable_place text → SaveMoment output text before now

@@ -1,5 +1,5 @@
 -- The texts that are kept after a save are those of its notebook's cells.
-use Rattle.std.proofs.Common.{inl, inr}
+use Rattle.std.proofs.Common.{inr}
 use Rattle.std.specs.Prelude.{◌≡◌, ◌⊎◌, ℕ, List, None, Result, Ok, Err}
 use Rattle.nb_model.specs.declared.cell.Cell.{Cell}
 use Rattle.progress_save.specs.declared.progress.Progress.{Progress}

@@ -3,6 +3,7 @@ use Rattle.std.proofs.Common.{◌≡◌, ℕ, zero, suc, ◌+◌, ◌-◌, ◌<�
 use Rattle.std.proofs.lemmas.List.{length-append, length-take, length-drop, length-take-le, take_min, take_more, flat_map_more}
 use borrow.Rule.Slice.PartMut.{put_mid}
 use Rattle.std.proofs.lemmas.Slice.{take-put_mid}
+use Rattle.std.proofs.Math.Seq.{take-nil, drop-nil}
 use Rattle.world.specs.declared.chan.Chan.{Chan}
 use Rattle.toy_core.specs.declared.act.Act.{Act}
 use Rattle.toy_core.specs.Acts.{octets_on, octets_of}
@@ -21,16 +22,8 @@ nothing_dropped n ys = grind arith
 abbrev empty : List ℕ
 empty = []
 
-drop_none : (given : ℕ) → drop given empty ≡ empty
-drop_none zero = refl
-drop_none (suc given) = refl
-
-take_none : (n : ℕ) → take n empty ≡ empty
-take_none zero = refl
-take_none (suc n) = refl
-
 nothing_left : (n given : ℕ) → take n (drop given empty) ≡ empty
-nothing_left n given = ap (take n) (drop_none given) ∙ take_none n
+nothing_left n given = ap (take n) (drop-nil given) ∙ take-nil n
 
 -- the front of two lists
 pub take-both : (n : ℕ) (xs ys : List ℕ) → take n (xs ++ ys) ≡ take n xs ++ take (n - length xs) ys

@@ -110,7 +110,7 @@ reached_front now since (Pause ms ∷ acts) = front_pause (nat_le (since + ms) n
 reached_front now since (End status ∷ acts) = refl
 reached_front now since (Close parent count ∷ acts) = ap (λ x. Close parent count ∷ x) (reached_front now since acts)
 
-reached_then : (n : ℕ) (b : Bool) (acts : List Act) → suc n < length (cond b acts []) → b ≡ true
+pub reached_then : (n : ℕ) (b : Bool) (acts : List Act) → suc n < length (cond b acts []) → b ≡ true
 reached_then n true acts h = refl
 reached_then n false acts h = absurd (omega (arith, h))
 

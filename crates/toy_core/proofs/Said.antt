@@ -3,7 +3,7 @@ use Rattle.std.proofs.Common.{◌≡◌, ℕ, List, [], ◌∷◌, ◌++◌, map
 use Rattle.toy_lang.specs.declared.effect.Effect.{Effect}
 use Rattle.toy_lang.specs.declared.effect.Effect.TheVariants as effect
 use Rattle.toy_lang.specs.ToyOut as out
-use Rattle.toy_lang.specs.ToyOut.{Message, messages_of, close, published}
+use Rattle.toy_lang.specs.ToyOut.{Message, messages_of, close, publication}
 use Rattle.toy_core.specs.declared.note.Note.{Note}
 use Rattle.toy_core.specs.declared.note.Note.TheVariants.{Say, Rest, Stop}
 use Rattle.toy_core.specs.Notes.{publish, note_of, reply_notes, cell_notes, messages_in}
@@ -32,7 +32,7 @@ delivered_said : (ms : List Message) → messages_in (reply_notes ms) ≡ ms
 delivered_said [] = refl
 delivered_said (m ∷ ms) = ap (λ l. m ∷ l) (published_said ms)
 
-pub cell_said : (code : List ℕ) (count : ℕ) (es : List Effect) → messages_in (cell_notes code count es) ≡ published code count es
+pub cell_said : (code : List ℕ) (count : ℕ) (es : List Effect) → messages_in (cell_notes code count es) ≡ publication code count es
 cell_said code count es =
     let rest = both (map (note_of count) es) (reply_notes (close count es))
     ∙ ap (λ l. l ++ messages_in (reply_notes (close count es))) (effects_said count es)

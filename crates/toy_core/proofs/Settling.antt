@@ -16,7 +16,7 @@ use Rattle.toy_core.specs.Outboxes.{rest_due}
 use Rattle.toy_core.specs.Standing.{either, end_by, unless_ended, settled_agenda, has_ended}
 use Rattle.toy_core.specs.Toy.{lane, coming, due_on, due_at}
 use Rattle.toy_core.specs.Dues.{Sends, SendsAll, Keeps, IsSettled, IsAsDue, StaysDue}
-use Rattle.toy_core.proofs.Reaching.{reached_front}
+use Rattle.toy_core.proofs.Reaching.{reached_front, reached_then}
 use Rattle.toy_core.proofs.Keeping.{left_front}
 
 -- ---- acts
@@ -54,10 +54,6 @@ neither (Some status) b e = absurd (cc)
 pub settled_is : (now : ℕ) (a : Agenda) → IsSettled now (settled_agenda now a)
 settled_is now a = record { nothing = nothing_unless now a.since a.acts (end_by now a) (λ e. neither a.end _ e) }
 
-before_pause : (n : ℕ) (b : Bool) (acts : List Act) (over : List Act) → suc n < length (cond b over []) → b ≡ true
-before_pause n true acts over h = refl
-before_pause n false acts over h = absurd (omega (arith, h))
-
 -- before the last act that has happened the end hasn't come
 pub ending_before : (n now since : ℕ) (acts rest : List Act) → n < length (acts_by now since acts)
     → ending (take n acts ++ rest) ≡ ending rest
@@ -65,7 +61,7 @@ ending_before zero now since acts rest h = refl
 ending_before (suc n) now since [] rest h = absurd (omega (arith, h))
 ending_before (suc n) now since (Send c octets ∷ acts) rest h = ending_before n now since acts rest (omega (arith, h))
 ending_before (suc n) now since (Pause ms ∷ acts) rest h =
-    let over : nat_le (since + ms) now ≡ true = before_pause n (nat_le (since + ms) now) acts (Pause ms ∷ acts_by now (since + ms) acts) h in
+    let over : nat_le (since + ms) now ≡ true = reached_then n (nat_le (since + ms) now) (Pause ms ∷ acts_by now (since + ms) acts) h in
     let k : suc n < length (Pause ms ∷ acts_by now (since + ms) acts) =
     subst (λ (b : Bool). suc n < length (cond b (Pause ms ∷ acts_by now (since + ms) acts) [])) over h in
     ending_before n now (since + ms) acts rest (omega (arith, k))

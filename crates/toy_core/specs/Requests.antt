@@ -1,11 +1,10 @@
 -- Requests as the toy kernel reads them (Jupyter messaging 5.3, "Messages on the shell", "Messages on the control").
-use Rattle.std.specs.Prelude.{ℕ, ◌+◌, Bool, false, cond, List, Option, Some, None, codes, drop, slice_get, position, option_and_then}
+use Rattle.std.specs.Prelude.{ℕ, ◌+◌, cond, List, Option, Some, None, codes, drop, slice_get, position, option_and_then}
 use Rattle.std.specs.Str.{bytes_eq}
-use Rattle.jtext.specs.declared.json.Json.{Json, out-Json}
-use Rattle.jtext.specs.Find.{field}
-use Rattle.jtext.specs.Look.{is_true_layer, string_at}
+use Rattle.jtext.specs.declared.json.Json.{Json}
+use Rattle.jtext.specs.Look.{is_true_at, string_at}
 use Rattle.jmsg.specs.declared.message.Message as message
-use Rattle.jmsg.specs.Decoding.{decoded, dictionary_in}
+use Rattle.jmsg.specs.Decoding.{decode, dictionary_in}
 use Rattle.jmsg.specs.Signed.{delimiter}
 use Rattle.world.specs.declared.chan.Chan.{Chan}
 use Rattle.world.specs.declared.chan.Chan.TheVariants as chan
@@ -20,15 +19,6 @@ header_frame parts = option_and_then (λ i. slice_get (drop (i + 1) parts) 1) (p
 -- the header as it came
 abbrev pub header_tree : List (List ℕ) → Option Json
 header_tree parts = option_and_then dictionary_in (header_frame parts)
-
--- there is a value, and it is `true`
-abbrev pub is_true : Option Json → Bool
-is_true None = false
-is_true (Some t) = is_true_layer (out-Json t)
-
--- the value under the key is `true`
-abbrev pub is_true_at : Json → List ℕ → Bool
-is_true_at content key = is_true (field content key)
 
 -- an execution of code, where there is code
 abbrev pub execution : Option (List ℕ) → Option Asked
@@ -67,4 +57,4 @@ request_with (Some parent) (Some a) = Some (record { parent = parent; asked = a 
 
 -- the request that parts on a channel are, signed under the key
 abbrev pub request_in : List ℕ → Chan → List (List ℕ) → Option Request
-request_in key c parts = request_with (header_tree parts) (asked_by c (decoded key parts))
+request_in key c parts = request_with (header_tree parts) (asked_by c (decode key parts))

@@ -1,27 +1,24 @@
 -- How the toy kernel sends: numbered, dated, signed and framed (Jupyter messaging 5.3, "General message format").
-use Rattle.std.specs.Prelude.{ℕ, ◌+◌, min, ◌-◌, ◌^◌, List, [], ◌∷◌, ◌++◌, Some, codes}
+use Rattle.std.specs.Prelude.{ℕ, List, [], ◌∷◌, ◌++◌, Some, codes}
 use Rattle.std.specs.Fmt.{decimal}
 use Rattle.jtext.specs.declared.json.Json.{Json}
 use Rattle.jtext.specs.declared.json.Json.TheVariants as json
 use Rattle.jtext.specs.Look.{string_at}
 use Rattle.jmsg.specs.declared.header.Header.{Header}
 use Rattle.jmsg.specs.declared.message.Message as message
-use Rattle.jmsg.specs.Encoded.{encoded}
+use Rattle.jmsg.specs.Encoded.{encode}
+use Rattle.world.specs.Rises.{one_more}
 use Rattle.world.specs.declared.chan.Chan.{Chan}
 use Rattle.world.specs.declared.chan.Chan.TheVariants as chan
 use Rattle.zmtp_wire.specs.declared.role.Role.{Role}
 use Rattle.zmtp_wire.specs.declared.role.Role.TheVariants as role
 use Rattle.zmtp_wire.specs.Writing.{message_octets}
-use Rattle.zmtp_peer.specs.Envelope.{enveloped}
+use Rattle.zmtp_peer.specs.Envelope.{with_envelope}
 use Rattle.toy_lang.specs.ToyOut.{Message}
 use Rattle.toy_core.specs.declared.note.Note.{Note}
 use Rattle.toy_core.specs.declared.note.Note.TheVariants.{Say, Rest, Stop}
 use Rattle.toy_core.specs.declared.act.Act.{Act}
 use Rattle.toy_core.specs.declared.act.Act.TheVariants.{Send, Pause, End}
-
--- one more; a count stands still at the last number of its type
-abbrev pub next : ℕ → ℕ
-next n = min (n + 1) (2 ^ 64 - 1)
 
 -- the kind of the kernel's socket on a channel
 abbrev pub role_on : Chan → Role
@@ -65,11 +62,11 @@ topic_frames chan.Heart = []
 
 -- the frames of message number n on a channel, signed under the key
 abbrev pub frames : List ℕ → Chan → Json → ℕ → Message → List (List ℕ)
-frames key c parent n m = topic_frames c ++ encoded key (message_to parent n m)
+frames key c parent n m = topic_frames c ++ encode key (message_to parent n m)
 
 -- a body as it goes out on a channel
 abbrev pub body_octets : Chan → List (List ℕ) → List ℕ
-body_octets c body = message_octets (enveloped (role_on c) body)
+body_octets c body = message_octets (with_envelope (role_on c) body)
 
 -- what is done for a note, where the next message has number n
 abbrev pub act_of : List ℕ → Json → ℕ → Note → Act
@@ -79,7 +76,7 @@ act_of key parent n (Stop status) = End status
 
 -- the number of the next message after a note
 abbrev pub number_after : ℕ → Note → ℕ
-number_after n (Say c m) = next n
+number_after n (Say c m) = one_more n
 number_after n (Rest ms) = n
 number_after n (Stop status) = n
 

@@ -8,6 +8,7 @@ use Rattle.world.specs.declared.chan.Chan.{Chan}
 use Rattle.world.specs.declared.chan.Chan.TheVariants as chan
 use Rattle.world.specs.Calls.{Call, Ticked, Accepted, Took, Gave}
 use Rattle.world.specs.Kernel.{Given, Hands, Waits, Over}
+use Rattle.world.specs.Rises.{one_more}
 use Rattle.zmtp_wire.specs.Frame.{MOST}
 use Rattle.zmtp_wire.specs.Meaning.{messages_in, answer_to}
 use Rattle.zmtp_wire.specs.Writing.{greeting_octets, ready_octets}
@@ -30,7 +31,7 @@ use Rattle.toy_core.specs.Contents.{interrupt_reply, shutdown_reply}
 use Rattle.toy_core.specs.Notes.{cell_notes, info_notes, interrupted_notes, control_notes}
 use Rattle.toy_core.specs.Outboxes.{new_box, post_octets, hand_out, open_box}
 use Rattle.toy_core.specs.Requests.{request_in}
-use Rattle.toy_core.specs.Sending.{next, role_on, topic, body_octets, acts_of, number_after_all}
+use Rattle.toy_core.specs.Sending.{role_on, topic, body_octets, acts_of, number_after_all}
 
 -- ---- connections
 
@@ -199,7 +200,7 @@ abbrev pub with_run : List ℕ → Kernel → Kernel
 with_run code k = record {
   number = k.number;
   variables = variables_after k.variables code;
-  count = next k.count;
+  count = one_more k.count;
   agenda = k.agenda;
 }
 

@@ -33,7 +33,7 @@ pub(crate) fn input(alloc: Global, code: &Text, count: u64) -> Result<Saying, No
 
 /// `execution_count` and its value.
 pub(crate) fn count_pair(alloc: Global, count: u64) -> Result<(Text, Json), NoMemory>
-    ensures { IfOk result (λ p. p ≡ out.counted count) }
+    ensures { IfOk result (λ p. p ≡ out.count_pair count) }
 {
     let digits = format!(in alloc; "{count}")?;
     let number = NumText::of_number(alloc, digits.as_str())?;

@@ -6,7 +6,7 @@ ghost use Rattle.toy_core.specs.Requests as requests;
 use crate::header_tree::header_tree;
 use jmsg::laws::decoded_is_signed;
 use jmsg::{Decoded, Message, decode};
-use jtext::{Json, NoMemory, Text, field, text_at};
+use jtext::{Json, NoMemory, Text, is_true_at, text_at};
 use std::alloc::Global;
 use world::Chan;
 use zmtp_wire::Parts;
@@ -55,7 +55,7 @@ pub(crate) fn request_in(
 
 /// The message that the parts are, signed under the key.
 fn message_in(alloc: Global, key: &Text, parts: &Parts) -> Result<Option<Message>, NoMemory>
-    ensures { IfOk result (λ m. m ≡ decoding.decoded key.now parts.now) }
+    ensures { IfOk result (λ m. m ≡ decoding.decode key.now parts.now) }
 {
     decoded_is_signed();
     let verdict = decode(alloc, key.bytes(), parts)?;
@@ -107,18 +107,8 @@ fn asked_on_control(kind: &str, content: &Json) -> Option<Asked>
     match kind {
         "interrupt_request" => Some(Asked::Interrupt),
         "shutdown_request" => Some(Asked::Shutdown {
-            restart: is_true(content, "restart"),
+            restart: is_true_at(content, "restart"),
         }),
         _ => None,
-    }
-}
-
-/// Whether the value under the key is `true`.
-fn is_true(content: &Json, key: &str) -> bool
-    ensures { result ≡ requests.is_true_at content.now key.now }
-{
-    match field(content, key) {
-        Some(Json::Bool(value)) => *value,
-        _ => false,
     }
 }

@@ -1,8 +1,6 @@
 -- The world of an exercise, and what its one job is asked.
 use Rattle.std.specs.Prelude.{◌≡◌, ◌≤◌, ℕ, true, false, None, List, [], ◌∷◌, codes, length}
-use Rattle.jtext.specs.Indent.{print}
 use Rattle.kernel_talk.specs.Requests.{identifier}
-use Rattle.nb_model.specs.Tree.{notebook_tree}
 use Rattle.nb_text.specs.Generated.{generated_notebook}
 use Rattle.toy_core.specs.declared.toy.Toy.{Toy}
 use Rattle.toy_core.specs.Toy as toy
@@ -11,6 +9,7 @@ use Rattle.world_mem.specs.declared.near.Near.{Near}
 use Rattle.world_mem.specs.declared.script.Script.{Script}
 use Rattle.world_mem.specs.Folder.{Content}
 use Rattle.world_mem.specs.Near.{IsNew}
+use Rattle.nb_text.specs.Notebooks.{text_of}
 
 -- the path of the notebook that is read
 abbrev pub input : List ℕ
@@ -47,7 +46,7 @@ kernel_spec = codes "{\"argv\":[\"toy_kernel\",\"{connection_file}\"],\"display_
 -- the generated notebook of so many cells, and the description of the kernel
 abbrev pub files : ℕ → Content
 files n =
-    (input, print (notebook_tree (generated_notebook n)))
+    (input, text_of (generated_notebook n))
     ∷ (codes "/usr/local/share/jupyter/kernels/toy/kernel.json", kernel_spec) ∷ []
 
 -- no call fails, no connect is refused, and reads give all that is there

@@ -1,17 +1,12 @@
 -- Connection files, as a kernel reads them (jupyter_client, "Connection files").
-use Rattle.std.specs.Prelude.{◌≡◌, ℕ, ◌+◌, ◌-◌, ◌*◌, Bool, cond, ◌&&◌, nat_le, List, [], ◌∷◌, length, Option, Some, None, option_and_then, codes}
-use Rattle.std.specs.Char.{is_ascii_digit}
+use Rattle.std.specs.Prelude.{◌≡◌, ℕ, Bool, cond, ◌&&◌, nat_le, List, length, Option, Some, None, option_and_then, codes}
 use Rattle.std.specs.Str.{bytes_eq}
 use Rattle.jtext.specs.declared.json.Json.{Json}
 use Rattle.jtext.specs.Look.{string_at, number_at, is_whole_text, there_and}
+use Rattle.jtext.specs.Names.{short_number}
 use Rattle.jmsg.specs.Dictionary.{IsDictionary}
 use Rattle.toy_host.specs.declared.connection.Connection.{Connection}
 use Rattle.toy_host.specs.declared.sockets.Ports.{Ports}
-
--- the number that n and the decimal digits after it make; no number where another byte stands
-abbrev pub number_from : ℕ → List ℕ → Option ℕ
-number_from n [] = Some n
-number_from n (c ∷ cs) = cond (is_ascii_digit c) (number_from (n * 10 + (c - 48)) cs) None
 
 -- a port of TCP: not 0, and of 16 bits
 abbrev pub as_port : ℕ → Option ℕ
@@ -19,7 +14,7 @@ as_port n = cond (nat_le 1 n && nat_le n 65535) (Some n) None
 
 -- the port that a number's text spells
 abbrev pub port : List ℕ → Option ℕ
-port text = cond (is_whole_text text && nat_le (length text) 5) (option_and_then as_port (number_from 0 text)) None
+port text = cond (is_whole_text text && nat_le (length text) 5) (option_and_then as_port (short_number text)) None
 
 -- the port under a key
 abbrev pub port_at : Json → List ℕ → Option ℕ

@@ -1,15 +1,13 @@
 //! Connection files (jupyter_client, "Connection files"), as a kernel reads them.
-ghost use Rattle.std.specs.Prelude.{◌≡◌, ◌≤◌, IfOk, IfSome, Some, length};
+ghost use Rattle.std.specs.Prelude.{◌≡◌, ◌≤◌, IfOk, IfSome};
 ghost use Rattle.jtext.specs.declared.json.Json as tree;
 ghost use Rattle.jmsg.specs.Dictionary.{IsDictionary};
 ghost use Rattle.toy_host.specs.Connection as spec;
 
 use crate::Ports;
-use jtext::{Json, JsonFault, NoMemory, Text, field, is_whole_text, read, string_at, text_at};
+use jmsg::dictionary;
+use jtext::{Json, NoMemory, Text, field, is_whole_text, short_number, string_at, text_at};
 use std::alloc::Global;
-
-/// How deep the file may nest.
-const DEEP: u32 = 100;
 
 /// What a kernel needs of a connection file.
 #[derive(Debug, Drop)]
@@ -27,21 +25,9 @@ pub fn connection_in(alloc: Global, bytes: &[u8]) -> Result<Option<Connection>, 
     ensures only { (t : tree.Json) → IsDictionary t bytes.now →
         IfOk result (λ r. r ≡ spec.connection_of t) }
 {
-    match object_in(alloc, bytes)? {
+    match dictionary(alloc, bytes)? {
         Some(t) => connection_of(alloc, &t),
         None => Ok(None),
-    }
-}
-
-/// The object nested at most 100 deep that the bytes spell.
-fn object_in(alloc: Global, bytes: &[u8]) -> Result<Option<Json>, NoMemory>
-    ensures some { IfOk result (λ r. IfSome r (λ t. IsDictionary t bytes.now)) }
-    ensures only { (t : tree.Json) → IsDictionary t bytes.now → IfOk result (λ r. r ≡ Some t) }
-{
-    match read(alloc, bytes, DEEP) {
-        Ok(t) => { if t.is_object() { Ok(Some(t)) } else { Ok(None) } }
-        Err(JsonFault::NoMemory) => Err(NoMemory),
-        Err(_) => Ok(None),
     }
 }
 
@@ -125,10 +111,10 @@ fn port(text: &str) -> Option<u16>
     if !is_whole_text(text.as_bytes()) || 5 < text.len() {
         return None;
     }
-    as_port(number(text.as_bytes())?)
+    as_port(short_number(text.as_bytes())?)
 }
 
-fn as_port(number: u32) -> Option<u16>
+fn as_port(number: u64) -> Option<u16>
     ensures { result ≡ spec.as_port number }
 {
     if 1 <= number && number <= 65_535 {
@@ -136,18 +122,4 @@ fn as_port(number: u32) -> Option<u16>
     } else {
         None
     }
-}
-
-fn number(digits: &[u8]) -> Option<u32>
-    requires { length digits.now ≤ 5 }
-    ensures { result ≡ spec.number_from 0 digits.now }
-{
-    let mut n: u32 = 0;
-    for c in digits {
-        if !c.is_ascii_digit() {
-            return None;
-        }
-        n = n * 10 + (*c - b'0') as u32;
-    }
-    Some(n)
 }

@@ -4,7 +4,7 @@ use Rattle.std.specs.Prelude.{codes}
 use Rattle.std.specs.List.{list_any}
 use Rattle.toy_lang.specs.declared.effect.Effect.{Effect}
 use Rattle.toy_lang.specs.declared.effect.Effect.TheVariants as effect
-use Rattle.toy_lang.specs.ToyOut.{Message, status, input, messages_of, fine_reply, error_reply, close, is_death, published, IsFromBusyToIdle}
+use Rattle.toy_lang.specs.ToyOut.{Message, status, input, messages_of, fine_reply, error_reply, close, is_death, publication, IsFromBusyToIdle}
 
 not_false : true ≡ false → ⊥
 not_false e = cc
@@ -22,7 +22,7 @@ closed_by count (effect.Outcome text ∷ es) e = closed_by count es e
 closed_by count (effect.Sleep ms ∷ es) e = closed_by count es e
 
 pub from_busy_to_idle : (code : List ℕ) (count : ℕ) (es : List Effect) → list_any is_death es ≡ false
-    → IsFromBusyToIdle (published code count es)
+    → IsFromBusyToIdle (publication code count es)
 from_busy_to_idle code count es e =
     let c = closed_by count es e in
     let before : List Message = flat_map (messages_of count) es in

@@ -4,8 +4,9 @@ use Rattle.std.specs.Prelude.{codes, option_and_then}
 use Rattle.std.specs.Str.{bytes_eq}
 use Rattle.std.proofs.lemmas.Bool.{cond-true, cond-false}
 use Rattle.std.proofs.lemmas.Bool.Decides.{nat_tests}
-use Rattle.std.proofs.lemmas.Slice.Eq.{bytes_eq-Decides}
 use Rattle.std.specs.List.{list_all}
+use Rattle.std.proofs.lemmas.Option.{none-some, same_Some}
+use Rattle.jtext.proofs.Equals.{equal_bytes}
 use Rattle.jtext.proofs.Keys.{strip_sound}
 use Rattle.jtext.specs.Names.{is_name}
 use Rattle.toy_lang.specs.declared.verb.Verb.{Verb}
@@ -18,12 +19,6 @@ use Rattle.toy_lang.proofs.LineWords.{word_split, parted, name_unspaced}
 -- what a line with an expression is read as
 abbrev Read : Type 0
 Read = Verb × List ℕ × List ℕ
-
-no_read : (s : Read) → ◌≡◌ {A = Option Read} None (Some s) → ⊥
-no_read s e = cc
-
-same_read : (r s : Read) → ◌≡◌ {A = Option Read} (Some r) (Some s) → r ≡ s
-same_read r s e = cc
 
 -- ---- a row is read
 
@@ -72,9 +67,6 @@ either : (b : Bool) (x y : Option Read) (s : Read) → cond b x y ≡ Some s →
 either true x y s e = inl (refl, e)
 either false x y s e = inr e
 
-equal : (w name : List ℕ) → bytes_eq w name ≡ true → w ≡ name
-equal w name e = (bytes_eq-Decides w name).0 e
-
 -- a command, moved to the word and to the reading that were found
 moved : (v : Verb) (word e head w rest : List ℕ) (s : Read) → w ≡ head → (v, word, e) ≡ s
     → IsCommand v word e head rest → IsCommand s.0 s.1 s.2 w rest
@@ -94,17 +86,17 @@ id_back v head w rest s rule same e = by_split (split_word rest) refl e
 
     by_length : (p : List ℕ × List ℕ) (b : Bool) → split_word rest ≡ Some p → (length p.0 == 0) ≡ b
         → cond b None (Some (v, p.0, p.1)) ≡ Some s → IsCommand s.0 s.1 s.2 w rest
-    by_length p true is l h = absurd (no_read s h)
+    by_length p true is l h = absurd (none-some s h)
     by_length p false is l h =
         let parts = parted rest p is in
         let some : p.0 ≢ [] = λ none. absurd (empty p.0 none l) in
         let P : List ℕ → Type 0 = λ r. IsCommand v p.0 p.1 head r in
-        moved v p.0 p.1 head w rest s same (same_read (v, p.0, p.1) s h)
+        moved v p.0 p.1 head w rest s same (same_Some (v, p.0, p.1) s h)
         (subst P (sym parts.0) (rule p.0 p.1 (record { some = some; unspaced = parts.1 })))
 
     by_split : (r : Option (List ℕ × List ℕ)) → split_word rest ≡ r → option_and_then (identify v) r ≡ Some s
         → IsCommand s.0 s.1 s.2 w rest
-    by_split None is h = absurd (no_read s h)
+    by_split None is h = absurd (none-some s h)
     by_split (Some p) is h = by_length p (length p.0 == 0) is refl h
 
 name_back : (w rest : List ℕ) (s : Read) → w ≡ codes "raise" → lines.with_name rest ≡ Some s
@@ -113,15 +105,15 @@ name_back w rest s same e = by_split (split_word rest) refl e
   where
     by_name : (p : List ℕ × List ℕ) (b : Bool) → split_word rest ≡ Some p → is_name p.0 ≡ b
         → cond b (Some (verb.Raise, p.0, p.1)) None ≡ Some s → IsCommand s.0 s.1 s.2 w rest
-    by_name p false is n h = absurd (no_read s h)
+    by_name p false is n h = absurd (none-some s h)
     by_name p true is n h =
         let P : List ℕ → Type 0 = λ r. IsCommand verb.Raise p.0 p.1 (codes "raise") r in
-        moved verb.Raise p.0 p.1 (codes "raise") w rest s same (same_read (verb.Raise, p.0, p.1) s h)
+        moved verb.Raise p.0 p.1 (codes "raise") w rest s same (same_Some (verb.Raise, p.0, p.1) s h)
         (subst P (sym (parted rest p is).0) (raise p.0 p.1 n))
 
     by_split : (r : Option (List ℕ × List ℕ)) → split_word rest ≡ r → option_and_then raise_of r ≡ Some s
         → IsCommand s.0 s.1 s.2 w rest
-    by_split None is h = absurd (no_read s h)
+    by_split None is h = absurd (none-some s h)
     by_split (Some p) is h = by_name p (is_name p.0) is refl h
 
 -- the commands from one of them on
@@ -142,21 +134,21 @@ from_err w rest = cond (bytes_eq w (codes "err")) (Some (verb.PrintError, [], re
 
 raise_back : (w rest : List ℕ) (s : Read) → from_raise w rest ≡ Some s → IsCommand s.0 s.1 s.2 w rest
 raise_back w rest s e = elim (either (bytes_eq w (codes "raise")) (lines.with_name rest) None s e) [
-  | inl h ↦ name_back w rest s (equal w (codes "raise") h.0) h.1
-  | inr h ↦ absurd (no_read s h)
+  | inl h ↦ name_back w rest s (equal_bytes w (codes "raise") h.0) h.1
+  | inr h ↦ absurd (none-some s h)
 ]
 
 update_back : (w rest : List ℕ) (s : Read) → from_update w rest ≡ Some s → IsCommand s.0 s.1 s.2 w rest
 update_back w rest s e = elim (either (bytes_eq w (codes "update")) (lines.with_id verb.Update rest)
     (from_raise w rest) s e) [
-      | inl h ↦ id_back verb.Update (codes "update") w rest s update (equal w (codes "update") h.0) h.1
+      | inl h ↦ id_back verb.Update (codes "update") w rest s update (equal_bytes w (codes "update") h.0) h.1
       | inr h ↦ raise_back w rest s h
     ]
 
 show_back : (w rest : List ℕ) (s : Read) → from_show w rest ≡ Some s → IsCommand s.0 s.1 s.2 w rest
 show_back w rest s e = elim (either (bytes_eq w (codes "show")) (lines.with_id verb.Show rest) (from_update w rest) s
     e) [
-      | inl h ↦ id_back verb.Show (codes "show") w rest s show (equal w (codes "show") h.0) h.1
+      | inl h ↦ id_back verb.Show (codes "show") w rest s show (equal_bytes w (codes "show") h.0) h.1
       | inr h ↦ update_back w rest s h
     ]
 
@@ -164,8 +156,8 @@ result_back : (w rest : List ℕ) (s : Read) → from_result w rest ≡ Some s �
 result_back w rest s e = elim (either (bytes_eq w (codes "result")) (Some (verb.Conclude, [], rest))
     (from_show w rest) s e) [
       | inl h ↦
-          let same = same_read (verb.Conclude, [], rest) s h.1 in
-          moved verb.Conclude [] rest (codes "result") w rest s (equal w (codes "result") h.0) same (result rest)
+          let same = same_Some (verb.Conclude, [], rest) s h.1 in
+          moved verb.Conclude [] rest (codes "result") w rest s (equal_bytes w (codes "result") h.0) same (result rest)
       | inr h ↦ show_back w rest s h
     ]
 
@@ -173,8 +165,8 @@ err_back : (w rest : List ℕ) (s : Read) → from_err w rest ≡ Some s → IsC
 err_back w rest s e = elim (either (bytes_eq w (codes "err")) (Some (verb.PrintError, [], rest)) (from_result w rest)
     s e) [
       | inl h ↦
-          let same = same_read (verb.PrintError, [], rest) s h.1 in
-          moved verb.PrintError [] rest (codes "err") w rest s (equal w (codes "err") h.0) same (err rest)
+          let same = same_Some (verb.PrintError, [], rest) s h.1 in
+          moved verb.PrintError [] rest (codes "err") w rest s (equal_bytes w (codes "err") h.0) same (err rest)
       | inr h ↦ result_back w rest s h
     ]
 
@@ -182,8 +174,8 @@ command_back : (w rest : List ℕ) (s : Read) → lines.command w rest ≡ Some 
 command_back w rest s e = elim (either (bytes_eq w (codes "print")) (Some (verb.Print, [], rest)) (from_err w rest) s
     e) [
       | inl h ↦
-          let same = same_read (verb.Print, [], rest) s h.1 in
-          moved verb.Print [] rest (codes "print") w rest s (equal w (codes "print") h.0) same (print rest)
+          let same = same_Some (verb.Print, [], rest) s h.1 in
+          moved verb.Print [] rest (codes "print") w rest s (equal_bytes w (codes "print") h.0) same (print rest)
       | inr h ↦ err_back w rest s h
     ]
 
@@ -216,7 +208,7 @@ words_back w rest s e = by_assigned (assignment w rest) refl e
   where
     by_assigned : (r : Option (List ℕ)) → assignment w rest ≡ r → assigned_or_command w rest r ≡ Some s
         → IsStatement s.0 s.1 s.2 (w ++ 32 ∷ rest)
-    by_assigned (Some x) is h = assign_back w rest x s is (same_read (verb.Assign, w, x) s h)
+    by_assigned (Some x) is h = assign_back w rest x s is (same_Some (verb.Assign, w, x) s h)
     by_assigned None is h =
         let c = command_back w rest s h in
         let name = command_name s.0 s.1 s.2 w rest c in
@@ -228,7 +220,7 @@ read_row line s e = by_split (split_word line) refl e
   where
     by_split : (r : Option (List ℕ × List ℕ)) → split_word line ≡ r → option_and_then statement_of_words r ≡ Some s
         → IsStatement s.0 s.1 s.2 line
-    by_split None is h = absurd (no_read s h)
+    by_split None is h = absurd (none-some s h)
     by_split (Some p) is h =
         let P : List ℕ → Type 0 = IsStatement s.0 s.1 s.2 in
         subst P (sym (parted line p is).0) (words_back p.0 p.1 s h)

@@ -3,7 +3,7 @@ use Rattle.std.specs.Prelude.{ℕ, Bool, true, false, List, [], ◌∷◌, ◌++
 use Rattle.std.specs.List.{list_all, position_or_len, before_first, after_first}
 use Rattle.std.specs.Str.{bytes_eq}
 use Rattle.jtext.specs.Readings.{strip_word}
-use Rattle.jtext.specs.Names.{is_name, number_from}
+use Rattle.jtext.specs.Names.{is_name, short_number}
 use Rattle.toy_lang.specs.declared.deed.Deed.{Deed}
 use Rattle.toy_lang.specs.declared.deed.Deed.TheVariants.{Pass, Set, Give}
 use Rattle.toy_lang.specs.declared.effect.Effect.TheVariants as effect
@@ -34,17 +34,13 @@ is_blank_byte c = (c == 32) || (c == 9)
 abbrev pub is_passed : List ℕ → Bool
 is_passed line = begins_with 35 line || list_all is_blank_byte line
 
--- the number of 1 to 9 digits
-abbrev pub milliseconds : List ℕ → Option ℕ
-milliseconds text = if (length text == 0) || nat_lt 9 (length text) then None else number_from 0 text
-
 -- what stands behind `sleep `
 abbrev pub strip_sleep : List ℕ → Option (List ℕ)
 strip_sleep line = strip_word (codes "sleep ") line
 
--- `sleep MS`
+-- `sleep MS`, with 1 to 9 digits
 abbrev pub sleep : List ℕ → Option Deed
-sleep line = option_map (λ ms. Give (effect.Sleep ms)) (option_and_then milliseconds (strip_sleep line))
+sleep line = option_map (λ ms. Give (effect.Sleep ms)) (option_and_then short_number (strip_sleep line))
 
 -- a blank line, a comment, `clear`, `clearwait`, `die` or `sleep MS`
 abbrev pub plain_deed : List ℕ → Option Deed

@@ -21,12 +21,12 @@ abbrev pub status : List ℕ → Message
 status state = (codes "status", json.Obj ((codes "execution_state", json.Str state) ∷ []))
 
 -- `execution_count`
-abbrev pub counted : ℕ → List ℕ × Json
-counted count = (codes "execution_count", json.Num (decimal count))
+abbrev pub count_pair : ℕ → List ℕ × Json
+count_pair count = (codes "execution_count", json.Num (decimal count))
 
 -- `execute_input`: the code and the count
 abbrev pub input : List ℕ → ℕ → Message
-input code count = (codes "execute_input", json.Obj ((codes "code", json.Str code) ∷ counted count ∷ []))
+input code count = (codes "execute_input", json.Obj ((codes "code", json.Str code) ∷ count_pair count ∷ []))
 
 -- `data`: plain text alone
 abbrev pub data_of : List ℕ → List ℕ × Json
@@ -74,7 +74,7 @@ clear later = (codes "clear_output", json.Obj ((codes "wait", json.Bool later) �
 
 -- `execute_result`
 abbrev pub outcome : ℕ → List ℕ → Message
-outcome count text = (codes "execute_result", json.Obj (counted count ∷ data_of text ∷ metadata ∷ []))
+outcome count text = (codes "execute_result", json.Obj (count_pair count ∷ data_of text ∷ metadata ∷ []))
 
 -- `error`
 abbrev pub error : List ℕ → List ℕ → Message
@@ -95,7 +95,7 @@ messages_of count effect.Die = []
 -- `execute_reply` with this status and these further fields
 abbrev pub reply_with : List ℕ → ℕ → List (List ℕ × Json) → Message
 reply_with state count fields =
-    (codes "execute_reply", json.Obj ((codes "status", json.Str state) ∷ counted count ∷ fields))
+    (codes "execute_reply", json.Obj ((codes "status", json.Str state) ∷ count_pair count ∷ fields))
 
 -- the reply of a cell without an error
 abbrev pub fine_reply : ℕ → Message
@@ -129,8 +129,8 @@ is_death (effect.Raise ename evalue) = false
 is_death (effect.Sleep ms) = false
 
 -- what is published for a text with these effects, from busy to idle
-abbrev pub published : List ℕ → ℕ → List Effect → List Message
-published code count es =
+abbrev pub publication : List ℕ → ℕ → List Effect → List Message
+publication code count es =
     status (codes "busy") ∷ input code count ∷ (flat_map (messages_of count) es ++ close count es)
 
 -- it begins with busy and ends with idle
@@ -141,7 +141,7 @@ IsFromBusyToIdle ms =
 -- what is published for the text at a place, where the first has this count and the variables are these
 abbrev pub toy_out_from : Variables → ℕ → List (List ℕ) → ℕ → List Message
 toy_out_from vars count [] k = []
-toy_out_from vars count (t ∷ ts) zero = published t count (effects vars t)
+toy_out_from vars count (t ∷ ts) zero = publication t count (effects vars t)
 toy_out_from vars count (t ∷ ts) (suc k) =
     if list_any is_death (effects vars t) then [] else toy_out_from (variables_after vars t) (count + 1) ts k
 

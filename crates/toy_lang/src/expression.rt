@@ -1,12 +1,11 @@
 //! Expressions: literals, and the names of variables.
-ghost use Rattle.std.specs.Prelude.{◌≡◌, IfOk, length};
-ghost use Rattle.std.specs.List.{list_all};
+ghost use Rattle.std.specs.Prelude.{◌≡◌, IfOk};
 ghost use Rattle.jtext.specs.Names as names;
 ghost use Rattle.toy_lang.specs.Expressions as spec;
 
 use crate::State;
 use crate::literal::literal_text;
-use jtext::{NoMemory, NumFault, NumText, Text};
+use jtext::{NoMemory, NumFault, NumText, Text, is_name};
 use std::alloc::Global;
 
 /// What an expression comes to: a text, no value since no variable has that name, or nothing since
@@ -84,29 +83,4 @@ pub(crate) fn begins_with(text: &[u8], c: u8) -> bool
     ensures { result ≡ spec.begins_with c text.now }
 {
     0 < text.len() && text[0] == c
-}
-
-/// Whether the text is a name: a letter of ASCII or `_`, then such letters, digits and `_`.
-pub(crate) fn is_name(text: &[u8]) -> bool
-    ensures { result ≡ names.is_name text.now }
-{
-    0 < text.len() && is_letter(text[0]) && all_name_bytes(text)
-}
-
-fn is_letter(c: u8) -> bool
-    ensures { result ≡ names.is_letter c }
-{
-    matches!(c, b'a'..=b'z' | b'A'..=b'Z' | b'_')
-}
-
-fn is_name_byte(c: u8) -> bool
-    ensures { result ≡ names.is_name_byte c }
-{
-    is_letter(c) || c.is_ascii_digit()
-}
-
-fn all_name_bytes(text: &[u8]) -> bool
-    ensures { result ≡ list_all names.is_name_byte text.now }
-{
-    text.iter().all(|c| is_name_byte(*c))
 }

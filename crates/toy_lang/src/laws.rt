@@ -9,7 +9,7 @@ ghost use Rattle.toy_lang.specs.Literals.{literal_text};
 ghost use Rattle.toy_lang.specs.Runs.{effects, is_last};
 ghost use Rattle.toy_lang.specs.Spellings.{IsLiteral};
 ghost use Rattle.toy_lang.specs.Table.{IsStatement};
-ghost use Rattle.toy_lang.specs.ToyOut.{is_death, published, IsFromBusyToIdle};
+ghost use Rattle.toy_lang.specs.ToyOut.{is_death, publication, IsFromBusyToIdle};
 ghost use Rattle.toy_lang.specs.Variables.{Variables};
 ghost use Rattle.toy_lang.specs.declared.effect.Effect.{Effect};
 ghost use Rattle.toy_lang.specs.declared.verb.Verb.{Verb};
@@ -41,5 +41,5 @@ pub fn numbers_are_those_of_json()
 /// What is published for a text that doesn't end the kernel begins with busy and ends with idle.
 pub fn a_text_is_published_from_busy_to_idle()
     ensures { (code : List ℕ) (count : ℕ) (es : List Effect) →
-        list_any is_death es ≡ false → IsFromBusyToIdle (published code count es) }
+        list_any is_death es ≡ false → IsFromBusyToIdle (publication code count es) }
 {}

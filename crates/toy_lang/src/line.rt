@@ -1,8 +1,6 @@
 //! What a line of the toy language does.
-ghost use Rattle.std.specs.Prelude.{◌≡◌, ◌≤◌, [], ◌∷◌, ◌++◌};
-ghost use Rattle.std.specs.Prelude.{length, option_map, IfOk};
+ghost use Rattle.std.specs.Prelude.{◌≡◌, [], ◌∷◌, ◌++◌, option_map, IfOk};
 ghost use Rattle.std.specs.List.{list_all};
-ghost use Rattle.jtext.specs.Names as names;
 ghost use Rattle.toy_lang.specs.Lines as spec;
 
 use crate::deed::Deed;
@@ -10,7 +8,7 @@ use crate::expression::{Value, begins_with, evaluate};
 use crate::statement::statement;
 use crate::verb::Verb;
 use crate::{Effect, State};
-use jtext::{NoMemory, Text};
+use jtext::{NoMemory, Text, short_number};
 use std::alloc::Global;
 
 /// What the line does where the variables are these.
@@ -57,7 +55,7 @@ fn is_blank(line: &[u8]) -> bool
 fn sleep(line: &str) -> Option<Deed>
     ensures { result ≡ spec.sleep line.now }
 {
-    let ms = milliseconds(strip_sleep(line)?.as_bytes())?;
+    let ms = short_number(strip_sleep(line)?.as_bytes())?;
     Some(Deed::Give(Effect::Sleep { ms }))
 }
 
@@ -65,31 +63,6 @@ fn strip_sleep(line: &str) -> Option<&str>
     ensures { option_map (λ r. r.now) result ≡ spec.strip_sleep line.now }
 {
     line.strip_prefix("sleep ")
-}
-
-/// The number of 1 to 9 digits.
-fn milliseconds(text: &[u8]) -> Option<u64>
-    ensures { result ≡ spec.milliseconds text.now }
-{
-    if text.is_empty() || 9 < text.len() {
-        None
-    } else {
-        number(text)
-    }
-}
-
-fn number(text: &[u8]) -> Option<u64>
-    requires { length text.now ≤ 9 }
-    ensures { result ≡ names.number_from 0 text.now }
-{
-    let mut n: u64 = 0;
-    for c in text {
-        if !c.is_ascii_digit() {
-            return None;
-        }
-        n = n * 10 + (*c - b'0') as u64;
-    }
-    Some(n)
 }
 
 /// What a line with an expression does.

@@ -3,8 +3,8 @@ ghost use Rattle.std.specs.Prelude.{◌≡◌, [], option_map};
 ghost use Rattle.jtext.specs.Readings as readings;
 ghost use Rattle.toy_lang.specs.Lines as spec;
 
-use crate::expression::is_name;
 use crate::verb::Verb;
+use jtext::is_name;
 
 /// What the line does with the value of its expression, the name or the display id that stands in
 /// it, and the expression, which is the rest of the line.

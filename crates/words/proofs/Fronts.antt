@@ -1,20 +1,14 @@
 -- A text is another one with an ending where it begins with that one, and the ending is what is left.
-use Rattle.std.proofs.Common.{◌≡◌, ℕ, Bool, true, false, ◌&&◌, nat_eq, List, [], ◌∷◌, ◌++◌, length, drop, refl, ap, ◌∙◌, arith}
+use Rattle.std.proofs.lemmas.Cmp.{nat_eq_equiv}
+use Rattle.std.proofs.Common.{◌≡◌, ℕ, Bool, true, false, ◌&&◌, nat_eq, List, [], ◌∷◌, ◌++◌, length, drop, refl, sym, ap, ◌∙◌, arith}
 use Rattle.std.specs.Str.{bytes_eq}
 use Rattle.std.specs.List.{starts_with}
-use Rattle.std.proofs.lemmas.Bool.Decides.{nat_tests}
-
-flipped : (m n : ℕ) → nat_eq m n ≡ nat_eq n m
-flipped m n = grind (arith, nat_tests)
-
-grouped : (a s t : Bool) → (a && (s && t)) ≡ ((a && s) && t)
-grouped true s t = refl
-grouped false s t = refl
+use Rattle.std.proofs.Math.Bool.{and_assoc}
 
 pub beside : (output path ending : List ℕ) → bytes_eq path (output ++ ending) ≡ (starts_with nat_eq path output && bytes_eq (drop (length output) path) ending)
 beside [] path ending = refl
 beside (o ∷ os) [] ending = refl
 beside (o ∷ os) (c ∷ cs) ending =
-    ap (λ b. b && bytes_eq cs (os ++ ending)) (flipped c o)
+    ap (λ b. b && bytes_eq cs (os ++ ending)) (nat_eq_equiv.symm c o)
     ∙ ap (λ b. nat_eq o c && b) (beside os cs ending)
-    ∙ grouped (nat_eq o c) (starts_with nat_eq cs os) (bytes_eq (drop (length os) cs) ending)
+    ∙ sym (and_assoc (nat_eq o c) (starts_with nat_eq cs os) (bytes_eq (drop (length os) cs) ending))

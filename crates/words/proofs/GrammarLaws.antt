@@ -1,6 +1,6 @@
 -- Words are refused exactly where they are outside the grammar.
 use Rattle.std.proofs.Common.{◌≡◌, ◌≤◌, ℕ, ◌==◌, Bool, true, false, cond, not, ◌&&◌, List, [], ◌∷◌, ◌++◌, Option, Some, None, refl, sym, ap, ◌∙◌, arith}
-use Rattle.std.proofs.lemmas.Bool.{and_parts, and_from, false≢true, not_from_false, not-true, not-false}
+use Rattle.std.proofs.lemmas.Bool.{and_parts, and_from, false≢true, not_from_false, not-true, not-false, eqb-true}
 use Rattle.std.specs.Prelude.{is_some, is_none, find, option_map}
 use Rattle.std.specs.List.{list_any, list_all}
 use Rattle.std.proofs.lemmas.Bool.Decides.{nat_tests}
@@ -150,9 +150,6 @@ all_pass test (p ∷ ps) e =
 two : (n : ℕ) → n ≤ 2 → (n ≤ 1 → ⊥) → (n == 2) ≡ true
 two n le more = grind (arith, nat_tests)
 
-is_two : (n : ℕ) → (n == 2) ≡ true → n ≡ 2
-is_two n e = grind (arith, nat_tests)
-
 pair_sound : (words : List (List ℕ)) (ps : List Part) (second : Option ℕ) → path 1 ps ≡ second → path 2 ps ≡ None → second_path_fault words ps second ≡ None → fits_form One words ps ≡ true
 pair_sound words ps None is none e = absurd (no_some usage.Missing e)
 pair_sound words ps (Some i) is none e =
@@ -173,7 +170,7 @@ form_sound Exercise words ps none whole = none_fails (λ p. is_choice choice.Exe
 form_faultless : (form : Form) (words : List (List ℕ)) (ps : List Part) → fits_form form words ps ≡ true → (extra form ps ≡ None) × (missing form words ps ≡ None)
 form_faultless One words ps fit =
     let parts = and_parts (paths_in ps == 2) (are_apart (path_text 0 words ps) (path_text 1 words ps)) fit in
-    let count = is_two (paths_in ps) parts.0 in
+    let count = eqb-true (paths_in ps) 2 parts.0 in
     (none_path 2 ps (omega arith), pair_faultless words ps (path 1 ps) refl count parts.1)
 form_faultless Batch words ps fit = (all_pass (λ p. is_of_batch_kind p.kind) ps fit, refl)
 form_faultless Exercise words ps fit = (all_pass (λ p. is_choice choice.Exercise p.kind) ps fit, refl)

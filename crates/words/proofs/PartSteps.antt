@@ -1,24 +1,18 @@
 -- One word of a command line on.
 use Rattle.std.proofs.Common.{◌≡◌, ◌<◌, ◌≤◌, ℕ, ◌+◌, ◌-◌, Bool, true, false, nat_lt, cond, List, [], ◌∷◌, ◌++◌, sym, ap, ◌∙◌, append_assoc, arith}
-use Rattle.std.proofs.lemmas.Bool.Decides.{nat_tests}
+use Rattle.std.proofs.lemmas.Bool.{lt-ltb, le-ltb}
 use Rattle.words.specs.declared.part.Part.{Part}
 use Rattle.words.specs.Options.{arity}
 use Rattle.words.specs.Parts.{parts_from, part_at, kind_of, ends, takes_of}
 
-above : (v : ℕ) → 0 < v → nat_lt 0 v ≡ true
-above v lt = grind (arith, nat_tests)
-
-none_left : (v : ℕ) → v ≤ 0 → nat_lt 0 v ≡ false
-none_left v le = grind (arith, nat_tests)
-
 -- a word that is a value is passed
 pub value_step : (ended : Bool) (v i : ℕ) (w : List ℕ) (ws : List (List ℕ)) → 0 < v → parts_from ended v i (w ∷ ws) ≡ parts_from ended (v - 1) (i + 1) ws
-value_step ended v i w ws lt = ap (λ b. cond b (parts_from ended (v - 1) (i + 1) ws) (part_at i (kind_of ended w) ∷ parts_from (ends ended (kind_of ended w)) (arity (takes_of (kind_of ended w))) (i + 1) ws)) (above v lt)
+value_step ended v i w ws lt = ap (λ b. cond b (parts_from ended (v - 1) (i + 1) ws) (part_at i (kind_of ended w) ∷ parts_from (ends ended (kind_of ended w)) (arity (takes_of (kind_of ended w))) (i + 1) ws)) (lt-ltb 0 v lt)
 
 -- any other word is a part
 pub part_step : (ended : Bool) (v i : ℕ) (w : List ℕ) (ws : List (List ℕ)) → v ≤ 0
     → parts_from ended v i (w ∷ ws) ≡ part_at i (kind_of ended w) ∷ parts_from (ends ended (kind_of ended w)) (arity (takes_of (kind_of ended w))) (i + 1) ws
-part_step ended v i w ws le = ap (λ b. cond b (parts_from ended (v - 1) (i + 1) ws) (part_at i (kind_of ended w) ∷ parts_from (ends ended (kind_of ended w)) (arity (takes_of (kind_of ended w))) (i + 1) ws)) (none_left v le)
+part_step ended v i w ws le = ap (λ b. cond b (parts_from ended (v - 1) (i + 1) ws) (part_at i (kind_of ended w) ∷ parts_from (ends ended (kind_of ended w)) (arity (takes_of (kind_of ended w))) (i + 1) ws)) (le-ltb 0 v le)
 
 -- the whole stays the same where a value is passed
 pub passed : (parts parts' : List Part) (ended ended' : Bool) (v v' i : ℕ) (w : List ℕ) (ws rest : List (List ℕ)) (all : List Part) → 0 < v

@@ -6,6 +6,7 @@ use Rattle.std.specs.List.{AllByRecursion, list_all}
 use Rattle.std.specs.Str.{bytes_eq}
 use Rattle.std.specs.Cmp.Lexicographic.{pointwise}
 use Rattle.std.proofs.lemmas.Slice.Eq.{bytes_eq-Decides}
+use Rattle.words.proofs.RunnableWords.{IsPlain, AreParameters}
 use Rattle.jtext.specs.declared.json.Json.{Json, out-Json}
 use Rattle.jtext.specs.declared.json.Json.TheOpen.{Json-F}
 use Rattle.jtext.specs.declared.json.Json.TheVariants as json
@@ -19,9 +20,10 @@ use Rattle.jtext.proofs.Trees.{open_Null, open_Bool, open_Num, open_Str, open_Ar
 use Rattle.jtext.proofs.SpelledKeyed.{spelled_keyed}
 use Rattle.jtext.proofs.Depths.{depth-Arr, depth-Obj, highest-all, pairs-all}
 use Rattle.jtext.specs.Names.{is_name}
+use Rattle.jtext.specs.Within.{IsTextWithin}
 use Rattle.words.specs.declared.ask.Ask.{Ask}
 use Rattle.words.specs.Members.{member_of, are_parameters}
-use Rattle.words.specs.JobsFile.{member_takes, is_member, is_job, are_jobs, jobs_of, IsJobsFile, IsTextOf}
+use Rattle.words.specs.JobsFile.{member_takes, is_member, is_job, are_jobs, jobs_of, IsJobsFile}
 use Rattle.words.specs.JobsAsked.{ask_of_job, asks_of}
 use Rattle.words.specs.Runnable.{IsParameter, IsRunnable}
 
@@ -36,22 +38,19 @@ all_values _ keyed.no_pairs = tt
 all_values _ (keyed.pair key value ps k all) = (k, all_values ps all)
 
 -- a tree without a key twice, nested at most 100 deep
-abbrev IsFine : Json → Type 0
-IsFine t = Keyed t × (depth t ≤ 100)
-
 within : (m n : ℕ) → n ≡ 1 + m → n ≤ 100 → m ≤ 100
 within m n e le = omega arith
 
-joined : (ps : List (List ℕ × Json)) → AllByRecursion (λ p. Keyed p.1) ps → AllByRecursion (λ p. depth p.1 ≤ 100) ps → AllByRecursion (λ p. IsFine p.1) ps
+joined : (ps : List (List ℕ × Json)) → AllByRecursion (λ p. Keyed p.1) ps → AllByRecursion (λ p. depth p.1 ≤ 100) ps → AllByRecursion (λ p. IsPlain p.1) ps
 joined [] k d = tt
 joined (p ∷ ps) k d = ((k.0, d.0), joined ps k.1 d.1)
 
-joined_items : (xs : List Json) → AllByRecursion Keyed xs → AllByRecursion (λ x. depth x ≤ 100) xs → AllByRecursion IsFine xs
+joined_items : (xs : List Json) → AllByRecursion Keyed xs → AllByRecursion (λ x. depth x ≤ 100) xs → AllByRecursion IsPlain xs
 joined_items [] k d = tt
 joined_items (x ∷ xs) k d = ((k.0, d.0), joined_items xs k.1 d.1)
 
 abbrev FineFields : List (List ℕ × Json) → Type 0
-FineFields ps = AllByRecursion (λ p. IsFine p.1) ps × Distinct ps
+FineFields ps = AllByRecursion (λ p. IsPlain p.1) ps × Distinct ps
 
 no_fields : (t : Json) (u : Json-F Json) → out-Json t ≡ u → fields_of u ≡ [] → FineFields (fields t)
 no_fields t u o e = subst FineFields (sym (ap fields_of o ∙ e)) (tt, tt)
@@ -66,17 +65,17 @@ fine_fields _ (keyed.object ps all d) le =
     let deep = pairs-all 100 ps (within (highest_of_pairs (map (λ p. (p.0, depth p.1)) ps)) (depth (json.Obj ps)) (depth-Obj ps) le) in
     subst FineFields (sym (ap fields_of (open_Obj ps))) (joined ps (all_values ps all) deep, d)
 
-no_items : (t : Json) (u : Json-F Json) → out-Json t ≡ u → items_layer u ≡ [] → AllByRecursion IsFine (items t)
-no_items t u o e = subst (AllByRecursion IsFine) (sym (ap items_layer o ∙ e)) tt
+no_items : (t : Json) (u : Json-F Json) → out-Json t ≡ u → items_layer u ≡ [] → AllByRecursion IsPlain (items t)
+no_items t u o e = subst (AllByRecursion IsPlain) (sym (ap items_layer o ∙ e)) tt
 
-fine_items : (t : Json) → Keyed t → depth t ≤ 100 → AllByRecursion IsFine (items t)
+fine_items : (t : Json) → Keyed t → depth t ≤ 100 → AllByRecursion IsPlain (items t)
 fine_items _ keyed.null le = no_items json.Null Json-F.Null open_Null refl
 fine_items _ (keyed.boolean b) le = no_items (json.Bool b) (Json-F.Bool b) (open_Bool b) refl
 fine_items _ (keyed.number s) le = no_items (json.Num s) (Json-F.Num s) (open_Num s) refl
 fine_items _ (keyed.text s) le = no_items (json.Str s) (Json-F.Str s) (open_Str s) refl
 fine_items _ (keyed.array xs all) le =
     let deep = highest-all 100 xs (within (highest (map depth xs)) (depth (json.Arr xs)) (depth-Arr xs) le) in
-    subst (AllByRecursion IsFine) (sym (ap items_layer (open_Arr xs))) (joined_items xs (all_items xs all) deep)
+    subst (AllByRecursion IsPlain) (sym (ap items_layer (open_Arr xs))) (joined_items xs (all_items xs all) deep)
 fine_items _ (keyed.object ps all d) le = no_items (json.Obj ps) (Json-F.Obj ps) (open_Obj ps) refl
 
 -- what holds of and_parts value holds of the one under a key
@@ -90,12 +89,12 @@ found P key (p ∷ ps) all = by_test (pointwise nat_eq p.0 key) (find key ps) al
 
 -- ---- the jobs
 
-items_of_fine : (o : Option Json) → IfSome o IsFine → AllByRecursion IsFine (items_of o)
+items_of_fine : (o : Option Json) → IfSome o IsPlain → AllByRecursion IsPlain (items_of o)
 items_of_fine None h = tt
 items_of_fine (Some v) h = fine_items v h.0 h.1
 
-jobs_fine : (t : Json) → IsFine t → AllByRecursion IsFine (jobs_of t)
-jobs_fine t fine = items_of_fine (field t (codes "jobs")) (found IsFine (codes "jobs") (fields t) (fine_fields t fine.0 fine.1).0)
+jobs_fine : (t : Json) → IsPlain t → AllByRecursion IsPlain (jobs_of t)
+jobs_fine t fine = items_of_fine (field t (codes "jobs")) (found IsPlain (codes "jobs") (fields t) (fine_fields t fine.0 fine.1).0)
 
 jobs_are : (o : Option Json) → there_and are_jobs o ≡ true → list_all is_job (items_of o) ≡ true
 jobs_are None e = refl
@@ -116,36 +115,33 @@ found_parameters (p ∷ ps) all =
     by_test true rest here there = here refl
     by_test false rest here there = there
 
-named : (ps : List (List ℕ × Json)) → list_all (λ p. is_name p.0) ps ≡ true → AllByRecursion (λ p. IsFine p.1) ps → AllByRecursion IsParameter ps
+named : (ps : List (List ℕ × Json)) → list_all (λ p. is_name p.0) ps ≡ true → AllByRecursion (λ p. IsPlain p.1) ps → AllByRecursion IsParameter ps
 named [] all fine = tt
 named (p ∷ ps) all fine =
     let parts = and_parts (is_name p.0) (list_all (λ q. is_name q.0) ps) all in
     (record { name = parts.0; keyed = fine.0.0; nests = fine.0.1 }, named ps parts.1 fine.1)
 
-abbrev AreParameters : List (List ℕ × Json) → Type 0
-AreParameters ps = Distinct ps × AllByRecursion IsParameter ps
-
-params_are : (common : List (List ℕ × Json)) (o : Option Json) → AreParameters common → IfSome o IsFine → IfSome o (λ v. are_parameters v ≡ true) → AreParameters (unwrap_or (option_map fields o) common)
+params_are : (common : List (List ℕ × Json)) (o : Option Json) → AreParameters common → IfSome o IsPlain → IfSome o (λ v. are_parameters v ≡ true) → AreParameters (unwrap_or (option_map fields o) common)
 params_are common None are fine is = are
 params_are common (Some v) are fine is =
     let inside = fine_fields v fine.0 fine.1 in
     (inside.1, named (fields v) (and_parts (is_object v) (list_all (λ p. is_name p.0) (fields v)) is).1 inside.0)
 
-job_runnable : (common : Ask) (job : Json) → IsRunnable common → IsFine job → is_job job ≡ true → IsRunnable (ask_of_job common job)
+job_runnable : (common : Ask) (job : Json) → IsRunnable common → IsPlain job → is_job job ≡ true → IsRunnable (ask_of_job common job)
 job_runnable common job run fine is =
     let members = (and_parts _ (list_all is_member (fields job)) is).1 in
     let inside = fine_fields job fine.0 fine.1 in
-    let are = params_are common.params (field job (codes "parameters")) (run.distinct, run.parameters) (found IsFine (codes "parameters") (fields job) inside.0) (found_parameters (fields job) members) in
+    let are = params_are common.params (field job (codes "parameters")) (run.distinct, run.parameters) (found IsPlain (codes "parameters") (fields job) inside.0) (found_parameters (fields job) members) in
     record { distinct = are.0; parameters = are.1; start = run.start; limit = run.limit }
 
-all_runnable : (common : Ask) (jobs : List Json) → IsRunnable common → AllByRecursion IsFine jobs → list_all is_job jobs ≡ true → AllByRecursion IsRunnable (map (ask_of_job common) jobs)
+all_runnable : (common : Ask) (jobs : List Json) → IsRunnable common → AllByRecursion IsPlain jobs → list_all is_job jobs ≡ true → AllByRecursion IsRunnable (map (ask_of_job common) jobs)
 all_runnable common [] run fine is = tt
 all_runnable common (job ∷ jobs) run fine is =
     let parts = and_parts (is_job job) (list_all is_job jobs) is in
     (job_runnable common job run fine.0 parts.0, all_runnable common jobs run fine.1 parts.1)
 
-pub asks_runnable : (file bytes : List ℕ) (common : Ask) (t : Json) → IsTextOf bytes t → IsJobsFile file t → IsRunnable common → AllByRecursion IsRunnable (asks_of common t)
+pub asks_runnable : (file bytes : List ℕ) (common : Ask) (t : Json) → IsTextWithin 1048576 100 bytes t → IsJobsFile file t → IsRunnable common → AllByRecursion IsRunnable (asks_of common t)
 asks_runnable file bytes common t text valid run =
-    let fine : IsFine t = (spelled_keyed t text.spells.value text.spells.is_value, text.within) in
+    let fine : IsPlain t = (spelled_keyed t text.spells.value text.spells.is_value, text.within) in
     let shape = and_parts _ (there_and are_jobs (field t (codes "jobs"))) valid.shape in
     all_runnable common (jobs_of t) run (jobs_fine t fine) (jobs_are (field t (codes "jobs")) shape.1)

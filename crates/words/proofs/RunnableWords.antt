@@ -28,8 +28,8 @@ use Rattle.words.specs.Grammar.{fits, is_well_formed}
 use Rattle.words.specs.Values.{value_of}
 use Rattle.words.specs.Parameters.{with_parameter, parameters_from}
 use Rattle.jtext.specs.Edit.{set_pair}
-use Rattle.jtext.specs.Names.{number_from, is_name, is_number}
-use Rattle.words.specs.Asked.{option_value, milliseconds, ask_of, command_in, asked}
+use Rattle.jtext.specs.Names.{is_name, is_number, short_number}
+use Rattle.words.specs.Asked.{option_value, milliseconds, ask_of, command_in, command_of_words}
 use Rattle.words.specs.Refusals.{refusal}
 use Rattle.words.specs.Runnable.{IsParameter, IsRunnable, IsRunnableCommand}
 use Rattle.words.proofs.PairLemmas.{all-set_pair, distinct-set_pair}
@@ -37,7 +37,8 @@ use Rattle.words.proofs.GrammarLaws.{only_commands}
 
 -- ---- values
 
-abbrev IsPlain : Json → Type 0
+-- no key stands twice in it, and it nests at most 100 deep
+abbrev pub IsPlain : Json → Type 0
 IsPlain v = Keyed v × (depth v ≤ 100)
 
 flat : (n : ℕ) → n ≡ 0 → n ≤ 100
@@ -95,7 +96,8 @@ named words p well takes =
     let valued = and_parts (has_values words p) (fits (takes_of p.kind) (word p.first words)) known.1 in
     sym (ap (λ t. fits t (word p.first words)) takes) ∙ valued.1
 
-abbrev AreParameters : List (List ℕ × Json) → Type 0
+-- parameters, each name once
+abbrev pub AreParameters : List (List ℕ × Json) → Type 0
 AreParameters fields = Distinct fields × AllByRecursion IsParameter fields
 
 put_parameter : (name : List ℕ) (v : Json) (fields : List (List ℕ × Json)) → is_name name ≡ true → IsPlain v → AreParameters fields → AreParameters (set_pair name v fields)
@@ -131,14 +133,14 @@ in_range least most None = tt
 in_range least most (Some n) = between least most n (nat_le least n && nat_le n most) refl
 
 seconds_range : (text : List ℕ) → IfSome (seconds text) (λ n. (1 ≤ n) × (n ≤ 999999999))
-seconds_range text = skipped _ _ (in_range 1 999999999 (number_from 0 text))
+seconds_range text = skipped _ _ (in_range 1 999999999 (short_number text))
   where
     skipped : (b : Bool) (o : Option ℕ) → IfSome o (λ n. (1 ≤ n) × (n ≤ 999999999)) → IfSome (cond b None o) (λ n. (1 ≤ n) × (n ≤ 999999999))
     skipped true o h = tt
     skipped false o h = h
 
 count_range : (text : List ℕ) → IfSome (count text) (λ n. (0 ≤ n) × (n ≤ 200))
-count_range text = skipped _ _ (in_range 0 200 (number_from 0 text))
+count_range text = skipped _ _ (in_range 0 200 (short_number text))
   where
     skipped : (b : Bool) (o : Option ℕ) → IfSome o (λ n. (0 ≤ n) × (n ≤ 200)) → IfSome (cond b None o) (λ n. (0 ≤ n) × (n ≤ 200))
     skipped true o h = tt
@@ -181,5 +183,5 @@ command_runnable One words ps well = ask_runnable _ _ words ps well
 command_runnable Batch words ps well = ask_runnable [] [] words ps well
 command_runnable Exercise words ps well = at_most_200 (option_value choice.Exercise words ps)
 
-pub words_runnable : (words : List (List ℕ)) (c : Command) → c ≡ asked words → refusal words ≡ None → IsRunnableCommand c
+pub words_runnable : (words : List (List ℕ)) (c : Command) → c ≡ command_of_words words → refusal words ≡ None → IsRunnableCommand c
 words_runnable words c is none = subst IsRunnableCommand (sym is) (command_runnable (form_of (parts_of words)) words (parts_of words) (only_commands words none).well_formed)

@@ -82,5 +82,5 @@ abbrev pub command_of : List (List ℕ) → List Part → Command
 command_of words parts = command_in (form_of parts) words parts
 
 -- what the words ask for, where they are not refused
-abbrev pub asked : List (List ℕ) → Command
-asked words = command_of words (parts_of words)
+abbrev pub command_of_words : List (List ℕ) → Command
+command_of_words words = command_of words (parts_of words)

@@ -6,6 +6,7 @@ use Rattle.std.specs.Str.{bytes_eq}
 use Rattle.jtext.specs.declared.json.Json.{Json}
 use Rattle.jtext.specs.Find.{field, fields}
 use Rattle.jtext.specs.Look.{is_object, is_list, items}
+use Rattle.jtext.specs.Within.{IsTextWithin, IsNoTextWithin}
 use Rattle.words.specs.declared.member.Member.{Member}
 use Rattle.words.specs.declared.place.Place.{Place}
 use Rattle.words.specs.declared.place.Place.TheVariants as place
@@ -14,7 +15,7 @@ use Rattle.words.specs.declared.usage.Usage.TheVariants as usage
 use Rattle.words.specs.declared.used_path.UsedPath.{UsedPath}
 use Rattle.words.specs.Members.{has_key, member_of, takes_value}
 use Rattle.words.specs.Places.{pointer}
-use Rattle.words.specs.JobsFile.{is_count, is_equal, jobs_of, paths_of, IsTextOf, IsNoText}
+use Rattle.words.specs.JobsFile.{is_count, is_equal, jobs_of, paths_of}
 
 -- ---- a value that isn't as it has to be
 
@@ -74,8 +75,8 @@ fault file t = option_or (shape_fault t) (first_equal [] (paths_of file (jobs_of
 -- the pointer that is answered where the bytes are a text of no tree: the empty one; or else that of the fault
 abbrev pub Faulty : List ℕ → List ℕ → List ℕ → Type 0
 Faulty file bytes at =
-    (IsNoText bytes × (at ≡ pointer place.Whole))
-    ⊎ ((t : Json) × IsTextOf bytes t × ((p : Place) × (fault file t ≡ Some p) × (at ≡ pointer p)))
+    (IsNoTextWithin 1048576 100 bytes × (at ≡ pointer place.Whole))
+    ⊎ ((t : Json) × IsTextWithin 1048576 100 bytes t × ((p : Place) × (fault file t ≡ Some p) × (at ≡ pointer p)))
 
 -- a jobs file with these bytes is refused so
 abbrev pub Refused : List ℕ → List ℕ → Usage → Type 0

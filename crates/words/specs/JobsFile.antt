@@ -1,11 +1,9 @@
 -- Which trees are jobs files, whatever is said of the others.
-use Rattle.std.specs.Prelude.{◌≡◌, ◌≤◌, ℕ, ◌+◌, Bool, true, false, List, [], ◌∷◌, ◌++◌, Option, Some, None, ◌&&◌, nat_le, length, codes, unwrap_or}
+use Rattle.std.specs.Prelude.{◌≡◌, ℕ, ◌+◌, Bool, true, false, List, [], ◌∷◌, ◌++◌, Option, Some, None, ◌&&◌, nat_le, length, codes, unwrap_or}
 use Rattle.std.specs.List.{list_all}
 use Rattle.std.specs.Str.{bytes_eq}
 use Rattle.jtext.specs.declared.json.Json.{Json}
 use Rattle.jtext.specs.Find.{field, fields}
-use Rattle.jtext.specs.Grammar.{Spells}
-use Rattle.jtext.specs.Depth.{depth}
 use Rattle.jtext.specs.Look.{is_object, is_list, items, there_and, string_at, items_of}
 use Rattle.words.specs.declared.member.Member.{Member}
 use Rattle.words.specs.declared.member.Member.TheVariants as member
@@ -85,13 +83,3 @@ is_equal p q = bytes_eq p.path q.path
 pub record IsJobsFile (file : List ℕ) (t : Json) : Type 0 where
   pub shape : is_batch t ≡ true
   pub paths_differ : are_distinct is_equal (paths_of file (jobs_of t)) ≡ true
-
--- the bytes are a text of this tree, of at most 1 MiB and nested at most 100 deep
-pub record IsTextOf (bytes : List ℕ) (t : Json) : Type 0 where
-  pub small : length bytes ≤ 1048576
-  pub spells : Spells t bytes
-  pub within : depth t ≤ 100
-
--- the bytes are a text of no tree
-abbrev pub IsNoText : List ℕ → Type 0
-IsNoText bytes = (t : Json) → IsTextOf bytes t → ⊥

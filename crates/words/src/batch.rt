@@ -1,10 +1,11 @@
 //! The jobs file.
-ghost use Rattle.std.specs.Prelude.{◌≡◌, ◌⊎◌, ◌++◌, drop, map, IfOk, IfErr, MatchOption, Some, None};
+ghost use Rattle.std.specs.Prelude.{◌≡◌, ◌⊎◌, ◌++◌, drop, map, IfOk, IfErr, Some, None};
 ghost use Rattle.std.specs.List.{AllByRecursion};
+ghost use Rattle.jtext.specs.Within.{IsTextWithin};
 ghost use Rattle.jtext.specs.declared.json.Json as tree;
 ghost use Rattle.words.specs.JobsAsked.{ask_of_job, asks_of};
 ghost use Rattle.words.specs.JobsFaults.{Refused, fault};
-ghost use Rattle.words.specs.JobsFile.{IsJobsFile, IsNoText, IsTextOf};
+ghost use Rattle.words.specs.JobsFile.{IsJobsFile};
 ghost use Rattle.words.specs.Places.{pointer};
 ghost use Rattle.words.specs.Runnable.{IsRunnable};
 ghost use Rattle.words.specs.declared.usage.Usage.TheVariants as usage;
@@ -14,7 +15,7 @@ use crate::place::Place;
 use crate::shape::{jobs_of, shape_fault};
 use crate::used_path::{first_equal, paths_of};
 use crate::{Ask, Asks, Usage};
-use jtext::{Json, JsonFault, NoMemory, Text, read};
+use jtext::{Json, NoMemory, Text, read_within};
 use std::alloc::Global;
 
 /// The size of the largest jobs file, in bytes.
@@ -28,12 +29,12 @@ const DEEP: u32 = 100;
 /// names the first value that isn't as it has to be, by its JSON pointer (RFC 6901).
 pub fn jobs(alloc: Global, bytes: &[u8], file: &Text, common: &Ask) -> Result<Asks, Usage>
     // What is asked is what a tree asks for that the bytes are a text of, and that is a jobs file.
-    ensures asked { IfOk result (λ asks. (t : tree.Json) × IsTextOf bytes.now t
+    ensures asked { IfOk result (λ asks. (t : tree.Json) × IsTextWithin 1048576 100 bytes.now t
         × IsJobsFile file.now t × (asks ≡ asks_of common.now t)) }
     ensures runnable { IsRunnable common.now → IfOk result (AllByRecursion IsRunnable) }
     ensures refused { IfErr result (λ u. (u ≡ usage.NoMemory) ⊎ Refused file.now bytes.now u) }
 {
-    let Some(tree) = tree_of(alloc, bytes)? else {
+    let Some(tree) = read_within(alloc, bytes, LARGEST, DEEP)? else {
         return Err(refusal(alloc, Place::Whole));
     };
     match fault(alloc, file, &tree)? {
@@ -48,20 +49,6 @@ fn refusal(alloc: Global, place: Place) -> Usage
     match place.pointer(alloc) {
         Ok(pointer) => Usage::BadJobs { pointer },
         Err(_) => Usage::NoMemory,
-    }
-}
-
-/// The tree that the bytes are a text of, if they are a jobs file's.
-fn tree_of(alloc: Global, bytes: &[u8]) -> Result<Option<Json>, NoMemory>
-    ensures { IfOk result (λ o. MatchOption o (IsNoText bytes.now) (IsTextOf bytes.now)) }
-{
-    if LARGEST < bytes.len() {
-        return Ok(None);
-    }
-    match read(alloc, bytes, DEEP) {
-        Ok(tree) => Ok(Some(tree)),
-        Err(JsonFault::NoMemory) => Err(NoMemory),
-        Err(_) => Ok(None),
     }
 }
 

@@ -6,10 +6,11 @@ ghost use Rattle.words.specs.Refusals as spec;
 
 use crate::Usage;
 use crate::form::Form;
-use crate::number::{count, is_name, seconds};
+use crate::number::{count, seconds};
 use crate::part::{Part, word};
 use crate::path::{are_apart, path, path_text};
 use crate::takes::Takes;
+use jtext::is_name;
 
 /// The first word with a fault, from the left; then what goes beyond the form, what is missing, and
 /// equal paths.

@@ -1,7 +1,7 @@
 //! Laws of command lines and of jobs files. The functions do nothing: their contracts are the laws.
 ghost use Rattle.std.specs.Prelude.{◌≡◌, ℕ, List as Plain, None, true};
 ghost use Rattle.jtext.specs.declared.json.Json as tree;
-ghost use Rattle.words.specs.Asked.{asked};
+ghost use Rattle.words.specs.Asked.{command_of_words};
 ghost use Rattle.words.specs.Grammar.{IsCommand};
 ghost use Rattle.words.specs.JobsFaults.{fault};
 ghost use Rattle.words.specs.JobsFile.{IsJobsFile};
@@ -25,5 +25,6 @@ pub fn faulty_where_no_jobs_file()
 /// The input of the job that a command line asks for is none of the files that the job writes.
 pub fn inputs_are_apart()
     ensures { (words : Plain (Plain ℕ)) (a : asks.Ask) →
-        refusal words ≡ None → asked words ≡ command.One a → are_apart a.input a.output ≡ true }
+        refusal words ≡ None → command_of_words words ≡ command.One a
+        → are_apart a.input a.output ≡ true }
 {}

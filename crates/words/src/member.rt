@@ -4,8 +4,7 @@ ghost use Rattle.std.specs.List.{list_all};
 ghost use Rattle.jtext.specs.Names.{is_name};
 ghost use Rattle.words.specs.Members as spec;
 
-use crate::number::is_name;
-use jtext::{Json, Text};
+use jtext::{Json, Text, is_name};
 
 /// A member of a job.
 #[derive(Clone, Copy, Debug, Drop)]

@@ -35,6 +35,11 @@ then_at i None (Some z) R S T r s both = absurd s
 then_at None (Some y) (Some z) R S T r s both = absurd r
 then_at (Some x) (Some y) (Some z) R S T r s both = both x y z r s
 
+-- entries are only added
+pub since_length : {P : List Entry → Type 0} {x y : List Entry} → Since P x y → length x ≤ length y
+since_length start = omega arith
+since_length (more {past} {entry} s p) = let less = since_length s in omega (arith, less)
+
 -- nothing was called
 pub told_start : {j : Option (List Entry)} {R : List Entry → List Entry → Type 0}
     → ((before : List Entry) → R before before) → Told j j R

@@ -22,7 +22,7 @@ use Rattle.world.specs.declared.entry.Entry.TheVariants.{
   Waited,
   Moment,
 }
-use Rattle.world.specs.Acked.{acked, is_acknowledging}
+use Rattle.world.specs.Acked.{ack_count, is_acknowledging}
 use Rattle.world.specs.Disk.{Place, place, place_after}
 use Rattle.world.specs.Moments.{Since, start, more}
 use Rattle.world.specs.Parts.{Part, OnDisk, OnWire, OnClock, part_of, IsOf, IsNotOf}
@@ -46,7 +46,7 @@ after_other _ was other = refl
 
 -- only a call of the disk acknowledges a save
 pub acked_other : (from to : List ℕ) (entry : Entry) (past : List Entry) → part_of entry ≢ OnDisk
-    → acked from to (entry ∷ past) ≡ acked from to past
+    → ack_count from to (entry ∷ past) ≡ ack_count from to past
 acked_other from to (DirSynced dir did) past other = absurd (other refl)
 acked_other from to _ past other = refl
 
@@ -80,7 +80,7 @@ place_kept (more {past} {entry} since not) = after_other entry (place past) not 
 
 -- how many saves were acknowledged
 pub acked_kept : (from to : List ℕ) {x y : List Entry} → Since (IsNotOf OnDisk) x y
-    → acked from to y ≡ acked from to x
+    → ack_count from to y ≡ ack_count from to x
 acked_kept from to start = refl
 acked_kept from to (more {past} {entry} since not) = acked_other from to entry past not ∙ acked_kept from to since
 
@@ -100,7 +100,7 @@ pub place_since : {part : Part} {x y : List Entry} → part ≢ OnDisk → Since
 place_since {part} other since = place_kept (since_as (is_not_of part OnDisk other) since)
 
 pub acked_since : {part : Part} (from to : List ℕ) {x y : List Entry} → part ≢ OnDisk → Since (IsOf part) x y
-    → acked from to y ≡ acked from to x
+    → ack_count from to y ≡ ack_count from to x
 acked_since {part} from to other since = acked_kept from to (since_as (is_not_of part OnDisk other) since)
 
 pub status_since : {part : Part} (p : ℕ) {x y : List Entry} → part ≢ OnWire → Since (IsOf part) x y
@@ -116,5 +116,5 @@ one_more false n = inl refl
 
 -- an entry acknowledges at most one save of a path
 pub acked_grows : (from to : List ℕ) (entry : Entry) (past : List Entry)
-    → (acked from to (entry ∷ past) ≡ acked from to past) ⊎ (acked from to (entry ∷ past) ≡ acked from to past + 1)
-acked_grows from to entry past = one_more (is_acknowledging from to (entry ∷ past)) (acked from to past)
+    → (ack_count from to (entry ∷ past) ≡ ack_count from to past) ⊎ (ack_count from to (entry ∷ past) ≡ ack_count from to past + 1)
+acked_grows from to entry past = one_more (is_acknowledging from to (entry ∷ past)) (ack_count from to past)

@@ -1,9 +1,8 @@
 -- What an entry makes of the path that it names.
-use Rattle.std.specs.Prelude.{◌≡◌, ℕ, ◌++◌, List, [], ◌∷◌, true, false, Some, refl}
+use Rattle.std.specs.Prelude.{◌≡◌, ℕ, ◌++◌, List, [], ◌∷◌, false, Some}
 use Rattle.std.proofs.Common.{◌∙◌, ap}
 use Rattle.std.specs.Str.{bytes_eq}
 use Rattle.std.proofs.lemmas.Bool.{cond-true, cond-false}
-use Rattle.std.proofs.lemmas.Slice.Eq.{bytes_eq-Decides}
 use Rattle.world.specs.declared.entry.Entry.{Entry}
 use Rattle.world.specs.declared.entry.Entry.TheVariants as made
 use Rattle.world.specs.declared.did.Did.{Did}
@@ -22,10 +21,7 @@ use Rattle.world.specs.Disk.{
   place_in_synced_dir,
   folder_of,
 }
-
--- a text is equal to itself
-pub same_bytes : (path : List ℕ) → bytes_eq path path ≡ true
-same_bytes path = (bytes_eq-Decides path path).1 refl
+use Rattle.jtext.proofs.Equals.{same_bytes}
 
 pub created_own : (path : List ℕ) (d : Did) (past : List Entry)
     → place (made.Created path d ∷ past) path ≡ created_place d

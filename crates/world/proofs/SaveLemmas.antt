@@ -2,7 +2,6 @@
 use Rattle.std.specs.Prelude.{◌≡◌, ◌⊎◌, ℕ, ◌+◌, List, [], ◌∷◌, ◌++◌, Bool, true, false, if◌then◌else◌, Some, None, refl}
 use Rattle.std.proofs.Common.{sym, ◌∙◌, ap, subst, inl, inr, arith}
 use Rattle.std.proofs.lemmas.Bool.{and_parts, cond-false}
-use Rattle.std.proofs.lemmas.Slice.Eq.{bytes_eq-Decides}
 use Rattle.std.specs.Str.{bytes_eq}
 use Rattle.world.specs.declared.entry.Entry.{Entry}
 use Rattle.world.specs.declared.entry.Entry.TheVariants.{Created, Wrote, Synced, Renamed, DirSynced, Removed}
@@ -10,7 +9,7 @@ use Rattle.world.specs.declared.did.Did.{Did}
 use Rattle.world.specs.declared.did.Did.TheVariants.{Done, Failed}
 use Rattle.world.specs.declared.left.Left.{Left}
 use Rattle.world.specs.declared.left.Left.TheVariants as left
-use Rattle.world.specs.Acked.{acked, is_renamed, renames, syncs_folder}
+use Rattle.world.specs.Acked.{ack_count, is_renamed, renames, syncs_folder}
 use Rattle.world.specs.Disk.{
   IsUnsettled,
   Place,
@@ -36,6 +35,7 @@ use Rattle.world.proofs.PlaceLemmas.{
   removed_own,
   dir_synced_own,
 }
+use Rattle.jtext.proofs.Equals.{equal_bytes}
 
 -- ---- the writes of a save
 
@@ -206,23 +206,20 @@ dir_sync_failed dir other past = either_way (bytes_eq dir (folder_of other)) (pl
 
 -- ---- acknowledged saves
 
-pub same_path : (a b : List ℕ) → bytes_eq a b ≡ true → a ≡ b
-same_path a b e = (bytes_eq-Decides a b).0 e
-
 counts_one : (b : Bool) (n : ℕ) → (if b then n + 1 else n) ≡ n + 1 → b ≡ true
 counts_one true n e = refl
 counts_one false n e = absurd (omega (arith, e))
 
 -- the entry is the done sync of the path's folder
 pub syncs_is : (to : List ℕ) (entry : Entry) → syncs_folder to entry ≡ true → entry ≡ DirSynced (folder_of to) Done
-syncs_is to (DirSynced dir Done) e = ap (λ d. DirSynced d Done) (sym (same_path (folder_of to) dir e))
+syncs_is to (DirSynced dir Done) e = ap (λ d. DirSynced d Done) (sym (equal_bytes (folder_of to) dir e))
 syncs_is to (DirSynced dir Failed) e = cc
 syncs_is to _ e = cc
 
 pub renames_is : (from to : List ℕ) (entry : Entry) → renames from to entry ≡ true → entry ≡ Renamed from to Done
 renames_is from to (Renamed a b Done) e =
     let both = and_parts (bytes_eq from a) (bytes_eq to b) e in
-    ap (λ x. Renamed x b Done) (sym (same_path from a both.0)) ∙ ap (λ y. Renamed from y Done) (sym (same_path to b both.1))
+    ap (λ x. Renamed x b Done) (sym (equal_bytes from a both.0)) ∙ ap (λ y. Renamed from y Done) (sym (equal_bytes to b both.1))
 renames_is from to (Renamed a b Failed) e = cc
 renames_is from to _ e = cc
 
@@ -233,8 +230,8 @@ rename_before from to (entry ∷ older) e = (older, ap (λ x. x ∷ older) (rena
 
 -- an acknowledging sync stands directly behind the done rename
 pub acked_behind : (from to : List ℕ) (entry : Entry) (past : List Entry)
-    → acked from to (entry ∷ past) ≡ acked from to past + 1
+    → ack_count from to (entry ∷ past) ≡ ack_count from to past + 1
     → (entry ≡ DirSynced (folder_of to) Done) × ((older : List Entry) × (past ≡ Renamed from to Done ∷ older))
 acked_behind from to entry past e =
-    let both = and_parts (syncs_folder to entry) (is_renamed from to past) (counts_one _ (acked from to past) e) in
+    let both = and_parts (syncs_folder to entry) (is_renamed from to past) (counts_one _ (ack_count from to past) e) in
     (syncs_is to entry both.0, rename_before from to past both.1)

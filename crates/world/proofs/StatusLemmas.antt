@@ -2,6 +2,7 @@
 use Rattle.std.specs.Prelude.{◌≡◌, ℕ, ◌<◌, List, ◌∷◌, ◌++◌, true, false, Some, refl}
 use Rattle.std.proofs.Common.{◌≢◌, ◌∙◌, ap, arith}
 use Rattle.std.proofs.lemmas.Bool.{cond-true, cond-false, eq-eqb, eqb-true, false_from_ne_true}
+use Rattle.std.proofs.lemmas.Option.{same_Some}
 use Rattle.world.specs.declared.chan.Chan.{Chan}
 use Rattle.world.specs.declared.chan.Chan.TheVariants.{Shell, Control, Iopub, Heart}
 use Rattle.world.specs.declared.conn.Conn.{Conn}
@@ -121,16 +122,13 @@ chan_below Iopub = omega arith
 chan_below Heart = omega arith
 
 -- one place is of one job
-same_job : (a b : Conn) → place_of a ≡ place_of b → a.job ≡ b.job
+pub same_job : (a b : Conn) → place_of a ≡ place_of b → a.job ≡ b.job
 same_job a b e = omega (arith, e, chan_below a.chan, chan_below b.chan)
-
-some_is : {a b : ℕ} → Some a ≡ Some b → a ≡ b
-some_is e = cc
 
 -- a connection of another job is at another place
 not_at : (own other : Conn) (job : ℕ) → own.job ≢ job → Some other.job ≡ Some job → is_at (place_of own) other ≡ false
 not_at own other job apart is =
-    false_from_ne_true _ (λ e. apart (same_job own other (eqb-true (place_of own) (place_of other) e) ∙ some_is is))
+    false_from_ne_true _ (λ e. apart (same_job own other (eqb-true (place_of own) (place_of other) e) ∙ same_Some other.job job is))
 
 -- an entry of one job is not of a connection of another
 pub not_concerned : (conn : Conn) (job : ℕ) (entry : Entry) → conn.job ≢ job → job_of entry ≡ Some job

@@ -1,7 +1,7 @@
 -- What stays of a path that no entry touches.
-use Rattle.std.specs.Prelude.{◌≡◌, ℕ, ◌||◌, List, Bool, true, false, if◌then◌else◌, refl}
+use Rattle.std.specs.Prelude.{◌≡◌, ℕ, List, Bool, true, false, if◌then◌else◌, refl}
 use Rattle.std.proofs.Common.{sym, ◌∙◌, subst}
-use Rattle.std.proofs.lemmas.Bool.{false≢true, cond-false}
+use Rattle.std.proofs.lemmas.Bool.{cond-false, or_parts}
 use Rattle.std.specs.Str.{bytes_eq}
 use Rattle.world.specs.declared.entry.Entry.{Entry}
 use Rattle.world.specs.declared.entry.Entry.TheVariants as made
@@ -11,15 +11,10 @@ use Rattle.world.specs.Disk.{Place, place, place_after, untouched_place, place_i
 use Rattle.world.specs.Moments.{Since, start, more}
 use Rattle.world.specs.Touched.{touches, settles, Spares}
 
-either_is_not : (a b : Bool) → (a || b) ≡ false → (a ≡ false) × (b ≡ false)
-either_is_not true b e = absurd (false≢true (sym e))
-either_is_not false true e = absurd (false≢true (sym e))
-either_is_not false false e = (refl, refl)
-
 renamed_spared : (path from to : List ℕ) (d : Did) (was : List ℕ → Place)
     → touches path (made.Renamed from to d) ≡ false → place_after (made.Renamed from to d) was path ≡ was path
 renamed_spared path from to d was e =
-    let both : (bytes_eq to path ≡ false) × (bytes_eq from path ≡ false) = either_is_not (bytes_eq to path) (bytes_eq from path) e in
+    let both : (bytes_eq to path ≡ false) × (bytes_eq from path ≡ false) = or_parts (bytes_eq to path) (bytes_eq from path) e in
     cond-false (bytes_eq to path) _ _ both.0 ∙ cond-false (bytes_eq from path) _ _ both.1
 
 -- an entry that neither touches the path nor syncs its folder leaves all that is known of it

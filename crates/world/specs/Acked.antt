@@ -27,7 +27,7 @@ is_acknowledging from to [] = false
 is_acknowledging from to (entry ∷ past) = syncs_folder to entry && is_renamed from to past
 
 -- how many saves of the path by a rename from the other were acknowledged
-abbrev pub acked : List ℕ → List ℕ → List Entry → ℕ
-acked from to [] = 0
-acked from to (entry ∷ past) =
-    if is_acknowledging from to (entry ∷ past) then acked from to past + 1 else acked from to past
+abbrev pub ack_count : List ℕ → List ℕ → List Entry → ℕ
+ack_count from to [] = 0
+ack_count from to (entry ∷ past) =
+    if is_acknowledging from to (entry ∷ past) then ack_count from to past + 1 else ack_count from to past

@@ -2,13 +2,13 @@ pub mod Acked
 pub mod Calls
 pub mod Counts
 pub mod Disk
-pub mod Environment
 pub mod Examples
 pub mod Jobs
 pub mod Kernel
 pub mod Moments
 pub mod Parts
 pub mod Places
+pub mod Rises
 pub mod Save
 pub mod Told
 pub mod Touched

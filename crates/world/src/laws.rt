@@ -12,7 +12,7 @@ ghost use Rattle.world.specs.declared.left.Left.{Left};
 ghost use Rattle.world.specs.declared.left.Left.TheVariants as left;
 ghost use Rattle.world.specs.declared.reports.Reports.{Reports};
 ghost use Rattle.world.specs.declared.side.Side.{Side};
-ghost use Rattle.world.specs.Acked.{acked};
+ghost use Rattle.world.specs.Acked.{ack_count};
 ghost use Rattle.world.specs.Counts.{Counts, WaitCause};
 ghost use Rattle.world.specs.Disk.{folder_of, here_of, leaves, place, untouched_place, IsUnsettled};
 ghost use Rattle.world.specs.Disk.{OnlyFormerOr};
@@ -53,7 +53,7 @@ pub fn other_parts_change_no_file()
 /// Only calls of the disk acknowledge a save.
 pub fn other_parts_acknowledge_nothing()
     ensures { (from to : List ℕ) (before after : List Entry) → Since (IsNotOf OnDisk) before after →
-        acked from to after ≡ acked from to before }
+        ack_count from to after ≡ ack_count from to before }
 {}
 
 /// Only calls on connections change how a connection stands.
@@ -168,14 +168,14 @@ pub fn unsynced_files_may_be_anything()
 /// An entry acknowledges at most one save of a path.
 pub fn one_save_at_a_time()
     ensures { (from to : List ℕ) (entry : Entry) (past : List Entry) →
-        (acked from to (entry ∷ past) ≡ acked from to past)
-        ⊎ (acked from to (entry ∷ past) ≡ acked from to past + 1) }
+        (ack_count from to (entry ∷ past) ≡ ack_count from to past)
+        ⊎ (ack_count from to (entry ∷ past) ≡ ack_count from to past + 1) }
 {}
 
 /// An acknowledging entry is a done sync of the path's folder directly behind the done rename.
 pub fn acknowledged_behind_the_rename()
     ensures { (from to : List ℕ) (entry : Entry) (past : List Entry) →
-        acked from to (entry ∷ past) ≡ acked from to past + 1 →
+        ack_count from to (entry ∷ past) ≡ ack_count from to past + 1 →
         (entry ≡ Entry.DirSynced (folder_of to) did.Done)
         × ((older : List Entry) × (past ≡ Entry.Renamed from to did.Done ∷ older)) }
 {}
@@ -230,8 +230,8 @@ pub fn saves_of_one_byte()
         ≡ left.Whole (120 ∷ []) ∷ left.Absent ∷ [] }
     ensures other { leaves example.whole_save (codes "d/x") ≡ left.Old ∷ [] }
     ensures removal { leaves example.synced_removal (codes "d/o") ≡ left.Old ∷ left.Absent ∷ [] }
-    ensures acked { acked (codes "d/t") (codes "d/o") example.whole_save ≡ 1 }
-    ensures not_acked { acked (codes "d/t") (codes "d/o") example.unsynced_save ≡ 0 }
+    ensures acked { ack_count (codes "d/t") (codes "d/o") example.whole_save ≡ 1 }
+    ensures not_acked { ack_count (codes "d/t") (codes "d/o") example.unsynced_save ≡ 0 }
 {}
 
 /// How a connection stands after it was read, and after it ended.

@@ -1,6 +1,6 @@
 -- The files that a number picks are among those that a crash may leave.
 use Rattle.std.specs.Prelude.{◌⊎◌, IsSomeAnd, slice_get, if◌then◌else◌}
-use Rattle.std.proofs.Common.{◌≡◌, ◌∙◌, ◌||◌, ◌++◌, ◌%◌, ◌/◌, ℕ, suc, zero, ◌<◌, List, [], ◌∷◌, length, get_or, length-append, Bool, true, false, Option, Some, None, refl, sym, subst, arith, inl, inr}
+use Rattle.std.proofs.Common.{◌≡◌, ◌∙◌, ◌++◌, ◌%◌, ◌/◌, ℕ, suc, zero, ◌<◌, List, [], ◌∷◌, length, get_or, length-append, Bool, true, false, Option, Some, None, refl, sym, subst, arith, inl, inr}
 use Rattle.std.proofs.lemmas.Bool.{cases_Bool, cond-true, cond-false, false≢true, and_parts, or_parts}
 use Rattle.std.proofs.lemmas.Option.{slice_get-get_or, unwrap_or-slice_get}
 use Rattle.std.specs.Str.{bytes_eq}
@@ -11,7 +11,6 @@ use Rattle.world.specs.declared.did.Did.{Did}
 use Rattle.world.specs.declared.did.Did.TheVariants as did
 use Rattle.world.specs.declared.entry.Entry.TheVariants as made
 use Rattle.world.specs.Moments.{upto}
-use Rattle.world.proofs.SaveLemmas.{same_path}
 use Rattle.world.specs.Disk.{
   Place,
   place,
@@ -31,9 +30,11 @@ use Rattle.world.specs.Disk.{
 }
 use Rattle.world_mem.specs.Folder.{Content, file_at}
 use Rattle.world_mem.specs.Image.{choices_of, all_choices, pick, file_of, choices_at, pick_files, IsPicked, Stands, IsAllowed}
-use Rattle.world_mem.specs.Known.{is_among, is_below, are_ascending}
-use Rattle.world_mem.proofs.FolderLemmas.{is_same_path}
+use Rattle.world_mem.specs.Known.{is_below, are_ascending}
+use Rattle.jtext.specs.Texts.{is_among}
 use Rattle.world_mem.proofs.ImageLemmas.{below_apart, expanded_some}
+use Rattle.jtext.proofs.Equals.{equal_bytes, same_bytes}
+use Rattle.jtext.proofs.Lists.{or_other}
 
 -- ---- one path
 
@@ -131,16 +132,12 @@ leaves_some (entry ∷ past) path = after_some entry (place past) (leaves_some p
 
 -- ---- every path
 
-or_other : (a b : Bool) → a ≡ false → (a || b) ≡ true → b ≡ true
-or_other true b e f = absurd (false≢true (sym e))
-or_other false b e f = f
-
 -- at a path stands what was picked there, where nothing comes behind
 kept_at : (path : List ℕ) (x : Option (List ℕ)) (rest : Content) → file_at path rest ≡ None
     → file_at path (file_of path x ++ rest) ≡ x
 kept_at path None rest e = e
 kept_at path (Some bytes) rest e =
-    cond-true (bytes_eq path path) (Some bytes) (file_at path rest) (is_same_path path path refl)
+    cond-true (bytes_eq path path) (Some bytes) (file_at path rest) (same_bytes path)
 
 -- at another path stands what comes behind
 skipped : (path other : List ℕ) (x : Option (List ℕ)) (rest : Content) → bytes_eq other path ≡ false
@@ -175,7 +172,7 @@ picked_at start past (other ∷ paths) number path order there =
       | inl t ↦
           let none : file_at other rest ≡ None = picked_none start past paths _ other (below_apart other paths parts.0 parts.1) in
           let is = kept_at other (pick (choices_at start past other) number) rest none in
-          subst (λ name. IsAllowed (file_at name start) (file_at name (pick_files start past (other ∷ paths) number)) (leaves past name)) (same_path other path t)
+          subst (λ name. IsAllowed (file_at name start) (file_at name (pick_files start past (other ∷ paths) number)) (leaves past name)) (equal_bytes other path t)
           (subst (λ x. IsAllowed (file_at other start) x (leaves past other)) (sym is) (pick_allowed start past other number))
       | inr n ↦
           let skips = skipped path other (pick (choices_at start past other) number) rest n in

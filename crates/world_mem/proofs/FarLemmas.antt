@@ -1,38 +1,12 @@
 -- Kernels that are brought to a moment one after the other.
-use Rattle.std.proofs.Common.{
-  ◌≡◌,
-  ◌≢◌,
-  ◌∙◌,
-  ℕ,
-  suc,
-  ◌+◌,
-  ◌<◌,
-  ◌≤◌,
-  List,
-  [],
-  ◌∷◌,
-  length,
-  zero,
-  Bool,
-  false,
-  Option,
-  Some,
-  None,
-  refl,
-  sym,
-  ap,
-  subst,
-  arith,
-  inl,
-  inr,
-}
+use Rattle.std.proofs.Common.{◌≡◌, ◌≢◌, ◌∙◌, ℕ, ◌+◌, ◌<◌, ◌≤◌, List, length, Bool, false, Option, Some, None, refl, sym, ap, subst, arith, inl, inr}
 use Rattle.std.specs.Prelude.{slice_get, slice_set, unwrap_or}
 use Rattle.std.proofs.lemmas.Bool.{cases_eq, cases_lt}
 use Rattle.std.proofs.lemmas.List.{length-set}
 use Rattle.std.proofs.lemmas.Option.{slice_get_past, slice_get_within, same_Some}
 use Rattle.world.specs.Calls.{Call}
 use Rattle.world_mem.specs.Far.{Changes, Serves, TickedIf, Ticks, is_started}
-use Rattle.world_mem.proofs.ListLemmas.{get_set_same, get_set_other}
+use Rattle.jtext.proofs.Lists.{slice_get-set_same, slice_get-set_other, set_given}
 
 -- the kernels of the first n jobs were brought to a moment, where they are started, and no other has changed
 pub record TicksTo {K : Type 0} (stands : K → List Call → Type 0) (started : List Bool) (now n : ℕ) (old new : List K) : Type 0 where
@@ -55,9 +29,9 @@ ticks_one : {K : Type 0} (stands : K → List Call → Type 0) (started : List B
     → TickedIf stands (is_started started n) now was is → TicksTo stands started now (n + 1) old new
 ticks_one {K} stands started now n old mid new was is so here set ticked =
     let within : n < length mid = slice_get_within mid n was here in
-    let own : slice_get new n ≡ Some is = ap (λ ks. slice_get ks n) set ∙ get_set_same mid n is within in
+    let own : slice_get new n ≡ Some is = ap (λ ks. slice_get ks n) set ∙ slice_get-set_same mid n is within in
     let others = λ (job : ℕ) (ne : n ≢ job).
-    ap (λ ks. slice_get ks job) set ∙ get_set_other mid n job is ne in
+    ap (λ ks. slice_get ks job) set ∙ slice_get-set_other mid n job is (λ e. ne (sym e)) in
     record {
       size = ap length set ∙ length-set mid n is ∙ so.size;
       each = λ job before after below e f.
@@ -107,16 +81,10 @@ pub ticks_more : {K : Type 0} {stands : K → List Call → Type 0} {started : L
 ticks_more {K} {stands} {started} {now} {n} {old} {mid} {new} so served =
     changes_more stands started now n old mid new (slice_get mid n) so refl served
 
-set_again : {K : Type 0} (kernels : List K) (job : ℕ) (k : K) → slice_get kernels job ≡ Some k
-    → kernels ≡ slice_set kernels job k
-set_again [] job k e = refl
-set_again (x ∷ xs) zero k e = ap (λ h. h ∷ xs) (same_Some _ _ e)
-set_again (x ∷ xs) (suc job) k e = ap (λ rest. x ∷ rest) (set_again xs job k e)
-
 changes_same : {K : Type 0} (here : Option K) (kernels : List K) (job : ℕ) (R : K → K → Type 0)
     → slice_get kernels job ≡ here → ((k : K) → R k k) → Changes here kernels kernels job R
 changes_same None kernels job R e itself = refl
-changes_same (Some k) kernels job R e itself = (k, set_again kernels job k e, itself k)
+changes_same (Some k) kernels job R e itself = (k, sym (set_given kernels job k e), itself k)
 
 -- a job that is not started
 pub serves_same : {K : Type 0} (kernels : List K) (job : ℕ) (R : K → K → Type 0) → ((k : K) → R k k)

@@ -30,24 +30,14 @@ use Rattle.std.proofs.Common.{
 use Rattle.std.specs.Prelude.{if◌then◌else◌}
 use Rattle.std.specs.List.{remove}
 use Rattle.std.specs.Str.{bytes_eq}
-use Rattle.std.proofs.lemmas.Bool.{false≢true, false_from_ne_true, cond-true, cond-false}
-use Rattle.std.proofs.lemmas.Slice.Eq.{bytes_eq-Decides}
-use Rattle.world.proofs.SaveLemmas.{same_path}
+use Rattle.std.proofs.lemmas.Bool.{false≢true, cond-true, cond-false}
 use Rattle.world_mem.specs.Folder.{Content, file_at, has_file, Sets, Moves, Passed, IsFirst}
+use Rattle.jtext.proofs.Equals.{equal_bytes, same_bytes, turned_bytes}
 
 -- ---- tests of paths
 
-not_both : (b : Bool) → b ≡ true → b ≡ false → ⊥
-not_both b e f = false≢true (sym f ∙ e)
-
-pub is_same_path : (a b : List ℕ) → a ≡ b → bytes_eq a b ≡ true
-is_same_path a b e = (bytes_eq-Decides a b).1 e
-
-pub other_way : (a b : List ℕ) → bytes_eq a b ≡ false → bytes_eq b a ≡ false
-other_way a b e = false_from_ne_true (bytes_eq b a) (λ t. not_both (bytes_eq a b) (is_same_path a b (sym (same_path b a t))) e)
-
 apart : (a path other : List ℕ) → bytes_eq a path ≡ false → bytes_eq a other ≡ true → bytes_eq path other ≡ false
-apart a path other miss hit = false_from_ne_true (bytes_eq path other) (λ t. not_both (bytes_eq a path) (is_same_path a path (same_path a other hit ∙ sym (same_path path other t))) miss)
+apart a path other miss hit = turned_bytes path other ∙ ap (λ x. bytes_eq x path) (sym (equal_bytes a other hit)) ∙ miss
 
 swap : {A : Type 0} (a b : Bool) (x y z : A) → (a ≡ true → b ≡ false)
     → (if a then x else (if b then y else z)) ≡ (if b then y else (if a then x else z))
@@ -114,7 +104,7 @@ pub sets_first : (path : List ℕ) (files : Content) (i : ℕ) (x : List ℕ × 
     → Sets files (slice_set files i (x.0, bytes)) path (Some bytes)
 sets_first path [] i x bytes first is other = absurd first
 sets_first path (f ∷ fs) zero x bytes first is other =
-    let at : f.0 ≡ path = same_path f.0 path first in
+    let at : f.0 ≡ path = equal_bytes f.0 path first in
     let named : x.0 ≡ path = ap (λ (y : List ℕ × List ℕ). y.0) is ∙ at in
     ap (λ name. if bytes_eq name other then Some bytes else file_at other fs) named
     ∙ again (bytes_eq path other) (Some bytes) (Some f.1) (file_at other fs)
@@ -140,7 +130,7 @@ pub spared_without : (path other : List ℕ) (files : Content) (i : ℕ) → IsF
     → bytes_eq path other ≡ false → file_at other (remove files i) ≡ file_at other files
 spared_without path other [] i first miss = absurd first
 spared_without path other (f ∷ fs) zero first miss =
-    sym (cond-false (bytes_eq f.0 other) _ _ (subst (λ name. bytes_eq name other ≡ false) (sym (same_path f.0 path first)) miss))
+    sym (cond-false (bytes_eq f.0 other) _ _ (subst (λ name. bytes_eq name other ≡ false) (sym (equal_bytes f.0 path first)) miss))
 spared_without path other (f ∷ fs) (suc i) first miss =
     ap (λ rest. if bytes_eq f.0 other then Some f.1 else rest) (spared_without path other fs i first.1 miss)
 
@@ -153,7 +143,7 @@ pub sets_none : (path : List ℕ) (old new : Content) → file_at path new ≡ N
     → ((other : List ℕ) → bytes_eq path other ≡ false → file_at other new ≡ file_at other old)
     → Sets old new path None
 sets_none path old new none same other =
-    by_test (bytes_eq path other) _ _ _ (λ hit. subst (λ name. file_at name new ≡ None) (same_path path other hit) none) (same other)
+    by_test (bytes_eq path other) _ _ _ (λ hit. subst (λ name. file_at name new ≡ None) (equal_bytes path other hit) none) (same other)
 
 -- another name for the first file at a path, where there is none at the new name
 pub named_first : (from to : List ℕ) (files : Content) (i : ℕ) (x : List ℕ × List ℕ) → IsFirst from files i
@@ -161,7 +151,7 @@ pub named_first : (from to : List ℕ) (files : Content) (i : ℕ) (x : List ℕ
     → file_at other (slice_set files i (to, x.1)) ≡ (if bytes_eq to other then Some x.1 else file_at other files)
 named_first from to [] i x first is none other miss = absurd first
 named_first from to (f ∷ fs) zero x first is none other miss =
-    ap (λ rest. if bytes_eq to other then Some x.1 else rest) (sym (cond-false (bytes_eq f.0 other) _ _ (subst (λ name. bytes_eq name other ≡ false) (sym (same_path f.0 from first)) miss)))
+    ap (λ rest. if bytes_eq to other then Some x.1 else rest) (sym (cond-false (bytes_eq f.0 other) _ _ (subst (λ name. bytes_eq name other ≡ false) (sym (equal_bytes f.0 from first)) miss)))
 named_first from to (f ∷ fs) (suc i) x first is none other miss =
     let both : (bytes_eq f.0 to ≡ false) × (file_at to fs ≡ None) = some_is_not (bytes_eq f.0 to) f.1 (file_at to fs) none in
     ap (λ rest. if bytes_eq f.0 other then Some f.1 else rest) (named_first from to fs i x first.1 is both.1 other miss)
@@ -182,8 +172,8 @@ pub moved : (from to : List ℕ) (old cleared named new : Content) (i : ℕ) (x 
     → bytes_eq from to ≡ false → Sets old cleared to None → IsFirst from cleared i → x ≡ get_or cleared i x
     → named ≡ slice_set cleared i (to, x.1) → Sets named new from None → Moves old new from to
 moved from to old cleared named new i x differ clears first is names ends other =
-    let none : file_at to cleared ≡ None = clears to ∙ cond-true (bytes_eq to to) _ _ (is_same_path to to refl) in
-    let found : Some x.1 ≡ file_at from old = sym (first_at from cleared i x first is) ∙ clears from ∙ cond-false (bytes_eq to from) _ _ (other_way from to differ) in
+    let none : file_at to cleared ≡ None = clears to ∙ cond-true (bytes_eq to to) _ _ (same_bytes to) in
+    let found : Some x.1 ≡ file_at from old = sym (first_at from cleared i x first is) ∙ clears from ∙ cond-false (bytes_eq to from) _ _ (turned_bytes to from ∙ differ) in
     moved_cases (bytes_eq from other) (bytes_eq to other) _ _ _ _ _ x.1 (ends other)
     (λ miss. ap (file_at other) names ∙ named_first from to cleared i x first is none other miss)
     (clears other) found (λ hit. apart from to other differ hit)
@@ -192,8 +182,8 @@ moved from to old cleared named new i x differ clears first is names ends other 
 pub moved_to_itself : (from to : List ℕ) (files : Content) → bytes_eq from to ≡ true → Moves files files from to
 moved_to_itself from to files same other =
     by_test (bytes_eq to other) (file_at other files) _ _
-    (λ hit. ap (λ name. file_at name files) (sym (same_path from to same ∙ same_path to other hit)))
-    (λ miss. sym (cond-false (bytes_eq from other) None (file_at other files) (subst (λ name. bytes_eq name other ≡ false) (sym (same_path from to same)) miss)))
+    (λ hit. ap (λ name. file_at name files) (sym (equal_bytes from to same ∙ equal_bytes to other hit)))
+    (λ miss. sym (cond-false (bytes_eq from other) None (file_at other files) (subst (λ name. bytes_eq name other ≡ false) (sym (equal_bytes from to same)) miss)))
 
 -- more bytes for the first file at a path
 pub appended : (path : List ℕ) (files : Content) (i : ℕ) (x : List ℕ × List ℕ) (piece bytes : List ℕ)

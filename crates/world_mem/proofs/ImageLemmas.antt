@@ -7,6 +7,7 @@ use Rattle.std.proofs.lemmas.Cmp.{nat_list_cmp_total}
 use Rattle.std.proofs.lemmas.List.{append-nil, drop_all, reverse-append, length-reverse, take-append-drop}
 use Rattle.std.proofs.lemmas.Option.{slice_get_read}
 use Rattle.std.proofs.lemmas.Map.Text.{is_eq-slice_cmp}
+use Rattle.std.proofs.lemmas.Slice.Eq.{bytes_eq-Decides}
 use Rattle.std.specs.Cmp.{IsTotalOrder}
 use Rattle.std.specs.Cmp.Lexicographic.{slice_cmp}
 use Rattle.std.specs.Ordering.{nat_cmp, is_lt, is_eq}
@@ -18,12 +19,12 @@ use Rattle.world.specs.declared.left.Left.{Left}
 use Rattle.world.specs.declared.left.Left.TheVariants as left
 use Rattle.world.specs.Moments.{upto}
 use Rattle.world.specs.Disk.{Place, leaves, untouched_place}
-use Rattle.world.proofs.SaveLemmas.{same_path}
 use Rattle.world_mem.specs.Folder.{Content, file_at, has_file}
 use Rattle.world_mem.specs.Image.{choices_of, all_choices, pick, file_of, pick_files, IsPicked}
 use Rattle.world_mem.specs.Journals.{told_of}
-use Rattle.world_mem.specs.Known.{Known, place_in, paths_of, is_among, is_below, are_ascending, StandsFor}
-use Rattle.world_mem.proofs.FolderLemmas.{is_same_path, other_way}
+use Rattle.world_mem.specs.Known.{Known, place_in, paths_of, is_below, are_ascending, StandsFor}
+use Rattle.jtext.specs.Texts.{is_among}
+use Rattle.jtext.proofs.Equals.{equal_bytes, turned_bytes}
 
 -- ---- options
 
@@ -74,14 +75,14 @@ below_apart path [] below order = refl
 below_apart path (other ∷ paths) below order =
     let less : slice_cmp nat_cmp path other ≡ Less = lt_is (slice_cmp nat_cmp path other) below in
     let parts = and_parts (is_below other paths) (are_ascending paths) order in
-    or_from (bytes_eq other path) (is_among path paths) (other_way path other (less_differs path other less))
+    or_from (bytes_eq other path) (is_among path paths) (turned_bytes other path ∙ less_differs path other less)
     (below_apart path paths (below_then path other paths less parts.0) parts.1)
 
 among_item : (known : Known) (i : ℕ) (x : List ℕ × Place) → i < length known → x ≡ get_or known i x
     → is_among x.0 (paths_of known) ≡ true
 among_item [] i x below is = absurd (omega arith)
 among_item (y ∷ ys) zero x below is =
-    or_left (bytes_eq y.0 x.0) _ (is_same_path y.0 x.0 (ap (λ (z : List ℕ × Place). z.0) (sym is)))
+    or_left (bytes_eq y.0 x.0) _ ((bytes_eq-Decides y.0 x.0).1 (ap (λ (z : List ℕ × Place). z.0) (sym is)))
 among_item (y ∷ ys) (suc i) x below is = or_right (bytes_eq y.0 x.0) _ (among_item ys i x (omega arith) is)
 
 -- what is known of the path of an item is what the item has
@@ -89,7 +90,7 @@ pub own_place : (known : Known) (i : ℕ) (x : List ℕ × Place) → are_ascend
     → x ≡ get_or known i x → place_in known x.0 ≡ x.1
 own_place [] i x order below is = absurd (omega arith)
 own_place (y ∷ ys) zero x order below is =
-    cond-true (bytes_eq y.0 x.0) y.1 (place_in ys x.0) (is_same_path y.0 x.0 (ap (λ (z : List ℕ × Place). z.0) (sym is)))
+    cond-true (bytes_eq y.0 x.0) y.1 (place_in ys x.0) ((bytes_eq-Decides y.0 x.0).1 (ap (λ (z : List ℕ × Place). z.0) (sym is)))
     ∙ ap (λ (z : List ℕ × Place). z.1) (sym is)
 own_place (y ∷ ys) (suc i) x order below is =
     let parts = and_parts (is_below y.0 (paths_of ys)) (are_ascending (paths_of ys)) order in
@@ -97,7 +98,7 @@ own_place (y ∷ ys) (suc i) x order below is =
     let there = among_item ys i x (omega arith) is in
     elim (cases_Bool (bytes_eq y.0 x.0)) [
       | inl t ↦
-          absurd (false≢true (sym apart ∙ subst (λ name. is_among name (paths_of ys) ≡ true) (sym (same_path y.0 x.0 t)) there))
+          absurd (false≢true (sym apart ∙ subst (λ name. is_among name (paths_of ys) ≡ true) (sym (equal_bytes y.0 x.0 t)) there))
       | inr n ↦ cond-false (bytes_eq y.0 x.0) y.1 (place_in ys x.0) n ∙ own_place ys i x parts.1 (omega arith) is
     ]
 

@@ -7,6 +7,7 @@ use Rattle.std.proofs.Math.Seq.{drop-cons}
 use Rattle.std.proofs.lemmas.List.{take_more, reverse-append}
 use Rattle.std.proofs.lemmas.Map.Text.{is_eq-slice_cmp}
 use Rattle.std.proofs.lemmas.Option.{slice_get_read, same_Some}
+use Rattle.std.proofs.lemmas.Slice.Eq.{bytes_eq-Decides}
 use Rattle.std.specs.Cmp.{IsTotalOrder}
 use Rattle.std.specs.Cmp.Lexicographic.{slice_cmp}
 use Rattle.std.specs.Ordering.{nat_cmp, is_lt, is_eq, ordering_reverse}
@@ -17,7 +18,7 @@ use Rattle.world.specs.declared.did.Did.{Did}
 use Rattle.world.specs.declared.did.Did.TheVariants as did
 use Rattle.world.specs.declared.entry.Entry.{Entry}
 use Rattle.world.specs.declared.entry.Entry.TheVariants as made
-use Rattle.world.proofs.SaveLemmas.{either_way, same_path}
+use Rattle.world.proofs.SaveLemmas.{either_way}
 use Rattle.world.specs.Disk.{
   Place,
   place,
@@ -32,21 +33,10 @@ use Rattle.world.specs.Disk.{
   folder_of,
 }
 use Rattle.world_mem.specs.Folder.{Content, file_at, has_file}
-use Rattle.world_mem.specs.Known.{
-  Known,
-  place_in,
-  paths_of,
-  is_among,
-  is_below,
-  are_ascending,
-  put_by,
-  put_in,
-  settled_in,
-  Learns,
-  StandsFor,
-}
-use Rattle.world_mem.proofs.FolderLemmas.{is_same_path}
+use Rattle.world_mem.specs.Known.{Known, place_in, paths_of, is_below, are_ascending, put_by, put_in, settled_in, Learns, StandsFor}
+use Rattle.jtext.specs.Texts.{is_among}
 use Rattle.world_mem.proofs.ListLemmas.{set_split}
+use Rattle.jtext.proofs.Equals.{equal_bytes, same_bytes}
 
 -- ---- answers and tests
 
@@ -60,7 +50,7 @@ at_same : (path q : List ℕ) (f : List ℕ → Place) (rest : Place)
     → (if bytes_eq path q then f q else rest) ≡ (if bytes_eq path q then f path else rest)
 at_same path q f rest =
     elim (cases_Bool (bytes_eq path q)) [
-      | inl t ↦ cond-true (bytes_eq path q) (f q) rest t ∙ ap f (sym (same_path path q t)) ∙ sym (cond-true (bytes_eq path q) (f path) rest t)
+      | inl t ↦ cond-true (bytes_eq path q) (f q) rest t ∙ ap f (sym (equal_bytes path q t)) ∙ sym (cond-true (bytes_eq path q) (f path) rest t)
       | inr n ↦ cond-false (bytes_eq path q) (f q) rest n ∙ sym (cond-false (bytes_eq path q) (f path) rest n)
     ]
 
@@ -81,7 +71,7 @@ swap a b q x y z differ =
     elim (cases_Bool (bytes_eq a q)) [
       | inl at_a ↦
           elim (cases_Bool (bytes_eq b q)) [
-            | inl at_b ↦ absurd (false≢true (sym differ ∙ is_same_path a b (same_path a q at_a ∙ sym (same_path b q at_b))))
+            | inl at_b ↦ absurd (false≢true (sym differ ∙ (bytes_eq-Decides a b).1 (equal_bytes a q at_a ∙ sym (equal_bytes b q at_b))))
             | inr not_b ↦
                 cond-false (bytes_eq b q) x _ not_b
                 ∙ ap (λ r. if bytes_eq a q then y else r) (sym (cond-false (bytes_eq b q) x z not_b))
@@ -105,7 +95,7 @@ put_by_places : (o : Ordering) (path : List ℕ) (v : Place) (x : List ℕ × Pl
     → place_in (put_by o path v x xs more) q ≡ (if bytes_eq path q then v else place_in (x ∷ xs) q)
 put_by_places Less path v x xs more e so q = refl
 put_by_places Equal path v x xs more e so q =
-    let same : path ≡ x.0 = same_path path x.0 (equal_is path x.0 e) in
+    let same : path ≡ x.0 = equal_bytes path x.0 (equal_is path x.0 e) in
     ap (λ name. if bytes_eq name q then v else place_in xs q) (sym same)
     ∙ again path q v x.1 (place_in xs q)
     ∙ ap (λ name. if bytes_eq path q then v else (if bytes_eq name q then x.1 else place_in xs q)) same
@@ -141,14 +131,14 @@ put_kept path v (x ∷ xs) q e =
 put_by_own : (o : Ordering) (path : List ℕ) (v : Place) (x : List ℕ × Place) (xs more : Known)
     → slice_cmp nat_cmp path x.0 ≡ o → is_among path (paths_of more) ≡ true
     → is_among path (paths_of (put_by o path v x xs more)) ≡ true
-put_by_own Less path v x xs more e so = or_left (bytes_eq path path) _ (is_same_path path path refl)
+put_by_own Less path v x xs more e so = or_left (bytes_eq path path) _ (same_bytes path)
 put_by_own Equal path v x xs more e so =
-    or_left (bytes_eq x.0 path) _ (is_same_path x.0 path (sym (same_path path x.0 (equal_is path x.0 e))))
+    or_left (bytes_eq x.0 path) _ ((bytes_eq-Decides x.0 path).1 (sym (equal_bytes path x.0 (equal_is path x.0 e))))
 put_by_own Greater path v x xs more e so = or_right (bytes_eq x.0 path) _ so
 
 -- the path is there
 pub put_own : (path : List ℕ) (v : Place) (xs : Known) → is_among path (paths_of (put_in path v xs)) ≡ true
-put_own path v [] = or_left (bytes_eq path path) false (is_same_path path path refl)
+put_own path v [] = or_left (bytes_eq path path) false (same_bytes path)
 put_own path v (x ∷ xs) = put_by_own (slice_cmp nat_cmp path x.0) path v x xs (put_in path v xs) refl (put_own path v xs)
 
 -- what is greater comes behind
@@ -257,7 +247,7 @@ settled_places dir d (x ∷ xs) q =
     elim (cases_Bool (bytes_eq x.0 q)) [
       | inl t ↦
           cond-true (bytes_eq x.0 q) (settle x.0 x.1) _ t
-          ∙ ap (λ name. settle name x.1) (same_path x.0 q t)
+          ∙ ap (λ name. settle name x.1) (equal_bytes x.0 q t)
           ∙ ap (settle q) (sym (cond-true (bytes_eq x.0 q) x.1 (place_in xs q) t))
       | inr n ↦
           cond-false (bytes_eq x.0 q) (settle x.0 x.1) _ n
@@ -314,7 +304,7 @@ stands_more start i file known below is so =
           elim (has_more q (take i start) file (ap (has_file q) (sym longer) ∙ e)) [
             | inl before ↦ put_kept file.0 untouched_place known q (so.all q before)
             | inr here ↦
-                subst (λ name. is_among name (paths_of (put_in file.0 untouched_place known)) ≡ true) (same_path file.0 q here) (put_own file.0 untouched_place known)
+                subst (λ name. is_among name (paths_of (put_in file.0 untouched_place known)) ≡ true) (equal_bytes file.0 q here) (put_own file.0 untouched_place known)
           ];
     }
 

@@ -9,14 +9,14 @@ use Rattle.world.specs.declared.conn.Conn.{Conn}
 use Rattle.world.specs.Places.{place_of, chan_number, is_reported}
 use Rattle.world.proofs.StatusLemmas.{chan_below}
 use Rattle.world_mem.specs.Links.{chan_at, conn_of}
-use Rattle.world_mem.proofs.ListLemmas.{get_set_same, get_set_other}
+use Rattle.jtext.proofs.Lists.{slice_get-set_same, slice_get-set_other}
 
 pub reported_own : (p : ℕ) (xs : List Bool) (v : Bool) → p < length xs → is_reported p (slice_set xs p v) ≡ v
-reported_own p xs v below = ap (λ o. unwrap_or o false) (get_set_same xs p v below)
+reported_own p xs v below = ap (λ o. unwrap_or o false) (slice_get-set_same xs p v below)
 
 pub reported_other : (p q : ℕ) (xs : List Bool) (v : Bool) → q ≢ p
     → is_reported p (slice_set xs q v) ≡ is_reported p xs
-reported_other p q xs v apart = ap (λ o. unwrap_or o false) (get_set_other xs q p v apart)
+reported_other p q xs v apart = ap (λ o. unwrap_or o false) (slice_get-set_other xs q p v (λ e. apart (sym e)))
 
 pub unmarked_past : (p : ℕ) (xs : List Bool) → length xs ≤ p → is_reported p xs ≡ false
 unmarked_past p xs above = ap (λ o. unwrap_or o false) (slice_get_past xs p above)

@@ -23,7 +23,8 @@ use Rattle.world.specs.declared.left.Left.{Left}
 use Rattle.world.specs.declared.left.Left.TheVariants as left
 use Rattle.world.specs.Disk.{leaves}
 use Rattle.world_mem.specs.Folder.{Content, file_at}
-use Rattle.world_mem.specs.Known.{are_ascending, is_among}
+use Rattle.world_mem.specs.Known.{are_ascending}
+use Rattle.jtext.specs.Texts.{is_among}
 
 -- what an option stands for at a path with this file at the start: `Any` counts as absent, no byte and the one byte X
 abbrev pub choices_of : Option (List ℕ) → Left → List (Option (List ℕ))

@@ -1,7 +1,6 @@
 -- Paths with what is known of each, in the order of their bytes; a path that isn't there is as before the run.
 use Rattle.std.specs.Prelude.{◌≡◌, ◌&&◌, ℕ, List, [], ◌∷◌, Bool, true, if◌then◌else◌}
 use Rattle.std.specs.Cmp.Lexicographic.{slice_cmp}
-use Rattle.std.specs.List.{list_any}
 use Rattle.std.specs.Ordering.{nat_cmp, is_lt}
 use Rattle.std.specs.Str.{bytes_eq}
 use Rattle.std.specs.declared.cmp.Ordering.{Ordering}
@@ -10,6 +9,7 @@ use Rattle.world.specs.declared.did.Did.{Did}
 use Rattle.world.specs.declared.entry.Entry.{Entry}
 use Rattle.world.specs.Disk.{Place, untouched_place, place_in_synced_dir, folder_of, place, place_after}
 use Rattle.world_mem.specs.Folder.{Content, has_file}
+use Rattle.jtext.specs.Texts.{is_among}
 
 -- paths with what is known of them
 abbrev pub Known : Type 0
@@ -24,10 +24,6 @@ place_in (item ∷ items) path = if bytes_eq item.0 path then item.1 else place_
 abbrev pub paths_of : Known → List (List ℕ)
 paths_of [] = []
 paths_of (item ∷ items) = item.0 ∷ paths_of items
-
--- a path is one of these
-abbrev pub is_among : List ℕ → List (List ℕ) → Bool
-is_among path paths = list_any (λ other. bytes_eq other path) paths
 
 -- a path comes before the first of these, by its bytes
 abbrev pub is_below : List ℕ → List (List ℕ) → Bool

@@ -12,7 +12,8 @@ use Rattle.world_mem.specs.Folder.{Content, file_at}
 use Rattle.world_mem.specs.Image.{IsPicked, IsAllowed}
 use Rattle.world_mem.specs.Journals.{told_of}
 use Rattle.world_mem.specs.Wire.{turn_after}
-use Rattle.world_mem.specs.Store.{did_unless, faults_after, files_of, is_to_fail, one_more}
+use Rattle.world_mem.specs.Store.{did_unless, faults_after, files_of, is_to_fail}
+use Rattle.world.specs.Rises.{one_more}
 
 -- the journal of the world
 abbrev pub journal_of : Near → Option (List Entry)

@@ -1,31 +1,5 @@
 -- What a store in memory keeps, does and answers: files, what is said, and which calls fail.
-use Rattle.std.specs.Prelude.{
-  ◌≡◌,
-  ◌==◌,
-  ℕ,
-  ◌+◌,
-  ◌-◌,
-  ◌^◌,
-  ◌<◌,
-  ◌≤◌,
-  ◌||◌,
-  min,
-  List,
-  [],
-  ◌++◌,
-  length,
-  Bool,
-  true,
-  false,
-  not,
-  Option,
-  Some,
-  None,
-  is_some,
-  option_map,
-  IsSomeAnd,
-  if◌then◌else◌,
-}
+use Rattle.std.specs.Prelude.{◌≡◌, ◌==◌, ℕ, ◌-◌, ◌^◌, ◌<◌, ◌≤◌, ◌||◌, min, List, [], ◌++◌, length, Bool, true, false, not, Option, Some, None, is_some, option_map, IsSomeAnd, if◌then◌else◌}
 use Rattle.std.specs.List.{list_any}
 use Rattle.world.specs.declared.did.Did.{Did}
 use Rattle.world.specs.declared.did.Did.TheVariants as did
@@ -33,6 +7,7 @@ use Rattle.world.specs.declared.wrote.Wrote.{Wrote}
 use Rattle.world.specs.declared.wrote.Wrote.TheVariants as wrote
 use Rattle.world.specs.declared.read_file.ReadFile.{ReadFile}
 use Rattle.world.specs.declared.read_file.ReadFile.TheVariants as found
+use Rattle.world.specs.Rises.{one_more}
 use Rattle.world_mem.specs.declared.store.Store.{Store}
 use Rattle.world_mem.specs.Folder.{file_at, has_file, Sets, Moves, Content}
 
@@ -56,10 +31,6 @@ fails_on_disk store = is_to_fail store || is_spent store.fuse
 -- that, or no file is there
 abbrev pub fails_without : Store → List ℕ → Bool
 fails_without store path = fails_on_disk store || not (has_file path (files_of store))
-
--- one more, up to the last value of a `u64`
-abbrev pub one_more : ℕ → ℕ
-one_more n = min (n + 1) (2 ^ 64 - 1)
 
 -- a count of faults after a call: it has risen exactly where the call failed
 abbrev pub faults_after : Did → ℕ → ℕ

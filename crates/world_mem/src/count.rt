@@ -1,7 +1,8 @@
 //! Counts that never fall.
 ghost use Rattle.std.specs.Prelude.{◌≡◌, ◌≤◌};
 ghost use Rattle.world.specs.Counts.{HasCause};
-ghost use Rattle.world_mem.specs.Store.{one_more, faults_after};
+ghost use Rattle.world_mem.specs.Store.{faults_after};
+ghost use Rattle.world.specs.Rises.{one_more};
 
 use world::Did;
 

@@ -3,7 +3,8 @@ ghost use Rattle.std.specs.Prelude.{◌≡◌, ◌<◌, ◌≤◌, ◌-◌, ◌�
 ghost use Rattle.world.specs.Counts.{HasCause};
 ghost use Rattle.world_mem.specs.Near.{count_call, journal_of, word_unless, words_after};
 ghost use Rattle.world_mem.specs.Near.{IsImageAt, IsNew, IsPast};
-ghost use Rattle.world_mem.specs.Store.{did_unless, faults_after, is_to_fail, one_more};
+ghost use Rattle.world_mem.specs.Store.{did_unless, faults_after, is_to_fail};
+ghost use Rattle.world.specs.Rises.{one_more};
 ghost use Rattle.world_mem.specs.Wire.{is_refusing, room_of, turn_after};
 
 use crate::copies::copy_files;

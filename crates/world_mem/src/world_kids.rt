@@ -3,7 +3,7 @@ ghost use Rattle.std.specs.Prelude.{◌≡◌, ◌<◌, ◌≤◌, ◌^◌, ◌|
 ghost use Rattle.std.specs.Prelude.{false, slice_get, slice_set};
 ghost use Rattle.world.specs.declared.entry.Entry.{Entry};
 ghost use Rattle.world.specs.Counts.{CountsBy, ChildCause, RandCause};
-ghost use Rattle.world.specs.Environment.{AllStrings};
+ghost use Rattle.jtext.specs.Texts.{AllStrings};
 ghost use Rattle.world.specs.Told.{Adds};
 ghost use Rattle.world_mem.specs.Far.{at_job, started_by};
 ghost use Rattle.world_mem.specs.Near.{journal_of, counts_of, AfterSure, AfterStart, AfterWord};

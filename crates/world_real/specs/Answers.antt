@@ -1,23 +1,5 @@
 -- What the world answers where a call of the system ended so, by POSIX.1-2017's errors of that call.
-use Rattle.std.specs.Prelude.{
-  ℕ,
-  ◌==◌,
-  ◌+◌,
-  ◌-◌,
-  ◌^◌,
-  min,
-  List,
-  Bool,
-  true,
-  false,
-  Option,
-  Some,
-  None,
-  Result,
-  Ok,
-  Err,
-  if◌then◌else◌,
-}
+use Rattle.std.specs.Prelude.{ℕ, ◌==◌, List, Bool, true, false, Option, Some, None, Result, Ok, Err, if◌then◌else◌}
 use Rattle.std.specs.IoError.{error_kind}
 use Rattle.std.specs.declared.io.ErrorKind.{ErrorKind}
 use Rattle.std.specs.declared.io.ErrorKind.TheVariants as kind
@@ -34,14 +16,11 @@ use Rattle.world.specs.declared.connected.Connected.{Connected}
 use Rattle.world.specs.declared.connected.Connected.TheVariants as connected
 use Rattle.world.specs.declared.read_file.ReadFile.{ReadFile}
 use Rattle.world.specs.declared.read_file.ReadFile.TheVariants as found
+use Rattle.world.specs.Rises.{one_more}
 use Rattle.world_real.specs.declared.trouble.Trouble.{Trouble}
 use Rattle.world_real.specs.declared.trouble.Trouble.TheVariants as trouble
 
 -- ---- counts
-
--- a count after one fault more, up to the last value of a `u64`
-abbrev pub one_more : ℕ → ℕ
-one_more count = min (count + 1) (2 ^ 64 - 1)
 
 -- a count of faults after a call: each error counts
 abbrev pub count_after : {T E : Type 0} → Result T E → ℕ → ℕ

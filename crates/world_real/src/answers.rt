@@ -4,6 +4,7 @@ ghost use Rattle.std.specs.Prelude.{◌≡◌, ◌≤◌, None, IfOk};
 ghost use Rattle.std.specs.Result.{result_ok};
 ghost use Rattle.world_real.specs.Answers as spec;
 ghost use Rattle.world.specs.Counts.{HasCause, Rose};
+ghost use Rattle.world.specs.Rises.{one_more};
 
 use crate::trouble::{Trouble, trouble_of};
 use jtext::Bytes;
@@ -13,7 +14,7 @@ use world::{Connected, Did, Got, Put, ReadFile, Wrote};
 
 /// One fault more.
 pub(crate) fn count(faults: &mut u64)
-    ensures is { faults.new ≡ spec.one_more faults.old }
+    ensures is { faults.new ≡ one_more faults.old }
     ensures later { faults.old ≤ faults.new }
     ensures rose { Rose faults.old faults.new }
 {

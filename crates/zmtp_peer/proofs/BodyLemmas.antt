@@ -1,6 +1,7 @@
 -- Bodies and envelopes.
-use Rattle.std.proofs.Common.{◌≡◌, ℕ, zero, suc, ◌<◌, true, false, cond, List, [], ◌∷◌, ◌++◌, length, take, drop, refl, ap, sym, ◌∙◌, arith, append_assoc, append-nil, map, Result, Ok, Err, OnErr}
+use Rattle.std.proofs.Common.{◌≡◌, ℕ, ◌<◌, true, false, cond, List, [], ◌∷◌, ◌++◌, length, take, drop, refl, ap, sym, ◌∙◌, arith, append_assoc, append-nil, map, Result, Ok, Err, OnErr}
 use Rattle.std.specs.List.{remove}
+use Rattle.std.proofs.lemmas.List.{take-append-drop, map-id}
 use Rattle.zmtp_wire.specs.declared.role.Role.{Role}
 use Rattle.zmtp_wire.specs.Machine.{GrowsBy}
 use Rattle.zmtp_peer.specs.Envelope.{has_envelope, starts_empty, body_in, bodies_of}
@@ -36,19 +37,10 @@ some_body r old out out' xs m body e f g =
 pub no_body : (r : Role) (old out xs : List (List (List ℕ))) (m : List (List ℕ)) → out ≡ old ++ bodies_of r xs → body_in r m ≡ [] → out ≡ old ++ bodies_of r (xs ++ m ∷ [])
 no_body r old out xs m e f = e ∙ ap (λ x. old ++ x) (sym (append-nil (bodies_of r xs)) ∙ ap (λ x. bodies_of r xs ++ x) (sym f) ∙ sym (bodies-push r xs m))
 
-same_map : (xs : List (List (List ℕ))) → map (λ y. y) xs ≡ xs
-same_map [] = refl
-same_map (x ∷ xs) = ap (λ t. x ∷ t) (same_map xs)
-
-take_drop : (n : ℕ) (xs : List (List (List ℕ))) → xs ≡ take n xs ++ drop n xs
-take_drop zero xs = refl
-take_drop (suc n) [] = refl
-take_drop (suc n) (x ∷ xs) = ap (λ t. x ∷ t) (take_drop n xs)
-
 -- where memory ran out after these messages
 pub some_bodies : (r : Role) (old out out' all xs : List (List (List ℕ))) → map (λ y. y) xs ≡ take (length xs) all → out ≡ old ++ bodies_of r xs → out' ≡ out → GrowsBy old out' (bodies_of r all)
 some_bodies r old out out' all xs e f g =
-    let front : all ≡ xs ++ drop (length xs) all = take_drop (length xs) all ∙ ap (λ t. t ++ drop (length xs) all) (sym e ∙ same_map xs) in
+    let front : all ≡ xs ++ drop (length xs) all = sym (take-append-drop (length xs) all) ∙ ap (λ t. t ++ drop (length xs) all) (sym e ∙ map-id xs) in
     record { more = bodies_of r xs; left = bodies_of r (drop (length xs) all); grown = g ∙ f; first = ap (bodies_of r) front ∙ bodies-append r xs (drop (length xs) all) }
 
 pub on_err_any : {T E : Type 0} {P : Type 0} (r : Result T E) → P → OnErr r P

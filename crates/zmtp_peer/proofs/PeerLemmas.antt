@@ -98,10 +98,6 @@ pub some_here : (p : Peer) (b piece sent : List ℕ) (old came : List (List (Lis
 some_here p b piece sent old came s e w =
     subst (λ (x : Role). wire.BringsSome x b piece [] came) s.role (subst (λ (x : List (List (List ℕ))). wire.BringsSome (wire.role_of p.decoder) b piece x came) e w)
 
-pub empty_list : (xs : List (List (List ℕ))) → length xs ≡ 0 → xs ≡ []
-empty_list [] h = refl
-empty_list (x ∷ xs) h = absurd (omega arith)
-
 pub either_way : (a : wire.Answer) → (a ≡ Err fault.NoMemory) ⊎ wire.IsUnstarved a
 either_way (Ok u) = inr (λ e. absurd (cc))
 either_way (Err (fault.Signature at)) = inr (λ e. absurd (cc))

@@ -1,11 +1,12 @@
 -- The prefixes of a PUB.
-use Rattle.std.proofs.Common.{◌≡◌, ℕ, suc, ◌+◌, ◌≤◌, ◌<◌, true, false, cond, nat_eq, List, [], ◌∷◌, ◌++◌, length, take, drop, get_or, refl, ap, sym, ◌∙◌, arith, ◌&&◌, subst, drop-cons, IsTrue, rules}
+use Rattle.std.proofs.Common.{◌≡◌, ℕ, suc, ◌+◌, ◌≤◌, ◌<◌, true, false, cond, nat_eq, List, [], ◌∷◌, ◌++◌, length, take, drop, get_or, refl, ap, sym, ◌∙◌, arith, subst, drop-cons, IsTrue, rules}
 use Rattle.std.specs.Prelude.{eqb}
 use Rattle.std.specs.List.{remove, starts_with}
 use Rattle.std.proofs.lemmas.List.{take-append-drop, at_drop_all}
-use Rattle.std.proofs.lemmas.Bool.Decides.{nat_tests}
 use lib.Pointwise.{pointwise}
-use Rattle.zmtp_wire.proofs.ListLemmas.{take_front, same_start}
+use Rattle.std.proofs.Math.Seq.{take-append_seam}
+use Rattle.jtext.proofs.Equals.{same_bytes}
+use Rattle.zmtp_wire.proofs.ListLemmas.{same_start}
 use Rattle.zmtp_wire.specs.declared.role.Role.{Role}
 use Rattle.zmtp_wire.proofs.ShakenLemmas.{is_true}
 use Rattle.zmtp_peer.specs.Subscription.{without, prefixes_after_one, prefixes_after, IsWanted}
@@ -20,26 +21,19 @@ prefixes-push r old prefixes prefixes' xs m e f = f ∙ ap (λ p. prefixes_after
 
 -- ---- the first such prefix
 
-next_one : (qs : List (List ℕ)) (i : ℕ) (d : List ℕ) → i < length qs → drop i qs ≡ get_or qs i d ∷ drop (suc i) qs
-next_one qs i d h = drop-cons qs i d h
-
 pub found : (p q : List ℕ) (qs : List (List ℕ)) (i : ℕ) → without p qs ≡ take i qs ++ without p (drop i qs) → i < length qs → q ≡ get_or qs i q → pointwise nat_eq p q ≡ true → without p qs ≡ remove qs i
 found p q qs i e h k s =
-    let one : drop i qs ≡ q ∷ drop (suc i) qs = next_one qs i q h ∙ ap (λ x. x ∷ drop (suc i) qs) (sym k) in
+    let one : drop i qs ≡ q ∷ drop (suc i) qs = drop-cons qs i q h ∙ ap (λ x. x ∷ drop (suc i) qs) (sym k) in
     e ∙ ap (λ x. take i qs ++ without p x) one ∙ ap (λ b. take i qs ++ cond b (drop (suc i) qs) (q ∷ without p (drop (suc i) qs))) s
 
 -- ---- what is wanted
 
-same_self : (p : List ℕ) → pointwise eqb p p ≡ true
-same_self [] = refl
-same_self (x ∷ p) = let e : eqb x x ≡ true = grind (arith, nat_tests) in ap (λ b. b && pointwise eqb p p) e ∙ same_self p
-
 starts_self : (p rest : List ℕ) → starts_with nat_eq (p ++ rest) p ≡ true
-starts_self p rest = ap (pointwise eqb p) (take_front p rest) ∙ same_self p
+starts_self p rest = ap (pointwise eqb p) (take-append_seam p rest) ∙ same_bytes p
 
 pub wanted_here : (prefixes : List (List ℕ)) (topic p : List ℕ) (i : ℕ) → i < length prefixes → p ≡ get_or prefixes i p → starts_with nat_eq topic p ≡ true → IsWanted prefixes topic
 wanted_here prefixes topic p i h k s =
-    let one : drop i prefixes ≡ p ∷ drop (suc i) prefixes = next_one prefixes i p h ∙ ap (λ x. x ∷ drop (suc i) prefixes) (sym k) in
+    let one : drop i prefixes ≡ p ∷ drop (suc i) prefixes = drop-cons prefixes i p h ∙ ap (λ x. x ∷ drop (suc i) prefixes) (sym k) in
     record {
       before = take i prefixes;
       prefix = p;
@@ -61,7 +55,7 @@ wanted_on x qs (y ∷ before) after topic p rest f e t =
 
 pub wanted_later : (prefixes : List (List ℕ)) (topic p : List ℕ) (i : ℕ) → i < length prefixes → p ≡ get_or prefixes i p → starts_with nat_eq topic p ≡ false → IsWanted (drop i prefixes) topic → IsWanted (drop (i + 1) prefixes) topic
 wanted_later prefixes topic p i h k f w =
-    let one : drop i prefixes ≡ p ∷ drop (suc i) prefixes = next_one prefixes i p h ∙ ap (λ x. x ∷ drop (suc i) prefixes) (sym k) in
+    let one : drop i prefixes ≡ p ∷ drop (suc i) prefixes = drop-cons prefixes i p h ∙ ap (λ x. x ∷ drop (suc i) prefixes) (sym k) in
     let n : suc i ≡ i + 1 = omega arith in
     subst (λ (j : ℕ). IsWanted (drop j prefixes) topic) n (wanted_on p (drop (suc i) prefixes) w.before w.after topic w.prefix w.rest f (sym one ∙ w.stands) w.begins)
 

@@ -2,7 +2,7 @@
 use Rattle.std.proofs.Common.{◌≡◌, ℕ, ◌<◌, Bool, true, false, cond, List, [], ◌∷◌, ◌++◌, length, refl, ap, sym, ◌∙◌, arith, append_assoc}
 use Rattle.zmtp_wire.specs.declared.role.Role.{Role}
 use Rattle.zmtp_wire.specs.Writing.{unit_octets, message_octets}
-use Rattle.zmtp_peer.specs.Envelope.{has_envelope, enveloped}
+use Rattle.zmtp_peer.specs.Envelope.{has_envelope, with_envelope}
 use Rattle.zmtp_peer.specs.Reply.{subscription_octets, pong, pongs}
 
 pub newer_octets : (newer : Bool) → newer ≡ true → 4 ∷ 10 ∷ 9 ∷ 83 ∷ 85 ∷ 66 ∷ 83 ∷ 67 ∷ 82 ∷ 73 ∷ 66 ∷ 69 ∷ [] ≡ subscription_octets newer
@@ -25,5 +25,5 @@ unfolding unit_octets
 enveloped_message [] h = absurd (omega arith)
 enveloped_message (p ∷ ps) h = refl
 
-pub envelope_octets : (r : Role) (parts : List (List ℕ)) → has_envelope r ≡ true → 0 < length parts → message_octets (enveloped r parts) ≡ (1 ∷ 0 ∷ []) ++ message_octets parts
+pub envelope_octets : (r : Role) (parts : List (List ℕ)) → has_envelope r ≡ true → 0 < length parts → message_octets (with_envelope r parts) ≡ (1 ∷ 0 ∷ []) ++ message_octets parts
 envelope_octets r parts e h = ap (λ b. message_octets (cond b ([] ∷ parts) parts)) e ∙ enveloped_message parts h

@@ -6,7 +6,7 @@ use Rattle.zmtp_wire.specs.Command.{is_peer}
 use Rattle.zmtp_wire.specs.Stream.{Gives, stream}
 use Rattle.zmtp_wire.specs.Writing.{greeting_octets, ready_octets, role_name, all_octets, IsMessage, AreMessages}
 use Rattle.zmtp_wire.proofs.WriteLemmas.{written}
-use Rattle.zmtp_peer.specs.Envelope.{has_envelope, enveloped, body_in, bodies_of}
+use Rattle.zmtp_peer.specs.Envelope.{has_envelope, with_envelope, body_in, bodies_of}
 use Rattle.zmtp_peer.proofs.BodyLemmas.{body_plain}
 use Rattle.zmtp_peer.specs.Sending.{IsBody, AreBodies, all_enveloped}
 
@@ -26,7 +26,7 @@ pub sent_gives : (r peer : Role) (ms : List (List (List ℕ))) → is_peer r (So
     → Gives r (greeting_octets ++ (ready_octets peer ++ all_octets (all_enveloped peer ms))) (all_enveloped peer ms) [] (Ok tt)
 sent_gives r peer ms e h = stream (all_enveloped peer ms) [] [] (written r peer (all_enveloped peer ms) e (messages peer ms h))
 
-body_on : (a b : Bool) (m : List (List ℕ)) (r peer : Role) → has_envelope r ≡ a → has_envelope peer ≡ b → a ≡ b → body_in r (enveloped peer m) ≡ m ∷ []
+body_on : (a b : Bool) (m : List (List ℕ)) (r peer : Role) → has_envelope r ≡ a → has_envelope peer ≡ b → a ≡ b → body_in r (with_envelope peer m) ≡ m ∷ []
 body_on true true m r peer e f h = ap (λ c. body_in r (cond c ([] ∷ m) m)) f ∙ ap (λ c. cond c (m ∷ []) (([] ∷ m) ∷ [])) e
 body_on false false m r peer e f h = ap (λ c. body_in r (cond c ([] ∷ m) m)) f ∙ body_plain r m e
 body_on true false m r peer e f h = absurd (cc)

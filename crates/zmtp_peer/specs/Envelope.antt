@@ -13,8 +13,8 @@ has_envelope role.Pub = false
 has_envelope role.Rep = true
 
 -- a body as the role sends it
-abbrev pub enveloped : Role → List (List ℕ) → List (List ℕ)
-enveloped r body = cond (has_envelope r) ([] ∷ body) body
+abbrev pub with_envelope : Role → List (List ℕ) → List (List ℕ)
+with_envelope r body = cond (has_envelope r) ([] ∷ body) body
 
 -- whether the first frame is there and empty
 abbrev pub starts_empty : List (List ℕ) → Bool

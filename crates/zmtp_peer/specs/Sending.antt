@@ -2,7 +2,7 @@
 use Rattle.std.specs.Prelude.{ℕ, ◌≤◌, ◌<◌, List, [], ◌∷◌, length, sum_by}
 use Rattle.zmtp_wire.specs.declared.role.Role.{Role}
 use Rattle.zmtp_wire.specs.Frame.{MOST}
-use Rattle.zmtp_peer.specs.Envelope.{enveloped}
+use Rattle.zmtp_peer.specs.Envelope.{with_envelope}
 
 -- a body that may be sent
 pub record IsBody (parts : List (List ℕ)) : Type 0 where
@@ -18,4 +18,4 @@ AreBodies (m ∷ ms) = IsBody m × AreBodies ms
 -- the bodies as the role sends them
 abbrev pub all_enveloped : Role → List (List (List ℕ)) → List (List (List ℕ))
 all_enveloped r [] = []
-all_enveloped r (m ∷ ms) = enveloped r m ∷ all_enveloped r ms
+all_enveloped r (m ∷ ms) = with_envelope r m ∷ all_enveloped r ms

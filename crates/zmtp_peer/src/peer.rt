@@ -9,7 +9,7 @@ ghost use Rattle.zmtp_wire.specs.Stream.{IsShaken};
 ghost use Rattle.zmtp_wire.specs.Decoder.{IsUnstarved};
 ghost use Rattle.zmtp_wire.specs.Machine.{GrowsBy};
 ghost use Rattle.zmtp_wire.specs.Writing.{greeting_octets, ready_octets, message_octets};
-ghost use Rattle.zmtp_peer.specs.Envelope.{enveloped, bodies_of};
+ghost use Rattle.zmtp_peer.specs.Envelope.{with_envelope, bodies_of};
 ghost use Rattle.zmtp_peer.specs.Subscription.{prefixes_after, prefixes_after_one, prefixes_in};
 ghost use Rattle.zmtp_peer.specs.Subscription.{IsWanted};
 ghost use Rattle.zmtp_peer.specs.Reply.{Owes, pongs, subscription_to};
@@ -68,7 +68,7 @@ impl Peer {
         requires few { length parts.now ≤ 63 }
         requires small { sum_by length parts.now ≤ MOST }
         ensures ok { OnOk result
-            (out.new ≡ out.old ++ message_octets (enveloped (role_of self.now) parts.now)) }
+            (out.new ≡ out.old ++ message_octets (with_envelope (role_of self.now) parts.now)) }
         ensures err { OnErr result (out.new ≡ out.old) }
     {
         if !has_envelope(self.role) {

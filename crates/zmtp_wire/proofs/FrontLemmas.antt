@@ -4,6 +4,8 @@ use Rattle.std.proofs.Common.{nat_eq, List, [], ◌∷◌, ◌++◌, length, tak
 use Rattle.std.proofs.Common.{arith, length-append, append_assoc, subst, ◌&&◌}
 use Rattle.std.proofs.lemmas.Bool.{and_parts, ltb-true, ltb-false, eqb-true}
 use Rattle.std.proofs.lemmas.Bool.Decides.{nat_tests}
+use Rattle.std.proofs.Math.Seq.{take-append_seam, drop-append_seam}
+use Rattle.std.proofs.lemmas.List.{take-append-drop, length-take-le, take-append-le, drop-append-le, length_push, nil_from_length}
 use Rattle.zmtp_wire.specs.declared.role.Role.{Role}
 use Rattle.zmtp_wire.specs.declared.fault.WireFault.{WireFault}
 use Rattle.zmtp_wire.specs.declared.cause.Cause.{Cause}
@@ -15,9 +17,7 @@ use Rattle.zmtp_wire.specs.Front.{Fails}
 use Rattle.zmtp_wire.specs.Stream.{Item, command, item_of, Heads, Spells, Come, nothing, greeted, shaken, Completes}
 use Rattle.zmtp_wire.specs.Stream.{greeting, ready, unit, open_after, Wrong, IsPart, Passes, room_for, room_after}
 use Rattle.zmtp_wire.specs.Stream as W
-use Rattle.zmtp_wire.proofs.ListLemmas.{take_front, drop_front, take_drop, len_take, take_more_same, drop_more_same}
-use Rattle.zmtp_wire.proofs.ListLemmas.{one_more}
-use Rattle.zmtp_wire.proofs.ListLemmas.{some_of_len, len_of_some, nil_of_len}
+use Rattle.zmtp_wire.proofs.ListLemmas.{some_of_len, len_of_some}
 use Rattle.zmtp_wire.proofs.OutcomeLemmas.{begins}
 use Rattle.zmtp_wire.proofs.TurnLemmas.{Fills, fill_size, fill_body, Shape, item_command}
 
@@ -28,8 +28,8 @@ pub size_front : (f : ℕ) (r o m : List ℕ) → o ++ m ≡ r → length o ≡ 
     → (take (size_len f) r ≡ o) × (drop (size_len f) r ≡ m) × (size_len f ≤ length r)
 size_front f r o m e l =
     let n = ap length e in (
-      ap (take (size_len f)) (sym e) ∙ ap (λ k. take k (o ++ m)) (sym l) ∙ take_front o m,
-      ap (drop (size_len f)) (sym e) ∙ ap (λ k. drop k (o ++ m)) (sym l) ∙ drop_front o m,
+      ap (take (size_len f)) (sym e) ∙ ap (λ k. take k (o ++ m)) (sym l) ∙ take-append_seam o m,
+      ap (drop (size_len f)) (sym e) ∙ ap (λ k. drop k (o ++ m)) (sym l) ∙ drop-append_seam o m,
       omega (arith, length-append o m),
     )
 
@@ -47,12 +47,6 @@ last_of : (t : List ℕ) → 0 < length t → (p : List ℕ) × (x : ℕ) × (t 
 last_of [] h = absurd (omega arith)
 last_of (x ∷ []) h = ([], x, refl)
 last_of (x ∷ y ∷ t) h = let k = last_of (y ∷ t) (omega arith) in (x ∷ k.0, k.1, ap (λ z. x ∷ z) k.2)
-
-pub all_true : (a b c : Bool) → a ≡ true → b ≡ true → c ≡ true → (a && b && c) ≡ true
-all_true true true true e f g = refl
-all_true true true false e f g = absurd (cc)
-all_true true false c e f g = absurd (cc)
-all_true false b c e f g = absurd (cc)
 
 -- ---- no test fails
 
@@ -89,7 +83,7 @@ first_passes_at role g f r h _ m _ (W.handshake _ p body c s w) e = h.agreed p m
 pub first_passes : (role : Role) (g : List ℕ) (f : ℕ) (r : List ℕ) → FirstFits role f r
     → Passes role (greeted g) (f ∷ r)
 first_passes role g f r h = λ k c w. first_passes_at role g f r h (take k (f ∷ r)) (drop k (f ∷ r)) c w
-    (sym (take_drop k (f ∷ r)))
+    (take-append-drop k (f ∷ r))
 
 -- no test fails in a later unit that begins so
 pub record LaterFits (g : List ℕ) (items : List Item) (f : ℕ) (r : List ℕ) : Type 0 where
@@ -133,7 +127,7 @@ later_passes_at role g items f r h _ m _ (W.peer_error _ _ p f' o d x w t) e =
 pub later_passes : (role : Role) (g : List ℕ) (items : List Item) (f : ℕ) (r : List ℕ) → LaterFits g items f r
     → Passes role (shaken g items) (f ∷ r)
 later_passes role g items f r h = λ k c w. later_passes_at role g items f r h (take k (f ∷ r)) (drop k (f ∷ r)) c w
-    (sym (take_drop k (f ∷ r)))
+    (take-append-drop k (f ∷ r))
 
 -- ---- unfinished units
 
@@ -205,7 +199,7 @@ pub fails_later : (role : Role) (come : Come) (at : ℕ) (b : List ℕ) (f : ℕ
     → Fails role come at b e
 fails_later role come at b f t after c e s h w parts place =
     let k = last_of t h in
-    let len : length t ≡ suc (length k.0) = ap length k.2 ∙ omega (arith, one_more k.0 k.1) in
+    let len : length t ≡ suc (length k.0) = ap length k.2 ∙ omega (arith, length_push k.0 k.1) in
     record {
       part = f ∷ k.0;
       octet = k.1;
@@ -220,7 +214,7 @@ fails_later role come at b f t after c e s h w parts place =
 -- ---- the first octet
 
 pub none_part : (role : Role) (come : Come) (b : List ℕ) → length b ≡ 0 → IsPart role come b
-none_part role come b e = subst (λ (t : List ℕ). IsPart role come t) (sym (nil_of_len b e)) (begins role come)
+none_part role come b e = subst (λ (t : List ℕ). IsPart role come t) (sym (nil_from_length b e)) (begins role come)
 
 pub too_many_wrong : (role : Role) (g : List ℕ) (items : List Item) (f : ℕ) (frames : List (List ℕ))
     → open_after [] items ≡ frames → (is_more f && nat_eq (length frames) 63) ≡ true
@@ -239,7 +233,7 @@ HasSize f r size rest = (size_len f ≤ length r) × (size ≡ size_of (take (si
 
 pub heads : (f : ℕ) (r : List ℕ) → is_allowed f ≡ true → size_len f ≤ length r
     → Heads (f ∷ take (size_len f) r) f (take (size_len f) r)
-heads f r a h = record { spelled = refl; allowed = a; len = len_take (size_len f) r h }
+heads f r a h = record { spelled = refl; allowed = a; len = length-take-le (size_len f) r h }
 
 -- a proper front of a size and octets after it
 pub front_of : (f : ℕ) (p m o u : List ℕ) → m ≢ [] → p ++ m ≡ o ++ u → length o ≡ size_len f → size_len f ≤ length p
@@ -247,8 +241,8 @@ pub front_of : (f : ℕ) (p m o u : List ℕ) → m ≢ [] → p ++ m ≡ o ++ u
 front_of f p m o u ne e l h =
     let s = size_front f (p ++ m) o u (sym e) l in
     let k = len_of_some m ne in
-    let d = ap length (sym (drop_more_same (size_len f) p m h) ∙ s.1) in
-    (sym (take_more_same (size_len f) p m h) ∙ s.0, omega (arith, length-append (drop (size_len f) p) m))
+    let d = ap length (sym (drop-append-le (size_len f) p m h) ∙ s.1) in
+    (sym (take-append-le (size_len f) p m h) ∙ s.0, omega (arith, length-append (drop (size_len f) p) m))
 
 -- a size, a body of that size and what follows
 pub cut_body : (f : ℕ) (r rest body after : List ℕ) (size : ℕ) → HasSize f r size rest → rest ≡ body ++ after
@@ -265,6 +259,6 @@ cut_body f r rest body after size s e l a = (
     means = refl;
     spelled = refl;
   },
-  take_drop (size_len f) r ∙ ap (λ u. take (size_len f) r ++ u) (sym s.2 ∙ e)
+  sym (take-append-drop (size_len f) r) ∙ ap (λ u. take (size_len f) r ++ u) (sym s.2 ∙ e)
       ∙ sym (append_assoc (take (size_len f) r) body after),
 )

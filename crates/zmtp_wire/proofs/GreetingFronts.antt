@@ -1,7 +1,9 @@
 -- The greeting in front of octets, octet by octet.
-use Rattle.std.proofs.Common.{◌≡◌, ℕ, ◌+◌, ◌-◌, ◌≤◌, ◌<◌, Bool, true, false}
+use Rattle.std.proofs.Common.{◌≡◌, ℕ, ◌+◌, ◌-◌, ◌≤◌, ◌<◌, Bool, true, false, replicate}
 use Rattle.std.proofs.Common.{List, [], ◌∷◌, ◌++◌, length, take, refl, ap, sym, ◌∙◌}
 use Rattle.std.proofs.Common.{arith, length-append, append_assoc, append-nil, inl, inr, subst}
+use Rattle.std.proofs.Math.Seq.{take-append_seam}
+use Rattle.std.proofs.lemmas.List.{length_push, nil_from_length, same_from_push, length-replicate}
 use Rattle.zmtp_wire.specs.declared.role.Role.{Role}
 use Rattle.zmtp_wire.specs.declared.fault.WireFault.{WireFault}
 use Rattle.zmtp_wire.specs.declared.cause.Cause.{Cause}
@@ -11,11 +13,8 @@ use Rattle.zmtp_wire.specs.Greeting.{passes, greeting_cause, speaks}
 use Rattle.zmtp_wire.specs.Stream.{Item, command, item_of, Heads, Spells, Come, nothing, greeted, shaken, Completes}
 use Rattle.zmtp_wire.specs.Stream.{greeting, ready, unit, open_after, Wrong, IsPart, Passes, room_for, room_after}
 use Rattle.zmtp_wire.specs.Stream as W
-use Rattle.zmtp_wire.proofs.ListLemmas.{take_front}
-use Rattle.zmtp_wire.proofs.ListLemmas.{one_more, zeros, len_zeros}
-use Rattle.zmtp_wire.proofs.ListLemmas.{some_of_len, nil_of_len}
+use Rattle.zmtp_wire.proofs.ListLemmas.{some_of_len}
 use Rattle.zmtp_wire.proofs.OutcomeLemmas.{begins, take_snoc}
-use Rattle.zmtp_wire.proofs.WrongLemmas.{snoc_same}
 
 -- the first octets of b, no more than 64, and no test fails at them
 pub record Greets (b : List ℕ) (i : ℕ) (rest : List ℕ) : Type 0 where
@@ -38,7 +37,7 @@ greets_none b = record {
 no_wrong : (role : Role) (p : List ℕ) (x : ℕ) → passes (length p) x ≡ true → (q : List ℕ) (c : Cause)
     → Wrong role nothing q c → q ≡ p ++ x ∷ [] → ⊥
 no_wrong role p x h _ _ (W.greeting p' x' l f) e =
-    let k = snoc_same p' p x' x e in
+    let k = same_from_push p' p x' x e in
     let no : true ≡ false = sym h ∙ ap (λ q. passes (length q) x) (sym k.0) ∙ ap (passes (length p')) (sym k.1)
     ∙ f in
     absurd (cc)
@@ -58,15 +57,15 @@ greets_more b i rest x after g h e p =
     record {
       front = g.front ++ x ∷ [];
       spelled = g.spelled ∙ ap (λ t. g.front ++ t) e ∙ sym (append_assoc g.front (x ∷ []) after);
-      len = one_more g.front x ∙ ap (λ n. n + 1) g.len;
+      len = length_push g.front x ∙ ap (λ n. n + 1) g.len;
       few = omega arith;
       fits = λ role. passes_one role g.front x (g.fits role) here;
     }
 
 greeting_part : (role : Role) (p : List ℕ) → length p < 64 → Passes role nothing p → IsPart role nothing p
 greeting_part role p h ps =
-    let m = zeros (64 - length p) in
-    let len : length m ≡ 64 - length p = len_zeros (64 - length p) in
+    let m = replicate (64 - length p) 0 in
+    let len : length m ≡ 64 - length p = length-replicate (64 - length p) 0 in
     record {
       missing = m;
       some = some_of_len m (omega arith);
@@ -79,7 +78,7 @@ greeting_part role p h ps =
 pub greets_part : (role : Role) (b : List ℕ) (i : ℕ) (rest : List ℕ) → Greets b i rest → i < 64 → length rest ≡ 0
     → IsPart role nothing b
 greets_part role b i rest g h e =
-    let all : b ≡ g.front = g.spelled ∙ ap (λ t. g.front ++ t) (nil_of_len rest e) ∙ append-nil g.front in
+    let all : b ≡ g.front = g.spelled ∙ ap (λ t. g.front ++ t) (nil_from_length rest e) ∙ append-nil g.front in
     let len = g.len in
     subst (λ (t : List ℕ). IsPart role nothing t) (sym all) (greeting_part role g.front (omega arith) (g.fits role))
 
@@ -108,7 +107,7 @@ greets_whole role b i rest first newer g h f n =
     let few = g.few in
     let len : length g.front ≡ 64 = omega (arith, g.len) in
     let front : first ≡ g.front = f ∙ ap (take 64) g.spelled ∙ ap (λ k. take k (g.front ++ rest)) (sym len)
-    ∙ take_front g.front rest in (
+    ∙ take-append_seam g.front rest in (
       g.front,
       record {
         front = g.front;

@@ -3,12 +3,14 @@ use Rattle.std.proofs.Common.{◌≡◌, ℕ, zero, suc, ◌+◌, ◌≤◌, Boo
 use Rattle.std.specs.List.{starts_with}
 use Rattle.std.specs.Int.{w32, from_be_bytes}
 use Rattle.std.proofs.lemmas.Bool.{cond-false, ltb-false}
+use Rattle.std.proofs.Math.Seq.{take-append_seam, drop-append_seam}
+use Rattle.std.proofs.lemmas.List.{take-append-drop, length-take-le, length-drop}
 use Rattle.zmtp_wire.specs.declared.role.Role.{Role}
 use Rattle.zmtp_wire.specs.declared.cause.Cause.{Cause}
 use Rattle.zmtp_wire.specs.declared.cause.Cause.TheVariants as cause
 use Rattle.zmtp_wire.specs.Command.{Property, SpellsProperties, none, one, SpellsNone, WrongReady, refused, unnamed, malformed, stranger, error_name, ready_name, is_peer, socket_type}
 use Rattle.zmtp_wire.specs.Machine.{with_property, properties_in, properties, ready_cause, handshake_cause}
-use Rattle.zmtp_wire.proofs.ListLemmas.{take_front, drop_front, take_drop, len_take, len_drop, same_start}
+use Rattle.zmtp_wire.proofs.ListLemmas.{same_start}
 use Rattle.zmtp_wire.proofs.ReadyLemmas.{one_by_parts}
 
 -- ---- what properties spell is read
@@ -27,10 +29,10 @@ spelled_read _ _ none = refl
 spelled_read _ _ (one name size value rest ps l e s) =
     let after : List ℕ = size ++ (value ++ rest) in
     let all : List ℕ = name ++ after in
-    let back : (value ++ rest) ≡ drop 4 after = sym (drop_front size (value ++ rest)) ∙ ap (λ k. drop k after) l in
+    let back : (value ++ rest) ≡ drop 4 after = sym (drop-append_seam size (value ++ rest)) ∙ ap (λ k. drop k after) l in
     let first = one_by_parts (length name ∷ all) [] all name after (value ++ rest) value rest (length name) (length value) refl
-    (omega (arith, length-append name after, length-append size (value ++ rest))) (sym (take_front name after)) (sym (drop_front name after)) back (sym (four size (value ++ rest) l ∙ e))
-    (omega (arith, length-append value rest)) (sym (take_front value rest)) (sym (drop_front value rest)) in
+    (omega (arith, length-append name after, length-append size (value ++ rest))) (sym (take-append_seam name after)) (sym (drop-append_seam name after)) back (sym (four size (value ++ rest) l ∙ e))
+    (omega (arith, length-append value rest)) (sym (take-append_seam value rest)) (sym (drop-append_seam value rest)) in
     first ∙ ap (with_property (name, value)) (spelled_read ps rest s)
 
 -- ---- what is read spells
@@ -43,15 +45,15 @@ one_property n r qs h w s =
     let after = drop n r in
     let len = from_be_bytes w32 after in
     let tail = drop 4 after in
-    let cut : length after + n ≡ length r = omega (arith, len_drop n r (omega arith)) in
+    let cut : length after + n ≡ length r = omega (arith, length-drop n r) in
     let size : List ℕ = take 4 after in
-    let four_long : length size ≡ 4 = len_take 4 after (omega arith) in
+    let four_long : length size ≡ 4 = length-take-le 4 after (omega arith) in
     let number : from_be_bytes w32 size ≡ length (take len tail) =
-    sym (four size tail four_long) ∙ ap (from_be_bytes w32) (sym (take_drop 4 after)) ∙ sym (len_take len tail w) in
+    sym (four size tail four_long) ∙ ap (from_be_bytes w32) (take-append-drop 4 after) ∙ sym (length-take-le len tail w) in
     let all = one (take n r) size (take len tail) (drop len tail) qs four_long number s in
-    let name : length (take n r) ≡ n = len_take n r (omega arith) in
+    let name : length (take n r) ≡ n = length-take-le n r (omega arith) in
     let text : (take n r ++ (size ++ (take len tail ++ drop len tail))) ≡ r =
-    ap (λ t. take n r ++ (size ++ t)) (sym (take_drop len tail)) ∙ ap (λ t. take n r ++ t) (sym (take_drop 4 after)) ∙ sym (take_drop n r) in
+    ap (λ t. take n r ++ (size ++ t)) (take-append-drop len tail) ∙ ap (λ t. take n r ++ t) (take-append-drop 4 after) ∙ take-append-drop n r in
     subst (λ (t : List ℕ). SpellsProperties ((take n r, take len tail) ∷ qs) t) (ap (λ k. k ∷ (take n r ++ (size ++ (take len tail ++ drop len tail)))) name ∙ ap (λ t. n ∷ t) text) all
 
 read_on : (a b : Bool) (p : Property) (x : Option (List Property)) (ps : List Property) → cond a None (cond b None (with_property p x)) ≡ Some ps

@@ -3,6 +3,7 @@ use Rattle.std.proofs.Common.{◌≡◌, ℕ, ◌-◌, ◌≤◌, ◌<◌, Bool,
 use Rattle.std.proofs.Common.{Option, None, Some, Ok, Err, refl, ap, sym, ◌∙◌, arith, length-append, append_assoc, append-nil, subst, ◌⊎◌, inl, inr, ◌↔◌}
 use Rattle.std.proofs.lemmas.List.{get_or_append_left}
 use Rattle.std.proofs.lemmas.Bool.{cond-false, le-ltb, ltb-false}
+use Rattle.std.proofs.Math.Seq.{drop-append_seam}
 use Rattle.zmtp_wire.specs.declared.role.Role.{Role}
 use Rattle.zmtp_wire.specs.declared.fault.WireFault.{WireFault}
 use Rattle.zmtp_wire.specs.declared.fault.WireFault.TheVariants as fault
@@ -15,7 +16,6 @@ use Rattle.zmtp_wire.specs.Stream.{Message, Context, Stream, Broken, IsShaken, G
 use Rattle.zmtp_wire.specs.Machine.{Took, run, reading, ticks}
 use Rattle.zmtp_wire.specs.Decoder.{Answer, StandsFor, Brings, answer_in, answer_of, rest_len}
 use Rattle.zmtp_wire.specs.Meaning.{messages_in, contexts_in, answer_to, is_shaken, rest_in, Place, fault_or, fault_after, fault_in, Begins, Adds}
-use Rattle.zmtp_wire.proofs.ListLemmas.{drop_front}
 use Rattle.zmtp_wire.proofs.FeedLemmas.{reading-append, run-refused}
 use Rattle.zmtp_wire.proofs.OutcomeLemmas.{reads, breaks, outcome, stream_reads, state_len}
 use Rattle.zmtp_wire.proofs.GivesLemmas.{gives_reading, gives_one}
@@ -176,7 +176,7 @@ rest_of r b ms owed rest s =
     let n : rest_len (reading r b).state ≡ length rest = ap rest_len k.0 ∙ state_len s.come rest in
     let front = s.splits.front in
     let m : length b - rest_len (reading r b).state ≡ length front = omega (arith, n, ap length s.splits.spelled, length-append front rest) in
-    sym (ap (λ i. drop i b) m ∙ ap (drop (length front)) s.splits.spelled ∙ drop_front front rest)
+    sym (ap (λ i. drop i b) m ∙ ap (drop (length front)) s.splits.spelled ∙ drop-append_seam front rest)
 
 pub only_stream : (r : Role) (b : List ℕ) (ms : List Message) (owed : List Context) (rest : List ℕ) → Stream b r ms owed rest → (fault_in r b ≡ None) × (rest ≡ rest_in r b)
 only_stream r b ms owed rest s = (no_fault r b ms owed rest s, rest_of r b ms owed rest s)

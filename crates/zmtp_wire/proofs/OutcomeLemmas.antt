@@ -1,6 +1,7 @@
 -- Each list of octets is a stream or broken, and in one way.
-use Rattle.std.proofs.Common.{◌≡◌, ℕ, zero, suc, ◌<◌, Bool, true, false, nat_lt, List, [], ◌∷◌, ◌++◌, length, take, refl, ap, sym, ◌∙◌, arith, length-append, append_assoc, append-nil, ◌⊎◌, inl, inr, subst}
+use Rattle.std.proofs.Common.{◌≡◌, ℕ, zero, suc, ◌<◌, Bool, true, false, nat_lt, List, [], ◌∷◌, ◌++◌, length, take, refl, ap, sym, ◌∙◌, arith, length-append, append_assoc, append-nil, ◌⊎◌, inl, inr, subst, replicate}
 use Rattle.std.proofs.lemmas.Bool.{cond-false, cond-true, ltb-false}
+use Rattle.std.proofs.lemmas.List.{length-drop}
 use Rattle.zmtp_wire.specs.declared.role.Role.{Role}
 use Rattle.zmtp_wire.specs.declared.fault.WireFault.{WireFault}
 use Rattle.zmtp_wire.specs.declared.cause.Cause.{Cause}
@@ -17,7 +18,7 @@ use Rattle.zmtp_wire.proofs.TurnLemmas.{wrong, whole, part, turn}
 use Rattle.zmtp_wire.proofs.WrongLemmas.{stops, no_snoc}
 use Rattle.zmtp_wire.proofs.FeedLemmas.{reading-append, run-failed, place_clips}
 use Rattle.zmtp_wire.proofs.StreamLemmas.{splits_as}
-use Rattle.zmtp_wire.proofs.ListLemmas.{len_drop, zeros, some_of_len}
+use Rattle.zmtp_wire.proofs.ListLemmas.{some_of_len}
 
 -- no test fails where no octet stands
 no_octet : (role : Role) (come : Come) (q : List ℕ) (e : Cause) → Wrong role come q e → q ≡ [] → ⊥
@@ -60,7 +61,7 @@ passes_more role at come next p q x ps st = λ k e w.
 
 -- what comes next can begin
 pub begins : (role : Role) (come : Come) → IsPart role come []
-begins role nothing = record { missing = zeros 64; some = some_of_len (zeros 64) (omega arith); next = greeted (zeros 64); completes = greeting (zeros 64) refl; passes = passes_none role nothing }
+begins role nothing = record { missing = replicate 64 0; some = some_of_len (replicate 64 0) (omega arith); next = greeted (replicate 64 0); completes = greeting (replicate 64 0) refl; passes = passes_none role nothing }
 begins role (greeted g) =
     record {
       missing = 4 ∷ 0 ∷ [];
@@ -198,7 +199,7 @@ one_fault b role e e' at at' ms ms' owed owed' k j =
 
 unit_len_on : (f : ℕ) (r : List ℕ) (b : Bool) → nat_lt (length r) (size_len f) ≡ b → open_len (unit_at (f ∷ r)) ≡ length (f ∷ r)
 unit_len_on f r true h = ap open_len (cond-true _ _ _ h) ∙ omega arith
-unit_len_on f r false h = let k = ltb-false (length r) (size_len f) h in ap open_len (cond-false _ _ _ h) ∙ omega (arith, len_drop (size_len f) r k)
+unit_len_on f r false h = let k = ltb-false (length r) (size_len f) h in ap open_len (cond-false _ _ _ h) ∙ omega (arith, length-drop (size_len f) r)
 
 unit_len : (p : List ℕ) → open_len (unit_at p) ≡ length p
 unit_len [] = refl

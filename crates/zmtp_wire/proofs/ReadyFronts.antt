@@ -2,6 +2,7 @@
 use Rattle.std.proofs.Common.{◌≡◌, ◌≢◌, ℕ, ◌+◌, ◌≤◌, ◌<◌, true}
 use Rattle.std.proofs.Common.{List, [], ◌∷◌, ◌++◌, length, take, drop, None, Some, refl, ap, sym, ◌∙◌}
 use Rattle.std.proofs.Common.{arith, length-append, subst}
+use Rattle.std.proofs.lemmas.List.{take-append-drop, length-take-le}
 use Rattle.zmtp_wire.specs.declared.role.Role.{Role}
 use Rattle.zmtp_wire.specs.declared.fault.WireFault.{WireFault}
 use Rattle.zmtp_wire.specs.declared.cause.Cause.{Cause}
@@ -14,7 +15,6 @@ use Rattle.zmtp_wire.specs.Stream.{greeting, ready, unit, open_after, Wrong, IsP
 use Rattle.zmtp_wire.specs.Stream as W
 use Rattle.zmtp_wire.specs.Machine.{handshake_cause}
 use Rattle.zmtp_wire.proofs.HandshakeLemmas.{cause_tells, cause_told}
-use Rattle.zmtp_wire.proofs.ListLemmas.{take_drop, len_take}
 use Rattle.zmtp_wire.proofs.ListLemmas.{len_of_some}
 use Rattle.zmtp_wire.proofs.TurnLemmas.{shape_of, item_command, size_pos}
 use Rattle.zmtp_wire.proofs.UnitLemmas.{one_unit}
@@ -49,7 +49,7 @@ pub first_too_long : (role : Role) (g : List ℕ) (at : ℕ) (b : List ℕ) (f :
     → e ≡ fault_at last (cause.TooLong size) → Fails role (greeted g) at b e
 first_too_long role g at b f r size n last rest e h s w nn l x =
     let o = take (size_len f) r in
-    let len : length o ≡ size_len f = len_take (size_len f) r s.0 in
+    let len : length o ≡ size_len f = length-take-le (size_len f) r s.0 in
     let much : MOST < size_of o = omega (arith, s.1) in
     let parts : (p m : List ℕ) → m ≢ [] → p ++ m ≡ o → IsPart role (greeted g) (f ∷ p) = λ p m ne q.
     let short : length p < size_len f = let k = ap length q in let j = len_of_some m ne in omega
@@ -58,7 +58,7 @@ first_too_long role g at b f r size n last rest e h s w nn l x =
     (λ k. absurd (omega arith)) in
     let place : last ≡ clip (at + length o) = omega arith in
     fails_later role (greeted g) at b f o (drop (size_len f) r) (cause.TooLong (size_of o)) e
-    (h.spelled ∙ ap (λ u. f ∷ u) (take_drop (size_len f) r)) (let k = size_pos f in omega arith)
+    (h.spelled ∙ ap (λ u. f ∷ u) (sym (take-append-drop (size_len f) r))) (let k = size_pos f in omega arith)
     (W.too_long_first g (f ∷ o) f o (heads f r h.allowed s.0) much) parts
     (x ∙ ap (λ k. fault_at last (cause.TooLong k)) s.1 ∙ ap (λ k. fault_at k (cause.TooLong (size_of o))) place)
 
@@ -76,7 +76,7 @@ pub first_wrong : (role : Role) (g : List ℕ) (at : ℕ) (b : List ℕ) (f : �
     → last ≡ clip (at + n) → place ≡ clip (last + size) → e ≡ fault_at place c → Fails role (greeted g) at b e
 first_wrong role g at b f r size n last place rest body after c e h s x cut l w nn ll pl er =
     let o = take (size_len f) r in
-    let len : length o ≡ size_len f = len_take (size_len f) r s.0 in
+    let len : length o ≡ size_len f = length-take-le (size_len f) r s.0 in
     let k = cut_command b f r rest body after size h s cut l in
     let all : length (o ++ body) ≡ size_len f + size = length-append o body ∙ ap (λ y. y + length body) len
     ∙ ap (λ y. size_len f + y) l in
@@ -98,7 +98,7 @@ pub first_takes : (role : Role) (g b : List ℕ) (f : ℕ) (r : List ℕ) (size 
 first_takes role g b f r size rest body after h s x cut l w =
     let o = take (size_len f) r in
     let k = cut_command b f r rest body after size h s cut l in
-    let t = size_front f (o ++ body) o body refl (len_take (size_len f) r s.0) in
+    let t = size_front f (o ++ body) o body refl (length-take-le (size_len f) r s.0) in
     let fits : FirstFits role f (o ++ body) = record {
       allowed = h.allowed;
       command = h.commands;

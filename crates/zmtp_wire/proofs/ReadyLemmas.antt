@@ -1,13 +1,12 @@
 -- The loop over the properties of READY.
 use Rattle.std.proofs.Common.{◌≡◌, ℕ, zero, suc, ◌+◌, ◌≤◌, ◌<◌, Bool, true, false, cond, nat_lt, nat_eq, List, [], ◌∷◌, length, take, drop, Option, None, Some, refl, ap, sym, ◌∙◌, arith, length-drop, get_or}
 use Rattle.std.specs.Int.{w32, from_be_bytes}
-use Rattle.std.proofs.lemmas.Bool.{cond-true, le-ltb, lt-ltb}
+use Rattle.std.proofs.lemmas.Bool.{cond-true, le-ltb, lt-ltb, eqb-true}
 use Rattle.zmtp_wire.specs.declared.role.Role.{Role}
 use Rattle.zmtp_wire.specs.declared.cause.Cause.{Cause}
 use Rattle.zmtp_wire.specs.declared.cause.Cause.TheVariants as cause
 use Rattle.zmtp_wire.specs.Command.{Property, is_type_name, is_peer, socket_type}
 use Rattle.zmtp_wire.specs.Machine.{properties, properties_in, with_property, ready_cause, after_one}
-use Rattle.zmtp_wire.proofs.ListLemmas.{is_zero}
 
 abbrev pub found_or : Option Bool → Bool → Bool
 found_or None b = b
@@ -91,7 +90,7 @@ at_end : (r : Role) (fits : Option Bool) (rest : List ℕ) (z : Option Cause) �
     → cond (found_or fits false) None (Some cause.WrongPeer) ≡ z
 unfolding properties_in
 at_end r fits [] z e v = v
-at_end r fits (x ∷ rest) z e v = let k = is_zero _ e in absurd (omega arith)
+at_end r fits (x ∷ rest) z e v = let k = eqb-true _ 0 e in absurd (omega arith)
 
 pub end_true : (r : Role) (fits : Option Bool) (rest : List ℕ) (z : Option Cause) (b : Bool) → nat_eq (length rest) 0 ≡ true → verdict r fits (properties rest) ≡ z → fits ≡ Some b → b ≡ true → None ≡ z
 end_true r fits rest z b e v f t = sym (ap (λ x. cond (found_or x false) None (Some cause.WrongPeer)) (f ∙ ap Some t)) ∙ at_end r fits rest z e v

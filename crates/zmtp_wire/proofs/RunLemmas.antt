@@ -1,6 +1,7 @@
 -- The machine over many octets.
 use Rattle.std.proofs.Common.{◌≡◌, ℕ, suc, ◌+◌, ◌≤◌, ◌<◌, ◌^◌, Bool, true, false, nat_lt, nat_eq, List, [], ◌∷◌, ◌++◌, length, refl, ap, sym, ◌∙◌, arith, length-append, append_assoc, append-nil, ◌&&◌, ◌⊎◌, inl, inr}
 use Rattle.std.proofs.lemmas.Bool.Decides.{nat_tests}
+use Rattle.std.proofs.lemmas.Bool.{eqb-true}
 use Rattle.zmtp_wire.specs.declared.role.Role.{Role}
 use Rattle.zmtp_wire.specs.declared.state.State.{State}
 use Rattle.zmtp_wire.specs.declared.state.State.TheVariants.{Units}
@@ -9,7 +10,6 @@ use Rattle.zmtp_wire.specs.declared.state.Phase.TheVariants.{Handshake, Traffic}
 use Rattle.zmtp_wire.specs.declared.state.Open.TheVariants.{Body}
 use Rattle.zmtp_wire.specs.Frame.{is_command}
 use Rattle.zmtp_wire.specs.Machine.{GrowsBy, Took, before, quiet, tick, ticks, step, run, body_step, is_error}
-use Rattle.zmtp_wire.proofs.ListLemmas.{is_zero}
 
 tick_ticks : (at n : ℕ) → ticks (tick at) n ≡ ticks at (n + 1)
 tick_ticks at n = omega arith
@@ -129,4 +129,4 @@ goes_starved all left old out out' owed_old owed g e = record { more = g.more; l
 pub run-done : (r : Role) (at : ℕ) (s : State) (rest : List ℕ) → nat_eq (length rest) 0 ≡ true → run r at s rest ≡ quiet s
 unfolding run
 run-done r at s [] e = refl
-run-done r at s (x ∷ rest) e = let k = is_zero _ e in absurd (omega arith)
+run-done r at s (x ∷ rest) e = let k = eqb-true _ 0 e in absurd (omega arith)

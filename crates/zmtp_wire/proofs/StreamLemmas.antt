@@ -1,5 +1,6 @@
 -- The machine computes the relation: each list of octets is a stream or broken, and in one way.
 use Rattle.std.proofs.Common.{◌≡◌, ◌≢◌, ℕ, zero, suc, List, [], ◌∷◌, ◌++◌, length, take, refl, ap, sym, ◌∙◌, arith, length-append, append_assoc, append-nil, subst}
+use Rattle.std.proofs.Math.Seq.{take-append_seam}
 use Rattle.zmtp_wire.specs.declared.role.Role.{Role}
 use Rattle.zmtp_wire.specs.declared.cause.Cause.{Cause}
 use Rattle.zmtp_wire.specs.Machine.{before, ticks, tick, run, reading, Took, quiet, step}
@@ -8,7 +9,7 @@ use Rattle.zmtp_wire.proofs.UnitLemmas.{one_next, no_cells}
 use Rattle.zmtp_wire.proofs.StepLemmas.{state_of}
 use Rattle.zmtp_wire.proofs.TurnLemmas.{wrong, whole, part, turn}
 use Rattle.zmtp_wire.proofs.FeedLemmas.{reading-append}
-use Rattle.zmtp_wire.proofs.ListLemmas.{take_front, some_of_len, len_of_some}
+use Rattle.zmtp_wire.proofs.ListLemmas.{some_of_len, len_of_some}
 
 take_part : (k : ℕ) (q p : List ℕ) → (j : ℕ) × (take k q ≡ take j (q ++ p))
 take_part zero q p = (0, refl)
@@ -19,7 +20,7 @@ passes_front : (role : Role) (come : Come) (q p : List ℕ) → Passes role come
 passes_front role come q p h = λ k e w. let j = take_part k q p in h j.0 e (subst (λ (t : List ℕ). Wrong role come t e) j.1 w)
 
 passes_here : (role : Role) (come : Come) (q p : List ℕ) (e : Cause) → Passes role come (q ++ p) → Wrong role come q e → ⊥
-passes_here role come q p e h w = h (length q) e (subst (λ (t : List ℕ). Wrong role come t e) (sym (take_front q p)) w)
+passes_here role come q p e h w = h (length q) e (subst (λ (t : List ℕ). Wrong role come t e) (sym (take-append_seam q p)) w)
 
 regroup : (q p : List ℕ) (x : ℕ) → q ++ x ∷ p ≡ (q ++ x ∷ []) ++ p
 regroup q p x = sym (append_assoc q (x ∷ []) p)

@@ -1,13 +1,8 @@
 -- How many octets parts have together.
-use Rattle.std.proofs.Common.{◌≡◌, ℕ, zero, suc, ◌+◌, ◌≤◌, ◌<◌, ◌^◌, List, [], ◌∷◌, length, drop, refl, ap, sym, ◌∙◌, arith}
+use Rattle.std.proofs.Common.{◌≡◌, ℕ, ◌+◌, ◌≤◌, ◌<◌, ◌^◌, List, [], length, drop, ap, sym, ◌∙◌, arith}
 use Rattle.std.specs.Prelude.{sum_by}
+use Rattle.std.proofs.lemmas.List.{drop_all}
 use Rattle.zmtp_wire.specs.Fault.{clip}
-
-drop_all : (i : ℕ) (parts : List (List ℕ)) → length parts ≤ i → drop i parts ≡ []
-drop_all zero [] h = refl
-drop_all zero (x ∷ xs) h = absurd (omega arith)
-drop_all (suc i) [] h = refl
-drop_all (suc i) (x ∷ xs) h = drop_all i xs (omega arith)
 
 clip_same : (n : ℕ) → n < 2 ^ 64 → clip (n + 0) ≡ n
 clip_same n h = omega arith

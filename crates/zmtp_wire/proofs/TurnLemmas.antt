@@ -1,9 +1,12 @@
 -- One octet more: a test fails, or something is whole, or a part has grown.
 use Rattle.std.proofs.lemmas.Bool.{and_parts, cond-false, cond-true, ltb-true, ltb-false, eqb-true, eqb-false}
-use Rattle.std.proofs.Common.{◌≡◌, ◌≢◌, ℕ, zero, suc, ◌+◌, ◌-◌, ◌≤◌, ◌<◌, Bool, true, false, cond, nat_lt, nat_eq, List, [], ◌∷◌, ◌++◌, length, take, drop, Option, None, Some, refl, ap, sym, ◌∙◌, arith, length-append, append_assoc, append-nil, ◌⊎◌, inl, inr, subst, ◌&&◌}
+use Rattle.std.proofs.Common.{◌≡◌, ◌≢◌, ℕ, zero, suc, ◌+◌, ◌-◌, ◌≤◌, ◌<◌, Bool, true, false, cond, nat_lt, nat_eq, List, [], ◌∷◌, ◌++◌, length, take, drop, Option, None, Some, refl, ap, sym, ◌∙◌, arith, length-append, append_assoc, append-nil, ◌⊎◌, inl, inr, subst, ◌&&◌, replicate}
 use Rattle.std.proofs.lemmas.Bool.Decides.{nat_tests}
 use Rattle.std.specs.Prelude.{sum_by, fold}
 use Rattle.std.specs.List.{starts_with}
+use Rattle.std.proofs.Math.Seq.{take-append_seam, drop-append_seam}
+use Rattle.std.proofs.lemmas.List.{take-append-drop, length-take-le, take-append-le, length_push, drop-append-le, take_all, length-replicate}
+use Rattle.jtext.proofs.Equals.{equal_bytes}
 use Rattle.zmtp_wire.specs.declared.role.Role.{Role}
 use Rattle.zmtp_wire.specs.declared.cause.Cause.{Cause}
 use Rattle.zmtp_wire.specs.declared.cause.Cause.TheVariants as cause
@@ -19,7 +22,7 @@ use Rattle.zmtp_wire.specs.Stream as W
 use Rattle.zmtp_wire.proofs.UnitLemmas.{cells-of}
 use Rattle.zmtp_wire.proofs.HandshakeLemmas.{cause_tells}
 use Rattle.zmtp_wire.proofs.StepLemmas.{unit_at, state_of, failure_after, at_size, at_whole_size, at_longer_body, step_size, step_size_end, step_body}
-use Rattle.zmtp_wire.proofs.ListLemmas.{take_front, drop_front, take_drop, len_take, take_more_same, one_more, drop_more_same, is_zero, zeros, len_zeros, some_of_len, len_of_some, same_list, full_take}
+use Rattle.zmtp_wire.proofs.ListLemmas.{some_of_len, len_of_some}
 
 pub data Turn (role : Role) (at : ℕ) (come : Come) (q : List ℕ) (t : Took) : Type 0 where
   wrong : (c : Cause) → Wrong role come q c → t ≡ quiet (failure_after come at c) → Turn role at come q t
@@ -39,10 +42,10 @@ pub record Fills (f : ℕ) (r : List ℕ) : Type 0 where
 
 pub fill_size : (f : ℕ) (r : List ℕ) → is_allowed f ≡ true → length r < size_len f → Fills f r
 fill_size f r a h =
-    let pad = zeros (size_len f - length r) in
-    let len : length pad ≡ size_len f - length r = len_zeros (size_len f - length r) in
+    let pad = replicate (size_len f - length r) 0 in
+    let len : length pad ≡ size_len f - length r = length-replicate (size_len f - length r) 0 in
     let octets : List ℕ = r ++ pad in
-    let body = zeros (size_of octets) in
+    let body = replicate (size_of octets) 0 in
     let ne : pad ++ body ≢ [] = some_of_len (pad ++ body) (omega (arith, length-append pad body)) in
     record {
       missing = pad ++ body;
@@ -53,7 +56,7 @@ fill_size f r a h =
         octets = octets;
         body = body;
         head = record { spelled = refl; allowed = a; len = omega (arith, length-append r pad) };
-        size = sym (len_zeros (size_of octets));
+        size = sym (length-replicate (size_of octets) 0);
         means = refl;
         spelled = ap (λ t. f ∷ t) (sym (append_assoc r pad body));
       };
@@ -63,8 +66,8 @@ pub fill_body : (f : ℕ) (r : List ℕ) → is_allowed f ≡ true → size_len 
 fill_body f r a h w =
     let n = size_of (take (size_len f) r) in
     let had = drop (size_len f) r in
-    let m = zeros (n - length had) in
-    let len : length m ≡ n - length had = len_zeros (n - length had) in
+    let m = replicate (n - length had) 0 in
+    let len : length m ≡ n - length had = length-replicate (n - length had) 0 in
     let both : length (had ++ m) ≡ length had + length m = length-append had m in
     record {
       missing = m;
@@ -74,10 +77,10 @@ fill_body f r a h w =
         flag = f;
         octets = take (size_len f) r;
         body = had ++ m;
-        head = record { spelled = refl; allowed = a; len = len_take (size_len f) r h };
+        head = record { spelled = refl; allowed = a; len = length-take-le (size_len f) r h };
         size = omega arith;
         means = refl;
-        spelled = ap (λ t. f ∷ t) (ap (λ t. t ++ m) (take_drop (size_len f) r) ∙ append_assoc (take (size_len f) r) had m);
+        spelled = ap (λ t. f ∷ t) (ap (λ t. t ++ m) (sym (take-append-drop (size_len f) r)) ∙ append_assoc (take (size_len f) r) had m);
       };
     }
 
@@ -93,7 +96,7 @@ shape_of item f r m ne s =
     record {
       allowed = c.allowed;
       within = λ h.
-          let size = sym (ap size_of (take_more_same (size_len f) r m h)) ∙ c.size ∙ ap length (drop_more_same (size_len f) r m h) ∙ length-append (drop (size_len f) r) m in
+          let size = sym (ap size_of (take-append-le (size_len f) r m h)) ∙ c.size ∙ ap length (drop-append-le (size_len f) r m h) ∙ length-append (drop (size_len f) r) m in
           let k = len_of_some m ne in
           omega (arith, size);
     }
@@ -133,12 +136,12 @@ unfolding greeting_step
 greeting_on role at p x false b h e f = wrong (greeting_cause (length p)) (W.greeting p x h e) (ap quiet (cond-false _ _ _ e))
 greeting_on role at p x true true h e f =
     let k : length p ≡ 63 = grind (arith, nat_tests) in
-    whole (greeted (p ++ x ∷ [])) (greeting (p ++ x ∷ []) (omega (arith, one_more p x))) (cond-true _ _ _ e ∙ cond-true _ _ _ f) refl refl
+    whole (greeted (p ++ x ∷ [])) (greeting (p ++ x ∷ []) (omega (arith, length_push p x))) (cond-true _ _ _ e ∙ cond-true _ _ _ f) refl refl
 greeting_on role at p x true false h e f =
     let k : length p ≢ 63 = grind (arith, nat_tests) in
-    let m = zeros (63 - length p) in
-    let len : length m ≡ 63 - length p = len_zeros (63 - length p) in
-    part m (some_of_len m (omega arith)) (greeted ((p ++ x ∷ []) ++ m)) (greeting ((p ++ x ∷ []) ++ m) (omega (arith, one_more p x, length-append (p ++ x ∷ []) m))) (ap quiet (cond-true _ _ _ e ∙ cond-false _ _ _ f))
+    let m = replicate (63 - length p) 0 in
+    let len : length m ≡ 63 - length p = length-replicate (63 - length p) 0 in
+    part m (some_of_len m (omega arith)) (greeted ((p ++ x ∷ []) ++ m)) (greeting ((p ++ x ∷ []) ++ m) (omega (arith, length_push p x, length-append (p ++ x ∷ []) m))) (ap quiet (cond-true _ _ _ e ∙ cond-false _ _ _ f))
 
 -- ---- whole units
 
@@ -248,10 +251,10 @@ pub room_is : (g : List ℕ) (items : List Item) (f : ℕ) → room_in (Traffic 
 room_is g items f = ap (λ n. cond (is_command f) MOST n) (room_same MOST (open_after [] items))
 
 whole_len : (f : ℕ) (o : List ℕ) → length o ≡ size_len f → take (size_len f) o ≡ o
-whole_len f o h = ap (λ n. take n o) (sym h) ∙ ap (take (length o)) (sym (append-nil o)) ∙ take_front o []
+whole_len f o h = ap (λ n. take n o) (sym h) ∙ ap (take (length o)) (sym (append-nil o)) ∙ take-append_seam o []
 
 none_len : (f : ℕ) (o : List ℕ) → length o ≡ size_len f → drop (size_len f) o ≡ []
-none_len f o h = ap (λ n. drop n o) (sym h) ∙ ap (drop (length o)) (sym (append-nil o)) ∙ drop_front o []
+none_len f o h = ap (λ n. drop n o) (sym h) ∙ ap (drop (length o)) (sym (append-nil o)) ∙ drop-append_seam o []
 
 empty_unit : (f : ℕ) (o : List ℕ) → is_allowed f ≡ true → length o ≡ size_len f → size_of o ≡ 0 → Spells (item_of f []) (f ∷ o)
 empty_unit f o a h z =
@@ -279,7 +282,7 @@ unfolding size_step
 size_first_on role at g f o true b al c h e z =
     wrong (cause.TooLong (size_of o)) (W.too_long_first g (f ∷ o) f o (record { spelled = refl; allowed = al; len = h }) (ltb-true MOST (size_of o) e)) (cond-true _ _ _ e)
 size_first_on role at g f o false true al c h e z =
-    let zero_size : size_of o ≡ 0 = is_zero (size_of o) z in
+    let zero_size : size_of o ≡ 0 = eqb-true (size_of o) 0 z in
     let s = subst (λ (i : Item). Spells i (f ∷ o)) (item_command f [] c) (empty_unit f o al h zero_size) in
     subst (λ (t : Took). Turn role at (greeted g) (f ∷ o) t) (sym (cond-false _ _ _ e ∙ cond-true _ _ _ z)) (finish_first role at g (f ∷ o) [] f s)
 size_first_on role at g f o false false al c h e z =
@@ -292,7 +295,7 @@ size_later_on role at g items f o true b al h e z =
     let w : room_for (shaken g items) f < size_of o = subst (λ (n : ℕ). n < size_of o) (room_is g items f) (ltb-true _ (size_of o) e) in
     wrong (cause.TooLong (size_of o)) (W.too_long g items (f ∷ o) f o (record { spelled = refl; allowed = al; len = h }) w) (cond-true _ _ _ e)
 size_later_on role at g items f o false true al h e z =
-    subst (λ (t : Took). Turn role at (shaken g items) (f ∷ o) t) (sym (cond-false _ _ _ e ∙ cond-true _ _ _ z)) (finish_later role at g items (f ∷ o) [] f (empty_unit f o al h (is_zero (size_of o) z)))
+    subst (λ (t : Took). Turn role at (shaken g items) (f ∷ o) t) (sym (cond-false _ _ _ e ∙ cond-true _ _ _ z)) (finish_later role at g items (f ∷ o) [] f (empty_unit f o al h (eqb-true (size_of o) 0 z)))
 size_later_on role at g items f o false false al h e z =
     grown_later role at g items f o _ (body_to_come f o al h z) (cond-false _ _ _ e ∙ cond-false _ _ _ z ∙ ap (λ u. quiet (Units (Traffic (speaks g) (open_after [] items)) u)) (sym (at_whole_size f o h)))
 
@@ -306,16 +309,16 @@ whole_body f r x a h e =
       flag = f;
       octets = take (size_len f) r;
       body = drop (size_len f) r ++ x ∷ [];
-      head = record { spelled = refl; allowed = a; len = len_take (size_len f) r h };
+      head = record { spelled = refl; allowed = a; len = length-take-le (size_len f) r h };
       size = e;
       means = refl;
-      spelled = ap (λ t. f ∷ t) (ap (λ t. t ++ x ∷ []) (take_drop (size_len f) r) ∙ append_assoc (take (size_len f) r) (drop (size_len f) r) (x ∷ []));
+      spelled = ap (λ t. f ∷ t) (ap (λ t. t ++ x ∷ []) (sym (take-append-drop (size_len f) r)) ∙ append_assoc (take (size_len f) r) (drop (size_len f) r) (x ∷ []));
     }
 
 more_body : (f : ℕ) (r : List ℕ) (x : ℕ) → is_allowed f ≡ true → size_len f ≤ length r → length (drop (size_len f) r ++ x ∷ []) < size_of (take (size_len f) r) → Fills f (r ++ x ∷ [])
 more_body f r x a h w =
-    let w' : length (drop (size_len f) (r ++ x ∷ [])) < size_of (take (size_len f) (r ++ x ∷ [])) = rw (take_more_same (size_len f) r (x ∷ []) h, drop_more_same (size_len f) r (x ∷ []) h) w in
-    fill_body f (r ++ x ∷ []) a (omega (arith, one_more r x)) w'
+    let w' : length (drop (size_len f) (r ++ x ∷ [])) < size_of (take (size_len f) (r ++ x ∷ [])) = rw (take-append-le (size_len f) r (x ∷ []) h, drop-append-le (size_len f) r (x ∷ []) h) w in
+    fill_body f (r ++ x ∷ []) a (omega (arith, length_push r x)) w'
 
 body_first_on : (role : Role) (at : ℕ) (g : List ℕ) (f : ℕ) (r : List ℕ) (x : ℕ) (a : Bool) → Shape f r → is_command f ≡ true → size_len f ≤ length r
     → nat_lt (length (drop (size_len f) r ++ x ∷ [])) (size_of (take (size_len f) r)) ≡ a
@@ -326,7 +329,7 @@ body_first_on role at g f r x true s c h e =
 body_first_on role at g f r x false s c h e =
     let w = s.within h in
     let k = ltb-false _ _ e in
-    let size : size_of (take (size_len f) r) ≡ length (drop (size_len f) r ++ x ∷ []) = omega (arith, one_more (drop (size_len f) r) x) in
+    let size : size_of (take (size_len f) r) ≡ length (drop (size_len f) r ++ x ∷ []) = omega (arith, length_push (drop (size_len f) r) x) in
     let spells = subst (λ (i : Item). Spells i (f ∷ (r ++ x ∷ []))) (item_command f (drop (size_len f) r ++ x ∷ []) c) (whole_body f r x s.allowed h size) in
     subst (λ (t : Took). Turn role at (greeted g) (f ∷ (r ++ x ∷ [])) t) (sym (cond-false _ _ _ e)) (finish_first role at g (f ∷ (r ++ x ∷ [])) (drop (size_len f) r ++ x ∷ []) f spells)
 
@@ -335,7 +338,7 @@ error_tells f body e =
     let k = and_parts (is_command f && nat_eq (length body) 6) (starts_with nat_eq body error_name) e in
     let j = and_parts (is_command f) (nat_eq (length body) 6) k.0 in
     let six : length body ≡ 6 = eqb-true (length body) 6 j.1 in
-    (j.0, sym (same_list error_name (take 6 body) k.1 ∙ full_take 6 body six))
+    (j.0, sym (equal_bytes error_name (take 6 body) k.1 ∙ take_all 6 body (omega (arith, six))))
 
 body_later_on : (role : Role) (at : ℕ) (g : List ℕ) (items : List Item) (f : ℕ) (r : List ℕ) (x : ℕ) (b a : Bool) → Shape f r → size_len f ≤ length r
     → is_error (Traffic (speaks g) (open_after [] items)) f (drop (size_len f) r ++ x ∷ []) ≡ b
@@ -346,16 +349,16 @@ body_later_on role at g items f r x true a s h i e =
     let k = error_tells f (drop (size_len f) r ++ x ∷ []) i in
     let w = s.within h in
     let six : length (drop (size_len f) r ++ x ∷ []) ≡ 6 = ap length k.1 in
-    let size : 6 ≤ size_of (take (size_len f) r) = omega (arith, one_more (drop (size_len f) r) x) in
+    let size : 6 ≤ size_of (take (size_len f) r) = omega (arith, length_push (drop (size_len f) r) x) in
     let text : (f ∷ (r ++ x ∷ [])) ≡ f ∷ (take (size_len f) r ++ error_name) =
-    ap (λ t. f ∷ t) (ap (λ t. t ++ x ∷ []) (take_drop (size_len f) r) ∙ append_assoc (take (size_len f) r) (drop (size_len f) r) (x ∷ []) ∙ ap (λ t. take (size_len f) r ++ t) k.1) in
-    wrong cause.PeerError (W.peer_error g items (f ∷ (r ++ x ∷ [])) f (take (size_len f) r) (record { spelled = refl; allowed = s.allowed; len = len_take (size_len f) r h }) k.0 size text) (cond-true _ _ _ i)
+    ap (λ t. f ∷ t) (ap (λ t. t ++ x ∷ []) (sym (take-append-drop (size_len f) r)) ∙ append_assoc (take (size_len f) r) (drop (size_len f) r) (x ∷ []) ∙ ap (λ t. take (size_len f) r ++ t) k.1) in
+    wrong cause.PeerError (W.peer_error g items (f ∷ (r ++ x ∷ [])) f (take (size_len f) r) (record { spelled = refl; allowed = s.allowed; len = length-take-le (size_len f) r h }) k.0 size text) (cond-true _ _ _ i)
 body_later_on role at g items f r x false true s h i e =
     grown_later role at g items f (r ++ x ∷ []) _ (more_body f r x s.allowed h (ltb-true _ _ e)) (cond-false _ _ _ i ∙ cond-true _ _ _ e ∙ ap (λ u. quiet (Units (Traffic (speaks g) (open_after [] items)) u)) (sym (at_longer_body f r x h)))
 body_later_on role at g items f r x false false s h i e =
     let w = s.within h in
     let k = ltb-false _ _ e in
-    let size : size_of (take (size_len f) r) ≡ length (drop (size_len f) r ++ x ∷ []) = omega (arith, one_more (drop (size_len f) r) x) in
+    let size : size_of (take (size_len f) r) ≡ length (drop (size_len f) r ++ x ∷ []) = omega (arith, length_push (drop (size_len f) r) x) in
     subst (λ (t : Took). Turn role at (shaken g items) (f ∷ (r ++ x ∷ [])) t) (sym (cond-false _ _ _ i ∙ cond-false _ _ _ e))
     (finish_later role at g items (f ∷ (r ++ x ∷ [])) (drop (size_len f) r ++ x ∷ []) f (whole_body f r x s.allowed h size))
 
@@ -364,20 +367,20 @@ body_later_on role at g items f r x false false s h i e =
 unit_first_on : (role : Role) (at : ℕ) (g : List ℕ) (f : ℕ) (r : List ℕ) (x : ℕ) → (length r + 1 < size_len f) ⊎ ((length r + 1 ≡ size_len f) ⊎ (size_len f ≤ length r)) → Shape f r → is_command f ≡ true
     → Turn role at (greeted g) (f ∷ (r ++ x ∷ [])) (unit_step role at (Handshake (speaks g)) (unit_at (f ∷ r)) x)
 unit_first_on role at g f r x (inl h) s c =
-    grown_first role at g f (r ++ x ∷ []) _ c (fill_size f (r ++ x ∷ []) s.allowed (omega (arith, one_more r x))) (step_size role at (Handshake (speaks g)) f r x h)
+    grown_first role at g f (r ++ x ∷ []) _ c (fill_size f (r ++ x ∷ []) s.allowed (omega (arith, length_push r x))) (step_size role at (Handshake (speaks g)) f r x h)
 unit_first_on role at g f r x (inr (inl h)) s c =
     subst (λ (t : Took). Turn role at (greeted g) (f ∷ (r ++ x ∷ [])) t) (sym (step_size_end role at (Handshake (speaks g)) f r x h))
-    (size_first_on role at g f (r ++ x ∷ []) _ _ s.allowed c (omega (arith, one_more r x)) refl refl)
+    (size_first_on role at g f (r ++ x ∷ []) _ _ s.allowed c (omega (arith, length_push r x)) refl refl)
 unit_first_on role at g f r x (inr (inr h)) s c =
     subst (λ (t : Took). Turn role at (greeted g) (f ∷ (r ++ x ∷ [])) t) (sym (step_body role at (Handshake (speaks g)) f r x h)) (body_first_on role at g f r x _ s c h refl)
 
 unit_later_on : (role : Role) (at : ℕ) (g : List ℕ) (items : List Item) (f : ℕ) (r : List ℕ) (x : ℕ) → (length r + 1 < size_len f) ⊎ ((length r + 1 ≡ size_len f) ⊎ (size_len f ≤ length r)) → Shape f r
     → Turn role at (shaken g items) (f ∷ (r ++ x ∷ [])) (unit_step role at (Traffic (speaks g) (open_after [] items)) (unit_at (f ∷ r)) x)
 unit_later_on role at g items f r x (inl h) s =
-    grown_later role at g items f (r ++ x ∷ []) _ (fill_size f (r ++ x ∷ []) s.allowed (omega (arith, one_more r x))) (step_size role at (Traffic (speaks g) (open_after [] items)) f r x h)
+    grown_later role at g items f (r ++ x ∷ []) _ (fill_size f (r ++ x ∷ []) s.allowed (omega (arith, length_push r x))) (step_size role at (Traffic (speaks g) (open_after [] items)) f r x h)
 unit_later_on role at g items f r x (inr (inl h)) s =
     subst (λ (t : Took). Turn role at (shaken g items) (f ∷ (r ++ x ∷ [])) t) (sym (step_size_end role at (Traffic (speaks g) (open_after [] items)) f r x h))
-    (size_later_on role at g items f (r ++ x ∷ []) _ _ s.allowed (omega (arith, one_more r x)) refl refl)
+    (size_later_on role at g items f (r ++ x ∷ []) _ _ s.allowed (omega (arith, length_push r x)) refl refl)
 unit_later_on role at g items f r x (inr (inr h)) s =
     subst (λ (t : Took). Turn role at (shaken g items) (f ∷ (r ++ x ∷ [])) t) (sym (step_body role at (Traffic (speaks g) (open_after [] items)) f r x h)) (body_later_on role at g items f r x _ _ s h refl refl)
 

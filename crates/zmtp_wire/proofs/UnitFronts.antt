@@ -5,6 +5,8 @@ use Rattle.std.proofs.Common.{arith, length-append, append_assoc, subst, ◌&&�
 use Rattle.std.proofs.lemmas.Bool.{and_parts}
 use Rattle.std.proofs.lemmas.Bool.Decides.{nat_tests}
 use Rattle.std.specs.List.{starts_with}
+use Rattle.std.proofs.lemmas.List.{take-append-drop, length-take-le}
+use Rattle.jtext.proofs.Lists.{and_three}
 use Rattle.zmtp_wire.specs.declared.role.Role.{Role}
 use Rattle.zmtp_wire.specs.declared.fault.WireFault.{WireFault}
 use Rattle.zmtp_wire.specs.declared.cause.Cause.TheVariants as cause
@@ -15,11 +17,10 @@ use Rattle.zmtp_wire.specs.Front.{Takes, Fails, begins_error, room_beside}
 use Rattle.zmtp_wire.specs.Stream.{Item, command, item_of, Heads, Spells, Come, nothing, greeted, shaken, Completes}
 use Rattle.zmtp_wire.specs.Stream.{greeting, ready, unit, open_after, Wrong, IsPart, Passes, room_for, room_after}
 use Rattle.zmtp_wire.specs.Stream as W
-use Rattle.zmtp_wire.proofs.ListLemmas.{take_drop, len_take}
 use Rattle.zmtp_wire.proofs.ListLemmas.{same_start}
 use Rattle.zmtp_wire.proofs.ListLemmas.{len_of_some}
 use Rattle.zmtp_wire.proofs.TurnLemmas.{size_pos}
-use Rattle.zmtp_wire.proofs.FrontLemmas.{size_front, all_true, LaterFits, later_passes, later_part, fails_later}
+use Rattle.zmtp_wire.proofs.FrontLemmas.{size_front, LaterFits, later_passes, later_part, fails_later}
 use Rattle.zmtp_wire.proofs.FrontLemmas.{HasSize, heads, front_of, cut_body}
 
 -- the flag was passed where these frames stand open
@@ -55,7 +56,7 @@ no_error : (f size : ℕ) (rest t : List ℕ) → begins_error f size rest ≡ f
 no_error f size rest t e c w s =
     let six : nat_le 6 size ≡ true = grind (arith, nat_tests) in
     let text : starts_with nat_eq rest error_name ≡ true = ap (λ u. starts_with nat_eq u error_name) s in
-    let no : true ≡ false = sym (all_true _ _ _ c six text) ∙ e in
+    let no : true ≡ false = sym (and_three _ _ _ c six text) ∙ e in
     absurd (cc)
 
 pub later_body_part : (role : Role) (g : List ℕ) (items : List Item) (b : List ℕ) (f : ℕ) (r : List ℕ)
@@ -83,7 +84,7 @@ pub later_too_long : (role : Role) (g : List ℕ) (items : List Item) (at : ℕ)
     → e ≡ fault_at last (cause.TooLong size) → Fails role (shaken g items) at b e
 later_too_long role g items at b f r frames size room n last rest e h s ro w nn l x =
     let o = take (size_len f) r in
-    let len : length o ≡ size_len f = len_take (size_len f) r s.0 in
+    let len : length o ≡ size_len f = length-take-le (size_len f) r s.0 in
     let free = room_of g items f room frames h.stands ro in
     let much : room_for (shaken g items) f < size_of o = omega (arith, s.1) in
     let parts : (p m : List ℕ) → m ≢ [] → p ++ m ≡ o → IsPart role (shaken g items) (f ∷ p) = λ p m ne q.
@@ -98,7 +99,7 @@ later_too_long role g items at b f r frames size room n last rest e h s ro w nn 
     later_part role g items f p (record { allowed = h.allowed; within = λ k. absurd (omega arith) }) fits in
     let place : last ≡ clip (at + length o) = omega arith in
     fails_later role (shaken g items) at b f o (drop (size_len f) r) (cause.TooLong (size_of o)) e
-    (h.spelled ∙ ap (λ u. f ∷ u) (take_drop (size_len f) r)) (let k = size_pos f in omega arith)
+    (h.spelled ∙ ap (λ u. f ∷ u) (sym (take-append-drop (size_len f) r))) (let k = size_pos f in omega arith)
     (W.too_long g items (f ∷ o) f o (heads f r h.allowed s.0) much) parts
     (x ∙ ap (λ k. fault_at last (cause.TooLong k)) s.1 ∙ ap (λ k. fault_at k (cause.TooLong (size_of o))) place)
 
@@ -111,14 +112,14 @@ pub later_error : (role : Role) (g : List ℕ) (items : List Item) (at : ℕ) (b
     → e ≡ fault_at place cause.PeerError → Fails role (shaken g items) at b e
 later_error role g items at b f r frames size room n last place rest e h s ro w er nn l pl x =
     let o = take (size_len f) r in
-    let len : length o ≡ size_len f = len_take (size_len f) r s.0 in
+    let len : length o ≡ size_len f = length-take-le (size_len f) r s.0 in
     let free = room_of g items f room frames h.stands ro in
     let k = and_parts (is_command f && nat_le 6 size) (starts_with nat_eq rest error_name) er in
     let j = and_parts (is_command f) (nat_le 6 size) k.0 in
     let six : 6 ≤ size = let y = j.1 in grind (arith, nat_tests) in
     let many : 6 ≤ size_of o = omega (arith, s.1) in
     let text : error_name ++ drop 6 rest ≡ rest = same_start error_name rest k.1 in
-    let whole_text : r ≡ (o ++ error_name) ++ drop 6 rest = take_drop (size_len f) r
+    let whole_text : r ≡ (o ++ error_name) ++ drop 6 rest = sym (take-append-drop (size_len f) r)
     ∙ ap (λ u. o ++ u) (sym s.2 ∙ sym text) ∙ sym (append_assoc o error_name (drop 6 rest)) in
     let all : length (o ++ error_name) ≡ size_len f + 6 = length-append o error_name ∙ ap (λ y. y + 6) len in
     let parts : (p m : List ℕ) → m ≢ [] → p ++ m ≡ o ++ error_name
@@ -150,7 +151,7 @@ pub later_takes : (role : Role) (g : List ℕ) (items : List Item) (b : List ℕ
 later_takes role g items b f r frames size room rest body after h s ro w er e l =
     let o = take (size_len f) r in
     let k = cut_body f r rest body after size s e l h.allowed in
-    let t = size_front f (o ++ body) o body refl (len_take (size_len f) r s.0) in
+    let t = size_front f (o ++ body) o body refl (length-take-le (size_len f) r s.0) in
     let free = room_of g items f room frames h.stands ro in
     let fits : LaterFits g items f (o ++ body) = record {
       allowed = h.allowed;

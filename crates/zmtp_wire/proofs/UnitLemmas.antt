@@ -1,8 +1,9 @@
 -- Units as octets: how long one is, and that none begins another.
 use Rattle.std.proofs.Common.{◌≡◌, ℕ, ◌+◌, ◌≤◌, true, List, [], ◌∷◌, ◌++◌, length, take, drop, refl, ap, sym, ◌∙◌, arith, length-append, append-nil, subst}
+use Rattle.std.proofs.Math.Seq.{take-append_seam, drop-append_seam}
+use Rattle.std.proofs.lemmas.List.{take-append-drop, length-take-le, take-append-le, length-drop, nil_from_length}
 use Rattle.zmtp_wire.specs.Frame.{is_allowed, size_len, size_of}
 use Rattle.zmtp_wire.specs.Stream.{Item, item_of, Spells, Come, greeted, shaken, Completes, greeting, ready, unit}
-use Rattle.zmtp_wire.proofs.ListLemmas.{take_front, drop_front, take_drop, len_take, take_more_same, len_drop, nil_of_len}
 
 -- a unit by its cells
 pub record Cells (item : Item) (f : ℕ) (r : List ℕ) : Type 0 where
@@ -15,8 +16,8 @@ pub cells-of : (item : Item) (f : ℕ) (r : List ℕ) → Spells item (f ∷ r) 
 cells-of item f r s =
     let same : f ≡ s.flag = cc (s.spelled) in
     let rest : r ≡ s.octets ++ s.body = cc (s.spelled) in
-    let front : take (size_len s.flag) r ≡ s.octets = ap (λ n. take n r) (sym s.head.len) ∙ ap (λ x. take (length s.octets) x) rest ∙ take_front s.octets s.body in
-    let back : drop (size_len s.flag) r ≡ s.body = ap (λ n. drop n r) (sym s.head.len) ∙ ap (λ x. drop (length s.octets) x) rest ∙ drop_front s.octets s.body in
+    let front : take (size_len s.flag) r ≡ s.octets = ap (λ n. take n r) (sym s.head.len) ∙ ap (λ x. take (length s.octets) x) rest ∙ take-append_seam s.octets s.body in
+    let back : drop (size_len s.flag) r ≡ s.body = ap (λ n. drop n r) (sym s.head.len) ∙ ap (λ x. drop (length s.octets) x) rest ∙ drop-append_seam s.octets s.body in
     let len : length r ≡ length s.octets + length s.body = ap length rest ∙ length-append s.octets s.body in
     let here : Cells item s.flag r = record {
       allowed = s.head.allowed;
@@ -32,10 +33,10 @@ of-cells item f r c =
       flag = f;
       octets = take (size_len f) r;
       body = drop (size_len f) r;
-      head = record { spelled = refl; allowed = c.allowed; len = len_take (size_len f) r c.headed };
+      head = record { spelled = refl; allowed = c.allowed; len = length-take-le (size_len f) r c.headed };
       size = c.size;
       means = c.means;
-      spelled = ap (λ t. f ∷ t) (take_drop (size_len f) r);
+      spelled = ap (λ t. f ∷ t) (sym (take-append-drop (size_len f) r));
     }
 
 pub no_cells : (item : Item) → Spells item [] → ⊥
@@ -47,17 +48,17 @@ one_unit a b [] m s t = absurd (no_cells a s)
 one_unit a b (f ∷ r) m s t =
     let c = cells-of a f r s in
     let d = cells-of b f (r ++ m) t in
-    let same = take_more_same (size_len f) r m c.headed in
-    let lr = len_drop (size_len f) r c.headed in
-    let ld = len_drop (size_len f) (r ++ m) d.headed in
+    let same = take-append-le (size_len f) r m c.headed in
+    let lr = length-drop (size_len f) r in
+    let ld = length-drop (size_len f) (r ++ m) in
     let e : length (drop (size_len f) (r ++ m)) ≡ length (drop (size_len f) r) = sym d.size ∙ ap size_of same ∙ c.size in
-    let nil : m ≡ [] = nil_of_len m (omega (arith, length-append r m)) in
+    let nil : m ≡ [] = nil_from_length m (omega (arith, length-append r m)) in
     let whole : r ++ m ≡ r = ap (λ x. r ++ x) nil ∙ append-nil r in
     (nil, c.means ∙ ap (λ x. item_of f (drop (size_len f) x)) (sym whole) ∙ sym d.means)
 
 pub one_next : (come next next' : Come) (p m : List ℕ) → Completes come p next → Completes come (p ++ m) next' → (m ≡ []) × (next ≡ next')
 one_next _ _ _ _ m (greeting p h) (greeting _ h') =
-    let nil : m ≡ [] = nil_of_len m (omega (arith, length-append p m)) in
+    let nil : m ≡ [] = nil_from_length m (omega (arith, length-append p m)) in
     (nil, ap greeted (sym (append-nil p) ∙ ap (λ x. p ++ x) (sym nil)))
 one_next _ _ _ _ m (ready g p body s) (ready _ _ body' s') = ((one_unit _ _ p m s s').0, refl)
 one_next _ _ _ _ m (unit g items item p s) (unit _ _ item' _ s') =

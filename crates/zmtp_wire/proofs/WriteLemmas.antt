@@ -4,6 +4,7 @@ use Rattle.std.proofs.lemmas.Bool.Decides.{nat_tests}
 use Rattle.std.specs.Prelude.{sum_by}
 use Rattle.std.specs.List.{starts_with}
 use lib.Pointwise.{pointwise}
+use Rattle.std.proofs.lemmas.List.{nil_from_length, length_push, take-append-le}
 use Rattle.zmtp_wire.specs.declared.role.Role.{Role}
 use Rattle.zmtp_wire.specs.declared.state.State.{State}
 use Rattle.zmtp_wire.specs.declared.state.State.TheVariants.{Greeting, Units, Failed}
@@ -26,7 +27,6 @@ use Rattle.zmtp_wire.specs.declared.role.Role.TheVariants as role
 use Rattle.zmtp_wire.proofs.OutcomeLemmas.{reads, breaks, outcome, stream_reads, broken_reads, state_len}
 use Rattle.zmtp_wire.proofs.TurnLemmas.{room_same, size_pos}
 use Rattle.zmtp_wire.proofs.FeedLemmas.{reading-append}
-use Rattle.zmtp_wire.proofs.ListLemmas.{nil_of_len, one_more, take_more_same}
 
 -- reading b from s brings t, and goes on as the state of t
 abbrev Brings : Role → ℕ → State → List ℕ → List ℕ → Took → Type 0
@@ -37,13 +37,13 @@ run_body : (r : Role) (at : ℕ) (phase : Phase) (f size : ℕ) (had b : List �
 unfolding run body_step
 run_body r at phase f size had [] x c h w =
     let e = h (had ++ x ∷ []) [] (append-nil (had ++ x ∷ [])) in
-    let done : body_step r at phase f size (had ++ x ∷ []) ≡ finish r at phase f (had ++ x ∷ []) = cond-false _ _ _ e ∙ cond-false _ _ _ (le-ltb (length (had ++ x ∷ [])) size (omega (arith, one_more had x))) in
+    let done : body_step r at phase f size (had ++ x ∷ []) ≡ finish r at phase f (had ++ x ∷ []) = cond-false _ _ _ e ∙ cond-false _ _ _ (le-ltb (length (had ++ x ∷ [])) size (omega (arith, length_push had x))) in
     (at, (tick at, ap (λ t. before t (run r (tick at) t.state c)) done))
 run_body r at phase f size had (y ∷ b) x c h w =
     let same : (had ++ x ∷ []) ++ y ∷ b ≡ had ++ x ∷ y ∷ b = append_assoc had (x ∷ []) (y ∷ b) in
     let e = h (had ++ x ∷ []) (y ∷ b) same in
-    let grown : body_step r at phase f size (had ++ x ∷ []) ≡ quiet (Units phase (Body f size (had ++ x ∷ []))) = cond-false _ _ _ e ∙ cond-true _ _ _ (lt-ltb (length (had ++ x ∷ [])) size (omega (arith, one_more had x))) in
-    let k = run_body r (tick at) phase f size (had ++ x ∷ []) b y c (λ p q t. h p q (t ∙ same)) (omega (arith, one_more had x)) in
+    let grown : body_step r at phase f size (had ++ x ∷ []) ≡ quiet (Units phase (Body f size (had ++ x ∷ []))) = cond-false _ _ _ e ∙ cond-true _ _ _ (lt-ltb (length (had ++ x ∷ [])) size (omega (arith, length_push had x))) in
+    let k = run_body r (tick at) phase f size (had ++ x ∷ []) b y c (λ p q t. h p q (t ∙ same)) (omega (arith, length_push had x)) in
     (k.0, subst (λ (z : List ℕ). Brings r at (Units phase (Body f size had)) (x ∷ y ∷ b) c (finish r k.0 phase f z)) same (k.1.0, ap (λ t. before t (run r (tick at) t.state ((y ∷ b) ++ c))) grown ∙ k.1.1))
 
 run_rest : (r : Role) (at : ℕ) (phase : Phase) (f : ℕ) (body c : List ℕ) → ((p q : List ℕ) → p ++ q ≡ body → is_error phase f p ≡ false) → length body ≤ room_in phase f
@@ -64,12 +64,12 @@ run_size : (r : Role) (at : ℕ) (phase : Phase) (f : ℕ) (had octets : List �
 unfolding run
 run_size r at phase f had [] x body c h w l s =
     let whole_size : unit_step r at phase (Size f had) x ≡ size_step r at phase f (length body) =
-    cond-false _ _ _ (le-ltb (length (had ++ x ∷ [])) (size_len f) (omega (arith, one_more had x))) ∙ ap (size_step r at phase f) s in
+    cond-false _ _ _ (le-ltb (length (had ++ x ∷ [])) (size_len f) (omega (arith, length_push had x))) ∙ ap (size_step r at phase f) s in
     let k = run_rest r at phase f body c h w in
     (k.0, k.1, ap (λ t. before t (run r (tick at) t.state (body ++ c))) whole_size ∙ k.2)
 run_size r at phase f had (y ∷ octets) x body c h w l s =
-    let grown : unit_step r at phase (Size f had) x ≡ quiet (Units phase (Size f (had ++ x ∷ []))) = cond-true _ _ _ (lt-ltb (length (had ++ x ∷ [])) (size_len f) (omega (arith, one_more had x))) in
-    let k = run_size r (tick at) phase f (had ++ x ∷ []) octets y body c h w (omega (arith, one_more had x)) (ap size_of (append_assoc had (x ∷ []) (y ∷ octets)) ∙ s) in
+    let grown : unit_step r at phase (Size f had) x ≡ quiet (Units phase (Size f (had ++ x ∷ []))) = cond-true _ _ _ (lt-ltb (length (had ++ x ∷ [])) (size_len f) (omega (arith, length_push had x))) in
+    let k = run_size r (tick at) phase f (had ++ x ∷ []) octets y body c h w (omega (arith, length_push had x)) (ap size_of (append_assoc had (x ∷ []) (y ∷ octets)) ∙ s) in
     (k.0, k.1, ap (λ t. before t (run r (tick at) t.state ((y ∷ octets) ++ (body ++ c)))) grown ∙ k.2)
 
 -- a unit as we write it
@@ -197,7 +197,7 @@ no_error_of : (six : Bool) (body p q : List ℕ) → nat_eq (length p) 6 ≡ six
 no_error_of false body p q e h t = refl
 no_error_of true body p q e h t =
     let six : 6 ≤ length p = omega (arith, eqb-true (length p) 6 e) in
-    let front : take 6 body ≡ take 6 p = ap (take 6) (sym t) ∙ take_more_same 6 p q six in
+    let front : take 6 body ≡ take 6 p = ap (take 6) (sym t) ∙ take-append-le 6 p q six in
     ap (pointwise nat_eq error_name) (sym front) ∙ h
 
 -- a command's octets, whatever form the size has
@@ -259,7 +259,7 @@ whole_stream r b ms owed t =
           let k = stream_reads b r ms' owed' rest s in
           let same : ms' ≡ ms = sym k.1 ∙ ap (λ (u : Took). u.messages) t in
           let also : owed' ≡ owed = sym k.2 ∙ ap (λ (u : Took). u.owed) t in
-          let nil : rest ≡ [] = nil_of_len rest (sym (state_len s.come rest) ∙ ap rest_len (sym k.0 ∙ ap (λ (u : Took). u.state) t)) in
+          let nil : rest ≡ [] = nil_from_length rest (sym (state_len s.come rest) ∙ ap rest_len (sym k.0 ∙ ap (λ (u : Took). u.state) t)) in
           subst (λ (x : List Message). Stream b r x owed []) same (subst (λ (x : List Context). Stream b r ms' x []) also (subst (λ (x : List ℕ). Stream b r ms' owed' x) nil s))
       | breaks e at ms' owed' k ↦ let f = broken_reads b r e at ms' owed' k in let bad : Failed (is_past k.come) e ≡ Units (Traffic true []) Fresh = sym f.0 ∙ ap (λ (u : Took). u.state) t in absurd (cc)
     ]

@@ -2,6 +2,8 @@
 use Rattle.std.proofs.Common.{◌≡◌, ℕ, ◌+◌, ◌≤◌, ◌<◌, Bool, true, false, cond, nat_lt, nat_eq, List, [], ◌∷◌, ◌++◌, length, take, drop, Some, refl, ap, sym, ◌∙◌, arith, length-append, append-nil, subst, ◌&&◌}
 use Rattle.std.proofs.lemmas.Bool.Decides.{nat_tests}
 use Rattle.std.proofs.lemmas.Bool.{cond-false, cond-true, le-ltb, lt-ltb}
+use Rattle.std.proofs.Math.Seq.{take-append_seam, drop-append_seam}
+use Rattle.std.proofs.lemmas.List.{take-append-le, length_push, drop-append-le, same_from_push}
 use Rattle.zmtp_wire.specs.declared.role.Role.{Role}
 use Rattle.zmtp_wire.specs.declared.cause.Cause.{Cause}
 use Rattle.zmtp_wire.specs.declared.cause.Cause.TheVariants as cause
@@ -20,7 +22,6 @@ use Rattle.zmtp_wire.specs.Command.{WrongReady}
 use Rattle.zmtp_wire.proofs.HandshakeLemmas.{cause_told}
 use Rattle.zmtp_wire.proofs.StepLemmas.{state_of, failure_after, step_size_end, step_body}
 use Rattle.zmtp_wire.proofs.TurnLemmas.{size_pos, room_is}
-use Rattle.zmtp_wire.proofs.ListLemmas.{take_front, drop_front, take_more_same, one_more, drop_more_same}
 
 abbrev Stops : Role → ℕ → Come → List ℕ → ℕ → Cause → Type 0
 Stops role at come p x e = step role at (state_of come p) x ≡ quiet (failure_after come at e)
@@ -29,21 +30,7 @@ moved : (role : Role) (at : ℕ) (come : Come) (p p' : List ℕ) (x x' : ℕ) (e
 moved role at come p p' x x' e h k s = sym (ap (λ q. step role at (state_of come q) x') h ∙ ap (λ y. step role at (state_of come p) y) k) ∙ s
 
 pub no_snoc : (p : List ℕ) (x : ℕ) → [] ≡ p ++ x ∷ [] → ⊥
-no_snoc p x e = let k = ap length e in omega (arith, one_more p x)
-
-single : (f x : ℕ) (p : List ℕ) → f ∷ [] ≡ p ++ x ∷ [] → ([] ≡ p) × (f ≡ x)
-single f x [] e = (refl, cc)
-single f x (y ∷ p) e = let k : [] ≡ p ++ x ∷ [] = cc in absurd (no_snoc p x k)
-
-pub snoc_same : (p q : List ℕ) (x y : ℕ) → p ++ x ∷ [] ≡ q ++ y ∷ [] → (p ≡ q) × (x ≡ y)
-snoc_same [] [] x y e = (refl, cc)
-snoc_same [] (z ∷ q) x y e = let k : [] ≡ q ++ y ∷ [] = cc in absurd (no_snoc q y k)
-snoc_same (z ∷ p) [] x y e = let k : [] ≡ p ++ x ∷ [] = cc in absurd (no_snoc p x k)
-snoc_same (z ∷ p) (w ∷ q) x y e =
-    let h : z ≡ w = cc in
-    let t : p ++ x ∷ [] ≡ q ++ y ∷ [] = cc in
-    let k = snoc_same p q x y t in
-    (ap (λ a. a ∷ p) h ∙ ap (λ a. w ∷ a) k.0, k.1)
+no_snoc p x e = let k = ap length e in omega (arith, length_push p x)
 
 -- a list that isn't empty ends so
 pub record Ends (f : ℕ) (o p : List ℕ) (x : ℕ) : Type 0 where
@@ -59,14 +46,14 @@ stops_size_first : (role : Role) (at : ℕ) (g : List ℕ) (f : ℕ) (o : List �
     → size_step role at (Handshake (speaks g)) f (size_of o) ≡ quiet (Failed false (fault_at at e)) → Stops role at (greeted g) p x e
 stops_size_first role at g f o p x e h q s =
     let d = ends f o p x (omega (arith, size_pos f)) q in
-    let len : length d.front + 1 ≡ size_len f = omega (arith, one_more d.front x, ap length d.rest) in
+    let len : length d.front + 1 ≡ size_len f = omega (arith, length_push d.front x, ap length d.rest) in
     moved role at (greeted g) p (f ∷ d.front) x x e d.is refl (step_size_end role at (Handshake (speaks g)) f d.front x len ∙ ap (λ r. size_step role at (Handshake (speaks g)) f (size_of r)) (sym d.rest) ∙ s)
 
 stops_size_later : (role : Role) (at : ℕ) (g : List ℕ) (items : List Item) (f : ℕ) (o : List ℕ) (p : List ℕ) (x : ℕ) (e : Cause) → length o ≡ size_len f → f ∷ o ≡ p ++ x ∷ []
     → size_step role at (Traffic (speaks g) (open_after [] items)) f (size_of o) ≡ quiet (Failed true (fault_at at e)) → Stops role at (shaken g items) p x e
 stops_size_later role at g items f o p x e h q s =
     let d = ends f o p x (omega (arith, size_pos f)) q in
-    let len : length d.front + 1 ≡ size_len f = omega (arith, one_more d.front x, ap length d.rest) in
+    let len : length d.front + 1 ≡ size_len f = omega (arith, length_push d.front x, ap length d.rest) in
     moved role at (shaken g items) p (f ∷ d.front) x x e d.is refl
     (step_size_end role at (Traffic (speaks g) (open_after [] items)) f d.front x len ∙ ap (λ r. size_step role at (Traffic (speaks g) (open_after [] items)) f (size_of r)) (sym d.rest) ∙ s)
 
@@ -79,11 +66,11 @@ pub record Cut (f : ℕ) (octets body front : List ℕ) (x : ℕ) : Type 0 where
 cut : (f : ℕ) (octets body front : List ℕ) (x : ℕ) → length octets ≡ size_len f → 0 < length body → octets ++ body ≡ front ++ x ∷ [] → Cut f octets body front x
 cut f octets body front x h w e =
     let len = ap length e in
-    let headed : size_len f ≤ length front = omega (arith, len, one_more front x, length-append octets body) in
+    let headed : size_len f ≤ length front = omega (arith, len, length_push front x, length-append octets body) in
     record {
       headed = headed;
-      size = sym (take_more_same (size_len f) front (x ∷ []) headed) ∙ ap (take (size_len f)) (sym e) ∙ ap (λ n. take n (octets ++ body)) (sym h) ∙ take_front octets body;
-      body_is = sym (drop_more_same (size_len f) front (x ∷ []) headed) ∙ ap (drop (size_len f)) (sym e) ∙ ap (λ n. drop n (octets ++ body)) (sym h) ∙ drop_front octets body;
+      size = sym (take-append-le (size_len f) front (x ∷ []) headed) ∙ ap (take (size_len f)) (sym e) ∙ ap (λ n. take n (octets ++ body)) (sym h) ∙ take-append_seam octets body;
+      body_is = sym (drop-append-le (size_len f) front (x ∷ []) headed) ∙ ap (drop (size_len f)) (sym e) ∙ ap (λ n. drop n (octets ++ body)) (sym h) ∙ drop-append_seam octets body;
     }
 
 finish_stops : (role : Role) (at : ℕ) (newer : Bool) (f : ℕ) (body : List ℕ) (e : Cause) → handshake_cause role body ≡ Some e → finish role at (Handshake newer) f body ≡ quiet (Failed false (fault_at at e))
@@ -148,11 +135,11 @@ body_of false more body body' e = absurd (cc)
 
 -- Where a test fails, the machine stops with its fault.
 pub stops : (role : Role) (at : ℕ) (come : Come) (q : List ℕ) (e : Cause) → Wrong role come q e → (p : List ℕ) (x : ℕ) → q ≡ p ++ x ∷ [] → Stops role at come p x e
-stops role at _ _ _ (W.greeting p' x' h f) p x q = let k = snoc_same p' p x' x q in moved role at nothing p p' x x' (greeting_cause (length p')) k.0 k.1 (greeting_stops role at p' x' f)
-stops role at _ _ _ (W.flags_first g f a) p x q = let k = single f x p q in moved role at (greeted g) p [] x f cause.Flags k.0 k.1 (ap quiet (flag_stops at _ f a))
-stops role at _ _ _ (W.flags g items f a) p x q = let k = single f x p q in moved role at (shaken g items) p [] x f cause.Flags k.0 k.1 (ap quiet (flag_stops at _ f a))
-stops role at _ _ _ (W.frame_first g f a c) p x q = let k = single f x p q in moved role at (greeted g) p [] x f cause.Command k.0 k.1 (ap quiet (frame_stops at _ f a c))
-stops role at _ _ _ (W.too_many g items f m l) p x q = let k = single f x p q in moved role at (shaken g items) p [] x f cause.TooMany k.0 k.1 (ap quiet (many_stops at _ _ f m l))
+stops role at _ _ _ (W.greeting p' x' h f) p x q = let k = same_from_push p' p x' x q in moved role at nothing p p' x x' (greeting_cause (length p')) k.0 k.1 (greeting_stops role at p' x' f)
+stops role at _ _ _ (W.flags_first g f a) p x q = let k = same_from_push [] p f x q in moved role at (greeted g) p [] x f cause.Flags k.0 k.1 (ap quiet (flag_stops at _ f a))
+stops role at _ _ _ (W.flags g items f a) p x q = let k = same_from_push [] p f x q in moved role at (shaken g items) p [] x f cause.Flags k.0 k.1 (ap quiet (flag_stops at _ f a))
+stops role at _ _ _ (W.frame_first g f a c) p x q = let k = same_from_push [] p f x q in moved role at (greeted g) p [] x f cause.Command k.0 k.1 (ap quiet (frame_stops at _ f a c))
+stops role at _ _ _ (W.too_many g items f m l) p x q = let k = same_from_push [] p f x q in moved role at (shaken g items) p [] x f cause.TooMany k.0 k.1 (ap quiet (many_stops at _ _ f m l))
 stops role at _ _ _ (W.too_long_first g _ f octets h w) p x q =
     stops_size_first role at g f octets p x (cause.TooLong (size_of octets)) h.len (sym h.spelled ∙ q) (long_stops role at (Handshake (speaks g)) f (size_of octets) w)
 stops role at _ _ _ (W.too_long g items _ f octets h w) p x q =

@@ -10,13 +10,13 @@ ghost use Rattle.cell_core.specs.declared.act.Act.TheVariants.{Start};
 ghost use Rattle.cell_core.specs.declared.event.Event.{Event};
 ghost use Rattle.cell_core.specs.declared.event.Event.TheVariants.{Saved, Ready};
 ghost use Rattle.cell_core.specs.Acts.{act_of};
-ghost use Rattle.cell_core.specs.Deadlines.{queued};
-ghost use Rattle.cell_core.specs.Events.{started};
+ghost use Rattle.cell_core.specs.Deadlines.{is_queued};
+ghost use Rattle.cell_core.specs.Events.{start_time};
 ghost use Rattle.cell_core.specs.Laws.{settles};
 ghost use Rattle.cell_core.specs.Requests as core;
 ghost use Rattle.cell_core.specs.Saves as core_saves;
 ghost use Rattle.run_journal.specs.Job.{Job};
-ghost use Rattle.run_journal.specs.Parts.{acked, is_acknowledging, is_running};
+ghost use Rattle.run_journal.specs.Parts.{saves_of, is_acknowledging, is_running};
 ghost use Rattle.run_journal.specs.Arrivals.{is_ready};
 ghost use Rattle.run_journal.specs.Looks.{is_lost};
 ghost use Rattle.run_journal.specs.Requests.{Request, requests, last_request, is_passed};
@@ -94,7 +94,7 @@ pub fn courses_agree()
 pub fn ends_of_requests_agree()
     ensures done { (j : Job) (told : List Event) (past : List Entry) → Agrees j told past →
         0 < length j.task.plan →
-        core_saves.is_done j.task told ≡ is_done j (acked j past) (requests j past) }
+        core_saves.is_done j.task told ≡ is_done j (saves_of j past) (requests j past) }
     ensures error { (j : Job) (told : List Event) (past : List Entry) → Agrees j told past →
         core_saves.is_cell_error (core.standing j.task told) ≡
         is_error j (last_request 0 (requests j past)) }
@@ -121,13 +121,13 @@ pub fn clocks_agree()
 /// and where each start of the child is a right one, it was one after that save, at that clock.
 pub fn starts_agree()
     ensures asked { (j : Job) (past : List Entry) → Flows j past →
-        act_of j.task Saved (course j past).told ≡ Start → acked j past ≡ 0 }
-    ensures first { (j : Job) (past : List Entry) → 0 < length j.task.plan → acked j past ≡ 0 →
+        act_of j.task Saved (course j past).told ≡ Start → saves_of j past ≡ 0 }
+    ensures first { (j : Job) (past : List Entry) → 0 < length j.task.plan → saves_of j past ≡ 0 →
         act_of j.task Saved (course j past).told ≡ Start }
     ensures clock { (jobs : List Job) (j : Job) (past : List Entry) → KeepsRules jobs j past →
         HearsLooks j past → (has_wait past ≡ true → is_running j (before_wait past) ≡ true) →
         (course j past).held ≡ [] → (clock : ℕ) → child_clock j past ≡ Some clock →
-        started (course j past).told ≡ Some clock }
+        start_time (course j past).told ≡ Some clock }
     ensures rightly { (launch : Launch) (jobs : List Job) (j : Job) (past : List Entry) →
         StartsRightly launch j past → KeepsRules jobs j past → (clock : ℕ) →
         child_clock j past ≡ Some clock → StartsAt launch j clock past }
@@ -143,5 +143,5 @@ pub fn interrupts_agree()
         (course j past).held ≡ [] → is_broken j past ≡ false → is_lost j past ≡ false →
         j.task.times.interrupt ≡ true → (k : ℕ) (r : Request) (at : ℕ) →
         last_request 0 (requests j past) ≡ Some (k, r) → reply r ≡ None →
-        deadline j r ≡ Some at → queued j.task k at (course j past).told ≡ r.interrupted }
+        deadline j r ≡ Some at → is_queued j.task k at (course j past).told ≡ r.interrupted }
 {}

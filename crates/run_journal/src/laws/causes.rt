@@ -28,7 +28,7 @@ pub fn broken_streams_are_told()
 pub fn losses_are_told()
     ensures { (j : Job) (past : List Entry) → IsHeard j past →
         (course j past).held ≡ [] → (course j past).late ≡ [] →
-        events.held events.is_lost (course j past).told ≡ ever (shows_lost j) past }
+        events.ever events.is_lost (course j past).told ≡ ever (shows_lost j) past }
 {}
 
 /// Where nothing waits for a save, an executed plan, a fatal reply and a broken stream stop the
@@ -42,7 +42,8 @@ pub fn causes_at_once_agree()
 /// Where the core has been told of a look after a loss, the journal has shown the kernel lost.
 pub fn losses_found_are_shown()
     ensures { (j : Job) (past : List Entry) →
-        events.looked events.is_lost (course j past).told ≡ true → ever (is_lost j) past ≡ true }
+        events.look_since events.is_lost (course j past).told ≡ true →
+        ever (is_lost j) past ≡ true }
 {}
 
 /// Where the journal shows the kernel lost, the core has been told of a look after a loss: where
@@ -51,7 +52,7 @@ pub fn losses_found_are_shown()
 pub fn losses_shown_are_found()
     ensures { (j : Job) (past : List Entry) → HearsLooks j past → EndsLooks j past →
         (course j past).held ≡ [] → is_running j (before_wait past) ≡ true →
-        is_lost j past ≡ true → events.looked events.is_lost (course j past).told ≡ true }
+        is_lost j past ≡ true → events.look_since events.is_lost (course j past).told ≡ true }
 {}
 
 /// A cause that no deadline brings and that stops the job by the journal stops the core, where the

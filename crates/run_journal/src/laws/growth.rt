@@ -3,8 +3,8 @@ ghost use Rattle.std.specs.Prelude.{◌≡◌, ◌≤◌, ◌+◌, ℕ, true, No
 ghost use Rattle.world.specs.declared.entry.Entry.{Entry};
 ghost use Rattle.zmtp_wire.specs.Meaning.{Begins};
 ghost use Rattle.run_journal.specs.Job.{Job};
-ghost use Rattle.run_journal.specs.Parts.{acked, before_shut};
-ghost use Rattle.run_journal.specs.Arrivals.{asked, is_ready};
+ghost use Rattle.run_journal.specs.Parts.{saves_of, before_shut};
+ghost use Rattle.run_journal.specs.Arrivals.{ask_state, is_ready};
 ghost use Rattle.run_journal.specs.Requests.{Request, requests, is_over, own, reply, use_of};
 ghost use Rattle.run_journal.specs.Why.{why};
 ghost use Rattle.run_journal.specs.Saves.{saves};
@@ -15,13 +15,14 @@ pub fn readiness_stays()
     ensures ready { (j : Job) (entry : Entry) (past : List Entry) →
         is_ready j past ≡ true → is_ready j (entry ∷ past) ≡ true }
     ensures asked { (j : Job) (entry : Entry) (past : List Entry) →
-        is_ready j past ≡ true → (asked j (entry ∷ past)).ids ≡ (asked j past).ids }
+        is_ready j past ≡ true → (ask_state j (entry ∷ past)).ids ≡ (ask_state j past).ids }
 {}
 
 /// No acknowledged save is taken back, and one entry acknowledges at most one.
 pub fn acknowledgements_stay()
     ensures { (j : Job) (entry : Entry) (past : List Entry) →
-        (acked j past ≤ acked j (entry ∷ past)) × (acked j (entry ∷ past) ≤ acked j past + 1) }
+        (saves_of j past ≤ saves_of j (entry ∷ past))
+        × (saves_of j (entry ∷ past) ≤ saves_of j past + 1) }
 {}
 
 /// Each request that stands keeps its number and its clock, and goes on; what is used for a request

@@ -2,7 +2,7 @@
 ghost use Rattle.std.specs.Prelude.{◌≡◌, false, List, ◌∷◌};
 ghost use Rattle.world.specs.declared.entry.Entry.{Entry};
 ghost use Rattle.run_journal.specs.Job.{Job};
-ghost use Rattle.run_journal.specs.Parts.{acked, before_shut};
+ghost use Rattle.run_journal.specs.Parts.{saves_of, before_shut};
 ghost use Rattle.run_journal.specs.OfJob.{is_of, of_job};
 ghost use Rattle.run_journal.specs.Requests.{requests};
 ghost use Rattle.run_journal.specs.Why.{why};
@@ -15,7 +15,7 @@ pub fn own_entries_tell()
     ensures requests { (j : Job) (past : List Entry) →
         requests j (of_job j past) ≡ requests j past }
     ensures saves { (j : Job) (past : List Entry) → saves j (of_job j past) ≡ saves j past }
-    ensures acked { (j : Job) (past : List Entry) → acked j (of_job j past) ≡ acked j past }
+    ensures acked { (j : Job) (past : List Entry) → saves_of j (of_job j past) ≡ saves_of j past }
     ensures why { (j : Job) (past : List Entry) →
         why j (before_shut j (of_job j past)) ≡ why j (before_shut j past) }
     ensures end { (j : Job) (past : List Entry) →
@@ -31,7 +31,7 @@ pub fn foreign_entries_change_nothing()
     ensures saves { (j : Job) (entry : Entry) (past : List Entry) →
         is_of j entry past ≡ false → saves j (entry ∷ past) ≡ saves j past }
     ensures acked { (j : Job) (entry : Entry) (past : List Entry) →
-        is_of j entry past ≡ false → acked j (entry ∷ past) ≡ acked j past }
+        is_of j entry past ≡ false → saves_of j (entry ∷ past) ≡ saves_of j past }
     ensures why { (j : Job) (entry : Entry) (past : List Entry) →
         is_of j entry past ≡ false →
         why j (before_shut j (entry ∷ past)) ≡ why j (before_shut j past) }

@@ -7,7 +7,7 @@ ghost use Rattle.world.specs.Parts.{OnDisk, part_of};
 ghost use Rattle.zmtp_wire.specs.Meaning.{Begins};
 ghost use Rattle.progress_save.specs.Safe.{IsText, IsLastOrNext, IsPlace, IsSafe};
 ghost use Rattle.run_journal.specs.Job.{Job};
-ghost use Rattle.run_journal.specs.Parts.{acked};
+ghost use Rattle.run_journal.specs.Parts.{saves_of};
 ghost use Rattle.run_journal.specs.OfJob.{is_of};
 ghost use Rattle.run_journal.specs.Requests.{requests};
 ghost use Rattle.run_journal.specs.Saves.{saves, texts};
@@ -18,7 +18,7 @@ ghost use Rattle.run_journal.specs.Safety.{StepsSafely};
 /// saves are acknowledged, and than cells are to run.
 pub fn one_request_at_a_time()
     ensures passed { (j : Job) (past : List Entry) → ArePassed j 0 (requests j past) }
-    ensures saved { (j : Job) (past : List Entry) → length (requests j past) ≤ acked j past }
+    ensures saved { (j : Job) (past : List Entry) → length (requests j past) ≤ saves_of j past }
     ensures planned { (j : Job) (past : List Entry) →
         length (requests j past) ≤ length j.task.plan }
 {}

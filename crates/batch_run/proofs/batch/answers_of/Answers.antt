@@ -11,16 +11,16 @@ pub returns-in-Ok : goal.returns-in-Ok
 returns-in-Ok g c =
     let p = g.W.Journal.journal c.args.w.now in
     let n : Outset = record { here = c.args.limits.now.here; counts = g.W.Journal.counts c.args.w.now; waits = (g.W.Journal.counts c.args.w.now).waits; most = (g.W.Journal.counts c.args.w.now).waits + c.args.limits.now.turns; clean = false; wires = ports_in c.args.running.lines.connections } in
-    let q = g.W.Journal.journal c.carried_out.new.w in
-    let d = g.W.Journal.counts c.carried_out.new.w in
-    let then_ = c.carried_out.new.running in
-    let m : Outset = wired_by c.carried_out.new.running.lines.connections (more_waits (waits_of c.args.running.lines - waits_of c.carried_out.new.running.lines) n) in
+    let q = g.W.Journal.journal c.carry_out.new.w in
+    let d = g.W.Journal.counts c.carry_out.new.w in
+    let then_ = c.carry_out.new.running in
+    let m : Outset = wired_by c.carry_out.new.running.lines.connections (more_waits (waits_of c.args.running.lines - waits_of c.carry_out.new.running.lines) n) in
     let first = all_start c.args.asks c.args.running.jobs.slots.items p n.counts n.here n.most n.wires false c.requires.size (λ i slot got. c.requires.waiting.each i slot (omega arith) got) (λ e. absurd (false≢true e)) (λ e. absurd (false≢true e)) (wired_fresh c.args.running.lines.connections p (λ k. c.requires.fresh.each k (omega arith))) in
-    let s : AllStand c.args.asks p m then_.jobs.slots.items q d = c.carried_out.ensures.stands p n refl (omega (arith, c.requires.left)) first in
+    let s : AllStand c.args.asks p m then_.jobs.slots.items q d = c.carry_out.ensures.stands p n refl (omega (arith, c.requires.left)) first in
     record {
       jobs = made_by c.args.asks p m then_.jobs.slots.items q d s c.in-Ok.ensures.ended c.into_answers.result c.into_answers.ensures;
       calls = run_calls c.args.asks n.here p q n.counts s.told (λ clean spoken idle.
-          (c.carried_out.ensures.stands p (record n { clean = clean }) refl (omega (arith, c.requires.left))
+          (c.carry_out.ensures.stands p (record n { clean = clean }) refl (omega (arith, c.requires.left))
           (all_start c.args.asks c.args.running.jobs.slots.items p n.counts n.here n.most n.wires clean c.requires.size (λ i slot got. c.requires.waiting.each i slot (omega arith) got) spoken idle (wired_fresh c.args.running.lines.connections p (λ k. c.requires.fresh.each k (omega arith))))).calls);
       children = children_end c.args.asks p m then_.jobs.slots.items q d s c.in-Ok.ensures.ended;
       others = others_left c.args.asks p m then_.jobs.slots.items q d s;
@@ -38,14 +38,14 @@ returns-in-Err g c =
     let q = g.W.Journal.journal c.abandon.new.w in
     let d = g.W.Journal.counts c.abandon.new.w in
     let then_ = c.abandon.new.self in
-    let w : Outset = more_waits (waits_of c.args.running.lines - waits_of c.carried_out.new.running.lines) n in
+    let w : Outset = more_waits (waits_of c.args.running.lines - waits_of c.carry_out.new.running.lines) n in
     let m : Outset = wired_by c.abandon.new.self.lines.connections w in
     let first = all_start c.args.asks c.args.running.jobs.slots.items p n.counts n.here n.most n.wires false c.requires.size (λ i slot got. c.requires.waiting.each i slot (omega arith) got) (λ e. absurd (false≢true e)) (λ e. absurd (false≢true e)) (wired_fresh c.args.running.lines.connections p (λ k. c.requires.fresh.each k (omega arith))) in
-    let s : AllStand c.args.asks p m then_.jobs.slots.items q d = c.abandon.ensures.stands c.args.asks p w (c.carried_out.ensures.stands p n refl (omega (arith, c.requires.left)) first) in
+    let s : AllStand c.args.asks p m then_.jobs.slots.items q d = c.abandon.ensures.stands c.args.asks p w (c.carry_out.ensures.stands p n refl (omega (arith, c.requires.left)) first) in
     record {
       jobs = made_without c.args.asks p m then_.jobs.slots.items q d s c.in-Err.refused;
       calls = run_calls c.args.asks n.here p q n.counts s.told (λ clean spoken idle.
-          (c.abandon.ensures.stands c.args.asks p (record w { clean = clean }) (c.carried_out.ensures.stands p (record n { clean = clean }) refl (omega (arith, c.requires.left))
+          (c.abandon.ensures.stands c.args.asks p (record w { clean = clean }) (c.carry_out.ensures.stands p (record n { clean = clean }) refl (omega (arith, c.requires.left))
           (all_start c.args.asks c.args.running.jobs.slots.items p n.counts n.here n.most n.wires clean c.requires.size (λ i slot got. c.requires.waiting.each i slot (omega arith) got) spoken idle (wired_fresh c.args.running.lines.connections p (λ k. c.requires.fresh.each k (omega arith)))))).calls);
       children = children_end c.args.asks p m then_.jobs.slots.items q d s c.abandon.ensures.ended;
       others = others_left c.args.asks p m then_.jobs.slots.items q d s;

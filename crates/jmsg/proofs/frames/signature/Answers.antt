@@ -1,5 +1,6 @@
 use Rattle.std.proofs.Common.{sym, ◌∙◌, ap, length, Some}
-use Rattle.jmsg.proofs.FrameLemmas.{IfSome-weaker, follow_or_not, frames_there, signature_at}
+use Rattle.std.proofs.lemmas.Option.{IfSome_then}
+use Rattle.jmsg.proofs.FrameLemmas.{follow_or_not, frames_there, signature_at}
 use Rattle.jmsg.proofs.VerdictLemmas.{short_or_frames}
 use Rattle.jmsg.proofs.frames.signature.Goals as goal
 
@@ -13,7 +14,7 @@ pub returns-clause-some : goal.returns-clause-some
 returns-clause-some c =
     let follow = rw c.as_slice.ensures at c.in_ok-after_delimiter.ensures.some in
     let found = frames_there _ _ _ follow c.in-len5-up.len_at_least c.signature-item.is in
-    IfSome-weaker c.octets_64.result _ _ (λ sig e. (found.0, found.1 ∙ sym c.bytes.ensures ∙ sym e)) c.octets_64.ensures.some
+    IfSome_then c.octets_64.result c.octets_64.ensures.some (λ sig e. (found.0, found.1 ∙ sym c.bytes.ensures ∙ sym e))
 
 pub returns-clause-only : goal.returns-clause-only
 returns-clause-only c f long =

@@ -16,7 +16,7 @@ returns-in-Ok-clause-calls g c cast since from may portless r = c.launch.ensures
 
 pub returns-in-Err-clause-course : goal.returns-in-Err-clause-course
 returns-in-Err-clause-course g c o r =
-    let kept : keeps_open c.in-Err.end ≡ true = subst (λ q. stays_open q ≡ true) c.in-Err.is c.launch.ensures.saved in
+    let kept : keeps_open c.in-Err.end ≡ true = subst (λ q. stays_open q ≡ true) c.in-Err.is c.launch.ensures.ends.saved in
     subst (λ b. Ends o b (g.W.Journal.journal c.end_child.new.w) (g.W.Journal.counts c.end_child.new.w)) (sym kept)
     (unstarted o c.launch.new.self _ _ (c.launch.ensures.outcome ∙ c.requires) (c.end_child.ensures.course o (c.launch.ensures.course o r)))
 
@@ -28,7 +28,7 @@ returns-in-Err-clause-left g c = subst (λ n. HasEnd n (g.W.Journal.journal c.en
 
 pub returns-in-Err-clause-cause : goal.returns-in-Err-clause-cause
 returns-in-Err-clause-cause g c =
-    cause_within (g.W.Journal.counts c.args.w.now) (g.W.Journal.counts c.args.w.now) (g.W.Journal.counts c.launch.new.w) (g.W.Journal.counts c.end_child.new.w) c.in-Err.end (grow_start (g.W.Journal.counts c.args.w.now)) c.end_child.ensures.grow c.in-Err.ensures.cause
+    cause_within (g.W.Journal.counts c.args.w.now) (g.W.Journal.counts c.args.w.now) (g.W.Journal.counts c.launch.new.w) (g.W.Journal.counts c.end_child.new.w) c.in-Err.end (grow_start (g.W.Journal.counts c.args.w.now)) c.end_child.ensures.grow c.in-Err.ensures.ends.cause
 
 pub returns-in-Ok-clause-fresh : goal.returns-in-Ok-clause-fresh
 returns-in-Ok-clause-fresh g c = c.launch.ensures.outcome ∙ c.requires

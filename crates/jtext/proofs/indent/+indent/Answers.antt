@@ -1,10 +1,11 @@
-use Rattle.std.proofs.Common.{◌≡◌, ◌<◌, ◌⊎◌, ◌++◌, ◌∷◌, [], take, slice_get, Some, OnOk, inl, inr, sym, ◌∙◌, ap, subst, arith}
-use Rattle.jtext.specs.Print.{quoted}
-use Rattle.jtext.specs.Indent.{on_line, indented, indented_fields}
+use Rattle.std.proofs.Common.{◌≡◌, ◌<◌, ◌⊎◌, ◌++◌, ◌∷◌, [], take, slice_get, Some, OnOk, inl, inr, sym, ◌∙◌, ap, subst, arith, length, refl}
+use Rattle.jtext.specs.Print.{quote}
+use Rattle.jtext.specs.Indent.{on_line, indent, indent_fields}
 use Rattle.jtext.specs.Sorting.{by_key}
-use Rattle.jtext.proofs.Indented.{get_here, array_done, object_done, field_done}
+use Rattle.jtext.proofs.Indented.{array_done, object_done, field_done}
 use Rattle.jtext.proofs.indent.+indent.Goals as goal
 use Rattle.jtext.proofs.indent.+indent.Goals.{indent_fields-then-i-gt0+in_ok-add, indent_fields-else-i-gt0}
+use Rattle.std.proofs.lemmas.Option.{slice_get_read}
 
 pub indent_fields-loop-i-preserved : goal.indent_fields-loop-i-preserved
 indent_fields-loop-i-preserved t c =
@@ -12,16 +13,16 @@ indent_fields-loop-i-preserved t c =
     let m = c.args.margin.now in
     let p = c.index-pairs-place_of.result in
     let pairs = c.as_slice-pairs.result.now in
-    let at : slice_get (by_key c.args.fields.now) l.i ≡ Some p = ap (λ f. slice_get (by_key f) l.i) (sym c.as_slice-pairs.ensures) ∙ c.place_of.ensures.pair ∙ get_here pairs c.place_of.result p c.place_of.ensures.within c.index-pairs-place_of.is in
+    let at : slice_get (by_key c.args.fields.now) l.i ≡ Some p = ap (λ f. slice_get (by_key f) l.i) (sym c.as_slice-pairs.ensures) ∙ c.place_of.ensures.pair ∙ slice_get_read pairs (length pairs) c.place_of.result p refl c.place_of.ensures.within c.index-pairs-place_of.is in
     let line = c.in_ok-new_line.ensures ∙ ap (λ x. c.if-i-gt0.out ++ on_line x []) l.invariant.margin in
-    let value = c.in_ok-indent_value.ensures.text ∙ ap (λ x. c.add-in-loop-i.new.self ++ indented p.1 x) l.invariant.margin in
-    let before = elim c.if-i-gt0.branch as (λ _. ((0 < l.i) × (c.if-i-gt0.out ≡ (c.args.out.now ++ indented_fields m (take l.i (by_key c.args.fields.now))) ++ 44 ∷ [])) ⊎ ((l.i ≡ 0) × (c.if-i-gt0.out ≡ c.args.out.now ++ indented_fields m (take l.i (by_key c.args.fields.now))))) [
+    let value = c.in_ok-indent_value.ensures.text ∙ ap (λ x. c.add-in-loop-i.new.self ++ indent p.1 x) l.invariant.margin in
+    let before = elim c.if-i-gt0.branch as (λ _. ((0 < l.i) × (c.if-i-gt0.out ≡ (c.args.out.now ++ indent_fields m (take l.i (by_key c.args.fields.now))) ++ 44 ∷ [])) ⊎ ((l.i ≡ 0) × (c.if-i-gt0.out ≡ c.args.out.now ++ indent_fields m (take l.i (by_key c.args.fields.now))))) [
       | indent_fields-then-i-gt0+in_ok-add w ↦ inl (w.if-i-gt0.true, w.out-is ∙ w.in_ok-add.ensures.ok ∙ ap (λ x. x ++ 44 ∷ []) l.invariant.text)
       | indent_fields-else-i-gt0 w ↦ inr (omega (arith, w.if-i-gt0.false), w.out-is ∙ l.invariant.text)
     ] in
     record {
       text = field_done m c.args.out.now c.if-i-gt0.out c.new_line.new.out c.put_string.new.out c.add-in-loop-i.new.self c.indent_value.new.out (by_key c.args.fields.now) l.i p at before
-          line (c.in_ok-put_string.ensures ∙ ap (λ x. c.new_line.new.out ++ quoted x) c.as_str.ensures) c.in_ok-add-2.ensures.ok value;
+          line (c.in_ok-put_string.ensures ∙ ap (λ x. c.new_line.new.out ++ quote x) c.as_str.ensures) c.in_ok-add-2.ensures.ok value;
       margin = c.in_ok-indent_value.ensures.margin ∙ l.invariant.margin;
     }
 

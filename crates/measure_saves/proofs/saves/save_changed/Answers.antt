@@ -2,8 +2,8 @@ use Rattle.std.proofs.Common.{inl, inr, ◌∙◌, ap}
 use Rattle.std.specs.Prelude.{slice_get}
 use Rattle.std.proofs.lemmas.Bool.{cases_eq}
 use Rattle.progress_save.specs.State.{kept_text, Fits}
-use Rattle.progress_save.proofs.PutLemmas.{get_set_other}
 use Rattle.measure_saves.proofs.saves.save_changed.Goals as goal
+use Rattle.jtext.proofs.Lists.{slice_get-set_other}
 
 pub save_prefix-requires : goal.save_prefix-requires
 save_prefix-requires g c =
@@ -14,6 +14,6 @@ save_prefix-requires g c =
     c.kept_texts_fit.ensures.others c.mark.new.self c.args.n.now.cells c.put.new.self
     (λ i. elim (cases_eq i c.args.i) [
       | inl e ↦ inl (ap (kept_text c.mark.new.self) e ∙ c.mark.ensures.gone)
-      | inr ne ↦ inr (ap (λ l. slice_get l i) c.put.ensures.new ∙ get_set_other c.args.n.now.cells c.args.i i _ ne)
+      | inr ne ↦ inr (ap (λ l. slice_get l i) c.put.ensures.new ∙ slice_get-set_other c.args.n.now.cells c.args.i i _ ne)
     ])
     marked

@@ -1,5 +1,5 @@
 use Rattle.std.proofs.Common.{◌≡◌, take, flat_map, string_bytes}
-use Rattle.nb_model.specs.Planned.{text_of}
+use Rattle.jtext.specs.Look.{text_of}
 use Rattle.nb_model.proofs.source.joined_items.Given as goal
 
 abbrev pub invariant-loop-item : goal.invariant-loop-item

@@ -3,7 +3,7 @@ use Rattle.std.proofs.lemmas.Grind.{common_steps}
 use Rattle.world.proofs.MomentsLemmas.{told_start, told_one, told_as}
 use Rattle.said_lines.specs.Speech.{Speech, none, more}
 use Rattle.nbrun_main.specs.Printed.{whole, cut}
-use Rattle.said_lines.proofs.Rests.{whole_rest, no_rest}
+use Rattle.world.proofs.Rests.{whole_rest, no_rest}
 use Rattle.nbrun_main.proofs.printing.print.Goals as goal
 
 pub loop-rest-init : goal.loop-rest-init

@@ -19,9 +19,9 @@ returns-in-Ok-clause-executed g c words is =
 pub returns-in-Err-clause-executed : goal.returns-in-Err-clause-executed
 returns-in-Err-clause-executed g c words is =
     told_then c.in-Err.ensures.entries c.say.ensures.tells (λ x y z gives says new.
-    of_none words c.args.file.now c.args.common.now c.in-Err.answer c.said.result.now (Rose (g.W.Journal.counts c.args.w.now).say (g.W.Journal.counts c.say.new.w).say)
+    of_none words c.args.file.now c.args.common.now c.in-Err.answer c.lines.result.now (Rose (g.W.Journal.counts c.args.w.now).say (g.W.Journal.counts c.say.new.w).say)
     (0 < (g.W.Journal.counts c.say.new.w).say) c.code.result x y z is c.code.ensures
-    (said_text c.args.file.now (codes "nbrun") c.in-Err.answer.end c.in-Err.answer.text c.said.result.now c.in-Err.ensures.text c.said.ensures.memory c.said.ensures.text)
+    (said_text c.args.file.now (codes "nbrun") c.in-Err.answer.end c.in-Err.answer.text c.lines.result.now c.in-Err.ensures.text c.lines.ensures.memory c.lines.ensures.text)
     gives says new)
 
 pub returns-in-Ok-clause-counted : goal.returns-in-Ok-clause-counted

@@ -13,12 +13,12 @@ returns-in-Ok-clause-executed g c words is =
 
 pub returns-in-Err-clause-executed : goal.returns-in-Err-clause-executed
 returns-in-Err-clause-executed g c words is =
-    told_as c.starved.ensures.says (λ x y says new.
-    of_starved words (Rose (g.W.Journal.counts c.args.w.now).say (g.W.Journal.counts c.starved.new.w).say) (0 < (g.W.Journal.counts c.starved.new.w).say)
-    c.starved.result x y c.starved.ensures.status says new)
+    told_as c.say_no_memory.ensures.says (λ x y says new.
+    of_starved words (Rose (g.W.Journal.counts c.args.w.now).say (g.W.Journal.counts c.say_no_memory.new.w).say) (0 < (g.W.Journal.counts c.say_no_memory.new.w).say)
+    c.say_no_memory.result x y c.say_no_memory.ensures.status says new)
 
 pub returns-in-Err-clause-counted : goal.returns-in-Err-clause-counted
-returns-in-Err-clause-counted g c = starved_counted c.args.limits.now.turns (g.W.Journal.counts c.args.w.now) (g.W.Journal.counts c.starved.new.w) c.starved.result c.starved.ensures.status
+returns-in-Err-clause-counted g c = starved_counted c.args.limits.now.turns (g.W.Journal.counts c.args.w.now) (g.W.Journal.counts c.say_no_memory.new.w) c.say_no_memory.result c.say_no_memory.ensures.status
 
 pub returns-in-Err-clause-waits : goal.returns-in-Err-clause-waits
-returns-in-Err-clause-waits g c = omega (arith, ap (λ k. Counts.waits k) c.starved.ensures.counts.others)
+returns-in-Err-clause-waits g c = omega (arith, ap (λ k. Counts.waits k) c.say_no_memory.ensures.counts.others)

@@ -15,12 +15,12 @@ returns-in-Ok-clause-exercised g c =
     (subst (λ t. Says t (0 < new) x y) c.bytes.ensures says))
 
 pub returns-in-Err-clause-exercised : goal.returns-in-Err-clause-exercised
-returns-in-Err-clause-exercised g c = told_as c.starved.ensures.says (λ x y says.
-    subst (λ n. Exercised (g.X.Exercise.ends c.args.exercise.now c.args.cells c.args.limits.now.turns) (Rose (g.W.Journal.counts c.args.w.now).say (g.W.Journal.counts c.starved.new.w).say)
-    (0 < (g.W.Journal.counts c.starved.new.w).say) x n y) (sym c.starved.ensures.status) (starved y says))
+returns-in-Err-clause-exercised g c = told_as c.say_no_memory.ensures.says (λ x y says.
+    subst (λ n. Exercised (g.X.Exercise.ends c.args.exercise.now c.args.cells c.args.limits.now.turns) (Rose (g.W.Journal.counts c.args.w.now).say (g.W.Journal.counts c.say_no_memory.new.w).say)
+    (0 < (g.W.Journal.counts c.say_no_memory.new.w).say) x n y) (sym c.say_no_memory.ensures.status) (starved y says))
 
 pub returns-in-Ok-clause-waits : goal.returns-in-Ok-clause-waits
 returns-in-Ok-clause-waits g c = omega (arith, ap (λ k. Counts.waits k) c.say.ensures.counts.others)
 
 pub returns-in-Err-clause-waits : goal.returns-in-Err-clause-waits
-returns-in-Err-clause-waits g c = omega (arith, ap (λ k. Counts.waits k) c.starved.ensures.counts.others)
+returns-in-Err-clause-waits g c = omega (arith, ap (λ k. Counts.waits k) c.say_no_memory.ensures.counts.others)

@@ -15,10 +15,10 @@ returns-in-Err-clause-entries g c = tells_as c.in-Whole.ensures.tells
     (not_accepted_at c.args.ask.now c.in-Whole.bytes c.in-Err.fault c.not_loaded.result.end c.in-Err.ensures.err c.not_loaded.ensures.end)
 
 pub returns-in-Big-clause-entries : goal.returns-in-Big-clause-entries
-returns-in-Big-clause-entries g c = tells_as c.in-Big.ensures.tells (λ past. refused_at c.args.ask.now found.Big end.TooLarge c.refused.result.end c.refused.ensures.end past too_large)
+returns-in-Big-clause-entries g c = tells_as c.in-Big.ensures.tells (λ past. refused_at c.args.ask.now found.Big end.TooLarge c.refusal.result.end c.refusal.ensures.end past too_large)
 
 pub returns-in-Failed-clause-entries : goal.returns-in-Failed-clause-entries
-returns-in-Failed-clause-entries g c = tells_as c.in-Failed.ensures.tells (λ past. refused_at c.args.ask.now found.Failed end.NotRead c.refused-in-Failed.result.end c.refused-in-Failed.ensures.end past cannot_read)
+returns-in-Failed-clause-entries g c = tells_as c.in-Failed.ensures.tells (λ past. refused_at c.args.ask.now found.Failed end.NotRead c.refusal-in-Failed.result.end c.refusal-in-Failed.ensures.end past cannot_read)
 
 pub returns-in-NoMemory-clause-entries : goal.returns-in-NoMemory-clause-entries
 returns-in-NoMemory-clause-entries g c = tells_as c.in-NoMemory.ensures.tells (λ past.

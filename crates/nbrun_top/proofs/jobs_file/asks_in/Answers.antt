@@ -9,8 +9,8 @@ use Rattle.nbrun_top.proofs.jobs_file.asks_in.Goals as goal
 
 pub returns-in-Whole-clause-entries : goal.returns-in-Whole-clause-entries
 returns-in-Whole-clause-entries g c = tells_as c.in-Whole.ensures.tells
-    (refused_at c.args.file.now c.in-Whole.bytes c.bytes-in-Whole.result.now c.in-Err.usage c.refused.result.end c.bytes-in-Whole.ensures
-    c.refused.ensures.end c.refused.ensures.memory c.in-Err.ensures.refused)
+    (refused_at c.args.file.now c.in-Whole.bytes c.bytes-in-Whole.result.now c.in-Err.usage c.refusal.result.end c.bytes-in-Whole.ensures
+    c.refusal.ensures.end c.refusal.ensures.memory c.in-Err.ensures.refused)
 
 pub returns-in-Big-clause-entries : goal.returns-in-Big-clause-entries
 returns-in-Big-clause-entries g c = tells_as c.in-Big.ensures.tells (λ past.

@@ -69,3 +69,21 @@ returns-clause-read_only g c =
     (λ plain x y ended new a is. absurd (plain.executes (one_executes words a is)))
     (λ executing x y it new a is. one_read_only words (Rose (g.W.Journal.counts c.args.w.now).say (g.W.Journal.counts c.status.new.w).say) (0 < (g.W.Journal.counts c.status.new.w).say) c.status.result y (it new) a is)
     (λ n exercise x y it new a is. absurd (one_is_no_exercise words a is n exercise))
+
+pub returns-clause-read_fault : goal.returns-clause-read_fault
+returns-clause-read_fault g c real three = (c.status.ensures.counted real).cause.read three
+
+pub returns-clause-start_fault : goal.returns-clause-start_fault
+returns-clause-start_fault g c real six = (c.status.ensures.counted real).cause.start six
+
+pub returns-clause-save_fault : goal.returns-clause-save_fault
+returns-clause-save_fault g c real ten = (c.status.ensures.counted real).cause.save ten
+
+pub returns-clause-say_fault : goal.returns-clause-say_fault
+returns-clause-say_fault g c real eleven = (c.status.ensures.counted real).say eleven
+
+pub returns-clause-net_fault : goal.returns-clause-net_fault
+returns-clause-net_fault g c real fourteen = (c.status.ensures.counted real).cause.net fourteen
+
+pub returns-clause-spent : goal.returns-clause-spent
+returns-clause-spent g c real sixteen = (c.status.ensures.counted real).spent sixteen

@@ -120,29 +120,11 @@ returns-in-One-clause-refused g c plain two taken =
     let is : IsExecuted words c.in-One.ask = subst (λ t. IsTaskOf words t) c.in-One.is c.of.ensures.asked in
     absurd (plain.executes (one_executes words c.in-One.ask is))
 
-pub returns-in-One-clause-read_fault : goal.returns-in-One-clause-read_fault
-returns-in-One-clause-read_fault g c real three = c.run_one.ensures.counted.cause.read three
-
-pub returns-in-One-clause-save_fault : goal.returns-in-One-clause-save_fault
-returns-in-One-clause-save_fault g c real ten = c.run_one.ensures.counted.cause.save ten
-
-pub returns-in-One-clause-say_fault : goal.returns-in-One-clause-say_fault
-returns-in-One-clause-say_fault g c real eleven = c.run_one.ensures.counted.say eleven
-
 pub returns-in-Many-clause-refused : goal.returns-in-Many-clause-refused
 returns-in-Many-clause-refused g c plain two taken =
     let words = map string_bytes c.args.words.now in
     let is : IsBatch words c.in-Many.file c.in-Many.common = subst (λ t. IsTaskOf words t) c.in-Many.is c.of.ensures.asked in
     absurd (plain.executes (batch_executes words c.in-Many.file c.in-Many.common is))
-
-pub returns-in-Many-clause-read_fault : goal.returns-in-Many-clause-read_fault
-returns-in-Many-clause-read_fault g c real three = c.run_file.ensures.counted.cause.read three
-
-pub returns-in-Many-clause-save_fault : goal.returns-in-Many-clause-save_fault
-returns-in-Many-clause-save_fault g c real ten = c.run_file.ensures.counted.cause.save ten
-
-pub returns-in-Many-clause-say_fault : goal.returns-in-Many-clause-say_fault
-returns-in-Many-clause-say_fault g c real eleven = c.run_file.ensures.counted.say eleven
 
 pub returns-in-Exercise-clause-refused : goal.returns-in-Exercise-clause-refused
 returns-in-Exercise-clause-refused g c plain two taken =
@@ -150,71 +132,32 @@ returns-in-Exercise-clause-refused g c plain two taken =
     let is : IsExercise words c.in-Exercise.cells = subst (λ t. IsTaskOf words t) c.in-Exercise.is c.of.ensures.asked in
     absurd (plain.exercises c.in-Exercise.cells is)
 
-pub returns-in-Exercise-clause-read_fault : goal.returns-in-Exercise-clause-read_fault
-returns-in-Exercise-clause-read_fault g c real three =
-    let words = map string_bytes c.args.words.now in
-    let is : IsExercise words c.in-Exercise.cells = subst (λ t. IsTaskOf words t) c.in-Exercise.is c.of.ensures.asked in
-    absurd (real c.in-Exercise.cells is)
-
-pub returns-in-Exercise-clause-save_fault : goal.returns-in-Exercise-clause-save_fault
-returns-in-Exercise-clause-save_fault g c real ten =
-    let words = map string_bytes c.args.words.now in
-    let is : IsExercise words c.in-Exercise.cells = subst (λ t. IsTaskOf words t) c.in-Exercise.is c.of.ensures.asked in
-    absurd (real c.in-Exercise.cells is)
-
-pub returns-in-Exercise-clause-say_fault : goal.returns-in-Exercise-clause-say_fault
-returns-in-Exercise-clause-say_fault g c real eleven =
-    let words = map string_bytes c.args.words.now in
-    let is : IsExercise words c.in-Exercise.cells = subst (λ t. IsTaskOf words t) c.in-Exercise.is c.of.ensures.asked in
-    absurd (real c.in-Exercise.cells is)
-
-pub returns-in-One-clause-start_fault : goal.returns-in-One-clause-start_fault
-returns-in-One-clause-start_fault g c real six = c.run_one.ensures.counted.cause.start six
-
-pub returns-in-Many-clause-start_fault : goal.returns-in-Many-clause-start_fault
-returns-in-Many-clause-start_fault g c real six = c.run_file.ensures.counted.cause.start six
-
-pub returns-in-Exercise-clause-start_fault : goal.returns-in-Exercise-clause-start_fault
-returns-in-Exercise-clause-start_fault g c real six =
-    let words = map string_bytes c.args.words.now in
-    let is : IsExercise words c.in-Exercise.cells = subst (λ t. IsTaskOf words t) c.in-Exercise.is c.of.ensures.asked in
-    absurd (real c.in-Exercise.cells is)
-
-pub returns-in-Plain-clause-start_fault : goal.returns-in-Plain-clause-start_fault
-returns-in-Plain-clause-start_fault g c real six = absurd (never_plain 6 c.run_plain.result refl c.run_plain.ensures.kind six)
-
 pub returns-in-Plain-clause-waits : goal.returns-in-Plain-clause-waits
 returns-in-Plain-clause-waits g c = omega (arith, c.run_plain.ensures.waits)
 
 pub returns-in-Exercise-clause-waits : goal.returns-in-Exercise-clause-waits
 returns-in-Exercise-clause-waits g c = omega (arith, c.run_exercise.ensures.waits)
 
-pub returns-in-Plain-clause-net_fault : goal.returns-in-Plain-clause-net_fault
-returns-in-Plain-clause-net_fault g c real fourteen = absurd (never_plain 14 c.run_plain.result refl c.run_plain.ensures.kind fourteen)
+pub returns-in-Plain-clause-counted : goal.returns-in-Plain-clause-counted
+returns-in-Plain-clause-counted g c real = record {
+  cause = record {
+    read = c.run_plain.ensures.read_fault;
+    start = λ six. absurd (never_plain 6 c.run_plain.result refl c.run_plain.ensures.kind six);
+    save = c.run_plain.ensures.save_fault;
+    net = λ fourteen. absurd (never_plain 14 c.run_plain.result refl c.run_plain.ensures.kind fourteen);
+  };
+  say = c.run_plain.ensures.say_fault;
+  spent = λ sixteen. absurd (never_plain 16 c.run_plain.result refl c.run_plain.ensures.kind sixteen);
+}
 
-pub returns-in-One-clause-net_fault : goal.returns-in-One-clause-net_fault
-returns-in-One-clause-net_fault g c real fourteen = c.run_one.ensures.counted.cause.net fourteen
+pub returns-in-One-clause-counted : goal.returns-in-One-clause-counted
+returns-in-One-clause-counted g c real = c.run_one.ensures.counted
 
-pub returns-in-Many-clause-net_fault : goal.returns-in-Many-clause-net_fault
-returns-in-Many-clause-net_fault g c real fourteen = c.run_file.ensures.counted.cause.net fourteen
+pub returns-in-Many-clause-counted : goal.returns-in-Many-clause-counted
+returns-in-Many-clause-counted g c real = c.run_file.ensures.counted
 
-pub returns-in-Exercise-clause-net_fault : goal.returns-in-Exercise-clause-net_fault
-returns-in-Exercise-clause-net_fault g c real fourteen =
-    let words = map string_bytes c.args.words.now in
-    let is : IsExercise words c.in-Exercise.cells = subst (λ t. IsTaskOf words t) c.in-Exercise.is c.of.ensures.asked in
-    absurd (real c.in-Exercise.cells is)
-
-pub returns-in-Plain-clause-spent : goal.returns-in-Plain-clause-spent
-returns-in-Plain-clause-spent g c real sixteen = absurd (never_plain 16 c.run_plain.result refl c.run_plain.ensures.kind sixteen)
-
-pub returns-in-One-clause-spent : goal.returns-in-One-clause-spent
-returns-in-One-clause-spent g c real sixteen = c.run_one.ensures.counted.spent sixteen
-
-pub returns-in-Many-clause-spent : goal.returns-in-Many-clause-spent
-returns-in-Many-clause-spent g c real sixteen = c.run_file.ensures.counted.spent sixteen
-
-pub returns-in-Exercise-clause-spent : goal.returns-in-Exercise-clause-spent
-returns-in-Exercise-clause-spent g c real sixteen =
+pub returns-in-Exercise-clause-counted : goal.returns-in-Exercise-clause-counted
+returns-in-Exercise-clause-counted g c real =
     let words = map string_bytes c.args.words.now in
     let is : IsExercise words c.in-Exercise.cells = subst (λ t. IsTaskOf words t) c.in-Exercise.is c.of.ensures.asked in
     absurd (real c.in-Exercise.cells is)

@@ -1,7 +1,7 @@
 use Rattle.std.proofs.Common.{arith}
 use Rattle.ready_loop.specs.Queues.{rest_at}
-use Rattle.ready_loop.proofs.TableLemmas.{some_at}
 use Rattle.ready_loop.proofs.laws.bytes_are_put_in_order.Goals as goal
+use Rattle.jtext.proofs.Lists.{some_at}
 
 pub returns : goal.returns
 returns c = λ l h journal stand p low.

@@ -1,11 +1,12 @@
-use Rattle.std.proofs.Common.{arith}
-use Rattle.batch_run.proofs.SlotLemmas.{item_at, ended_past}
+use Rattle.std.proofs.Common.{refl, arith}
+use Rattle.std.proofs.lemmas.Option.{slice_get_read}
+use Rattle.batch_run.proofs.SlotLemmas.{ended_past}
 use Rattle.batch_run.proofs.jobs.Jobs.finish.Goals as goal
 
 pub returns-then-number-len-clause-stands : goal.returns-then-number-len-clause-stands
 returns-then-number-len-clause-stands g c = λ asks start from s.
     let items = c.args.self.now.slots.items in
-    c.finish.ensures.stands asks start from items c.args.number (item_at items c.args.number _ (omega (arith, c.args.self.now.slots.ok.0)) c.index_mut.ensures.value) s
+    c.finish.ensures.stands asks start from items c.args.number (slice_get_read items _ c.args.number _ refl (omega (arith, c.args.self.now.slots.ok.0)) c.index_mut.ensures.value) s
 
 pub returns-else-number-len-clause-ended : goal.returns-else-number-len-clause-ended
 returns-else-number-len-clause-ended g c = λ b. ended_past (omega (arith, c.args.self.now.slots.ok.0)) b

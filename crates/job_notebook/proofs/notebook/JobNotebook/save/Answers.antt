@@ -3,7 +3,7 @@ use Rattle.std.proofs.Math.Logic.{∥∥₁_map, ∥∥₁_elim}
 use Rattle.world.specs.Moments.{Told, start}
 use Rattle.world.proofs.MomentsLemmas.{told_start}
 use Rattle.progress_save.specs.Safe.{IsSafe, IsNext, StaysSafe}
-use Rattle.progress_save.specs.Saved.{text_of}
+use Rattle.nb_text.specs.Notebooks.{text_of}
 use Rattle.job_notebook.proofs.KeptLemmas.{Fits-prop, stays_open, unfailed_after, fits_after, kept_by, on_ok_then, on_call_then}
 use Rattle.job_notebook.proofs.notebook.JobNotebook.save.Goals as goal
 

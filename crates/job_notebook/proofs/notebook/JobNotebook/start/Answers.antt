@@ -1,6 +1,6 @@
 use Rattle.std.proofs.Common.{[], ◌∷◌, ◌++◌, ◌∙◌}
 use Rattle.std.proofs.Math.Logic.{∥∥₁_map}
-use Rattle.out_fold.specs.Cells.{begun}
+use Rattle.out_fold.specs.Cells.{begin}
 use Rattle.job_notebook.proofs.KeptLemmas.{begun_kept, begun_for_some}
 use Rattle.job_notebook.proofs.ReadLemmas.{begun_read}
 use Rattle.job_notebook.proofs.notebook.JobNotebook.start.Goals as goal
@@ -27,7 +27,7 @@ returns-clause-read c first h =
     let b = c.args.self.now in
     let e = c.start.ensures in
     record {
-      us = h.us ++ begun c.args.cell ∷ [];
+      us = h.us ++ begin c.args.cell ∷ [];
       keeps = begun_kept b.fold c.start.new.self e.merge b.notebook b.settled b.progress c.args.cell e.stands e.rested first h.us h.keeps;
       read = begun_read h.us c.args.cell h.read;
     }

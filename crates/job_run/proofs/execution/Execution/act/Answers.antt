@@ -3,8 +3,9 @@ use Rattle.world.specs.Moments.{start}
 use Rattle.world.proofs.MomentsLemmas.{told_start}
 use Rattle.job_saves.specs.Course.{Stands}
 use Rattle.job_run.proofs.AskLemmas.{acts_once}
-use Rattle.job_run.proofs.CountLemmas.{counts_on, quiet_at, residual_on}
+use Rattle.job_run.proofs.CountLemmas.{counts_on, quiet_at}
 use Rattle.job_run.proofs.CauseLemmas.{part_output, calls_output}
+use Rattle.job_run.proofs.StepLemmas.{goes_err}
 use Rattle.job_saves.proofs.SessionLemmas.{saves_then}
 use Rattle.job_notebook.specs.State.{output_of}
 use Rattle.job_run.proofs.execution.Execution.act.Goals as goal
@@ -43,21 +44,20 @@ returns g c =
     let i = c.loop-act.invariant in
     let p = c.perform.ensures in
     record {
-      holds = p.holds;
-      calm = p.calm;
-      course = λ o s. subst (λ b. Stands o c.perform.new.self.book b (g.W.Journal.journal c.loop-act.w) (g.W.Journal.counts c.loop-act.w)) (sym p.saved)
-          (p.course o _ _ _ (i.course o s));
-      calls = λ cast since from s. p.calls cast since from _ _ (i.calls cast since from s);
+      goes = record {
+        holds = p.holds;
+        calm = p.calm;
+        course = λ o s. subst (λ b. Stands o c.perform.new.self.book b (g.W.Journal.journal c.loop-act.w) (g.W.Journal.counts c.loop-act.w)) (sym p.saved)
+            (p.course o _ _ _ (i.course o s));
+        calls = λ cast since from s. p.calls cast since from _ _ (i.calls cast since from s);
+        task = p.task ∙ i.task;
+        own = p.own;
+        counts = λ h. counts_on c.loop-act.self c.perform.new.self c.loop-act.act c.perform.result (g.W.Journal.journal c.loop-act.w)
+            (part_output c.loop-act.self.book c.perform.new.self.book p.calls) p.counts (i.counts h);
+      };
       saves = i.saves;
-      task = p.task ∙ i.task;
-      own = p.own;
-      counts = λ h. counts_on c.loop-act.self c.perform.new.self c.loop-act.act c.perform.result (g.W.Journal.journal c.loop-act.w)
-          (part_output c.loop-act.self.book c.perform.new.self.book p.calls) p.counts (i.counts h);
       asks = acts_once c.perform.result c.loop-act.act c.args.self.now c.loop-act.self c.perform.new.self i.session p.asks;
     }
-
-pub returns-in_err-act-clause-calls : goal.returns-in_err-act-clause-calls
-returns-in_err-act-clause-calls g c cast since from s = c.save_on.ensures.calls cast since from (c.loop-act.invariant.calls cast since from s)
 
 pub returns-in_err-act-clause-saves : goal.returns-in_err-act-clause-saves
 returns-in_err-act-clause-saves g c =
@@ -66,7 +66,16 @@ returns-in_err-act-clause-saves g c =
     (calls_output c.args.self.now.book c.loop-act.self.book (g.W.Journal.journal c.args.w.now) (g.W.Journal.journal c.loop-act.w) (g.W.Journal.counts c.args.w.now) (g.W.Journal.counts c.loop-act.w) i.calls)
     i.saves c.save_on.ensures.saves
 
-pub returns-in_err-act-clause-counts : goal.returns-in_err-act-clause-counts
-returns-in_err-act-clause-counts g c h =
-    residual_on c.save_on.new.self c.from_residual.result c.in_err-act.field-0.0 (g.W.Journal.journal c.save_on.new.w) c.from_residual.ensures.1
-    (c.in_err-act.ensures.counts (quiet_at c.loop-act.self c.loop-act.act (g.W.Journal.journal c.loop-act.w) (c.loop-act.invariant.counts h)))
+pub returns-in_err-act-clause-goes : goal.returns-in_err-act-clause-goes
+returns-in_err-act-clause-goes g c =
+    let i = c.loop-act.invariant in
+    let e = c.in_err-act.ensures in
+    goes_err {q = c.save_on.new.w} {y = c.save_on.new.self} c.from_residual.ensures.1 (record {
+      holds = e.holds;
+      calm = tt;
+      course = λ o s. e.course o (i.course o s);
+      calls = λ cast since from s. e.calls cast since from (i.calls cast since from s);
+      task = e.task ∙ i.task;
+      own = e.own;
+      counts = λ h. e.counts (quiet_at c.loop-act.self c.loop-act.act (g.W.Journal.journal c.loop-act.w) (i.counts h));
+    })

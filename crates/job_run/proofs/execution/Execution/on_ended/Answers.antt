@@ -10,12 +10,7 @@ pub returns-clause-holds : goal.returns-clause-holds
 returns-clause-holds c =
     let x = c.args.self.now in
     let s = c.step in
-    let steps : Steps x.core s.new.self Lost s.result.act = record {
-      order = sym c.requires.calm;
-      stands = s.ensures.stands;
-      act_is = s.ensures.act;
-      same = s.ensures.same;
-    } in
+    let steps : Steps x.core s.new.self Lost s.result.act = record { order = sym c.requires.calm; stands = s.ensures.stands; act_is = s.ensures.act; same = s.ensures.same } in
     holds_told x s.new.self s.result.act c.requires.holds s.ensures.same s.ensures.sends
     (hears_more x.core s.new.self x.clock (is_some x.broken) Lost s.result.act steps tt c.requires.holds.heard)
 

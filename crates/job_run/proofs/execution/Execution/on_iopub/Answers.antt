@@ -1,16 +1,9 @@
+use Rattle.std.proofs.Common.{refl}
+use Rattle.job_run.proofs.StepLemmas.{goes_kept, goes_then}
 use Rattle.job_run.proofs.execution.Execution.on_iopub.Goals as goal
 
-pub returns-in-Ok-clause-course : goal.returns-in-Ok-clause-course
-returns-in-Ok-clause-course g c o s = c.on_published.ensures.course o (c.in-Ok.ensures.course o s)
+pub returns-in-Ok : goal.returns-in-Ok
+returns-in-Ok g c = goes_kept refl (record { core = refl; clock = refl; broken = refl }) (goes_then c.in-Ok.ensures.goes c.on_published.ensures)
 
-pub returns-in-Ok-clause-calls : goal.returns-in-Ok-clause-calls
-returns-in-Ok-clause-calls g c cast since from s = c.on_published.ensures.calls cast since from (c.note_ready.ensures.calls cast since from s)
-
-pub returns-in-Err-clause-calls : goal.returns-in-Err-clause-calls
-returns-in-Err-clause-calls g c cast since from s = c.note_ready.ensures.calls cast since from s
-
-pub returns-in-Ok-clause-counts : goal.returns-in-Ok-clause-counts
-returns-in-Ok-clause-counts g c h = c.on_published.ensures.counts (c.in-Ok.ensures.counts h)
-
-pub returns-in-Err-clause-counts : goal.returns-in-Err-clause-counts
-returns-in-Err-clause-counts g c h = c.in-Err.ensures.counts h
+pub returns-in-Err : goal.returns-in-Err
+returns-in-Err g c = goes_kept refl (record { core = refl; clock = refl; broken = refl }) c.in-Err.ensures.goes

@@ -1,7 +1,8 @@
+use Rattle.job_run.proofs.StepLemmas.{goes_err, goes_then}
 use Rattle.job_run.proofs.execution.Execution.on_looked.Goals as goal
 
-pub returns-clause-calls : goal.returns-clause-calls
-returns-clause-calls g c cast since from s = c.lose.ensures.calls cast since from (c.step.ensures.calls cast since from s)
+pub returns : goal.returns
+returns g c = goes_then c.in_ok-step.ensures.goes c.lose.ensures
 
-pub returns-in_err-step-clause-calls : goal.returns-in_err-step-clause-calls
-returns-in_err-step-clause-calls g c cast since from s = c.step.ensures.calls cast since from s
+pub returns-in_err-step : goal.returns-in_err-step
+returns-in_err-step g c = goes_err c.from_residual.ensures.1 c.in_err-step.ensures.goes

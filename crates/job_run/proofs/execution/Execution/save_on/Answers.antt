@@ -13,12 +13,7 @@ pub returns-clause-holds : goal.returns-clause-holds
 returns-clause-holds g c =
     let x = c.save.new.self in
     let s = c.step in
-    let steps : Steps x.core s.new.self Saved s.result.act = record {
-      order = sym (ap awaits_saved_of c.save.ensures.core ∙ c.requires.todo.awaits);
-      stands = s.ensures.stands;
-      act_is = s.ensures.act;
-      same = s.ensures.same;
-    } in
+    let steps : Steps x.core s.new.self Saved s.result.act = record { order = sym (ap awaits_saved_of c.save.ensures.core ∙ c.requires.todo.awaits); stands = s.ensures.stands; act_is = s.ensures.act; same = s.ensures.same } in
     holds_told x s.new.self s.result.act c.save.ensures.holds s.ensures.same s.ensures.sends
     (hears_more x.core s.new.self x.clock (is_some x.broken) Saved s.result.act steps tt c.save.ensures.holds.heard)
 
@@ -28,12 +23,7 @@ returns-clause-todo g c =
     let s = c.step in
     let h = c.save.ensures.holds in
     let was = next_of x.core in
-    let steps : Steps x.core s.new.self Saved s.result.act = record {
-      order = sym (ap awaits_saved_of c.save.ensures.core ∙ c.requires.todo.awaits);
-      stands = s.ensures.stands;
-      act_is = s.ensures.act;
-      same = s.ensures.same;
-    } in
+    let steps : Steps x.core s.new.self Saved s.result.act = record { order = sym (ap awaits_saved_of c.save.ensures.core ∙ c.requires.todo.awaits); stands = s.ensures.stands; act_is = s.ensures.act; same = s.ensures.same } in
     record {
       was = was;
       begun = h.begun;
@@ -55,12 +45,7 @@ returns-clause-counts g c h =
     let x = c.args.self.now in
     let y = c.save.new.self in
     let s = c.step in
-    let steps : Steps y.core s.new.self Saved s.result.act = record {
-      order = sym (ap awaits_saved_of c.save.ensures.core ∙ c.requires.todo.awaits);
-      stands = s.ensures.stands;
-      act_is = s.ensures.act;
-      same = s.ensures.same;
-    } in
+    let steps : Steps y.core s.new.self Saved s.result.act = record { order = sym (ap awaits_saved_of c.save.ensures.core ∙ c.requires.todo.awaits); stands = s.ensures.stands; act_is = s.ensures.act; same = s.ensures.same } in
     counts_saved x (record y { core = s.new.self }) s.result.act (g.W.Journal.journal c.args.w.now) (g.W.Journal.journal c.save.new.w) c.in_ok-save.ensures.acked c.save.ensures.output
     (λ n i. event_counts y s.new.self Saved s.result.act n (n + 1) steps tt (λ past is. ap (λ m. m + 1) is) (told_counted x y Nothing n c.save.ensures.told i)) h
 

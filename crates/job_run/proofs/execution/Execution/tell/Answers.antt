@@ -10,12 +10,7 @@ pub returns-clause-holds : goal.returns-clause-holds
 returns-clause-holds c =
     let x = c.args.self.now in
     let s = c.step in
-    let steps : Steps x.core s.new.self c.args.e s.result.act = record {
-      order = c.requires.other ∙ sym c.requires.calm;
-      stands = s.ensures.stands;
-      act_is = s.ensures.act;
-      same = s.ensures.same;
-    } in
+    let steps : Steps x.core s.new.self c.args.e s.result.act = record { order = c.requires.other ∙ sym c.requires.calm; stands = s.ensures.stands; act_is = s.ensures.act; same = s.ensures.same } in
     holds_told x s.new.self s.result.act c.requires.holds s.ensures.same s.ensures.sends
     (hears_more x.core s.new.self x.clock (is_some x.broken) c.args.e s.result.act steps c.requires.may c.requires.holds.heard)
 
@@ -25,12 +20,7 @@ returns-clause-todo c =
     let s = c.step in
     let h = c.requires.holds in
     let was = next_of x.core in
-    let steps : Steps x.core s.new.self c.args.e s.result.act = record {
-      order = c.requires.other ∙ sym c.requires.calm;
-      stands = s.ensures.stands;
-      act_is = s.ensures.act;
-      same = s.ensures.same;
-    } in
+    let steps : Steps x.core s.new.self c.args.e s.result.act = record { order = c.requires.other ∙ sym c.requires.calm; stands = s.ensures.stands; act_is = s.ensures.act; same = s.ensures.same } in
     record {
       was = was;
       begun = h.begun;
@@ -45,10 +35,5 @@ pub returns-clause-counts : goal.returns-clause-counts
 returns-clause-counts c n i =
     let x = c.args.self.now in
     let s = c.step in
-    let steps : Steps x.core s.new.self c.args.e s.result.act = record {
-      order = c.requires.other ∙ sym c.requires.calm;
-      stands = s.ensures.stands;
-      act_is = s.ensures.act;
-      same = s.ensures.same;
-    } in
+    let steps : Steps x.core s.new.self c.args.e s.result.act = record { order = c.requires.other ∙ sym c.requires.calm; stands = s.ensures.stands; act_is = s.ensures.act; same = s.ensures.same } in
     event_counts x s.new.self c.args.e s.result.act n n steps c.requires.may (other_counts c.args.e n c.requires.other) i

@@ -33,29 +33,11 @@ returns-in-None-clause-calls g c cast since from may portless r =
     passes_role cast since from c.args.self.now _ _ _ _ _ refl refl refl
     (λ s. asked_called cast since from _ _ _ _ _ _ (ports_asked cast c.args.self.now.number r.role.ask r.role.has may.cast.starts _ _ portless) wire_quiet (λ past. tt) c.free_ports.ensures.tells (net_works c.free_ports.ensures.cause) s) r
 
-pub returns-in-Some-clause-saved : goal.returns-in-Some-clause-saved
-returns-in-Some-clause-saved g c = c.start_on_ports.ensures.saved
-
 pub returns-in-Some-clause-outcome : goal.returns-in-Some-clause-outcome
 returns-in-Some-clause-outcome g c = refl
 
-pub returns-in-None-clause-saved : goal.returns-in-None-clause-saved
-returns-in-None-clause-saved g c = refl
-
 pub returns-in-None-clause-outcome : goal.returns-in-None-clause-outcome
 returns-in-None-clause-outcome g c = refl
-
-pub returns-in-Some-clause-grow : goal.returns-in-Some-clause-grow
-returns-in-Some-clause-grow g c = grow_then (net_grows c.free_ports.ensures.cause) c.start_on_ports.ensures.grow
-
-pub returns-in-None-clause-grow : goal.returns-in-None-clause-grow
-returns-in-None-clause-grow g c = net_grows c.free_ports.ensures.cause
-
-pub returns-in-Some-clause-cause : goal.returns-in-Some-clause-cause
-returns-in-Some-clause-cause g c = causes_stay (g.W.Journal.counts c.args.w.now) (g.W.Journal.counts c.free_ports.new.self) (g.W.Journal.counts c.start_on_ports.new.w) c.start_on_ports.result (net_grows c.free_ports.ensures.cause) c.start_on_ports.ensures.cause
-
-pub returns-in-None-clause-cause : goal.returns-in-None-clause-cause
-returns-in-None-clause-cause g c = c.free_ports.ensures.cause.net.cause c.in-None.is
 
 pub returns-in-Some-clause-ports : goal.returns-in-Some-clause-ports
 returns-in-Some-clause-ports g c =
@@ -64,3 +46,19 @@ returns-in-Some-clause-ports g c =
     let k = g.W.Journal.journal c.free_ports.new.self in
     let tells = subst (λ (q : _). Tells j k (made.Ports number q)) c.in-Some.is c.free_ports.ensures.tells in
     either_way c.start_on_ports.result (c.start_on_ports.ensures.given number c.in-Some.ports (ports_given number c.in-Some.ports j k tells))
+
+pub returns-in-Some-clause-ends : goal.returns-in-Some-clause-ends
+returns-in-Some-clause-ends g c =
+    let e = c.start_on_ports.ensures.ends in
+    let grow = net_grows c.free_ports.ensures.cause in
+    record {
+      saved = e.saved;
+      grow = grow_then grow e.grow;
+      cause = causes_stay (g.W.Journal.counts c.args.w.now) (g.W.Journal.counts c.free_ports.new.self) (g.W.Journal.counts c.start_on_ports.new.w) c.start_on_ports.result grow e.cause;
+      own = e.own;
+    }
+
+pub returns-in-None-clause-ends : goal.returns-in-None-clause-ends
+returns-in-None-clause-ends g c =
+    let net = c.free_ports.ensures.cause in
+    record { saved = refl; grow = net_grows net; cause = net.net.cause c.in-None.is; own = tt }

@@ -7,26 +7,24 @@ use Rattle.job_run.proofs.TurnLemmas.{turn_counts}
 use Rattle.job_run.proofs.RunLemmas.{turns, plays_on}
 use Rattle.job_run.proofs.job.Job.on_looked.Goals as goal
 
-pub returns-clause-course : goal.returns-clause-course
-returns-clause-course g c o r =
-    let e = c.outcome_of.ensures in
-    let t = c.on_looked-looked in
-    turns o c.args.self.now _ t.new.self.book _ _ _ _ (stays_open t.result) (sym c.is_over.ensures ∙ c.if-is_over.false) (t.ensures.course o) e.course refl e.shut e.fails
-    (λ fresh from to h. turn_counts o.output c.args.self.now.run c.on_looked-looked.new.self c.outcome_of.new.run c.on_looked-looked.result c.outcome_of.result
-    (g.W.Journal.journal c.args.w.now) (g.W.Journal.journal c.on_looked-looked.new.w) from to e.saves c.on_looked-looked.ensures.counts e.counts h) r
-
-pub returns-clause-calls : goal.returns-clause-calls
-returns-clause-calls g c cast since from r =
-    let t = c.on_looked-looked in
-    plays_on cast since from c.args.self.now _ t.new.self.book _ _ _ _ (t.ensures.calls cast since from) c.outcome_of.ensures.calls refl refl r
-
 pub outcome_of-requires-clause-own : goal.outcome_of-requires-clause-own
 outcome_of-requires-clause-own g c = job_ends (task_of c.on_looked-looked.new.self.core) c.on_looked-looked.result c.on_looked-looked.ensures.own
 
-pub returns-clause-still : goal.returns-clause-still
-returns-clause-still g c =
+pub returns : goal.returns
+returns g c =
+    let e = c.outcome_of.ensures in
     let t = c.on_looked-looked in
     record {
-      lost = λ h. absurd (not_lost (task_of t.new.self.core) t.result t.ensures.own (c.outcome_of.ensures.lost h));
-      spent = λ h. absurd (not_spent (task_of t.new.self.core) t.result t.ensures.own (c.outcome_of.ensures.spent h));
+      course = λ o r.
+          turns o c.args.self.now _ t.new.self.book _ _ _ _ (stays_open t.result) (sym c.is_over.ensures ∙ c.if-is_over.false) (t.ensures.course o) e.course refl e.shut e.fails
+          (λ fresh from to h. turn_counts o.output c.args.self.now.run t.new.self c.outcome_of.new.run t.result c.outcome_of.result
+          (g.W.Journal.journal c.args.w.now) (g.W.Journal.journal t.new.w) from to e.saves t.ensures.counts e.counts h) r;
+      calls = λ cast since from r.
+          plays_on cast since from c.args.self.now _ t.new.self.book _ _ _ _ (t.ensures.calls cast since from) e.calls refl refl r;
+      task = e.task ∙ t.ensures.task;
+      output = refl;
+      still = record {
+        lost = λ h. absurd (not_lost (task_of t.new.self.core) t.result t.ensures.own (e.lost h));
+        spent = λ h. absurd (not_spent (task_of t.new.self.core) t.result t.ensures.own (e.spent h));
+      };
     }

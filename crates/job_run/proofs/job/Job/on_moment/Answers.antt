@@ -13,28 +13,26 @@ use Rattle.job_run.proofs.WorkLemmas.{same_works}
 use Rattle.job_run.proofs.PartLemmas.{kids_quiet}
 use Rattle.job_run.proofs.job.Job.on_moment.Goals as goal
 
-pub returns-clause-course : goal.returns-clause-course
-returns-clause-course g c o r =
-    let e = c.outcome_of.ensures in
-    let t = c.on_moment-turned in
-    turns o c.args.self.now _ t.new.self.book _ _ _ _ (stays_open t.result) (sym c.is_over.ensures ∙ c.if-is_over.false)
-    (λ s. t.ensures.course o (others_pass o _ true _ _ _ _ (told_spares o.output _ _ _ refl c.look.ensures.tells) (grow_same c.look.ensures.same) s)) e.course refl e.shut e.fails
-    (λ fresh from to h. turn_counts o.output c.args.self.now.run c.on_moment-turned.new.self c.outcome_of.new.run c.on_moment-turned.result c.outcome_of.result
-    (g.W.Journal.journal c.args.w.now) (g.W.Journal.journal c.on_moment-turned.new.w) from to e.saves (λ at. c.on_moment-turned.ensures.counts (counts_passed c.args.self.now.run Nothing _ _ _ (λ past. refl) c.look.ensures.tells at)) e.counts h) r
-
-pub returns-clause-calls : goal.returns-clause-calls
-returns-clause-calls g c cast since from r =
-    let t = c.on_moment-turned in
-    plays_on cast since from c.args.self.now _ t.new.self.book _ _ _ _
-    (λ s. t.ensures.calls cast since from (entry_called cast since from _ _ _ _ _ _ (λ past. record { number = c.args.self.now.number; ask = r.role.ask; has = r.role.has; is = refl }) kids_quiet (λ past. tt) c.look.ensures.tells (same_works c.look.ensures.same) s)) c.outcome_of.ensures.calls refl refl r
-
 pub outcome_of-requires-clause-own : goal.outcome_of-requires-clause-own
 outcome_of-requires-clause-own g c = job_ends (task_of c.on_moment-turned.new.self.core) c.on_moment-turned.result c.on_moment-turned.ensures.own
 
-pub returns-clause-still : goal.returns-clause-still
-returns-clause-still g c =
+pub returns : goal.returns
+returns g c =
+    let e = c.outcome_of.ensures in
     let t = c.on_moment-turned in
     record {
-      lost = λ h. absurd (not_lost (task_of t.new.self.core) t.result t.ensures.own (c.outcome_of.ensures.lost h));
-      spent = λ h. absurd (not_spent (task_of t.new.self.core) t.result t.ensures.own (c.outcome_of.ensures.spent h));
+      course = λ o r.
+          turns o c.args.self.now _ t.new.self.book _ _ _ _ (stays_open t.result) (sym c.is_over.ensures ∙ c.if-is_over.false)
+          (λ s. t.ensures.course o (others_pass o _ true _ _ _ _ (told_spares o.output _ _ _ refl c.look.ensures.tells) (grow_same c.look.ensures.same) s)) e.course refl e.shut e.fails
+          (λ fresh from to h. turn_counts o.output c.args.self.now.run t.new.self c.outcome_of.new.run t.result c.outcome_of.result
+          (g.W.Journal.journal c.args.w.now) (g.W.Journal.journal t.new.w) from to e.saves (λ at. t.ensures.counts (counts_passed c.args.self.now.run Nothing _ _ _ (λ past. refl) c.look.ensures.tells at)) e.counts h) r;
+      calls = λ cast since from r.
+          plays_on cast since from c.args.self.now _ t.new.self.book _ _ _ _
+          (λ s. t.ensures.calls cast since from (entry_called cast since from _ _ _ _ _ _ (λ past. record { number = c.args.self.now.number; ask = r.role.ask; has = r.role.has; is = refl }) kids_quiet (λ past. tt) c.look.ensures.tells (same_works c.look.ensures.same) s)) e.calls refl refl r;
+      task = e.task ∙ t.ensures.task;
+      output = refl;
+      still = record {
+        lost = λ h. absurd (not_lost (task_of t.new.self.core) t.result t.ensures.own (e.lost h));
+        spent = λ h. absurd (not_spent (task_of t.new.self.core) t.result t.ensures.own (e.spent h));
+      };
     }

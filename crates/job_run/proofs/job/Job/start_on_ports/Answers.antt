@@ -1,5 +1,3 @@
-use Rattle.std.proofs.Common.{true, ◌≡◌, subst}
-use Rattle.job_saves.specs.Course.{stays_open}
 use Rattle.world.proofs.CountsLemmas.{grow_then}
 use Rattle.job_run.proofs.CauseLemmas.{causes_stay}
 use Rattle.job_run.proofs.LaunchLemmas.{role_of}
@@ -25,26 +23,22 @@ returns-in-Err-clause-course g c o r = c.write_file.ensures.course o r
 pub returns-in-Err-clause-calls : goal.returns-in-Err-clause-calls
 returns-in-Err-clause-calls g c cast since from may r = c.write_file.ensures.calls cast since from may.cast.starts may.childless r
 
-pub returns-in-Ok-clause-saved : goal.returns-in-Ok-clause-saved
-returns-in-Ok-clause-saved g c = c.start_child.ensures.saved
-
-pub returns-in-Err-clause-saved : goal.returns-in-Err-clause-saved
-returns-in-Err-clause-saved g c = subst (λ q. stays_open q ≡ true) c.in-Err.is c.write_file.ensures.saved
-
-pub returns-in-Ok-clause-grow : goal.returns-in-Ok-clause-grow
-returns-in-Ok-clause-grow g c = grow_then c.write_file.ensures.grow c.start_child.ensures.grow
-
-pub returns-in-Err-clause-grow : goal.returns-in-Err-clause-grow
-returns-in-Err-clause-grow g c = c.write_file.ensures.grow
-
-pub returns-in-Ok-clause-cause : goal.returns-in-Ok-clause-cause
-returns-in-Ok-clause-cause g c = causes_stay (g.W.Journal.counts c.args.w.now) (g.W.Journal.counts c.write_file.new.w) (g.W.Journal.counts c.start_child.new.w) c.start_child.result c.write_file.ensures.grow c.start_child.ensures.cause
-
-pub returns-in-Err-clause-cause : goal.returns-in-Err-clause-cause
-returns-in-Err-clause-cause g c = c.in-Err.ensures.cause
-
 pub returns-in-Ok-clause-given : goal.returns-in-Ok-clause-given
 returns-in-Ok-clause-given g c number ports h = c.start_child.ensures.given number ports (c.write_file.ensures.given number ports h)
 
 pub returns-in-Err-clause-given : goal.returns-in-Err-clause-given
 returns-in-Err-clause-given g c number ports h = c.write_file.ensures.given number ports h
+
+pub returns-in-Ok-clause-ends : goal.returns-in-Ok-clause-ends
+returns-in-Ok-clause-ends g c =
+    let e = c.start_child.ensures.ends in
+    let grow = c.write_file.ensures.ends.grow in
+    record {
+      saved = e.saved;
+      grow = grow_then grow e.grow;
+      cause = causes_stay (g.W.Journal.counts c.args.w.now) (g.W.Journal.counts c.write_file.new.w) (g.W.Journal.counts c.start_child.new.w) c.start_child.result grow e.cause;
+      own = e.own;
+    }
+
+pub returns-in-Err-clause-ends : goal.returns-in-Err-clause-ends
+returns-in-Err-clause-ends g c = c.in-Err.ensures.ends

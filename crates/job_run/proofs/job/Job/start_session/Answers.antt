@@ -1,5 +1,6 @@
 use Rattle.std.proofs.Common.{◌≡◌, subst}
-use Rattle.job_run.proofs.BeginLemmas.{on_ok, stands_first, part_first, cells_first, apart_first, ends_unsaved}
+use Rattle.std.proofs.lemmas.Result.{IfOk-at_ok}
+use Rattle.job_run.proofs.BeginLemmas.{stands_first, part_first, cells_first, apart_first, ends_unsaved}
 use Rattle.std.specs.Prelude.{IfOk, IfErr}
 use Rattle.job_run.specs.Task.{task_of_job, output_of_job, task_for}
 use Rattle.job_end.specs.declared.end.End.TheVariants as end
@@ -12,30 +13,30 @@ pub returns-in-Ok-clause-course : goal.returns-in-Ok-clause-course
 returns-in-Ok-clause-course g c o for b fresh =
     let e = c.parts_of.ensures in
     let is = c.in-Ok.is in
-    c.started.ensures.course o
+    c.start_saved.ensures.course o
     (stands_first c.in-Ok.run'.book c.args.ask.output c.args.ask.merge c.args.agenda.notebook o _ _
-    (on_ok _ _ _ is e.output) (on_ok _ _ _ is e.merge) (on_ok _ _ _ is e.keeps) for b)
-    (apart_first c.in-Ok.paths.connection c.args.ask.output o.output (on_ok _ _ _ is e.connection) for.output_is) fresh
+    (IfOk-at_ok _ is e.output) (IfOk-at_ok _ is e.merge) (IfOk-at_ok _ is e.keeps) for b)
+    (apart_first c.in-Ok.paths.connection c.args.ask.output o.output (IfOk-at_ok _ is e.connection) for.output_is) fresh
 
 pub returns-in-Ok-clause-calls : goal.returns-in-Ok-clause-calls
 returns-in-Ok-clause-calls g c cast since from who kernel drawn childless portless reads u =
     let e = c.parts_of.ensures in
     let is = c.in-Ok.is in
-    c.started.ensures.calls cast since from (record {
+    c.start_saved.ensures.calls cast since from (record {
       ask = c.args.ask;
       cast = who;
       kernel_is = kernel;
       childless = childless;
       pairs = c.args.pairs;
-      words = record { output_is = on_ok _ _ _ is e.output; key_is = on_ok _ _ _ is e.key };
+      words = record { output_is = IfOk-at_ok _ is e.output; key_is = IfOk-at_ok _ is e.key };
       drawn = drawn;
     }) portless
-    (record { ask = c.args.ask; has = who.has; connection = on_ok _ _ _ is e.connection; folder = on_ok _ _ _ is e.folder })
-    (part_first c.in-Ok.run'.book c.args.ask c.args.agenda.notebook cast c.args.number since from _ _ (on_ok _ _ _ is e.output) (on_ok _ _ _ is e.merge)
-    (cells_first c.in-Ok.run' c.args.ask c.args.agenda.notebook (on_ok _ _ _ is e.first) (on_ok _ _ _ is e.task)) (on_ok _ _ _ is e.keeps) who.has reads u)
+    (record { ask = c.args.ask; has = who.has; connection = IfOk-at_ok _ is e.connection; folder = IfOk-at_ok _ is e.folder })
+    (part_first c.in-Ok.run'.book c.args.ask c.args.agenda.notebook cast c.args.number since from _ _ (IfOk-at_ok _ is e.output) (IfOk-at_ok _ is e.merge)
+    (cells_first c.in-Ok.run' c.args.ask c.args.agenda.notebook (IfOk-at_ok _ is e.first) (IfOk-at_ok _ is e.task)) (IfOk-at_ok _ is e.keeps) who.has reads u)
 
 pub returns-in-Ok-clause-left : goal.returns-in-Ok-clause-left
-returns-in-Ok-clause-left g c = c.started.ensures.left
+returns-in-Ok-clause-left g c = c.start_saved.ensures.left
 
 pub returns-in-Err-clause-left : goal.returns-in-Err-clause-left
 returns-in-Err-clause-left g c = λ h. h
@@ -47,31 +48,31 @@ pub returns-in-Err-clause-calls : goal.returns-in-Err-clause-calls
 returns-in-Err-clause-calls g c cast since from who kernel drawn childless portless reads u = u
 
 pub returns-in-Ok-clause-cause : goal.returns-in-Ok-clause-cause
-returns-in-Ok-clause-cause g c = c.started.ensures.cause
+returns-in-Ok-clause-cause g c = c.start_saved.ensures.cause
 
 pub returns-in-Ok-clause-own : goal.returns-in-Ok-clause-own
-returns-in-Ok-clause-own g c = subst (λ t. IfErr c.started.result (StartsBy t)) (on_ok _ _ _ c.in-Ok.is c.parts_of.ensures.task) c.started.ensures.own
+returns-in-Ok-clause-own g c = subst (λ t. IfErr c.start_saved.result (StartsBy t)) (IfOk-at_ok _ c.in-Ok.is c.parts_of.ensures.task) c.start_saved.ensures.own
 
 pub returns-in-Ok-clause-task : goal.returns-in-Ok-clause-task
-returns-in-Ok-clause-task g c = subst (λ t. IfOk c.started.result (λ j. task_of_job j ≡ t)) (on_ok _ _ _ c.in-Ok.is c.parts_of.ensures.task) c.started.ensures.task
+returns-in-Ok-clause-task g c = subst (λ t. IfOk c.start_saved.result (λ j. task_of_job j ≡ t)) (IfOk-at_ok _ c.in-Ok.is c.parts_of.ensures.task) c.start_saved.ensures.task
 
 pub returns-in-Ok-clause-output : goal.returns-in-Ok-clause-output
-returns-in-Ok-clause-output g c = subst (λ t. IfOk c.started.result (λ j. output_of_job j ≡ t)) (on_ok _ _ _ c.in-Ok.is c.parts_of.ensures.paths) c.started.ensures.output
+returns-in-Ok-clause-output g c = subst (λ t. IfOk c.start_saved.result (λ j. output_of_job j ≡ t)) (IfOk-at_ok _ c.in-Ok.is c.parts_of.ensures.paths) c.start_saved.ensures.output
 
 pub returns-in-Ok-clause-fresh : goal.returns-in-Ok-clause-fresh
-returns-in-Ok-clause-fresh g c = c.started.ensures.fresh
+returns-in-Ok-clause-fresh g c = c.start_saved.ensures.fresh
 
 pub returns-in-Ok-clause-ports : goal.returns-in-Ok-clause-ports
-returns-in-Ok-clause-ports g c = c.started.ensures.ports
+returns-in-Ok-clause-ports g c = c.start_saved.ensures.ports
 
 pub returns-in-Ok-clause-counted : goal.returns-in-Ok-clause-counted
 returns-in-Ok-clause-counted g c o for b fresh =
     let e = c.parts_of.ensures in
     let is = c.in-Ok.is in
-    subst (λ t. IfErr c.started.result (StartsCounted o t (g.W.Journal.journal c.started.new.w))) (on_ok _ _ _ is e.task)
-    (c.started.ensures.counted o
+    subst (λ t. IfErr c.start_saved.result (StartsCounted o t (g.W.Journal.journal c.start_saved.new.w))) (IfOk-at_ok _ is e.task)
+    (c.start_saved.ensures.counted o
     (stands_first c.in-Ok.run'.book c.args.ask.output c.args.ask.merge c.args.agenda.notebook o _ _
-    (on_ok _ _ _ is e.output) (on_ok _ _ _ is e.merge) (on_ok _ _ _ is e.keeps) for b) fresh)
+    (IfOk-at_ok _ is e.output) (IfOk-at_ok _ is e.merge) (IfOk-at_ok _ is e.keeps) for b) fresh)
 
 pub returns-in-Err-clause-counted : goal.returns-in-Err-clause-counted
 returns-in-Err-clause-counted g c o for b fresh = launch_counted o (task_for c.args.ask c.args.agenda.notebook) (g.W.Journal.journal c.args.w.now) end.NoMemory tt

@@ -1,5 +1,5 @@
 use Rattle.world.proofs.MomentsLemmas.{told_as}
-use Rattle.progress_save.specs.Saved.{text_of}
+use Rattle.nb_text.specs.Notebooks.{text_of}
 use Rattle.progress_save.proofs.SavedLemmas.{ended, moments, parts, others}
 use Rattle.progress_save.proofs.SafeLemmas.{stays_safe}
 use Rattle.progress_save.proofs.progress.Progress.save_prefix.Goals as goal

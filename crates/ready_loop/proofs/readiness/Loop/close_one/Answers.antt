@@ -3,7 +3,7 @@ use Rattle.world.specs.declared.entry.Entry.{Entry}
 use Rattle.world.specs.Places.{place_of}
 use Rattle.world.proofs.MomentsLemmas.{told_as}
 use Rattle.ready_loop.specs.Begins.{CloseMoment, closing, begun_in}
-use Rattle.ready_loop.specs.History.{same}
+use Rattle.ready_loop.specs.History.{no_change}
 use Rattle.ready_loop.specs.Link.{closed_link}
 use Rattle.ready_loop.specs.Standing.{Goes}
 use Rattle.ready_loop.proofs.StateLemmas.{only_set, drained_set}
@@ -25,7 +25,7 @@ pub returns-clause-goes : goal.returns-clause-goes
 returns-clause-goes g c =
     let found = subst (λ (i : ℕ). slice_get c.args.self.now.links i ≡ Some c.at-link.result) c.place_at-place.ensures.place c.at-link.ensures.found in
     let links = c.put.ensures ∙ ap (λ (i : ℕ). set c.args.self.now.links i c.after_close.result) c.place_at-place.ensures.place ∙ ap (set c.args.self.now.links (place_of c.args.conn)) c.after_close.ensures in
-    told_as c.close_where.ensures.came (λ x y e. subst (λ (j : List Entry). Goes CloseMoment same c.args.self.now (record c.args.self.now { links = c.put.new.self }) x j) (sym e)
+    told_as c.close_where.ensures.came (λ x y e. subst (λ (j : List Entry). Goes CloseMoment no_change c.args.self.now (record c.args.self.now { links = c.put.new.self }) x j) (sym e)
     (closed_goes c.is_begun.result c.args.conn c.args.self.now c.put.new.self c.at-link.result x found c.is_begun.ensures links))
 
 pub returns-clause-only : goal.returns-clause-only

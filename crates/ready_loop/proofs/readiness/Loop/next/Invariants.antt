@@ -1,7 +1,7 @@
 use Rattle.std.proofs.Common.{◌≡◌, ◌<◌, ◌≤◌, ℕ, length}
 use Rattle.world.specs.Moments.{Since}
 use Rattle.world.specs.Counts.{NetCause}
-use Rattle.ready_loop.specs.History.{same}
+use Rattle.ready_loop.specs.History.{no_change}
 use Rattle.ready_loop.specs.Reads.{ReadMoment, IsDry}
 use Rattle.ready_loop.specs.Standing.{Goes, CallsOfLoop}
 use Rattle.world.specs.Told.{Between}
@@ -16,7 +16,7 @@ invariant-loop-place g l = record {
   wires : ConnectsOn g.W.Journal.journal l.fn.w l.w (ports_in l.self);
   ports : ports_in l.self ≡ ports_in l.fn.self;
   calls : CallsOfLoop g.W.Journal.journal l.fn.w l.w;
-  goes : Between g.W.Journal.journal l.fn.w l.w (Goes ReadMoment same l.fn.self l.self);
+  goes : Between g.W.Journal.journal l.fn.w l.w (Goes ReadMoment no_change l.fn.self l.self);
   dry : Between g.W.Journal.journal l.fn.w l.w (Since IsDry);
   below : EachBelow l.place l.self.links NotRead;
   reads : reads_left l.self ≤ reads_left l.fn.self;

@@ -1,6 +1,6 @@
 use Rattle.std.proofs.Common.{◌≡◌, ℕ, false}
 use Rattle.world.specs.Counts.{NetCause}
-use Rattle.ready_loop.specs.History.{same}
+use Rattle.ready_loop.specs.History.{no_change}
 use Rattle.ready_loop.specs.Offers.{OfferMoment}
 use Rattle.ready_loop.specs.Standing.{Goes, CallsOfLoop}
 use Rattle.world.specs.Told.{Between}
@@ -13,7 +13,7 @@ invariant-loop-place g l = record {
   wires : ConnectsOn g.W.Journal.journal l.fn.w l.w (ports_in l.self);
   ports : ports_in l.self ≡ ports_in l.fn.self;
   calls : CallsOfLoop g.W.Journal.journal l.fn.w l.w;
-  goes : Between g.W.Journal.journal l.fn.w l.w (Goes (OfferMoment false) same l.fn.self l.self);
+  goes : Between g.W.Journal.journal l.fn.w l.w (Goes (OfferMoment false) no_change l.fn.self l.self);
   offered : AllOfferedBelow l.place (g.W.Journal.counts l.w).last l.self;
   drained : IsDrained l.fn.self → IsDrained l.self;
   known : SameKnown l.fn.self l.self;

@@ -1,6 +1,6 @@
 use Rattle.std.proofs.Common.{◌≡◌, ◌≤◌, ℕ, slice_get}
 use Rattle.world.specs.Counts.{NetCause}
-use Rattle.ready_loop.specs.History.{same}
+use Rattle.ready_loop.specs.History.{no_change}
 use Rattle.ready_loop.specs.Offers.{LookMoment, BeginsBelow}
 use Rattle.ready_loop.specs.Standing.{Goes, CallsOfLoop}
 use Rattle.world.specs.Told.{Between}
@@ -13,7 +13,7 @@ invariant-loop-place g l = record {
   wires : ConnectsOn g.W.Journal.journal l.fn.w l.w (ports_in l.self);
   ports : ports_in l.self ≡ ports_in l.fn.self;
   calls : CallsOfLoop g.W.Journal.journal l.fn.w l.w;
-  goes : Between g.W.Journal.journal l.fn.w l.w (Goes (LookMoment l.jobs) same l.fn.self l.self);
+  goes : Between g.W.Journal.journal l.fn.w l.w (Goes (LookMoment l.jobs) no_change l.fn.self l.self);
   begins : Between g.W.Journal.journal l.fn.w l.w (BeginsBelow l.place l.jobs l.fn.self);
   untouched : (p : ℕ) → l.place ≤ p → slice_get l.self.links p ≡ slice_get l.fn.self.links p;
   offered : IsOffered l.fn.self → IsOffered l.self;

@@ -1,6 +1,6 @@
 use Rattle.std.proofs.Common.{◌≡◌, ℕ, false}
 use Rattle.world.specs.Counts.{NetCause}
-use Rattle.ready_loop.specs.History.{same}
+use Rattle.ready_loop.specs.History.{no_change}
 use Rattle.ready_loop.specs.Offers.{OfferAt}
 use Rattle.ready_loop.specs.Standing.{Goes, CallsOfLoop}
 use Rattle.world.specs.Told.{Between}
@@ -13,7 +13,7 @@ invariant-loop-conn g l = record {
   wires : ConnectsOn g.W.Journal.journal l.fn.w l.w (ports_in l.self);
   ports : ports_in l.self ≡ ports_in l.fn.self;
   calls : CallsOfLoop g.W.Journal.journal l.fn.w l.w;
-  goes : Between g.W.Journal.journal l.fn.w l.w (Goes (OfferAt false l.place) same l.fn.self l.self);
+  goes : Between g.W.Journal.journal l.fn.w l.w (Goes (OfferAt false l.place) no_change l.fn.self l.self);
   only : OnlyAt l.place l.fn.self l.self;
   calm : IsCalmAt l.place (g.W.Journal.counts l.w).last l.self;
   drained : IsDrained l.fn.self → IsDrained l.self;

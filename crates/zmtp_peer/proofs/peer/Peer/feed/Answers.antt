@@ -1,8 +1,9 @@
 use Rattle.std.proofs.Common.{inl, inr, refl, sym, ap, ◌∙◌}
+use Rattle.std.proofs.lemmas.List.{nil_from_length}
 use Rattle.zmtp_wire.proofs.GivesLemmas.{grows_all}
 use Rattle.zmtp_peer.specs.declared.peer.Peer.{Peer}
 use Rattle.zmtp_peer.specs.Subscription.{prefixes_after}
-use Rattle.zmtp_peer.proofs.PeerLemmas.{fed_stands, Fed, brings_here, some_here, empty_list, either_way, all_came, some_came, grows_none}
+use Rattle.zmtp_peer.proofs.PeerLemmas.{fed_stands, Fed, brings_here, some_here, either_way, all_came, some_came, grows_none}
 use Rattle.zmtp_peer.proofs.peer.Peer.feed.Goals as goal
 
 pub returns-then-len-eq0-clause-stands : goal.returns-then-len-eq0-clause-stands
@@ -10,7 +11,7 @@ returns-then-len-eq0-clause-stands c = λ u b sent s.
     let p = c.args.self.now in
     let w = c.feed-answer in
     let p' : Peer = record p { decoder = w.new.self } in
-    let none = empty_list w.new.out (sym c.len.ensures ∙ c.if-len-eq0.true) in
+    let none = nil_from_length w.new.out (sym c.len.ensures ∙ c.if-len-eq0.true) in
     let fed : Fed p p' b c.args.piece.now w.new.out w.result s.contexts = record {
       same = refl;
       subscribed = refl;
@@ -26,7 +27,7 @@ pub returns-then-len-eq0-clause-starved : goal.returns-then-len-eq0-clause-starv
 returns-then-len-eq0-clause-starved c = λ u b sent s.
     let p = c.args.self.now in
     let w = c.feed-answer in
-    let none = empty_list w.new.out (sym c.len.ensures ∙ c.if-len-eq0.true) in
+    let none = nil_from_length w.new.out (sym c.len.ensures ∙ c.if-len-eq0.true) in
     some_came p.role b c.args.piece.now c.args.out.now c.args.out.now w.new.out (some_here p b c.args.piece.now sent c.new-came.result w.new.out s c.new-came.ensures (w.ensures.starved u b s.contexts s.reads))
     (grows_none p.role c.args.out.now w.new.out none)
 

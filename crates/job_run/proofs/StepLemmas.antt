@@ -1,0 +1,95 @@
+-- Steps of an execution, one after another.
+use Rattle.std.proofs.Common.{◌≡◌, ℕ, true, List, Option, Result, Ok, Err, refl, sym, ap, subst, ◌∙◌}
+use Rattle.std.proofs.lemmas.Result.{err_from_is_err_and}
+use Rattle.std.specs.Result.{IsErrAnd}
+use Rattle.world.specs.declared.entry.Entry.{Entry}
+use Rattle.world.specs.Counts.{Counts}
+use Rattle.cell_core.specs.declared.act.Act.{Act}
+use Rattle.cell_core.specs.declared.act.Act.TheVariants.{Nothing}
+use Rattle.cell_core.specs.StandsFor.{task_of}
+use Rattle.job_end.specs.declared.end.End.{End}
+use Rattle.job_end.specs.declared.end.End.TheVariants.{NoMemory}
+use Rattle.job_notebook.specs.State.{output_of}
+use Rattle.job_saves.specs.Course.{Stands, HasPart, StaysOn, KeepsPart}
+use Rattle.job_run.specs.declared.execution.Execution.{Execution}
+use Rattle.job_run.specs.Counted.{IsCounted, KeepsTold}
+use Rattle.job_run.specs.Held.{Holds, IsCalm}
+use Rattle.job_run.specs.Steps.{Proceeds}
+use Rattle.job_run.proofs.CauseLemmas.{part_output}
+use Rattle.job_run.proofs.CountLemmas.{counts_by, counts_kept, told_counted, starved_on}
+
+module _ {W : Type 0} {journal : W → Option (List Entry)} {tally : W → Counts} where
+  -- one step, and then another
+  pub goes_then : {U V : Type 0} {p q r : W} {x y z : Execution} {act : Act} {u : U} {result : Result V End}
+      → Proceeds journal tally p q x y act (Ok u) → Proceeds journal tally q r y z Nothing result → Proceeds journal tally p r x z act result
+  goes_then g h = record {
+    holds = h.holds;
+    calm = h.calm;
+    course = λ o s. h.course o (g.course o s);
+    calls = λ cast since from s. h.calls cast since from (g.calls cast since from s);
+    task = h.task ∙ g.task;
+    own = h.own;
+    counts = λ at. h.counts (g.counts at);
+  }
+
+  -- nothing was done
+  pub goes_still : {U : Type 0} {p : W} {x : Execution} {u : U} → Holds x → IsCalm x → Proceeds journal tally p p x x Nothing (Ok u)
+  goes_still holds calm = record {
+    holds = holds;
+    calm = calm;
+    course = λ o s. s;
+    calls = λ cast since from s. s;
+    task = refl;
+    own = tt;
+    counts = λ at. at;
+  }
+
+  -- memory was wanted
+  pub goes_starved : {U : Type 0} {p : W} {x : Execution} {act : Act} → Holds x → Proceeds {U = U} journal tally p p x x act (Err NoMemory)
+  goes_starved {U} {p} {x} holds = record {
+    holds = holds;
+    calm = tt;
+    course = λ o s. s;
+    calls = λ cast since from s. s;
+    task = refl;
+    own = tt;
+    counts = λ at. starved_on U x (journal p);
+  }
+
+  -- a step after what has changed the core alone, which counts as many saves as before
+  pub goes_told : {U : Type 0} {p q : W} {x y z : Execution} {a b : Act} {result : Result U End} → y.book ≡ x.book → task_of y.core ≡ task_of x.core
+      → ((n : ℕ) → IsCounted x a n → IsCounted y b n) → Proceeds journal tally p q y z b result → Proceeds journal tally p q x z a result
+  goes_told {U} {p} {q} {x} {y} {z} {a} {b} book task counts g = record {
+    holds = g.holds;
+    calm = g.calm;
+    course = λ o s. g.course o (subst (λ k. Stands o k true (journal p) (tally p)) (sym book) s);
+    calls = λ cast since from s. g.calls cast since from (subst (λ k. HasPart cast since from k (journal p) (tally p)) (sym book) s);
+    task = g.task ∙ task;
+    own = g.own;
+    counts = λ at. g.counts (counts_by x y a b (journal p) (ap output_of book) counts at);
+  }
+
+  -- a step after what has changed neither the core nor the notebook
+  pub goes_kept : {U : Type 0} {p q : W} {x y z : Execution} {act : Act} {result : Result U End} → y.book ≡ x.book → KeepsTold x y
+      → Proceeds journal tally p q y z act result → Proceeds journal tally p q x z act result
+  goes_kept {U} {p} {q} {x} {y} {z} {act} book told g = goes_told book (ap task_of told.core) (λ n i. told_counted x y act n told i) g
+
+  -- a step after a message was used
+  pub goes_used : {U : Type 0} {p q : W} {x y z : Execution} {act : Act} {result : Result U End} → StaysOn x.book y.book → KeepsPart x.book y.book → KeepsTold x y
+      → Proceeds journal tally p q y z act result → Proceeds journal tally p q x z act result
+  goes_used {U} {p} {q} {x} {y} {z} {act} stays part told g = record {
+    holds = g.holds;
+    calm = g.calm;
+    course = λ o s. g.course o (stays o true (journal p) (tally p) s);
+    calls = λ cast since from s. g.calls cast since from (part cast since from (journal p) (tally p) s);
+    task = g.task ∙ ap task_of told.core;
+    own = g.own;
+    counts = λ at. g.counts (counts_kept x y act (journal p) told (part_output x.book y.book part) at);
+  }
+
+  -- where memory was wanted or the job has ended, and that is passed on
+  pub goes_err : {U : Type 0} {p q : W} {x y : Execution} {act : Act} {result : Result U End} {e : End} → IsErrAnd result (λ k. k ≡ e)
+      → Proceeds {U = U} journal tally p q x y act (Err e) → Proceeds journal tally p q x y act result
+  goes_err {U} {p} {q} {x} {y} {act} {result} is g =
+      let found = err_from_is_err_and result is in
+      subst (λ r. Proceeds journal tally p q x y act r) (sym (found.1 ∙ ap Err found.2)) g

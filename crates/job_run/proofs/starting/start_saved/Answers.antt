@@ -1,0 +1,87 @@
+use Rattle.std.proofs.Common.{sym, subst}
+use Rattle.job_saves.specs.Course.{Stands, stays_open}
+use Rattle.job_saves.proofs.CourseLemmas.{job_ends}
+use Rattle.job_run.proofs.TurnLemmas.{first_counts, launches_counted, first_ends}
+use Rattle.job_run.proofs.RunLemmas.{begun, begun_role}
+use Rattle.job_run.proofs.LaunchLemmas.{ends_then, may_later, may_run}
+use Rattle.job_saves.specs.Children.{HasEnd}
+use Rattle.job_run.specs.Run.{HasNoPorts, HasPorts}
+use Rattle.job_run.specs.Task.{ports_of_job}
+use Rattle.std.specs.Prelude.{IfOk}
+use Rattle.job_run.proofs.CauseLemmas.{causes_stay, own_caused, calls_grow, calls_told, calls_end, calls_ask_none, calls_output}
+use Rattle.job_run.proofs.StopLemmas.{starts_by, launches, of_run, at_paths}
+use Rattle.cell_core.specs.StandsFor.{task_of}
+use Rattle.job_run.specs.Told.{EndsBy}
+use Rattle.job_run.proofs.starting.start_saved.Goals as goal
+
+pub returns-in-Ok-clause-course : goal.returns-in-Ok-clause-course
+returns-in-Ok-clause-course g c o s apart fresh =
+    let stands = subst (λ r. Stands o c.save_first.new.self.book (stays_open r) (g.W.Journal.journal c.save_first.new.w) (g.W.Journal.counts c.save_first.new.w)) c.in-Ok.is (c.save_first.ensures.goes.course o s) in
+    c.with_kernel.ensures.course o (begun o c.job_of.result c.save_first.new.self c.args.paths _ _ c.job_of.ensures.run c.job_of.ensures.paths c.job_of.ensures.outcome
+    stands apart
+    (first_counts o c.args.run c.save_first.new.self (g.W.Journal.journal c.args.w.now) (g.W.Journal.journal c.save_first.new.w) s.output stands.output c.requires.first.counted fresh c.in-Ok.ensures.goes.counts))
+
+pub returns-in-Ok-clause-calls : goal.returns-in-Ok-clause-calls
+returns-in-Ok-clause-calls g c cast since from may portless role s =
+    c.with_kernel.ensures.calls cast since from (may_run cast c.args.number c.job_of.result c.args.kernel.now c.args.here.now c.save_first.new.self (g.W.Journal.journal c.save_first.new.w)
+    c.job_of.ensures.number c.job_of.ensures.run
+    (may_later cast c.args.number c.args.kernel.now c.args.here.now c.args.run c.save_first.new.self (g.W.Journal.journal c.args.w.now) (g.W.Journal.journal c.save_first.new.w)
+    (calls_told c.args.run.book c.save_first.new.self.book (g.W.Journal.journal c.args.w.now) (g.W.Journal.journal c.save_first.new.w) (g.W.Journal.counts c.args.w.now) (g.W.Journal.counts c.save_first.new.w) c.save_first.ensures.goes.calls)
+    c.save_first.ensures.saves
+    (calls_output c.args.run.book c.save_first.new.self.book (g.W.Journal.journal c.args.w.now) (g.W.Journal.journal c.save_first.new.w) (g.W.Journal.counts c.args.w.now) (g.W.Journal.counts c.save_first.new.w) c.save_first.ensures.goes.calls)
+    c.in-Ok.ensures.key
+    (calls_end c.args.run.book c.save_first.new.self.book (g.W.Journal.journal c.args.w.now) (g.W.Journal.journal c.save_first.new.w) (g.W.Journal.counts c.args.w.now) (g.W.Journal.counts c.save_first.new.w) c.save_first.ensures.goes.calls c.args.number) may))
+    (subst (λ n. HasNoPorts cast n (g.W.Journal.journal c.save_first.new.w)) (sym c.job_of.ensures.number)
+    (λ e. calls_ask_none c.args.run.book c.save_first.new.self.book (g.W.Journal.journal c.args.w.now) (g.W.Journal.journal c.save_first.new.w) (g.W.Journal.counts c.args.w.now) (g.W.Journal.counts c.save_first.new.w) c.save_first.ensures.goes.calls c.args.number (portless e)))
+    (begun_role cast since from c.job_of.result c.save_first.new.self c.args.number c.args.paths _ _ c.job_of.ensures.run c.job_of.ensures.number c.job_of.ensures.paths (c.save_first.ensures.goes.calls cast since from s) role)
+
+pub returns-in-Ok-clause-left : goal.returns-in-Ok-clause-left
+returns-in-Ok-clause-left g c = ends_then (λ e h before. subst (λ n. HasEnd n (g.W.Journal.journal c.with_kernel.new.w)) c.job_of.ensures.number h) c.with_kernel.result c.with_kernel.ensures.left
+
+pub returns-in-Err-clause-left : goal.returns-in-Err-clause-left
+returns-in-Err-clause-left g c =
+    calls_end c.args.run.book c.save_first.new.self.book (g.W.Journal.journal c.args.w.now) (g.W.Journal.journal c.save_first.new.w) (g.W.Journal.counts c.args.w.now) (g.W.Journal.counts c.save_first.new.w) c.save_first.ensures.goes.calls c.args.number
+
+pub returns-in-Err-clause-course : goal.returns-in-Err-clause-course
+returns-in-Err-clause-course g c o s apart fresh =
+    job_ends o c.save_first.new.self.book _ _ _ (subst (λ r. Stands o c.save_first.new.self.book (stays_open r) (g.W.Journal.journal c.save_first.new.w) (g.W.Journal.counts c.save_first.new.w))
+    c.in-Err.is (c.save_first.ensures.goes.course o s))
+
+pub returns-in-Err-clause-calls : goal.returns-in-Err-clause-calls
+returns-in-Err-clause-calls g c cast since from may portless role s = (c.save_first.ensures.goes.calls cast since from s).so
+
+pub returns-in-Ok-clause-cause : goal.returns-in-Ok-clause-cause
+returns-in-Ok-clause-cause g c =
+    causes_stay (g.W.Journal.counts c.args.w.now) (g.W.Journal.counts c.save_first.new.w) (g.W.Journal.counts c.with_kernel.new.w) c.with_kernel.result
+    (calls_grow c.args.run.book c.save_first.new.self.book (g.W.Journal.journal c.args.w.now) (g.W.Journal.journal c.save_first.new.w) (g.W.Journal.counts c.args.w.now) (g.W.Journal.counts c.save_first.new.w) c.save_first.ensures.goes.calls) c.with_kernel.ensures.cause
+
+pub returns-in-Err-clause-cause : goal.returns-in-Err-clause-cause
+returns-in-Err-clause-cause g c = own_caused (task_of c.save_first.new.self.core) (g.W.Journal.counts c.args.w.now) (g.W.Journal.counts c.save_first.new.w) c.in-Err.end c.in-Err.ensures.goes.own
+
+pub returns-in-Ok-clause-own : goal.returns-in-Ok-clause-own
+returns-in-Ok-clause-own g c = launches (task_of c.args.run.core) c.with_kernel.result c.with_kernel.ensures.own
+
+pub returns-in-Err-clause-own : goal.returns-in-Err-clause-own
+returns-in-Err-clause-own g c = starts_by (task_of c.args.run.core) c.in-Err.end (subst (λ t. EndsBy t c.in-Err.end) c.save_first.ensures.goes.task c.in-Err.ensures.goes.own)
+
+pub returns-in-Ok-clause-task : goal.returns-in-Ok-clause-task
+returns-in-Ok-clause-task g c = of_run c.with_kernel.result c.job_of.result c.save_first.new.self (task_of c.args.run.core) c.job_of.ensures.run c.save_first.ensures.goes.task c.with_kernel.ensures.task
+
+pub returns-in-Ok-clause-output : goal.returns-in-Ok-clause-output
+returns-in-Ok-clause-output g c = at_paths c.with_kernel.result c.job_of.result c.args.paths c.job_of.ensures.paths c.with_kernel.ensures.output
+
+pub returns-in-Ok-clause-fresh : goal.returns-in-Ok-clause-fresh
+returns-in-Ok-clause-fresh g c = c.with_kernel.ensures.fresh
+
+pub returns-in-Ok-clause-ports : goal.returns-in-Ok-clause-ports
+returns-in-Ok-clause-ports g c =
+    subst (λ n. IfOk c.with_kernel.result (λ j. HasPorts n (ports_of_job j) (g.W.Journal.journal c.with_kernel.new.w))) c.job_of.ensures.number c.with_kernel.ensures.ports
+
+pub returns-in-Ok-clause-counted : goal.returns-in-Ok-clause-counted
+returns-in-Ok-clause-counted g c o s fresh = launches_counted o (task_of c.args.run.core) (g.W.Journal.journal c.with_kernel.new.w) c.with_kernel.result c.with_kernel.ensures.own
+
+pub returns-in-Err-clause-counted : goal.returns-in-Err-clause-counted
+returns-in-Err-clause-counted g c o s fresh =
+    let f = c.save_first in
+    first_ends o c.args.run f.new.self (task_of c.args.run.core) (g.W.Journal.journal c.args.w.now) (g.W.Journal.journal f.new.w) c.in-Err.end s.output (f.ensures.goes.course o s).output f.ensures.goes.task
+    c.requires.first.counted fresh c.in-Err.ensures.goes.counts

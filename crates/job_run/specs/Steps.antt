@@ -1,0 +1,66 @@
+-- What a step of an execution leaves: of the execution, of its notebook and of the world.
+use Rattle.std.specs.Prelude.{◌≡◌, List, Option, Result, OnOk, IfErr}
+use Rattle.world.specs.declared.entry.Entry.{Entry}
+use Rattle.world.specs.Counts.{Counts}
+use Rattle.world.specs.Moments.{Told, Since}
+use Rattle.cell_core.specs.declared.act.Act.{Act}
+use Rattle.cell_core.specs.StandsFor.{task_of}
+use Rattle.job_end.specs.declared.end.End.{End}
+use Rattle.job_notebook.specs.declared.notebook.JobNotebook.{JobNotebook}
+use Rattle.job_notebook.specs.State.{output_of}
+use Rattle.job_saves.specs.Course.{GoesOn, CallsOwn, stays_open}
+use Rattle.job_saves.specs.Sessions.{IsSaveCall}
+use Rattle.job_run.specs.Counted.{IsCountedAt, CountsOn}
+use Rattle.job_run.specs.Held.{Holds, IsCalm}
+use Rattle.job_run.specs.Run.{KeepsRun, KeepsRole, RunsOn, CallsInRole, EndsNot}
+use Rattle.job_run.specs.Task.{task_of_job, output_of_job}
+use Rattle.job_run.specs.Told.{EndsBy}
+use Rattle.job_run.specs.declared.execution.Execution.{Execution}
+use Rattle.job_run.specs.declared.job.Job.{Job}
+
+-- a step that did this act goes on with what stood before it, and was answered so
+pub record Proceeds {W U : Type 0} (journal : W → Option (List Entry)) (tally : W → Counts) (old new : W) (was now : Execution) (act : Act) (result : Result U End) : Type 0 where
+  -- the parts of the execution agree
+  pub holds : Holds now
+  -- no save is awaited where the job goes on
+  pub calm : OnOk result (IsCalm now)
+  -- its saves go on with the course of the job
+  pub course : GoesOn journal tally old new was.book now.book (stays_open result)
+  -- its calls are those of the job
+  pub calls : CallsOwn journal tally old new was.book now.book
+  -- the core has the task that it had
+  pub task : task_of now.core ≡ task_of was.core
+  -- where the job ends, it ends as a run does
+  pub own : IfErr result (EndsBy (task_of now.core))
+  -- the core was told of as many saves as were acknowledged, where it was so
+  pub counts : IsCountedAt was act (journal old) → CountsOn now result (journal new)
+
+-- all that was asked of the world is saves of this notebook, lines that were said and readings of the clock
+abbrev pub OnlySaves : {W : Type 0} → (W → Option (List Entry)) → W → W → JobNotebook → Type 0
+OnlySaves journal old new book = Told (journal old) (journal new) (Since (IsSaveCall (output_of book)))
+
+-- what a job is told without a call of the world leaves it as it stands
+pub record JobStays (was now : Job) : Type 0 where
+  -- on its course
+  pub course : KeepsRun was now
+  -- with no calls but its own
+  pub calls : KeepsRole was now
+  -- the task of its core is the one that it was
+  pub task : task_of_job now ≡ task_of_job was
+  -- and so is the output that its last line names
+  pub output : output_of_job now ≡ output_of_job was
+  -- it was ended from outside only where it had been
+  pub still : EndsNot was now
+
+-- so do the calls that a job makes of the world
+pub record JobGoesOn {W : Type 0} (journal : W → Option (List Entry)) (tally : W → Counts) (old new : W) (was now : Job) : Type 0 where
+  -- on its course
+  pub course : RunsOn journal tally old new was now
+  -- they are its own
+  pub calls : CallsInRole journal tally old new was now
+  -- the task of its core is the one that it was
+  pub task : task_of_job now ≡ task_of_job was
+  -- and so is the output that its last line names
+  pub output : output_of_job now ≡ output_of_job was
+  -- it was ended from outside only where it had been
+  pub still : EndsNot was now

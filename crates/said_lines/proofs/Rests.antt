@@ -1,2 +1,0 @@
--- What is left of a text.
-pub use Rattle.world.proofs.Rests.{whole_rest, no_rest}

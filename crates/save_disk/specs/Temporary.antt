@@ -1,2 +1,0 @@
--- The file that a save writes first, beside the output.
-pub use Rattle.world.specs.Save.{temporary_of}
