@@ -212,7 +212,15 @@ impl Job {
     {
         laws::jobs_begin_and_end();
         self.end_child(w);
-        let Job { alloc, outcome, .. } = self;
+        let Job {
+            alloc,
+            run,
+            outcome,
+            ..
+        } = self;
+        // By a call: where the scope ends each of its many parts would be dropped, which takes the
+        // prover ten minutes.
+        drop(run);
         match outcome {
             Some(answer) => answer,
             None => Answer::starved(alloc),
