@@ -141,56 +141,83 @@ fn neighbouring_streams_of_one_name_are_joined(rt: HostRuntime) -> Result<(), Fa
     Ok(())
 }
 
+/// Gives the first cell two outputs of a display, and the third one their update.
+fn update_from_another_cell(alloc: Global, fold: &mut Fold) -> Result<(), NoMemory>
+    requires cells { cells_of fold.old ≡ 3 }
+    requires fresh { next_of fold.old ≡ 0 }
+    ensures { cells_of fold.new ≡ cells_of fold.old }
+{
+    fold.start(0);
+    give(alloc, fold, "show x 1;show x 2;show y 3;input 7;result 8 0")?;
+    fold.start(2);
+    give(alloc, fold, "update x 9")?;
+    let date = Text::of(alloc, "R")?;
+    fold.reply(Some(&date))
+}
+
 #[test]
 fn an_update_reaches_every_cell(rt: HostRuntime) -> Result<(), Fail> {
-    let alloc = rt.alloc();
-    let mut fold = Fold::new(alloc, 3, false)?;
-    fold.start(0);
-    give(
-        alloc,
-        &mut fold,
-        "show x 1;show x 2;show y 3;input 7;result 8 0",
-    )?;
-    fold.start(2);
-    give(alloc, &mut fold, "update x 9")?;
-    let date = Text::of(alloc, "R")?;
-    fold.reply(Some(&date))?;
-    let said = outputs_text(alloc, &fold, 0)?;
+    let mut fold = Fold::new(rt.alloc(), 3, false)?;
+    update_from_another_cell(rt.alloc(), &mut fold)?;
+    let said = outputs_text(rt.alloc(), &fold, 0)?;
     assert!(rt; said.bytes() == UPDATED.as_bytes());
+    Ok(())
+}
+
+#[test]
+fn a_cell_has_the_count_that_was_said_last(rt: HostRuntime) -> Result<(), Fail> {
+    let mut fold = Fold::new(rt.alloc(), 3, false)?;
+    update_from_another_cell(rt.alloc(), &mut fold)?;
     let count = fold.count(0);
     assert!(rt; count.is_some_and(|n| n.as_str() == "8"));
     assert!(rt; fold.count(1).is_none());
     Ok(())
 }
 
-#[test]
-fn dates_are_those_of_the_last_messages(rt: HostRuntime) -> Result<(), Fail> {
-    let alloc = rt.alloc();
-    let mut fold = Fold::new(alloc, 1, false)?;
+/// The dates of a cell that was begun, was idle and was replied to.
+fn dates_text(alloc: Global, fold: &mut Fold) -> Result<Bytes, NoMemory>
+    requires cells { cells_of fold.old ≡ 1 }
+    requires fresh { next_of fold.old ≡ 0 }
+{
     fold.start(0);
-    give(alloc, &mut fold, "input 7;status idle")?;
+    give(alloc, fold, "input 7;status idle")?;
     let date = Text::of(alloc, "R")?;
     fold.reply(Some(&date))?;
-    let said = write_compact(alloc, &Json::Obj(fold.dates(0)?))?;
+    write_compact(alloc, &Json::Obj(fold.dates(0)?))
+}
+
+#[test]
+fn dates_are_those_of_the_last_messages(rt: HostRuntime) -> Result<(), Fail> {
+    let mut fold = Fold::new(rt.alloc(), 1, false)?;
+    let said = dates_text(rt.alloc(), &mut fold)?;
     let dates =
         r#"{"iopub.execute_input":"2026-11-27T09:00:00.123456Z","iopub.status.idle":"2026-11-27T09:00:00.123456Z","shell.execute_reply":"R"}"#;
     assert!(rt; said.bytes() == dates.as_bytes());
     Ok(())
 }
 
+/// Whether a cell that updates an output of the first one touches these two of four, and nothing
+/// was touched before.
+fn touches_both(alloc: Global, fold: &mut Fold) -> Result<bool, NoMemory>
+    requires cells { cells_of fold.old ≡ 4 }
+    requires fresh { next_of fold.old ≡ 0 }
+{
+    fold.start(0);
+    give(alloc, fold, "show x 1")?;
+    fold.start(1);
+    give(alloc, fold, "stream o a")?;
+    fold.rest();
+    let rested = fold.touched().as_slice().is_empty();
+    fold.start(3);
+    give(alloc, fold, "update x 2")?;
+    Ok(rested && fold.touched().as_slice() == [0u32, 3].as_slice())
+}
+
 #[test]
 fn an_update_touches_the_cells_that_show_it(rt: HostRuntime) -> Result<(), Fail> {
-    let alloc = rt.alloc();
-    let mut fold = Fold::new(alloc, 4, false)?;
-    fold.start(0);
-    give(alloc, &mut fold, "show x 1")?;
-    fold.start(1);
-    give(alloc, &mut fold, "stream o a")?;
-    fold.rest();
-    assert!(rt; fold.touched().as_slice().is_empty());
-    fold.start(3);
-    give(alloc, &mut fold, "update x 2")?;
-    assert_eq!(rt; fold.touched().as_slice(), [0u32, 3].as_slice());
+    let mut fold = Fold::new(rt.alloc(), 4, false)?;
+    let both = touches_both(rt.alloc(), &mut fold)?;
+    assert!(rt; both);
     Ok(())
 }
 
@@ -220,14 +247,24 @@ fn fold_with_updates(alloc: Global, outputs: u32) -> Result<Fold, NoMemory>
     ensures { IfOk result (λ f. cells_of f ≡ 2) }
 {
     let mut fold = Fold::new(alloc, 2, false)?;
-    let show = content(alloc, "show x 1")?;
     fold.start(0);
-    for shown in 0..outputs {
-        fold.take(&show, None)?;
-    }
+    show_often(alloc, &mut fold, outputs)?;
     fold.start(1);
     give(alloc, &mut fold, "show x 2;update y 3;update x 4")?;
     Ok(fold)
+}
+
+/// Gives the cell that runs so many outputs of one display.
+fn show_often(alloc: Global, fold: &mut Fold, outputs: u32) -> Result<(), NoMemory>
+    requires { 0 < next_of fold.old }
+    ensures next { next_of fold.new ≡ next_of fold.old }
+    ensures cells { cells_of fold.new ≡ cells_of fold.old }
+{
+    let show = content(alloc, "show x 1")?;
+    for shown in 0..outputs {
+        fold.take(&show, None)?;
+    }
+    Ok(())
 }
 
 const FOUR: &str = r#"{"data":{"text/plain":["4"]},"metadata":{},"output_type":"display_data"}"#;
