@@ -278,7 +278,11 @@ fn start_saved<W: World>(
     let mut run = run;
     match run.save_first(w) {
         Ok(()) => with_kernel(job_of(alloc, number, paths, run), w, kernel, here),
-        Err(end) => Err(end),
+        Err(end) => {
+            // By a call, as where a job ends.
+            drop(run);
+            Err(end)
+        }
     }
 }
 
@@ -328,6 +332,8 @@ fn with_kernel<W: World>(job: Job, w: &mut W, kernel: &Kernel, here: &Text) -> R
         Ok(()) => Ok(job),
         Err(end) => {
             job.end_child(w);
+            // By a call, as where a job ends.
+            drop(job);
             Err(end)
         }
     }
@@ -434,9 +440,9 @@ fn execution_of(
     nb_model::laws::plan_in_order();
     let Agenda { notebook, cells } = agenda;
     let count = notebook.cells.len() as u32;
-    let book = JobNotebook::new(alloc, notebook, terms.merge, output)?;
-    let session = Session::new(alloc, pairs.name, pairs.key)?;
     let seen = Seen::new(alloc)?;
+    let session = Session::new(alloc, pairs.name, pairs.key)?;
+    let book = JobNotebook::new(alloc, notebook, terms.merge, output)?;
     let lines = Lines::new(alloc)?;
     let core = Core::new(cells, count, terms.times);
     Ok(Execution {
