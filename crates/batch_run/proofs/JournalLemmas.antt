@@ -1,7 +1,6 @@
 -- What is told of journals and paths.
-use Rattle.std.proofs.Common.{◌≡◌, ◌≢◌, ◌↔◌, ◌^◌, ◌-◌, min, ℕ, ◌+◌, ◌<◌, ◌≤◌, ◌++◌, Bool, false, List, [], ◌∷◌, length, Option, Some, None, Result, Ok, Err, arith, refl, sym, ◌∙◌, ap, subst, suc, zero}
+use Rattle.std.proofs.Common.{◌≡◌, ◌↔◌, ◌^◌, ◌-◌, min, ℕ, ◌+◌, ◌≤◌, ◌++◌, Bool, List, [], ◌∷◌, Option, Some, None, Result, Ok, Err, arith, refl, sym, ◌∙◌, ap, subst}
 use Rattle.std.proofs.lemmas.Option.{same_Some}
-use Rattle.std.specs.Prelude.{slice_get}
 use Rattle.save_course.proofs.CourseLemmas.{spared_other}
 use Rattle.world.specs.declared.entry.Entry.{Entry}
 use Rattle.world.specs.declared.entry.Entry.TheVariants as made
@@ -11,7 +10,7 @@ use Rattle.ready_loop.specs.declared.fault.LoopFault.{LoopFault}
 use Rattle.ready_loop.specs.declared.fault.LoopFault.TheVariants.{NetFault, Spent}
 use Rattle.ready_loop.specs.Waits.{LookCounts, TurnCounts, left_after}
 use Rattle.world.specs.Moments.{Since, start, more as later, Told}
-use Rattle.world.specs.Parts.{OnDisk, OnSay, part_of, IsNotOf, IsOf}
+use Rattle.world.specs.Parts.{OnDisk, OnSay, IsNotOf, IsOf}
 use Rattle.world.specs.Touched.{touches, Spares}
 use Rattle.world.proofs.MomentsLemmas.{told_as, since_as}
 use Rattle.said_lines.specs.Speech.{Says}

@@ -1,5 +1,5 @@
 -- Lists of jobs, one after another.
-use Rattle.std.proofs.Common.{◌≡◌, ◌≢◌, inl, inr, ℕ, ◌+◌, ◌<◌, ◌≤◌, ◌++◌, List, [], ◌∷◌, length, get_or, set, Some, Bool, true, Result, Ok, arith, refl, sym, ◌∙◌, ap, subst, suc, zero, Option, None, Err}
+use Rattle.std.proofs.Common.{◌≡◌, ◌≢◌, inl, inr, ℕ, ◌+◌, ◌<◌, ◌≤◌, ◌++◌, List, [], ◌∷◌, length, set, Some, Bool, true, Result, Ok, arith, refl, sym, ◌∙◌, ap, subst, suc, zero, Option, None, Err}
 use Rattle.std.specs.Prelude.{slice_get, IfOk, IfSome}
 use Rattle.std.proofs.lemmas.Bool.{cases_eq}
 use Rattle.std.proofs.lemmas.Option.{slice_get_within, same_Some}

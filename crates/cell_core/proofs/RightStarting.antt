@@ -12,7 +12,7 @@ use Rattle.cell_core.specs.declared.state.State.TheVariants.{Starting}
 use Rattle.cell_core.specs.Task.{Task, cell_of}
 use Rattle.cell_core.specs.Events.{is_moment, is_looked, is_turn_at, ever, time, start_time, is_saved, is_ready, is_broken, is_lost, came, look_since}
 use Rattle.cell_core.specs.Requests.{Standing, standing}
-use Rattle.cell_core.specs.Saves.{why_not_done, why, plan_saves}
+use Rattle.cell_core.specs.Saves.{why_not_done, why}
 use Rattle.cell_core.specs.Acts.{is_late, answers, is_used}
 use Rattle.cell_core.specs.declared.clock.Clock.{Clock}
 use Rattle.cell_core.specs.declared.clock.Clock.TheVariants.{Unread, Started, Turned}

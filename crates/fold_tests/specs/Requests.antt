@@ -1,5 +1,5 @@
 -- Requests as a crate above the fold writes them: the record of a request, and what is read of it.
-use Rattle.std.specs.Prelude.{ℕ, List, [], ◌∷◌, length, Option, Some, None}
+use Rattle.std.specs.Prelude.{ℕ, List, length, None}
 use Rattle.jcontent.specs.declared.content.Content.TheVariants as content
 use Rattle.out_fold.specs.declared.message.Message.{Message}
 use Rattle.out_fold.specs.declared.used.Used.{Used}

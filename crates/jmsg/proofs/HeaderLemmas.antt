@@ -1,9 +1,9 @@
 -- Lemmas on the dictionary of a header.
-use Rattle.std.proofs.Common.{◌≡◌, ◌≢◌, ℕ, ◌≤◌, ◌<◌, zero, suc, nat_lt, get_or, lit<, true, false, List, [], ◌∷◌, codes, Option, Some, None, refl, ◌∙◌, ap, arith}
+use Rattle.std.proofs.Common.{◌≡◌, ℕ, ◌≤◌, ◌<◌, zero, suc, nat_lt, get_or, lit<, true, List, [], ◌∷◌, codes, Option, Some, None, refl, ◌∙◌, ap, arith}
 use Rattle.std.specs.List.{AllByRecursion, list_all}
 use Rattle.std.specs.Option.{IfSome, unwrap_or}
 use Rattle.std.specs.Prelude.{option_and_then}
-use Rattle.std.specs.Str.{IsUtf8, bytes_eq}
+use Rattle.std.specs.Str.{IsUtf8}
 use Rattle.std.proofs.lemmas.Bool.{and_parts, ltb-true}
 use Rattle.std.proofs.lemmas.Str.{IsUtf8-from_ascii}
 use Rattle.jtext.proofs.Equals.{apart_bytes}
@@ -12,9 +12,9 @@ use Rattle.jtext.specs.Find.{find, fields_of}
 use Rattle.jtext.proofs.Depths.{depth-Obj, depth-Str, pairs-le}
 use Rattle.jtext.specs.Grammar.{Distinct}
 use Rattle.jtext.specs.Keyed as keyed
-use Rattle.jtext.specs.Keyed.{Keyed, PairsKeyed}
+use Rattle.jtext.specs.Keyed.{PairsKeyed}
 use Rattle.jtext.specs.Sound as sound
-use Rattle.jtext.specs.Sound.{Sound, PairsSound}
+use Rattle.jtext.specs.Sound.{PairsSound}
 use Rattle.jtext.specs.declared.json.Json.{Json}
 use Rattle.jtext.specs.declared.json.Json.TheVariants as json
 use Rattle.jtext.specs.Look.{is_object_layer, string, string_at, string_layer}

@@ -1,5 +1,5 @@
 -- Lemmas on the message that frames give.
-use Rattle.std.proofs.Common.{◌≡◌, ℕ, List, [], Option, Some, None, refl, sym, ◌∙◌, ap}
+use Rattle.std.proofs.Common.{◌≡◌, ℕ, List, [], Option, refl, ◌∙◌, ap}
 use Rattle.jsign.specs.Hmac as hmac
 use Rattle.jtext.specs.Grammar.{Spells}
 use Rattle.jtext.specs.Keyed.{Keyed}

@@ -14,6 +14,8 @@ use Rattle.nb_model.specs.declared.cell.Cell.{Cell}
 use Rattle.nb_model.specs.declared.notebook.Notebook.{Notebook}
 use Rattle.nb_model.specs.Tags.{is_tagged}
 use Rattle.nb_migrate.specs.Raised.{is_older, raised_tree, raised_object, raised_pair, raised_cells, raised_from}
+use Rattle.nb_migrate.proofs.RaisedKeyed.{same_key}
+use Rattle.nb_migrate.proofs.Raises.{raised_length}
 use Rattle.nb_params.specs.Injected.{parametrised_notebook, injected_notebook, placed_at, placed_after, hidden_cell}
 use Rattle.words.specs.declared.ask.Ask.{Ask}
 use Rattle.nb_load.specs.Loaded.{Accepts}
@@ -97,18 +99,9 @@ field_within key t b (object ps inner _ is d e) =
 
 -- ---- raised
 
-raised_length : (i : ℕ) (vs : List Json) → length (raised_from i vs) ≡ length vs
-raised_length i [] = refl
-raised_length i (v ∷ vs) = omega (arith, raised_length (i + 1) vs)
-
 list_size : (b : Bool) (v : Json) → size (if b then json.Arr (raised_from 0 (items v)) else v) ≡ size v
 list_size true v = size_list (raised_from 0 (items v)) ∙ raised_length 0 (items v)
 list_size false v = refl
-
-same_key : (p : List ℕ × Json) (b c : Bool) (v w : Json) → (if b then (p.0, v) else if c then (p.0, w) else p).0 ≡ p.0
-same_key p true c v w = refl
-same_key p false true v w = refl
-same_key p false false v w = refl
 
 no_larger : (p : List ℕ × Json) (b c : Bool) (v w : Json) → size v ≤ size p.1 → size w ≤ size p.1 → size (if b then (p.0, v) else if c then (p.0, w) else p).1 ≤ size p.1
 no_larger p true c v w h k = h
@@ -120,9 +113,6 @@ raised_pair_size p =
     no_larger p (bytes_eq p.0 (codes "cells")) (bytes_eq p.0 (codes "nbformat_minor")) (raised_cells p.1) (json.Num (codes "5"))
     (omega (arith, list_size (is_list p.1) p.1)) (omega (arith, size_num (codes "5")))
 
-raised_key : (p : List ℕ × Json) → (raised_pair p).0 ≡ p.0
-raised_key p = same_key p (bytes_eq p.0 (codes "cells")) (bytes_eq p.0 (codes "nbformat_minor")) (raised_cells p.1) (json.Num (codes "5"))
-
 both_within : (b : Bool) (v w : Json) (r s : Option Json) → size v ≤ size w → size_at r ≤ size_at s → size_at (if b then Some v else r) ≤ size_at (if b then Some w else s)
 both_within true v w r s h k = h
 both_within false v w r s h k = k
@@ -130,7 +120,7 @@ both_within false v w r s h k = k
 raised_find : (key : List ℕ) (ps : List (List ℕ × Json)) → size_at (find key (map raised_pair ps)) ≤ size_at (find key ps)
 raised_find key [] = omega arith
 raised_find key (p ∷ ps) =
-    subst (λ k. size_at (if pointwise nat_eq k key then Some (raised_pair p).1 else find key (map raised_pair ps)) ≤ size_at (find key (p ∷ ps))) (sym (raised_key p))
+    subst (λ k. size_at (if pointwise nat_eq k key then Some (raised_pair p).1 else find key (map raised_pair ps)) ≤ size_at (find key (p ∷ ps))) (sym (same_key p))
     (both_within (pointwise nat_eq p.0 key) (raised_pair p).1 p.1 (find key (map raised_pair ps)) (find key ps) (raised_pair_size p) (raised_find key ps))
 
 object_size : (b : Bool) (key : List ℕ) (t : Json) → size_at (field (if b then json.Obj (map raised_pair (fields t)) else t) key) ≤ size_at (field t key)

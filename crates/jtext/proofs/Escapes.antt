@@ -9,7 +9,7 @@ use Rattle.jtext.specs.declared.fault.Fault.TheVariants.{NoMemory, Bad, Deep, Re
 use Rattle.jtext.specs.Readings.{Reading, ◌>>=◌, or_fault, strip_word}
 use Rattle.jtext.specs.Strings.{short, is_plain, character_of_pair, any_digit_at, four_at, cut_or_lone, low_letter_at, low_digit_at, low_at, unit_at, unicode_at, short_to, escape_at, body_at, string_at}
 use Rattle.jtext.proofs.Machine as machine
-use Rattle.jtext.proofs.Machine.{Frame, Mode, State, at, value, key, colon, after, text, escape, unit, string_end, step, run, Open, Refuses, Stands, Stops, Like, Passed, Follows}
+use Rattle.jtext.proofs.Machine.{Frame, State, at, after, text, escape, unit, string_end, step, run, Open, Stops, Like, Passed, Follows}
 use Rattle.jtext.proofs.Binds.{test}
 use Rattle.jtext.proofs.StringLaws.{strip_one, escape_sound}
 use Rattle.jtext.proofs.Follows.{blank, over, one, byte, refused, stays, as_like, bind, no_state, text_open}

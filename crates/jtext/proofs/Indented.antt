@@ -11,7 +11,7 @@ use Rattle.jtext.specs.Sorting.{byte_order, insert_sorted, sort_by, by_key}
 use Rattle.jtext.specs.Indent.{on_line, further, bracket, member, indent, indent_items, indent_fields}
 use Rattle.jtext.proofs.Sorts.{sort_by-map}
 use Rattle.std.proofs.lemmas.Option.{slice_get_within}
-use Rattle.jtext.proofs.Lists.{map-map}
+use Rattle.std.proofs.lemmas.Simd.{map-map}
 
 length-insert_sorted : {X : Type 0} (cmp : X → X → Ordering) (x : X) (xs : List X) → length (insert_sorted cmp x xs) ≡ suc (length xs)
 length-insert_sorted cmp x [] = refl

@@ -1,6 +1,6 @@
 -- Keys that stand once, and words.
-use Rattle.std.proofs.Common.{◌≡◌, ℕ, ◌≢◌, true, false, ◌||◌, List, [], ◌∷◌, ◌++◌, length, take, drop, Option, Some, None, refl, sym, ap₂, ◌∙◌, inl, inr}
-use Rattle.std.proofs.lemmas.Bool.{cases_Bool, or_parts}
+use Rattle.std.proofs.Common.{◌≡◌, ℕ, ◌≢◌, false, ◌||◌, List, [], ◌∷◌, ◌++◌, length, take, drop, Option, Some, None, refl, sym, ap₂, ◌∙◌, inl, inr}
+use Rattle.std.proofs.lemmas.Bool.{or_parts}
 use Rattle.std.proofs.lemmas.List.{take-append-drop}
 use Rattle.std.proofs.lemmas.Slice.Eq.{bytes_eq-Decides}
 use Rattle.std.specs.Prelude.{nat_eq}
@@ -11,6 +11,7 @@ use Rattle.jtext.specs.Readings.{strip_word}
 use Rattle.jtext.specs.Grammar.{Distinct}
 use Rattle.jtext.specs.Reading.{has_key}
 use Rattle.jtext.proofs.Binds.{chosen}
+use Rattle.jtext.proofs.Equals.{apart_bytes, other_bytes}
 
 pub all-push : {A : Type 0} (P : A → Type 0) (xs : List A) (x : A) → AllByRecursion P xs → P x → AllByRecursion P (xs ++ x ∷ [])
 all-push P [] x all p = (p, tt)
@@ -20,22 +21,15 @@ pub all-at : {A : Type 0} (P : A → Type 0) (xs : List A) (x : A) (ys : List A)
 all-at P [] x ys all = all.0
 all-at P (z ∷ zs) x ys all = all-at P zs x ys all.1
 
-pub differ : (xs ys : List ℕ) → bytes_eq xs ys ≡ false → ys ≢ xs
-differ xs ys e same = let t : true ≡ false = sym ((bytes_eq-Decides xs ys).1 (sym same)) ∙ e in cc
-
-pub not_equal : (xs ys : List ℕ) → ys ≢ xs → bytes_eq xs ys ≡ false
-not_equal xs ys no_same =
-    elim (cases_Bool (bytes_eq xs ys)) [ inl t ↦ absurd (no_same (sym ((bytes_eq-Decides xs ys).0 t))) | inr f ↦ f ]
-
 pub distinct-push : (ps : List (List ℕ × Json)) (p : List ℕ × Json) → Distinct ps → has_key ps p.0 ≡ false → Distinct (ps ++ p ∷ [])
 distinct-push [] p d e = (tt, tt)
 distinct-push (r ∷ rs) p d e =
     let h = or_parts (bytes_eq r.0 p.0) (has_key rs p.0) e in
-    (all-push (λ q. q.0 ≢ r.0) rs p d.0 (differ r.0 p.0 h.0), distinct-push rs p d.1 h.1)
+    (all-push (λ q. q.0 ≢ r.0) rs p d.0 (λ e. apart_bytes r.0 p.0 h.0 (sym e)), distinct-push rs p d.1 h.1)
 
 pub distinct-free : (ps : List (List ℕ × Json)) (p : List ℕ × Json) (qs : List (List ℕ × Json)) → Distinct (ps ++ p ∷ qs) → has_key ps p.0 ≡ false
 distinct-free [] p qs d = refl
-distinct-free (r ∷ rs) p qs d = ap₂ (λ a b. a || b) (not_equal r.0 p.0 (all-at (λ q. q.0 ≢ r.0) rs p qs d.0)) (distinct-free rs p qs d.1)
+distinct-free (r ∷ rs) p qs d = ap₂ (λ a b. a || b) (other_bytes r.0 p.0 (λ e. all-at (λ q. q.0 ≢ r.0) rs p qs d.0 (sym e))) (distinct-free rs p qs d.1)
 
 pub strip_sound : (name s rest : List ℕ) → strip_word name s ≡ Some rest → s ≡ name ++ rest
 strip_sound name s rest e =

@@ -11,7 +11,7 @@ use Rattle.jtext.specs.declared.fault.Fault.TheVariants.{Bad}
 use Rattle.jtext.specs.Readings.{Reading, strip_word}
 use Rattle.jtext.specs.Reading.{is_space, skip_digits, ascii_front, after_digits, after_minus, after_sign, after_whole, after_fraction, after_exponent, after_number, word_at, word_stop, number_to, number_stop, whole_stop, fraction_stop, exponent_stop}
 use Rattle.jtext.proofs.Machine as machine
-use Rattle.jtext.proofs.Machine.{Frame, Mode, State, at, value, after, word, minus, zero_, whole, point, fraction, tail, power, sign, exponent, step, run, Open, Refuses, Stops, Like, Passed, Follows}
+use Rattle.jtext.proofs.Machine.{Frame, Mode, State, at, value, after, word, minus, zero_, whole, point, fraction, tail, power, sign, exponent, step, run, Open, Like, Passed, Follows}
 use Rattle.jtext.proofs.Binds.{test, some_is, no_some}
 use Rattle.jtext.proofs.Follows.{blank, over, byte, refused, stays, as_like, no_state, modes}
 

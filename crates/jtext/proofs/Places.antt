@@ -12,7 +12,7 @@ use Rattle.jtext.specs.Strings.{string_at}
 use Rattle.jtext.specs.Gives.{Fails, fault_within}
 use Rattle.jtext.specs.Reading.{is_space, skip_spaces, word_at, list_at, item_at, field_at, key_at, after_key, colon_at, has_key, as_array, as_object, as_string, value_at, document_at, at_end, number_to, after_number}
 use Rattle.jtext.proofs.Machine as machine
-use Rattle.jtext.proofs.Machine.{Frame, State, at, value, first, first_key, key, colon, after, text, word, step, run, start, Refuses, Stands, Stops, Like, Passed, Follows, Broken, Placed, AtPlace}
+use Rattle.jtext.proofs.Machine.{Frame, at, value, first, first_key, key, colon, after, text, word, step, start, Stops, Follows, AtPlace}
 use Rattle.jtext.proofs.Viable.{begun, none_goes_on}
 use Rattle.jtext.proofs.Binds.{test, bind_ok}
 use Rattle.jtext.proofs.Turns.{arrays_at, objects_at, value_is}

@@ -12,7 +12,7 @@ use Rattle.jtext.specs.declared.json.Json.{Json, the_lemmas}
 use Rattle.jtext.specs.declared.json.Json.TheVariants as json
 use Rattle.jtext.specs.Strings.{Letters, done, plain, escaped, IsPlain, IsEscape, IsFour, short, Quoted}
 use Rattle.jtext.specs.Grammar as grammar
-use Rattle.jtext.specs.Grammar.{Spells, Spelled, Items, last_item, next_item, Pairs, last_pair, next_pair, Pair, AreSpaces}
+use Rattle.jtext.specs.Grammar.{Spells, Spelled, Items, last_item, next_item, Pairs, last_pair, next_pair, Pair}
 use Rattle.jtext.specs.Print.{escape_letter, escape_byte, quote, join, pair, word, compact}
 use Rattle.jtext.proofs.Propers as proper
 use Rattle.jtext.proofs.Propers.{Proper, AllProper, PairsProper, proper_of}

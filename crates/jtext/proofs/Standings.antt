@@ -16,7 +16,8 @@ use Rattle.jtext.specs.Grammar.{Spelled, Pair, AreSpaces, Passes, Lacks}
 use Rattle.jtext.specs.Reading.{skip_spaces, word_at, items_at, after_item, begun_at, list_at, item_at, field_at, key_at, after_key, colon_at, has_key, as_array, as_object, as_string, value_at, number_to, after_number, word_stop, number_stop}
 use Rattle.jtext.specs.Refusal.{BeforeValue, first_item, next_item, member, BeforeKey, first_key, next_key, WithinString, in_value, in_key, IsDeep, IsRepeated, IsAlone}
 use Rattle.jtext.proofs.Binds.{chosen}
-use Rattle.jtext.proofs.Keys.{differ, not_equal, all-push}
+use Rattle.jtext.proofs.Equals.{apart_bytes, other_bytes}
+use Rattle.jtext.proofs.Keys.{all-push}
 use Rattle.jtext.proofs.Lones.{bind_err, no_err, fault_is, StringFault, string_fault}
 use Rattle.jtext.proofs.StringLaws.{strip_one, string_sound}
 use Rattle.jtext.proofs.Series.{Series, last, next, spaces_sound}
@@ -27,11 +28,11 @@ use Rattle.jtext.proofs.Documents.{Flat, to_items, to_pairs, value_sound, field_
 
 pub lacks_free : (ps : List (List ℕ × Json)) (key : List ℕ) → has_key ps key ≡ false → Lacks key ps
 lacks_free [] key e = tt
-lacks_free (p ∷ ps) key e = let h = or_parts (bytes_eq p.0 key) (has_key ps key) e in (λ same. differ p.0 key h.0 (sym same), lacks_free ps key h.1)
+lacks_free (p ∷ ps) key e = let h = or_parts (bytes_eq p.0 key) (has_key ps key) e in (apart_bytes p.0 key h.0, lacks_free ps key h.1)
 
 pub free_lacks : (ps : List (List ℕ × Json)) (key : List ℕ) → Lacks key ps → has_key ps key ≡ false
 free_lacks [] key l = refl
-free_lacks (p ∷ ps) key l = ap₂ (λ a b. a || b) (not_equal p.0 key (λ e. l.0 (sym e))) (free_lacks ps key l.1)
+free_lacks (p ∷ ps) key l = ap₂ (λ a b. a || b) (other_bytes p.0 key l.0) (free_lacks ps key l.1)
 
 pub taken_not_lacks : (ps : List (List ℕ × Json)) (key : List ℕ) → has_key ps key ≡ true → Lacks key ps → ⊥
 taken_not_lacks ps key e l = let h : true ≡ false = sym e ∙ free_lacks ps key l in cc

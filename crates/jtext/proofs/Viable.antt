@@ -3,7 +3,7 @@ use Rattle.std.proofs.Common.{◌≡◌, ℕ, zero, suc, Bool, true, false, List
 use Rattle.std.proofs.lemmas.Bool.Decides.{nat_tests}
 use Rattle.std.specs.Option.{option_and_then}
 use Rattle.jtext.proofs.Machine as machine
-use Rattle.jtext.proofs.Machine.{Frame, Mode, State, at, value, first, first_key, key, colon, after, text, escape, unit, word, minus, zero_, whole, point, fraction, tail, power, sign, exponent, step, run, start, Refuses, IsText, IsBegun, NoneGoesOn}
+use Rattle.jtext.proofs.Machine.{Frame, Mode, State, at, value, first, first_key, key, colon, after, text, escape, unit, word, minus, zero_, whole, point, fraction, tail, power, sign, exponent, step, run, start, Refuses, IsBegun, NoneGoesOn}
 use Rattle.jtext.proofs.Follows.{run-append}
 
 -- these bytes lead from σ to a value with nothing open

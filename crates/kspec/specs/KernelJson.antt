@@ -1,5 +1,5 @@
 -- What a `kernel.json` says (jupyter_client, "Kernel specs": `argv`, `env`, `interrupt_mode`).
-use Rattle.std.specs.Prelude.{◌≡◌, ◌<◌, ◌⊎◌, ℕ, Bool, true, List, [], map, Option, Some, None, if◌then◌else◌, ◌&&◌, not, nat_le, length, codes}
+use Rattle.std.specs.Prelude.{◌≡◌, ◌<◌, ◌⊎◌, ℕ, Bool, List, [], map, Option, Some, None, if◌then◌else◌, ◌&&◌, not, nat_le, length, codes}
 use Rattle.std.specs.List.{list_all}
 use Rattle.std.specs.Str.{bytes_eq}
 use Rattle.jtext.specs.declared.json.Json.{Json}

@@ -11,7 +11,7 @@ use Rattle.jtext.specs.Look.{is_object, is_list, items}
 use Rattle.jtext.specs.Grammar.{Lacks, Distinct}
 use Rattle.jtext.specs.Keyed as keyed
 use Rattle.jtext.specs.Keyed.{Keyed, AllKeyed, PairsKeyed}
-use Rattle.jtext.proofs.Keys.{differ}
+use Rattle.jtext.proofs.Equals.{apart_bytes}
 use Rattle.nb_model.specs.declared.kind.Kind.{Kind}
 use Rattle.nb_model.specs.declared.kind.Kind.TheVariants as kind
 use Rattle.nb_model.specs.declared.cell.Cell.{Cell}
@@ -47,7 +47,7 @@ items_of (x ∷ xs) all = keyed.more x xs all.0 (items_of xs all.1)
 
 lacks_from : (key : List ℕ) (ps : List (List ℕ × Json)) → not (list_any (bytes_eq key) (map (λ p. p.0) ps)) ≡ true → Lacks key ps
 lacks_from key [] e = tt
-lacks_from key (p ∷ ps) e = let h = not_or (bytes_eq key p.0) (list_any (bytes_eq key) (map (λ q. q.0) ps)) e in (differ key p.0 h.0, lacks_from key ps h.1)
+lacks_from key (p ∷ ps) e = let h = not_or (bytes_eq key p.0) (list_any (bytes_eq key) (map (λ q. q.0) ps)) e in (λ e. apart_bytes key p.0 h.0 (sym e), lacks_from key ps h.1)
 
 pub distinct_from : (ps : List (List ℕ × Json)) → no_repeat (map (λ p. p.0) ps) ≡ true → Distinct ps
 distinct_from [] e = tt
@@ -65,7 +65,7 @@ distinct-set_pair key v [] d = (tt, tt)
 distinct-set_pair key v (p ∷ ps) d =
     elim (cases_Bool (bytes_eq p.0 key)) [
       | inl t ↦ subst Distinct (sym (cond-true (bytes_eq p.0 key) ((p.0, v) ∷ ps) (p ∷ set_pair key v ps) t)) d
-      | inr f ↦ subst Distinct (sym (cond-false (bytes_eq p.0 key) ((p.0, v) ∷ ps) (p ∷ set_pair key v ps) f)) (lacks-set_pair p.0 key v ps (differ p.0 key f) d.0, distinct-set_pair key v ps d.1)
+      | inr f ↦ subst Distinct (sym (cond-false (bytes_eq p.0 key) ((p.0, v) ∷ ps) (p ∷ set_pair key v ps) f)) (lacks-set_pair p.0 key v ps (λ e. apart_bytes p.0 key f (sym e)) d.0, distinct-set_pair key v ps d.1)
     ]
 
 -- ---- a value set in an object

@@ -17,7 +17,7 @@ use Rattle.jtext.specs.Keyed.{Keyed, AllKeyed, PairsKeyed}
 use Rattle.jtext.specs.Sorting.{byte_order, insert_sorted, by_key, sort_tree}
 use Rattle.jtext.specs.Look.{is_object, is_object_layer, is_list, is_list_layer, items, items_layer, string, string_layer, number, number_layer, is_null, is_null_layer, there_and, absent_or}
 use Rattle.jtext.proofs.Depths.{depth-Arr, depth-Obj}
-use Rattle.jtext.proofs.Keys.{not_equal}
+use Rattle.jtext.proofs.Equals.{other_bytes}
 use Rattle.jtext.proofs.Sorts.{all-sort_by, sort_by-map}
 use Rattle.nb_model.specs.Keys.{has, may_have, has_only}
 use Rattle.nb_model.proofs.DepthLaws.{highest-by_key}
@@ -96,7 +96,7 @@ exchanged : (p q : List ℕ × Json) (key : List ℕ) (rest : Option Json) → q
 exchanged p q key rest ne =
     elim (cases_Bool (bytes_eq p.0 key)) [
       | inl t ↦
-          let other : bytes_eq q.0 key ≡ false = ap (bytes_eq q.0) (sym ((bytes_eq-Decides p.0 key).0 t)) ∙ not_equal q.0 p.0 (λ e. ne (sym e)) in
+          let other : bytes_eq q.0 key ≡ false = ap (bytes_eq q.0) (sym ((bytes_eq-Decides p.0 key).0 t)) ∙ other_bytes q.0 p.0 ne in
           cond-false (bytes_eq q.0 key) (Some q.1) (cond (bytes_eq p.0 key) (Some p.1) rest) other ∙ cond-true (bytes_eq p.0 key) (Some p.1) rest t
           ∙ sym (cond-true (bytes_eq p.0 key) (Some p.1) (cond (bytes_eq q.0 key) (Some q.1) rest) t)
       | inr f ↦

@@ -8,7 +8,7 @@ use Rattle.std.proofs.lemmas.Slice.Eq.{bytes_eq-Decides}
 use Rattle.jtext.specs.declared.json.Json.{Json, out-Json, roll-out-Json, roll-Json, the_lemmas}
 use Rattle.jtext.specs.declared.json.Json.TheOpen.{Json-F}
 use Rattle.jtext.specs.declared.json.Json.TheVariants as json
-use Rattle.jtext.specs.declared.json.Json.TheVariants.{rolls-Obj, rolls-Arr, rolls-Str, rolls-Num, rolls-Null}
+use Rattle.jtext.specs.declared.json.Json.TheVariants.{rolls-Num, rolls-Null}
 use Rattle.jtext.specs.Find.{field, fields}
 use Rattle.jtext.specs.Grammar.{Distinct}
 use Rattle.jtext.specs.Keyed.{Keyed, AllKeyed}

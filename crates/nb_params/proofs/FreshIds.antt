@@ -11,7 +11,7 @@ use Rattle.std.specs.Fmt.{decimal}
 use Rattle.std.specs.List.{AllByRecursion, IsDistinct, list_any}
 use Rattle.std.specs.Str.{bytes_eq}
 use Rattle.std.specs.Str.Parse.{digits_value}
-use Rattle.jtext.proofs.Keys.{not_equal}
+use Rattle.jtext.proofs.Equals.{other_bytes}
 use Rattle.nb_params.specs.Injected.{numbered_id, free_from, fresh_id}
 use Rattle.nb_model.specs.Values.{is_id_text}
 use Rattle.nb_model.proofs.PreparedLaws.{and_eq}
@@ -27,7 +27,7 @@ numbered_injective m n hm hn e =
     sym (decimal_is_IsNumeral_wide m hm).1 ∙ ap (λ s. digits_value 10 (drop 20 s)) e ∙ (decimal_is_IsNumeral_wide n hn).1
 
 numbers_differ : (m n : ℕ) → n < 10 ^ 64 → m < n → bytes_eq (numbered_id m) (numbered_id n) ≡ false
-numbers_differ m n h lt = not_equal (numbered_id m) (numbered_id n) (λ e. let same : m ≡ n = numbered_injective m n (omega arith) h (sym e) in absurd (omega arith))
+numbers_differ m n h lt = other_bytes (numbered_id m) (numbered_id n) (λ e. let same : m ≡ n = numbered_injective m n (omega arith) h e in absurd (omega arith))
 
 first_differs : (n : ℕ) → bytes_eq first (numbered_id n) ≡ false
 first_differs n = refl

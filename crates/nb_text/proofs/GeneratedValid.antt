@@ -12,7 +12,7 @@ use Rattle.jtext.specs.declared.json.Json.TheVariants as json
 use Rattle.jtext.specs.Depth.{depth}
 use Rattle.jtext.specs.Keyed as keyed
 use Rattle.jtext.specs.Keyed.{Keyed}
-use Rattle.jtext.proofs.Keys.{not_equal}
+use Rattle.jtext.proofs.Equals.{other_bytes}
 use Rattle.nb_model.specs.declared.kind.Kind.TheVariants as kind
 use Rattle.nb_model.specs.Tree.{cell_tree, notebook_tree}
 use Rattle.nb_model.specs.Valid.{is_metadata, is_cell_metadata, Valid}
@@ -35,7 +35,7 @@ id_injective : (m n : ℕ) → m < 10 ^ 64 → n < 10 ^ 64 → id m ≡ id n →
 id_injective m n hm hn e = sym (decimal_is_IsNumeral_wide m hm).1 ∙ ap (λ s. digits_value 10 (drop 1 s)) e ∙ (decimal_is_IsNumeral_wide n hn).1
 
 ids_apart : (m n : ℕ) → n < 10 ^ 64 → m < n → bytes_eq (id m) (id n) ≡ false
-ids_apart m n h lt = not_equal (id m) (id n) (λ e. let same : m ≡ n = id_injective m n (omega arith) h (sym e) in absurd (omega arith))
+ids_apart m n h lt = other_bytes (id m) (id n) (λ e. let same : m ≡ n = id_injective m n (omega arith) h e in absurd (omega arith))
 
 later_apart : (i j n : ℕ) → i < j → j + n < 10 ^ 64 → list_any (bytes_eq (id i)) (map (λ c. c.id) (cells_from j n)) ≡ false
 later_apart i j zero lt h = refl

@@ -22,7 +22,7 @@ use Rattle.nbrun_top.specs.declared.answer.Answer.{Answer as Last}
 use Rattle.nbrun_top.specs.Asked.{IsExecuting, IsExecuted, IsBatch}
 use Rattle.nbrun_top.specs.Codes.{code_of}
 use Rattle.nbrun_top.specs.Ended.{Answers, plain, not_said, Ended}
-use Rattle.nbrun_top.specs.Executed.{Executed, Runs, HaveRun, AreJobs, of_words, of_file, IsFileOf, GivesAsks, GivesNone, IsQuiet, IsAlone, AreApart, IsCountedIn, IsSavedOnly, untouched, saved, DoesNotWrite, NoneWrites, first_fault, file_read}
+use Rattle.nbrun_top.specs.Executed.{Executed, Runs, HaveRun, of_words, of_file, GivesAsks, GivesNone, IsQuiet, IsAlone, AreApart, IsCountedIn, IsSavedOnly, untouched, saved, DoesNotWrite, NoneWrites, first_fault, file_read}
 use Rattle.nbrun_top.specs.Executed as executed
 use Rattle.nbrun_top.specs.Lines.{all_lines}
 use Rattle.nbrun_top.specs.Ran.{Ran, IsUntouched}

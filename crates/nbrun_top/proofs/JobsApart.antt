@@ -10,10 +10,10 @@ use Rattle.words.specs.Apart.{are_distinct}
 use Rattle.words.specs.JobsAsked.{ask_of_job}
 use Rattle.words.specs.JobsFile.{IsJobsFile, jobs_of, path_at, paths_from, paths_of}
 use Rattle.words.specs.Paths.{temporary_of, connection_of}
-use Rattle.std.proofs.lemmas.Bool.{and_parts, or_parts, not-true, true≢false}
+use Rattle.std.proofs.lemmas.Bool.{and_parts, or_parts, not-true}
 use Rattle.std.proofs.lemmas.Bool.Decides.{eqb_tells}
 use Rattle.nbrun_top.specs.Executed.{IsFileOf, IsAlone, NoneWrites, DoesNotWrite, AreApart}
-use Rattle.jtext.proofs.Equals.{same_bytes, apart_bytes}
+use Rattle.jtext.proofs.Equals.{apart_bytes}
 use Rattle.std.proofs.lemmas.Option.{same_Some}
 
 -- ---- tests

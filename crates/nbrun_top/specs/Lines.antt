@@ -1,5 +1,5 @@
 -- The lines that are said at the end of a run, each ended by a line feed.
-use Rattle.std.specs.Prelude.{ℕ, List, [], ◌++◌, codes}
+use Rattle.std.specs.Prelude.{ℕ, List, ◌++◌, codes}
 use Rattle.nb_load.specs.Reasons.{reason}
 use Rattle.words.specs.Messages.{usage_message}
 use Rattle.said_lines.specs.Lines.{spoken_line, saved_line}

@@ -1,11 +1,6 @@
 -- What follows from a clause on a result.
 use Rattle.std.proofs.Common.{Result, Ok, Err}
-use Rattle.std.specs.Result.{OnErr, IfOk}
-
--- whatever it is
-pub given_err : {T E P : Type 0} → (r : Result T E) → P → OnErr r P
-given_err (Ok x) p = tt
-given_err (Err e) p = p
+use Rattle.std.specs.Result.{IfOk}
 
 pub if_ok : {T E : Type 0} {P Q : T → Type 0} → (r : Result T E) → ((x : T) → P x → Q x) → IfOk r P → IfOk r Q
 if_ok (Ok x) f p = f x p

@@ -8,6 +8,7 @@ use Rattle.std.proofs.lemmas.Str.{IsUtf8-append}
 use Rattle.jtext.specs.declared.json.Json.TheVariants as json
 use Rattle.jtext.specs.Bundle.{is_bundle}
 use Rattle.jtext.specs.Look.{is_object}
+use Rattle.jtext.proofs.Fronts.{all-append}
 use Rattle.jcontent.specs.declared.content.Content.{Content}
 use Rattle.jcontent.specs.declared.content.Content.TheVariants as content
 use Rattle.jcontent.specs.declared.shown.Shown.{Shown}
@@ -80,10 +81,6 @@ module _ (known : List ℕ → Option Data) (all : (id : List ℕ) → IfSome (k
 read_shown : (c : Content) (after : List Content) → IsRead c → appends c ≡ true → AllByRecursion IsRead after → IsReadOutput (shown_output c after)
 read_shown c after h e all = read_resolved (λ id. latest id None after) (λ id. read_latest id None after tt all) c h e
 
-both : {A : Type 0} (P : A → Type 0) (xs ys : List A) → AllByRecursion P xs → AllByRecursion P ys → AllByRecursion P (xs ++ ys)
-both P [] ys a b = b
-both P (x ∷ xs) ys a b = (a.0, both P xs ys a.1 b)
-
 listed : (b : Bool) (x : Content) (xs : List Content) → (b ≡ true → IsReadOutput x) → AllByRecursion IsReadOutput xs → AllByRecursion IsReadOutput (if b then x ∷ xs else xs)
 listed true x xs h all = (h refl, all)
 listed false x xs h all = all
@@ -96,7 +93,7 @@ read_outputs : (cs later : List Content) → AllByRecursion IsRead cs → AllByR
 read_outputs [] later a b = tt
 read_outputs (c ∷ rest) later a b =
     listed (appends c && stays rest) (shown_output c (rest ++ later)) (outputs rest later)
-    (λ e. read_shown c (rest ++ later) a.0 (first_part (appends c) (stays rest) e) (both IsRead rest later a.1 b))
+    (λ e. read_shown c (rest ++ later) a.0 (first_part (appends c) (stays rest) e) (all-append IsRead rest later a.1 b))
     (read_outputs rest later a.1 b)
 
 -- ---- joined

@@ -1,11 +1,11 @@
 //! Outputs as nbformat writes them.
-ghost use Rattle.std.specs.Prelude.{◌≡◌, ◌∷◌, [], codes, IfOk, map, None};
+ghost use Rattle.std.specs.Prelude.{◌≡◌, codes, IfOk, map, None};
 ghost use Rattle.jtext.specs.declared.json.Json.TheVariants as json;
 ghost use Rattle.nb_model.specs.Tree.{count_tree};
 ghost use Rattle.out_fold.specs.Tree as spec;
 
 use crate::bundle::stored_bundle;
-use jtext::{Fields, Items, Json, NoMemory, NumText, Text, Texts, copy, pair, text_pair};
+use jtext::{Fields, Items, Json, NoMemory, NumText, Text, Texts, copy, object, pair, text_pair};
 use nb_model::split_lines;
 use std::alloc::Global;
 
@@ -17,7 +17,7 @@ pub(crate) fn stream_tree(alloc: Global, name: &Text, text: &str) -> Result<Json
     let name = text_pair(alloc, "name", name.as_str())?;
     let kind = text_pair(alloc, "output_type", "stream")?;
     let text = pair(alloc, "text", lines)?;
-    object_of_3(alloc, name, kind, text)
+    object(alloc, [name, kind, text])
 }
 
 /// `display_data`
@@ -34,7 +34,7 @@ pub(crate) fn display_tree(
     let shown = pair(alloc, "data", bundle)?;
     let about = pair(alloc, "metadata", metadata)?;
     let kind = text_pair(alloc, "output_type", "display_data")?;
-    object_of_3(alloc, shown, about, kind)
+    object(alloc, [shown, about, kind])
 }
 
 /// `execute_result`
@@ -54,7 +54,7 @@ pub(crate) fn result_tree(
     let number = pair(alloc, "execution_count", count)?;
     let about = pair(alloc, "metadata", metadata)?;
     let kind = text_pair(alloc, "output_type", "execute_result")?;
-    object_of_4(alloc, shown, number, about, kind)
+    object(alloc, [shown, number, about, kind])
 }
 
 fn number_or_null(alloc: Global, count: &Option<NumText>) -> Result<Json, NoMemory>
@@ -80,7 +80,7 @@ pub(crate) fn error_tree(
     let evalue = text_pair(alloc, "evalue", evalue.as_str())?;
     let kind = text_pair(alloc, "output_type", "error")?;
     let traceback = pair(alloc, "traceback", lines)?;
-    object_of_4(alloc, ename, evalue, kind, traceback)
+    object(alloc, [ename, evalue, kind, traceback])
 }
 
 fn strings(alloc: Global, lines: &Texts) -> Result<Json, NoMemory>
@@ -91,29 +91,4 @@ fn strings(alloc: Global, lines: &Texts) -> Result<Json, NoMemory>
         items.push(Json::Str(Text::of(alloc, line.as_str())?))?;
     }
     Ok(Json::Arr(items))
-}
-
-fn object_of_3(
-    alloc: Global,
-    a: (Text, Json),
-    b: (Text, Json),
-    c: (Text, Json),
-) -> Result<Json, NoMemory>
-    ensures { IfOk result (λ r. r ≡ json.Obj (a ∷ b ∷ c ∷ [])) }
-{
-    let pairs = vec![in alloc; a, b, c]?;
-    Ok(Json::Obj(Fields::of_vec(pairs)))
-}
-
-fn object_of_4(
-    alloc: Global,
-    a: (Text, Json),
-    b: (Text, Json),
-    c: (Text, Json),
-    d: (Text, Json),
-) -> Result<Json, NoMemory>
-    ensures { IfOk result (λ r. r ≡ json.Obj (a ∷ b ∷ c ∷ d ∷ [])) }
-{
-    let pairs = vec![in alloc; a, b, c, d]?;
-    Ok(Json::Obj(Fields::of_vec(pairs)))
 }

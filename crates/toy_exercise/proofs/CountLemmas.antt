@@ -1,5 +1,5 @@
 -- The numbers of a file, by what was made of its bytes.
-use Rattle.std.proofs.Common.{◌≡◌, ◌≢◌, ℕ, List, Option, Some, None, subst, sym, refl}
+use Rattle.std.proofs.Common.{◌≡◌, ℕ, List, Option, Some, None, subst, sym, refl}
 use Rattle.std.specs.Prelude.{Bool, true, false, option_map}
 use Rattle.nb_load.specs.declared.load_fault.LoadFault.{LoadFault}
 use Rattle.nb_load.specs.declared.load_fault.LoadFault.TheVariants as fault

@@ -4,7 +4,7 @@ use Rattle.std.specs.Prelude.{IfOk, All}
 use Rattle.std.proofs.lemmas.List.Elements.{All-nil, All-cons}
 use Rattle.toy_core.specs.declared.toy.Toy.{Toy}
 use Rattle.toy_core.specs.Toy as toy
-use Rattle.toy_exercise.specs.Exercise.{IsFresh, IsEarly}
+use Rattle.toy_exercise.specs.Exercise.{IsEarly}
 
 -- one item was added to none
 pub one_item : {A : Type 0} (new old : List A) (x : A) → new ≡ old ++ x ∷ [] → old ≡ [] → new ≡ x ∷ []

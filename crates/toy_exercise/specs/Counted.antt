@@ -1,5 +1,5 @@
 -- The numbers of a saved notebook.
-use Rattle.std.specs.Prelude.{◌≡◌, ◌≢◌, ℕ, ◌+◌, ◌-◌, ◌^◌, min, List, [], ◌∷◌, length, Option, Some, None}
+use Rattle.std.specs.Prelude.{◌≢◌, ℕ, ◌+◌, ◌-◌, ◌^◌, min, List, [], ◌∷◌, length, Option, Some, None}
 use Rattle.nb_load.specs.declared.load_fault.LoadFault.{LoadFault}
 use Rattle.nb_load.specs.declared.load_fault.LoadFault.TheVariants as fault
 use Rattle.nb_load.specs.Loaded.{Accepts, Refuses}

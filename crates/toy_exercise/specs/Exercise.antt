@@ -1,5 +1,5 @@
 -- The world of an exercise, and what its one job is asked.
-use Rattle.std.specs.Prelude.{◌≡◌, ◌≤◌, ℕ, true, false, None, List, [], ◌∷◌, codes, length}
+use Rattle.std.specs.Prelude.{◌≡◌, ℕ, true, false, None, List, [], ◌∷◌, codes}
 use Rattle.kernel_talk.specs.Requests.{identifier}
 use Rattle.nb_text.specs.Generated.{generated_notebook}
 use Rattle.toy_core.specs.declared.toy.Toy.{Toy}

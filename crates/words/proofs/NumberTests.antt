@@ -7,7 +7,7 @@ use Rattle.jtext.specs.Number.{IsNumber}
 use Rattle.jtext.specs.declared.json.Json.{Json}
 use Rattle.jtext.specs.declared.json.Json.TheVariants as json
 use Rattle.jtext.specs.declared.no_memory.NoMemory.{NoMemory}
-use Rattle.jtext.proofs.Keys.{not_equal}
+use Rattle.jtext.proofs.Equals.{other_bytes}
 use Rattle.jtext.specs.Names.{is_number}
 use Rattle.jtext.proofs.NumberTests.{number_passes, number_fails}
 use Rattle.words.specs.Values.{number_or_text, value_of, IsValue}
@@ -21,7 +21,7 @@ pub text_taken : (s t : List ℕ) → t ≡ s → (IsNumber s → ⊥) → json.
 text_taken s t same none = ap (λ x. json.Str x) same ∙ ap (λ b. cond b (json.Num s) (json.Str s)) (sym (number_fails s none))
 
 not_word : (t w : List ℕ) → is_number w ≡ false → IsNumber t → bytes_eq t w ≡ false
-not_word t w other is = not_equal t w (λ same. false≢true (sym other ∙ ap is_number same ∙ number_passes t is))
+not_word t w other is = other_bytes t w (λ same. false≢true (sym other ∙ ap is_number (sym same) ∙ number_passes t is))
 
 else_three : (a b c : Bool) (x y z n : Json) → a ≡ false → b ≡ false → c ≡ false → cond a x (cond b y (cond c z n)) ≡ n
 else_three a b c x y z n ea eb ec = ap (λ k. cond k x (cond b y (cond c z n))) ea ∙ ap (λ k. cond k y (cond c z n)) eb ∙ ap (λ k. cond k z n) ec
@@ -37,7 +37,7 @@ is_value t = record {
   none = λ e. ap value_of e;
   number = λ is. plain t (not_word t (codes "True") refl is) (not_word t (codes "False") refl is) (not_word t (codes "None") refl is) ∙ ap (λ b. cond b (json.Num t) (json.Str t)) (number_passes t is);
   text_else = λ a b c none.
-      plain t (not_equal t (codes "True") (λ s. a (sym s))) (not_equal t (codes "False") (λ s. b (sym s))) (not_equal t (codes "None") (λ s. c (sym s)))
+      plain t (other_bytes t (codes "True") a) (other_bytes t (codes "False") b) (other_bytes t (codes "None") c)
       ∙ ap (λ b. cond b (json.Num t) (json.Str t)) (number_fails t none);
 }
 

@@ -6,7 +6,7 @@ use Rattle.std.proofs.lemmas.Slice.Eq.{bytes_eq-Decides}
 use Rattle.jtext.specs.declared.json.Json.{Json}
 use Rattle.jtext.specs.Edit.{set_pair}
 use Rattle.jtext.specs.Grammar.{Distinct}
-use Rattle.jtext.proofs.Keys.{differ}
+use Rattle.jtext.proofs.Equals.{apart_bytes}
 
 -- what holds of the new pair and of each that stood holds of each pair
 pub all-set_pair : (P : List ℕ × Json → Type 0) (name : List ℕ) (v : Json) (ps : List (List ℕ × Json))
@@ -27,7 +27,7 @@ distinct_step : (b : Bool) (name : List ℕ) (v : Json) (p : List ℕ × Json) (
     → Distinct (cond b ((p.0, v) ∷ ps) (p ∷ set_pair name v ps))
 distinct_step true name v p ps e more d = d
 distinct_step false name v p ps e more d =
-    (all-set_pair (λ q. q.0 ≢ p.0) name v ps (differ p.0 name e) d.0, more)
+    (all-set_pair (λ q. q.0 ≢ p.0) name v ps (λ s. apart_bytes p.0 name e (sym s)) d.0, more)
 
 -- no name stands twice
 pub distinct-set_pair : (name : List ℕ) (v : Json) (ps : List (List ℕ × Json))

@@ -1,5 +1,5 @@
 -- Bodies and envelopes.
-use Rattle.std.proofs.Common.{◌≡◌, ℕ, ◌<◌, true, false, cond, List, [], ◌∷◌, ◌++◌, length, take, drop, refl, ap, sym, ◌∙◌, arith, append_assoc, append-nil, map, Result, Ok, Err, OnErr}
+use Rattle.std.proofs.Common.{◌≡◌, ℕ, ◌<◌, true, false, cond, List, [], ◌∷◌, ◌++◌, length, take, drop, refl, ap, sym, ◌∙◌, arith, append_assoc, append-nil, map}
 use Rattle.std.specs.List.{remove}
 use Rattle.std.proofs.lemmas.List.{take-append-drop, map-id}
 use Rattle.zmtp_wire.specs.declared.role.Role.{Role}
@@ -42,7 +42,3 @@ pub some_bodies : (r : Role) (old out out' all xs : List (List (List ℕ))) → 
 some_bodies r old out out' all xs e f g =
     let front : all ≡ xs ++ drop (length xs) all = sym (take-append-drop (length xs) all) ∙ ap (λ t. t ++ drop (length xs) all) (sym e ∙ map-id xs) in
     record { more = bodies_of r xs; left = bodies_of r (drop (length xs) all); grown = g ∙ f; first = ap (bodies_of r) front ∙ bodies-append r xs (drop (length xs) all) }
-
-pub on_err_any : {T E : Type 0} {P : Type 0} (r : Result T E) → P → OnErr r P
-on_err_any (Ok x) p = tt
-on_err_any (Err e) p = p

@@ -4,7 +4,7 @@ use Rattle.zmtp_wire.specs.declared.role.Role.{Role}
 use Rattle.zmtp_wire.specs.Greeting.{newer_of}
 use Rattle.zmtp_wire.specs.Stream.{IsShaken}
 use Rattle.zmtp_wire.specs.Meaning.{messages_in, contexts_in, answer_to, is_shaken, Begins}
-use Rattle.zmtp_wire.proofs.MeaningLemmas.{meant, meant_alone, shaken_meant, shaken_grows, newer_grows, contexts_grow, contexts_none}
+use Rattle.zmtp_wire.proofs.MeaningLemmas.{meant, meant_alone, shaken_meant, shaken_grows, newer_grows, contexts_grow}
 use Rattle.zmtp_wire.proofs.MeaningLemmas as wire
 use Rattle.zmtp_wire.proofs.ShakenLemmas.{none_before}
 use Rattle.zmtp_peer.specs.Reply.{is_sub, Subscribes, no_sub, not_yet, everything, pongs, Owes, subscription_for, subscription_to, owed_octets}

@@ -14,8 +14,8 @@ use Rattle.zmtp_wire.specs.Fault.{clip, fault_at}
 use Rattle.zmtp_wire.specs.Command.{error_name, WrongReady}
 use Rattle.zmtp_wire.specs.Frame.{MOST, is_allowed, is_command, is_more, size_len, size_of}
 use Rattle.zmtp_wire.specs.Front.{Fails}
-use Rattle.zmtp_wire.specs.Stream.{Item, command, item_of, Heads, Spells, Come, nothing, greeted, shaken, Completes}
-use Rattle.zmtp_wire.specs.Stream.{greeting, ready, unit, open_after, Wrong, IsPart, Passes, room_for, room_after}
+use Rattle.zmtp_wire.specs.Stream.{Item, command, item_of, Heads, Spells, Come, greeted, shaken}
+use Rattle.zmtp_wire.specs.Stream.{ready, unit, open_after, Wrong, IsPart, Passes, room_for}
 use Rattle.zmtp_wire.specs.Stream as W
 use Rattle.zmtp_wire.proofs.ListLemmas.{some_of_len, len_of_some}
 use Rattle.zmtp_wire.proofs.OutcomeLemmas.{begins}

@@ -10,8 +10,8 @@ use Rattle.zmtp_wire.specs.declared.cause.Cause.{Cause}
 use Rattle.zmtp_wire.specs.Fault.{clip, fault_at}
 use Rattle.zmtp_wire.specs.Front.{Takes, Fails}
 use Rattle.zmtp_wire.specs.Greeting.{passes, greeting_cause, speaks}
-use Rattle.zmtp_wire.specs.Stream.{Item, command, item_of, Heads, Spells, Come, nothing, greeted, shaken, Completes}
-use Rattle.zmtp_wire.specs.Stream.{greeting, ready, unit, open_after, Wrong, IsPart, Passes, room_for, room_after}
+use Rattle.zmtp_wire.specs.Stream.{nothing, greeted}
+use Rattle.zmtp_wire.specs.Stream.{greeting, Wrong, IsPart, Passes}
 use Rattle.zmtp_wire.specs.Stream as W
 use Rattle.zmtp_wire.proofs.ListLemmas.{some_of_len}
 use Rattle.zmtp_wire.proofs.OutcomeLemmas.{begins, take_snoc}

@@ -11,7 +11,7 @@ use Rattle.zmtp_wire.specs.Decoder.{open_len, rest_len}
 use Rattle.zmtp_wire.specs.Fault.{clip, fault_at}
 use Rattle.zmtp_wire.specs.Frame.{size_len}
 use Rattle.zmtp_wire.specs.Machine.{before, ticks, tick, run, reading, Took, quiet, step}
-use Rattle.zmtp_wire.specs.Stream.{Item, frame, command, item_of, Heads, Spells, Come, nothing, greeted, shaken, Completes, greeting, ready, unit, open_after, messages_of, contexts_of, messages_come, contexts_come, Wrong, IsPart, Passes, Reads, start, more, Splits, Stream, Broken, room_for, room_after}
+use Rattle.zmtp_wire.specs.Stream.{frame, Come, nothing, greeted, shaken, greeting, ready, unit, messages_come, contexts_come, Wrong, IsPart, Passes, start, more, Splits, Stream, Broken}
 use Rattle.zmtp_wire.specs.Stream as W
 use Rattle.zmtp_wire.proofs.StepLemmas.{unit_at, state_of, is_past}
 use Rattle.zmtp_wire.proofs.TurnLemmas.{wrong, whole, part, turn}

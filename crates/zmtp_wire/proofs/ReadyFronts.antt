@@ -10,8 +10,8 @@ use Rattle.zmtp_wire.specs.declared.cause.Cause.TheVariants as cause
 use Rattle.zmtp_wire.specs.Fault.{clip, fault_at}
 use Rattle.zmtp_wire.specs.Frame.{MOST, is_allowed, is_command, size_len, size_of}
 use Rattle.zmtp_wire.specs.Front.{Takes, Fails}
-use Rattle.zmtp_wire.specs.Stream.{Item, command, item_of, Heads, Spells, Come, nothing, greeted, shaken, Completes}
-use Rattle.zmtp_wire.specs.Stream.{greeting, ready, unit, open_after, Wrong, IsPart, Passes, room_for, room_after}
+use Rattle.zmtp_wire.specs.Stream.{Item, command, Spells, greeted, shaken}
+use Rattle.zmtp_wire.specs.Stream.{ready, unit, IsPart}
 use Rattle.zmtp_wire.specs.Stream as W
 use Rattle.zmtp_wire.specs.Machine.{handshake_cause}
 use Rattle.zmtp_wire.proofs.HandshakeLemmas.{cause_tells, cause_told}

@@ -17,7 +17,7 @@ use Rattle.zmtp_wire.specs.Command.{command_messages, command_contexts, error_na
 use Rattle.zmtp_wire.specs.Frame.{MOST, is_allowed, is_command, is_more, is_long, size_len, size_of}
 use Rattle.zmtp_wire.specs.Greeting.{speaks, passes, greeting_cause}
 use Rattle.zmtp_wire.specs.Machine.{handshake_cause, Took, quiet, step, unit_step, size_step, body_step, greeting_step, flag_step, finish, after_handshake, room_in, room_left, is_error}
-use Rattle.zmtp_wire.specs.Stream.{Item, frame, command, item_of, Heads, Spells, Come, nothing, greeted, shaken, Completes, greeting, ready, unit, open_after, messages_of, contexts_of, messages_come, contexts_come, Wrong, IsPart, room_for, room_after}
+use Rattle.zmtp_wire.specs.Stream.{Item, frame, command, item_of, Spells, Come, nothing, greeted, shaken, Completes, greeting, ready, unit, open_after, messages_of, contexts_of, messages_come, contexts_come, Wrong, room_for}
 use Rattle.zmtp_wire.specs.Stream as W
 use Rattle.zmtp_wire.proofs.UnitLemmas.{cells-of}
 use Rattle.zmtp_wire.proofs.HandshakeLemmas.{cause_tells}

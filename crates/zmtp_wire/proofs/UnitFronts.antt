@@ -14,8 +14,8 @@ use Rattle.zmtp_wire.specs.Fault.{clip, fault_at}
 use Rattle.zmtp_wire.specs.Command.{error_name}
 use Rattle.zmtp_wire.specs.Frame.{is_allowed, is_command, is_more, size_len, size_of}
 use Rattle.zmtp_wire.specs.Front.{Takes, Fails, begins_error, room_beside}
-use Rattle.zmtp_wire.specs.Stream.{Item, command, item_of, Heads, Spells, Come, nothing, greeted, shaken, Completes}
-use Rattle.zmtp_wire.specs.Stream.{greeting, ready, unit, open_after, Wrong, IsPart, Passes, room_for, room_after}
+use Rattle.zmtp_wire.specs.Stream.{Item, item_of, shaken}
+use Rattle.zmtp_wire.specs.Stream.{unit, open_after, IsPart, room_for}
 use Rattle.zmtp_wire.specs.Stream as W
 use Rattle.zmtp_wire.proofs.ListLemmas.{same_start}
 use Rattle.zmtp_wire.proofs.ListLemmas.{len_of_some}

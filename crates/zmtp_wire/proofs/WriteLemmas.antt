@@ -16,7 +16,7 @@ use Rattle.zmtp_wire.specs.Decoder.{rest_len}
 use Rattle.zmtp_wire.specs.Frame.{MOST, is_allowed, is_command, is_more, size_len, size_of}
 use Rattle.zmtp_wire.specs.Machine.{properties_in, handshake_cause, before, ticks, tick, run, reading, Took, quiet, unit_step, size_step, body_step, greeting_step, flag_step, finish, after_handshake, room_in, room_left, is_error}
 use Rattle.zmtp_wire.specs.Stream.{Message, Context, Stream}
-use Rattle.zmtp_wire.specs.Writing.{greeting_octets, ready_octets, ready_body, role_name, unit_octets, frame_octets, command_octets, message_octets, has_more, IsMessage, AreMessages, all_octets, Writing, message, AreWritings, writing_octets, messages_heard, contexts_heard}
+use Rattle.zmtp_wire.specs.Writing.{greeting_octets, ready_octets, ready_body, role_name, unit_octets, frame_octets, command_octets, message_octets, AreMessages, all_octets, Writing, message, AreWritings, writing_octets, messages_heard, contexts_heard}
 use Rattle.zmtp_wire.specs.Writing as Written
 use Rattle.zmtp_wire.proofs.StepLemmas.{is_past}
 use Rattle.std.proofs.lemmas.List.Sums.{sum_by-cons, sum_by_push}

@@ -14,7 +14,7 @@ use Rattle.zmtp_wire.specs.Command.{error_name}
 use Rattle.zmtp_wire.specs.Frame.{MOST, is_allowed, is_command, is_more, size_len, size_of}
 use Rattle.zmtp_wire.specs.Greeting.{speaks, passes, greeting_cause}
 use Rattle.zmtp_wire.specs.Machine.{handshake_cause, quiet, step, size_step, body_step, greeting_step, flag_step, finish, after_handshake, room_in}
-use Rattle.zmtp_wire.specs.Stream.{Item, frame, command, item_of, Heads, Spells, Come, nothing, greeted, shaken, Completes, greeting, ready, unit, open_after, messages_of, contexts_of, messages_come, contexts_come, Wrong, IsPart, room_for, room_after}
+use Rattle.zmtp_wire.specs.Stream.{Item, frame, command, Come, nothing, greeted, shaken, greeting, open_after, Wrong}
 use Rattle.zmtp_wire.specs.Stream as W
 use Rattle.zmtp_wire.specs.Machine.{failure}
 use Rattle.zmtp_wire.specs.Fault.{fault_at}

@@ -1,5 +1,5 @@
 -- A fold of one request: new, begun, told one message.
-use Rattle.std.proofs.Common.{◌≡◌, List, [], ◌∷◌}
+use Rattle.std.proofs.Common.{[]}
 use Rattle.fold_tests.specs.Requests.{request_of}
 use Rattle.fold_tests.proofs.requests.fold_of_one.Goals as goal
 

@@ -1,4 +1,4 @@
-use Rattle.std.proofs.Common.{refl, subst, arith}
+use Rattle.std.proofs.Common.{subst, arith}
 use Rattle.std.proofs.lemmas.Grind.{common_steps}
 use Rattle.world.proofs.MomentsLemmas.{told_start, told_one, told_as}
 use Rattle.said_lines.specs.Speech.{Speech, none, more}

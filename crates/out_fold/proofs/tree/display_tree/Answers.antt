@@ -6,6 +6,6 @@ use Rattle.jcontent.proofs.Pairs.{keyed}
 
 pub returns : goal.returns
 returns c =
-    if_ok c.object_of_3.result
+    if_ok c.object.result
     (λ r e. of_3 e (keyed (codes "data") c.in_ok-shown.ensures c.in_ok-bundle.ensures) (keyed (codes "metadata") c.in_ok-about.ensures c.in_ok-metadata.ensures) c.in_ok-kind.ensures)
-    c.object_of_3.ensures
+    c.object.ensures

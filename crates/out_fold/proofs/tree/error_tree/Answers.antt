@@ -7,10 +7,10 @@ use Rattle.jcontent.proofs.Pairs.{keyed}
 
 pub returns : goal.returns
 returns c =
-    if_ok c.object_of_4.result
+    if_ok c.object.result
     (λ r e. of_4 e
     (keyed (codes "ename") c.in_ok-ename.ensures (ap (λ s. json.Str s) c.as_str.ensures))
     (keyed (codes "evalue") c.in_ok-evalue.ensures (ap (λ s. json.Str s) c.as_str-2.ensures))
     c.in_ok-kind.ensures
     (keyed (codes "traceback") c.in_ok-traceback.ensures c.in_ok-lines.ensures))
-    c.object_of_4.ensures
+    c.object.ensures

@@ -6,10 +6,10 @@ use Rattle.jcontent.proofs.Pairs.{keyed}
 
 pub returns : goal.returns
 returns c =
-    if_ok c.object_of_4.result
+    if_ok c.object.result
     (λ r e. of_4 e
     (keyed (codes "data") c.in_ok-shown.ensures c.in_ok-bundle.ensures)
     (keyed (codes "execution_count") c.in_ok-number.ensures c.in_ok-count.ensures)
     (keyed (codes "metadata") c.in_ok-about.ensures c.in_ok-metadata.ensures)
     c.in_ok-kind.ensures)
-    c.object_of_4.ensures
+    c.object.ensures

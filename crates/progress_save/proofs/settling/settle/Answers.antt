@@ -1,13 +1,9 @@
-use Rattle.std.proofs.Common.{inl, refl, sym, ◌∙◌, arith, Result, Ok, Err}
-use Rattle.std.specs.Prelude.{OnErr}
+use Rattle.std.proofs.Common.{inl, refl, sym, ◌∙◌, arith}
+use Rattle.jtext.proofs.Lists.{on_err}
 use Rattle.out_fold.specs.Stands.{merge_of}
 use Rattle.progress_save.specs.Prefix.{settled_cell}
 use Rattle.progress_save.proofs.SettledCells.{none_changed, settle_more, part_way}
 use Rattle.progress_save.proofs.settling.settle.Goals as goal
-
-on_err : {U E : Type 0} {P : Type 0} (r : Result U E) → P → OnErr r P
-on_err (Ok u) p = tt
-on_err (Err e) p = p
 
 pub loop-i-init : goal.loop-i-init
 loop-i-init c = record {
