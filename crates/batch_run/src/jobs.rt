@@ -6,9 +6,10 @@ use crate::slot::{Slot, say_end};
 use crate::wanted::Wanted;
 use job_begin::begin;
 use job_end::Answer;
-use job_run::earlier;
+use job_run::{Job, earlier};
 use jtext::{List, NoMemory, Text};
 use std::alloc::Global;
+use std::mem;
 use words::Ask;
 use world::World;
 
@@ -23,6 +24,7 @@ pub(crate) struct Jobs {
 impl Jobs {
     ghost use Rattle.std.specs.Prelude.{◌≡◌, ◌<◌, ◌≤◌, ◌+◌, IfOk, IfSome, IsTrue};
     ghost use Rattle.job_run.specs.Run.{HasPorts};
+    ghost use Rattle.job_run.specs.Task.{ports_of_job};
     ghost use Rattle.std.specs.Prelude.{List as Plain, Option as Maybe, Some, None, length, slice_get, slice_set};
     ghost use Rattle.words.specs.Runnable.{IsRunnable};
     ghost use Rattle.words.specs.declared.ask.Ask.{Ask as Asked};
@@ -73,16 +75,22 @@ impl Jobs {
             IfSome o (λ wanted. HasPorts number wanted.ports (W.journal w.new))) }
     {
         match begin(self.alloc, w, number as u8, ask, here) {
-            Ok(job) => {
-                let wanted = Wanted {
-                    ports: job.ports(),
-                    heart: job.has_heartbeat(),
-                };
-                self.slots[number] = Slot::Running(job);
-                Ok(Some(wanted))
-            }
+            Ok(job) => Ok(Some(self.start(number, job))),
             Err(answer) => self.end(w, number, answer),
         }
+    }
+
+    /// The job runs. The connections that it wants.
+    fn start(&mut self, number: usize, job: Job) -> Wanted
+        requires { number < length self.old.slots.items }
+        ensures slots { self.new.slots.items
+            ≡ slice_set self.old.slots.items number (Slot.Running job) }
+        ensures ports { result.ports ≡ ports_of_job job }
+    {
+        let wanted = Wanted::of(&job);
+        let former = mem::replace(&mut self.slots[number], Slot::Running(job));
+        drop(former);
+        wanted
     }
 
     /// The job has ended so, which is said. It wants no connections.
@@ -100,7 +108,8 @@ impl Jobs {
     {
         let is_starved = answer.status == 12;
         say_end(w, &answer);
-        self.slots[number] = Slot::Ended(answer);
+        let former = mem::replace(&mut self.slots[number], Slot::Ended(answer));
+        drop(former);
         if is_starved { Err(NoMemory) } else { Ok(None) }
     }
 
@@ -176,6 +185,9 @@ fn push_answer(answers: &mut List<Answer>, slot: Slot) -> Result<(), NoMemory>
     match slot {
         Slot::Ended(answer) => answers.push(answer),
         Slot::Waiting => Ok(()),
-        Slot::Running(_) => Ok(()),
+        Slot::Running(job) => {
+            drop(job);
+            Ok(())
+        }
     }
 }

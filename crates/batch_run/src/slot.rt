@@ -124,7 +124,8 @@ impl Slot {
         ensures stands { SlotKeeps W.journal W.counts w.old w.new self.old self.new }
     {
         let slot = mem::replace(self, Slot::Waiting);
-        *self = Slot::Ended(end_of(alloc, w, slot));
+        let ended = Slot::Ended(end_of(alloc, w, slot));
+        drop(mem::replace(self, ended));
     }
 
     /// Ends the child of a job that runs, and says how it ended.
@@ -133,7 +134,8 @@ impl Slot {
         ensures stands { SlotKeeps W.journal W.counts w.old w.new self.old self.new }
     {
         let slot = mem::replace(self, Slot::Waiting);
-        *self = Slot::Ended(end_and_say(alloc, w, slot));
+        let ended = Slot::Ended(end_and_say(alloc, w, slot));
+        drop(mem::replace(self, ended));
     }
 }
 

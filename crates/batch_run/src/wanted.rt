@@ -1,5 +1,7 @@
 //! `Wanted`, the connections that a job wants.
 
+use job_run::Job;
+
 /// The connections that a job wants.
 #[derive(Clone, Copy, Debug, Drop, PartialEq, Eq)]
 pub(crate) struct Wanted {
@@ -7,4 +9,19 @@ pub(crate) struct Wanted {
     pub ports: [u16; 5],
     /// Whether the heartbeat is wanted.
     pub heart: bool,
+}
+
+impl Wanted {
+    ghost use Rattle.std.specs.Prelude.{◌≡◌};
+    ghost use Rattle.job_run.specs.Task.{ports_of_job};
+
+    /// Those of this job.
+    pub(crate) fn of(job: &Job) -> Wanted
+        ensures { result.ports ≡ ports_of_job job.now }
+    {
+        Wanted {
+            ports: job.ports(),
+            heart: job.has_heartbeat(),
+        }
+    }
 }

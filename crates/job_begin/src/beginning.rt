@@ -231,7 +231,9 @@ fn save_alone<W: Disk + Say>(
     laws::jobs_begin_and_end();
     jobs_end_unsaved();
     let mut book = book_of(alloc, ask, notebook)?;
-    save_next(w, &mut book, 0, None)
+    let end = save_next(w, &mut book, 0, None);
+    drop(book);
+    end
 }
 
 /// A notebook of which nothing was saved.
@@ -268,8 +270,15 @@ fn save_twice<W: Disk + Say>(
     jobs_end_unsaved();
     let mut book = book_of(alloc, ask, notebook)?;
     match save_next(w, &mut book, 0, None) {
-        Ok(()) => save_done(w, &mut book),
-        Err(end) => Err(end),
+        Ok(()) => {
+            let end = save_done(w, &mut book);
+            drop(book);
+            end
+        }
+        Err(end) => {
+            drop(book);
+            Err(end)
+        }
     }
 }
 

@@ -4,5 +4,5 @@ use Rattle.batch_run.proofs.jobs.push_answer.Goals as goal
 pub returns-in-Waiting : goal.returns-in-Waiting
 returns-in-Waiting c = waiting_none_more c.args.answers.now c.args.slot c.in-Waiting.is
 
-pub returns : goal.returns
-returns c = running_none_more c.args.answers.now c.args.slot c.in-Running.field-0 c.in-Running.is
+pub returns-in-Running : goal.returns-in-Running
+returns-in-Running c = running_none_more c.args.answers.now c.args.slot c.in-Running.job c.in-Running.is

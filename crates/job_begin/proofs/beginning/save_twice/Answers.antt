@@ -11,23 +11,23 @@ returns-in-Ok-clause-course g c o for s =
     let b = c.in_ok-book.book in
     let e = c.in_ok-book.ensures in
     let on = job_begins b c.args.notebook o _ _ e.keeps (for_book c.args.ask.now b c.args.notebook o e.output e.merge for) s in
-    job_ends o c.save_done.new.book _ _ _ (c.save_done.ensures.course o (c.in-Ok.ensures.course o on))
+    job_ends o c.save_done-end.new.book _ _ _ (c.save_done-end.ensures.course o (c.in-Ok.ensures.course o on))
 
 pub returns-in-Ok-clause-calls : goal.returns-in-Ok-clause-calls
 returns-in-Ok-clause-calls g c cast number since from has reads so =
     let e = c.in_ok-book.ensures in
     let part = part_first c.in_ok-book.book c.args.ask.now c.args.notebook cast number since from _ _ e.output e.merge e.cells e.keeps has reads so in
-    (c.save_done.ensures.calls cast since from (c.save_next.ensures.calls cast since from part)).so
+    (c.save_done-end.ensures.calls cast since from (c.save_next.ensures.calls cast since from part)).so
 
-pub returns-clause-course : goal.returns-clause-course
-returns-clause-course g c o for s =
+pub returns-in-Err-clause-course : goal.returns-in-Err-clause-course
+returns-in-Err-clause-course g c o for s =
     let b = c.in_ok-book.book in
     let e = c.in_ok-book.ensures in
     let on = job_begins b c.args.notebook o _ _ e.keeps (for_book c.args.ask.now b c.args.notebook o e.output e.merge for) s in
     job_ends o c.save_next.new.book _ _ _ (c.in-Err.ensures.course o on)
 
-pub returns-clause-calls : goal.returns-clause-calls
-returns-clause-calls g c cast number since from has reads so =
+pub returns-in-Err-clause-calls : goal.returns-in-Err-clause-calls
+returns-in-Err-clause-calls g c cast number since from has reads so =
     let e = c.in_ok-book.ensures in
     let part = part_first c.in_ok-book.book c.args.ask.now c.args.notebook cast number since from _ _ e.output e.merge e.cells e.keeps has reads so in
     (c.save_next.ensures.calls cast since from part).so
@@ -36,5 +36,5 @@ pub returns-in-Ok-clause-acked : goal.returns-in-Ok-clause-acked
 returns-in-Ok-clause-acked g c =
     let b = c.in_ok-book.book in
     let m = c.save_next.new.book in
-    both_acked c.args.ask.now.output b m _ (g.W.Journal.journal c.args.w.now) (g.W.Journal.journal c.save_next.new.w) (g.W.Journal.journal c.save_done.new.w) _ _ (length c.args.notebook.cells)
-    (length (notebook_of m).cells) c.save_done.result c.in_ok-book.ensures.output (c.save_next.ensures.cells ∙ c.in_ok-book.ensures.cells) c.in-Ok.ensures.course c.in-Ok.ensures.acked c.save_done.ensures.acked
+    both_acked c.args.ask.now.output b m _ (g.W.Journal.journal c.args.w.now) (g.W.Journal.journal c.save_next.new.w) (g.W.Journal.journal c.save_done-end.new.w) _ _ (length c.args.notebook.cells)
+    (length (notebook_of m).cells) c.save_done-end.result c.in_ok-book.ensures.output (c.save_next.ensures.cells ∙ c.in_ok-book.ensures.cells) c.in-Ok.ensures.course c.in-Ok.ensures.acked c.save_done-end.ensures.acked

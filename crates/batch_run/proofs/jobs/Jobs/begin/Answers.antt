@@ -9,13 +9,17 @@ use Rattle.batch_run.proofs.SlotLemmas.{none_wanted}
 use Rattle.batch_run.proofs.jobs.Jobs.begin.Goals as goal
 
 pub returns-in-Ok-clause-waiting : goal.returns-in-Ok-clause-waiting
-returns-in-Ok-clause-waiting g c = waiting_set (Running c.in-Ok.job) c.requires.waiting
+returns-in-Ok-clause-waiting g c = subst (WaitingFrom _) (sym c.start.ensures.slots) (waiting_set (Running c.in-Ok.job) c.requires.waiting)
+
+pub returns-in-Ok-clause-size : goal.returns-in-Ok-clause-size
+returns-in-Ok-clause-size g c = ap length c.start.ensures.slots ∙ length-set c.args.self.now.slots.items c.args.number (Running c.in-Ok.job)
 
 pub returns-in-Ok-clause-stands : goal.returns-in-Ok-clause-stands
 returns-in-Ok-clause-stands g c = λ asks start from own here s.
     let items = c.args.self.now.slots.items in
-    job_begins asks start from items (g.W.Journal.journal c.args.w.now) (g.W.Journal.journal c.begin.new.w) (g.W.Journal.counts c.args.w.now) (g.W.Journal.counts c.begin.new.w)
-    c.args.number c.args.ask (Ok c.in-Ok.job) here c.in-Ok.ensures.begun c.in-Ok.ensures.calls c.in-Ok.ensures.left tt tt tt c.in-Ok.ensures.output c.in-Ok.ensures.runs c.in-Ok.ensures.fresh own (waiting_at c.requires.waiting c.requires.within) s
+    subst (λ xs. AllStand asks start from xs (g.W.Journal.journal c.begin.new.w) (g.W.Journal.counts c.begin.new.w)) (sym c.start.ensures.slots)
+    (job_begins asks start from items (g.W.Journal.journal c.args.w.now) (g.W.Journal.journal c.begin.new.w) (g.W.Journal.counts c.args.w.now) (g.W.Journal.counts c.begin.new.w)
+    c.args.number c.args.ask (Ok c.in-Ok.job) here c.in-Ok.ensures.begun c.in-Ok.ensures.calls c.in-Ok.ensures.left tt tt tt c.in-Ok.ensures.output c.in-Ok.ensures.runs c.in-Ok.ensures.fresh own (waiting_at c.requires.waiting c.requires.within) s)
 
 pub returns-in-Err-clause-size : goal.returns-in-Err-clause-size
 returns-in-Err-clause-size g c = ap length c.end.ensures.slots ∙ length-set c.args.self.now.slots.items c.args.number (Ended c.in-Err.answer)
@@ -33,7 +37,7 @@ returns-in-Err-clause-stands g c = λ asks start from own here s.
     subst (λ xs. AllStand asks start from xs (g.W.Journal.journal c.end.new.w) (g.W.Journal.counts c.end.new.w)) (sym c.end.ensures.slots) (c.end.ensures.stands asks start from mid c.args.number c.args.ask own c.in-Err.ensures.answer b)
 
 pub returns-in-Ok-clause-ports : goal.returns-in-Ok-clause-ports
-returns-in-Ok-clause-ports g c = subst (λ ports. HasPorts c.args.number ports (g.W.Journal.journal c.begin.new.w)) (sym c.ports.ensures) c.in-Ok.ensures.ports
+returns-in-Ok-clause-ports g c = subst (λ ports. HasPorts c.args.number ports (g.W.Journal.journal c.begin.new.w)) (sym c.start.ensures.ports) c.in-Ok.ensures.ports
 
 pub returns-in-Err-clause-ports : goal.returns-in-Err-clause-ports
 returns-in-Err-clause-ports g c = none_wanted c.end.result (λ wanted. HasPorts c.args.number wanted.ports (g.W.Journal.journal c.end.new.w)) c.end.ensures.none

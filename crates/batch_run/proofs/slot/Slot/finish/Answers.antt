@@ -1,5 +1,8 @@
-use Rattle.std.proofs.Common.{Some, ap, sym, ◌∙◌}
+use Rattle.std.proofs.Common.{Some, set, ap, sym, subst, ◌∙◌}
+use Rattle.batch_run.specs.Stands.{AllStand}
 use Rattle.batch_run.proofs.slot.Slot.finish.Goals as goal
 
 pub returns-clause-stands : goal.returns-clause-stands
-returns-clause-stands g c = λ asks start from slots k found s. c.end_and_say.ensures asks start from slots k (found ∙ ap Some (sym c.replace-slot.ensures.value)) s
+returns-clause-stands g c = λ asks start from slots k found s.
+    subst (λ slot. AllStand asks start from (set slots k slot) (g.W.Journal.journal c.end_and_say.new.w) (g.W.Journal.counts c.end_and_say.new.w)) (sym c.replace.ensures.after)
+    (c.end_and_say.ensures asks start from slots k (found ∙ ap Some (sym c.replace-slot.ensures.value)) s)
