@@ -144,11 +144,9 @@ fn kernel(alloc: Global, number: u32, trick: Trick) -> Result<Scripted, NoMemory
 pub(crate) fn pair(alloc: Global, trick: Trick) -> Result<Kernels<Scripted>, NoMemory>
     ensures { IfOk result (All (λ k. latest_of k.toy ≤ 0)) }
 {
-    let first = kernel(alloc, 0, trick)?;
-    let second = kernel(alloc, 1, Trick::Nothing)?;
     let mut kernels = Kernels::new(alloc);
-    kernels.push(first)?;
-    kernels.push(second)?;
+    kernels.push(kernel(alloc, 0, trick)?)?;
+    kernels.push(kernel(alloc, 1, Trick::Nothing)?)?;
     Ok(kernels)
 }
 

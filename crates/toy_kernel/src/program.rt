@@ -63,7 +63,11 @@ fn serve_file<R: Files + Net + Clock>(rt: &R, alloc: Global, path: &str) -> u8 {
 
 fn serve_toy<R: Net + Clock>(rt: &R, alloc: Global, connection: &Connection) -> u8 {
     match Toy::new(alloc, &connection.key) {
-        Ok(mut toy) => served_status(serve(rt, alloc, connection.ports, &mut toy)),
+        Ok(mut toy) => {
+            let end = serve(rt, alloc, connection.ports, &mut toy);
+            drop(toy);
+            served_status(end)
+        }
         Err(NoMemory) => NO_MEMORY,
     }
 }

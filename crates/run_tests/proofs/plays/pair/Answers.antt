@@ -5,6 +5,6 @@ use Rattle.run_tests.proofs.plays.pair.Goals as goal
 
 pub returns : goal.returns
 returns c =
-    one_more (λ (k : Scripted). latest_of k.toy) _ _ c.in_ok-second.second c.in_ok-push-2.ensures.ok c.in_ok-second.ensures
-    (one_more (λ (k : Scripted). latest_of k.toy) _ _ c.in_ok-first.first c.in_ok-push.ensures.ok c.in_ok-first.ensures
+    one_more (λ (k : Scripted). latest_of k.toy) _ _ _ c.in_ok-push-2.ensures.ok c.in_ok-kernel-2.ensures
+    (one_more (λ (k : Scripted). latest_of k.toy) _ _ _ c.in_ok-push.ensures.ok c.in_ok-kernel.ensures
     (none_yet (λ (k : Scripted). latest_of k.toy) _ c.new-kernels.ensures))
