@@ -79,12 +79,20 @@ fn has_rows(entries: &[Entry], rows: &[Row]) -> bool {
     rest.is_empty()
 }
 
-/// How often the connection at a place gave bytes.
-pub(crate) fn reads(w: &MemWorld<Fount>, place: u64) -> usize {
+/// How often the connection at each place gave bytes.
+pub(crate) fn reads(w: &MemWorld<Fount>) -> [usize; 64] {
     match w.journal() {
-        Some(entries) => reads_in(entries.as_slice(), place),
-        None => 0,
+        Some(entries) => reads_by_place(entries.as_slice()),
+        None => [0; 64],
     }
+}
+
+fn reads_by_place(entries: &[Entry]) -> [usize; 64] {
+    let mut found = [0; 64];
+    for place in 0..64usize {
+        found[place] = reads_in(entries, place as u64);
+    }
+    found
 }
 
 fn reads_in(entries: &[Entry], wanted: u64) -> usize {

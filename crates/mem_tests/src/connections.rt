@@ -5,7 +5,8 @@ ghost use Rattle.jtext.specs.Texts.{AllStrings};
 use crate::calls::{close, connect, gives, put, reports};
 use crate::seen::SeenDisk;
 use crate::worlds::{plain_script, script, world};
-use jtext::{Fields, Text, Texts};
+use jtext::{Fields, NoMemory, Text, Texts};
+use std::alloc::Global;
 use std::test::Fail;
 use world::{Chan, Clock, Conn, Connected, Did, Entry, Kids, Put, Rand, Wire};
 
@@ -70,30 +71,35 @@ fn pours<W: Wire + Clock>(w: &mut W, buf: &mut [u8]) -> bool
         && w.now() == 500
 }
 
+// The same by a buffer of 65,536 bytes.
+fn pours_into_a_buffer<W: Wire + Clock>(w: &mut W, alloc: Global) -> Result<bool, Fail> {
+    let mut buf = vec![in alloc; 0u8; 65_536]?;
+    Ok(!buf.is_empty() && pours(w, &mut buf))
+}
+
 #[test]
 fn bytes_come_in_the_buffers_room(rt: HostRuntime) -> Result<(), Fail> {
     let alloc = rt.alloc();
     let mut w = world(alloc, &[], 200_000, plain_script(alloc, &[])?)?;
-    let mut buf = vec![in alloc; 0u8; 65_536]?;
-    assert!(rt; !buf.is_empty());
-    assert!(rt; pours(&mut w, &mut buf));
-    assert!(rt;
-        tells(
-            &w,
-            &[
-                ("connected", 0),
-                ("waited", 500),
-                ("moment", 0),
-                ("got", 65_536),
-                ("got", 65_536),
-                ("got", 65_536),
-                ("got", 3_392),
-                ("dry", 0),
-                ("waited", 500),
-                ("moment", 500)
-            ]
-        )
+    let pours = pours_into_a_buffer(&mut w, alloc);
+    let is_told = tells(
+        &w,
+        &[
+            ("connected", 0),
+            ("waited", 500),
+            ("moment", 0),
+            ("got", 65_536),
+            ("got", 65_536),
+            ("got", 65_536),
+            ("got", 3_392),
+            ("dry", 0),
+            ("waited", 500),
+            ("moment", 500),
+        ],
     );
+    drop(w);
+    assert!(rt; pours?);
+    assert!(rt; is_told);
     Ok(())
 }
 
@@ -107,7 +113,9 @@ fn is_cut<W: Wire>(w: &mut W) -> bool {
 fn reads_are_cut_to_the_pieces_in_turn(rt: HostRuntime) -> Result<(), Fail> {
     let alloc = rt.alloc();
     let mut w = world(alloc, &[], 10, script(alloc, 0, &[2, 0, 3], 0)?)?;
-    assert!(rt; is_cut(&mut w));
+    let is_cut = is_cut(&mut w);
+    drop(w);
+    assert!(rt; is_cut);
     Ok(())
 }
 
@@ -126,7 +134,9 @@ fn refuses_two<W: Wire>(w: &mut W) -> bool {
 fn the_first_connects_are_refused(rt: HostRuntime) -> Result<(), Fail> {
     let alloc = rt.alloc();
     let mut w = world(alloc, &[], 1, script(alloc, 0, &[], 2)?)?;
-    assert!(rt; refuses_two(&mut w));
+    let refuses = refuses_two(&mut w);
+    drop(w);
+    assert!(rt; refuses);
     Ok(())
 }
 
@@ -146,7 +156,9 @@ fn reports_exactly<W: Wire>(w: &mut W) -> bool {
 fn just_the_ready_connections_are_reported(rt: HostRuntime) -> Result<(), Fail> {
     let alloc = rt.alloc();
     let mut w = world(alloc, &[], 1, plain_script(alloc, &[])?)?;
-    assert!(rt; reports_exactly(&mut w));
+    let is_exact = reports_exactly(&mut w);
+    drop(w);
+    assert!(rt; is_exact);
     Ok(())
 }
 
@@ -162,7 +174,9 @@ fn runs_out<W: Wire + Clock>(w: &mut W) -> bool {
 fn the_clock_stops_at_its_last_value(rt: HostRuntime) -> Result<(), Fail> {
     let alloc = rt.alloc();
     let mut w = world(alloc, &[], 0, script(alloc, (1 << 47) - 3, &[], 0)?)?;
-    assert!(rt; runs_out(&mut w));
+    let stops = runs_out(&mut w);
+    drop(w);
+    assert!(rt; stops);
     Ok(())
 }
 
@@ -179,7 +193,9 @@ fn counts_up<W: Wire + Rand>(w: &mut W) -> bool {
 fn ports_and_words_are_numbered(rt: HostRuntime) -> Result<(), Fail> {
     let alloc = rt.alloc();
     let mut w = world(alloc, &[], 0, plain_script(alloc, &[])?)?;
-    assert!(rt; counts_up(&mut w));
+    let counts = counts_up(&mut w);
+    drop(w);
+    assert!(rt; counts);
     Ok(())
 }
 
@@ -189,6 +205,23 @@ fn starts_one<W: Kids>(w: &mut W, argv: &Texts, env: &Fields, dir: &Text) -> boo
     requires strings { AllStrings env.now }
 {
     w.start(0, argv, env, dir) == Did::Done && w.start(1, argv, env, dir) == Did::Failed
+}
+
+// The same with a program, in a folder.
+fn starts_one_there<W: Kids>(w: &mut W, alloc: Global, dir: &Text) -> Result<bool, NoMemory> {
+    let mut argv = Texts::new(alloc);
+    argv.push(Text::of(alloc, "toy")?)?;
+    let is_one = starts_one(w, &argv, &Fields::new(alloc), dir);
+    drop(argv);
+    Ok(is_one)
+}
+
+// The same in the topmost folder.
+fn starts_one_on_top<W: Kids>(w: &mut W, alloc: Global) -> Result<bool, NoMemory> {
+    let dir = Text::of(alloc, "/")?;
+    let is_one = starts_one_there(w, alloc, &dir);
+    drop(dir);
+    is_one
 }
 
 // The child is seen to end once the clock has come to its end.
@@ -204,9 +237,10 @@ fn ends_in_time<W: Wire + Kids>(w: &mut W) -> bool {
 fn a_child_is_seen_to_end(rt: HostRuntime) -> Result<(), Fail> {
     let alloc = rt.alloc();
     let mut w = world(alloc, &[], 0, plain_script(alloc, &[])?)?;
-    let mut argv = Texts::new(alloc);
-    argv.push(Text::of(alloc, "toy")?)?;
-    assert!(rt; starts_one(&mut w, &argv, &Fields::new(alloc), &Text::of(alloc, "/")?));
-    assert!(rt; ends_in_time(&mut w));
+    let is_one = starts_one_on_top(&mut w, alloc);
+    let ends = ends_in_time(&mut w);
+    drop(w);
+    assert!(rt; is_one?);
+    assert!(rt; ends);
     Ok(())
 }

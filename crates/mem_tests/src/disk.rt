@@ -49,7 +49,9 @@ fn reads_within<W: Disk>(w: &mut W, alloc: Global) -> Result<bool, NoMemory> {
 fn a_file_is_read_within_its_limit(rt: HostRuntime) -> Result<(), Fail> {
     let alloc = rt.alloc();
     let mut disk = disk(alloc, &[("a", "abc"), ("a", "second")], &[3])?;
-    assert!(rt; reads_within(&mut disk, alloc)?);
+    let reads = reads_within(&mut disk, alloc);
+    drop(disk);
+    assert!(rt; reads?);
     Ok(())
 }
 
@@ -109,8 +111,11 @@ fn removes<W: SeenDisk>(w: &mut W, alloc: Global) -> Result<bool, NoMemory> {
 fn calls_fail_by_their_numbers_and_without_a_file(rt: HostRuntime) -> Result<(), Fail> {
     let alloc = rt.alloc();
     let mut disk = disk(alloc, &[("a", "x")], &[0, 2])?;
-    assert!(rt; fails_by_number(&mut disk, alloc)?);
-    assert!(rt; removes(&mut disk, alloc)?);
+    let fails = fails_by_number(&mut disk, alloc);
+    let removes = removes(&mut disk, alloc);
+    drop(disk);
+    assert!(rt; fails?);
+    assert!(rt; removes?);
     Ok(())
 }
 
@@ -129,6 +134,8 @@ fn stays<W: SeenDisk>(w: &mut W, alloc: Global) -> Result<bool, NoMemory> {
 fn a_file_that_is_renamed_to_its_own_name_stays(rt: HostRuntime) -> Result<(), Fail> {
     let alloc = rt.alloc();
     let mut disk = disk(alloc, &[("a", "x")], &[])?;
-    assert!(rt; stays(&mut disk, alloc)?);
+    let stays = stays(&mut disk, alloc);
+    drop(disk);
+    assert!(rt; stays?);
     Ok(())
 }

@@ -166,7 +166,9 @@ fn fails_alone<W: World + SeenDisk>(
 
 fn fails_by_number(alloc: Global, number: u64) -> Result<bool, NoMemory> {
     let mut w = world(alloc, &[("a", "text")], 9, plain_script(alloc, &[number])?)?;
-    fails_alone(&mut w, alloc, number)
+    let end = fails_alone(&mut w, alloc, number);
+    drop(w);
+    end
 }
 
 #[test]
@@ -198,7 +200,9 @@ fn burns<W: SeenCrash>(w: &mut W, alloc: Global, fuse: u64) -> Result<bool, NoMe
 fn fails_by_fuse(alloc: Global, fuse: u64) -> Result<bool, NoMemory> {
     let files = [("a", "text"), ("t", ""), ("b", "")];
     let mut w = world(alloc, &files, 0, plain_script(alloc, &[])?)?;
-    burns(&mut w, alloc, fuse)
+    let end = burns(&mut w, alloc, fuse);
+    drop(w);
+    end
 }
 
 #[test]

@@ -70,6 +70,8 @@ fn picks_by_digits<W: SeenCrash>(w: &mut W, alloc: Global) -> Result<bool, Fail>
 fn digits_pick_options_in_the_order_of_paths(rt: HostRuntime) -> Result<(), Fail> {
     let alloc = rt.alloc();
     let mut w = world(alloc, &[("b", "old")], 0, plain_script(alloc, &[])?)?;
-    assert!(rt; picks_by_digits(&mut w, alloc)?);
+    let picks = picks_by_digits(&mut w, alloc);
+    drop(w);
+    assert!(rt; picks?);
     Ok(())
 }

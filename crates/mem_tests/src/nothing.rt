@@ -2,7 +2,7 @@
 ghost use Rattle.std.specs.Prelude.{◌<◌, ◌≤◌, ◌^◌, length};
 ghost use Rattle.jtext.specs.Texts.{AllStrings};
 
-use jtext::{Fields, Json, Text, Texts};
+use jtext::{Fields, Json, NoMemory, Text, Texts};
 use std::alloc::Global;
 use std::test::Fail;
 use world::{
@@ -58,41 +58,60 @@ fn stands_still<W: Clock + Rand>(w: &mut W) -> bool {
     before == 0 && now == w.last() && w.word().is_none() && w.rand_faults() == 1
 }
 
-// All parts over one world.
-fn is_null<W: World>(w: &mut W, alloc: Global, path: &Text, conn: Conn) -> bool
-    requires { conn.job < 16 }
+// The same with a variable in the environment.
+fn starts_nothing_in_env<W: Kids>(
+    w: &mut W,
+    alloc: Global,
+    argv: &Texts,
+    dir: &Text,
+) -> Result<bool, NoMemory>
+    requires { 0 < length argv.now }
 {
-    does_nothing(w, alloc, path) && reaches_nobody(w, conn) && stands_still(w)
+    let mut env = Fields::new(alloc);
+    env.push((Text::of(alloc, "A")?, Json::Str(Text::of(alloc, "1")?)))?;
+    let is_null = starts_nothing(w, argv, &env, dir);
+    drop(env);
+    Ok(is_null)
 }
 
-#[test]
-fn a_null_world_tells_each_call(rt: HostRuntime) -> Result<(), Fail> {
-    let alloc = rt.alloc();
-    let mut world = NullWorld::new(alloc);
-    let path = Text::of(alloc, "d/o")?;
+// The same with a program.
+fn starts_no_program<W: Kids>(w: &mut W, alloc: Global, dir: &Text) -> Result<bool, NoMemory> {
+    let mut argv = Texts::new(alloc);
+    argv.push(Text::of(alloc, "python3")?)?;
+    let is_null = starts_nothing_in_env(w, alloc, &argv, dir);
+    drop(argv);
+    is_null
+}
+
+// All parts over one world, the calls on a child last.
+fn is_null<W: World>(w: &mut W, alloc: Global, path: &Text) -> Result<bool, NoMemory> {
     let conn = Conn {
         job: 15,
         chan: Chan::Heart,
     };
-    assert!(rt; is_null(&mut world, alloc, &path, conn));
-    let mut argv = Texts::new(alloc);
-    argv.push(Text::of(alloc, "python3")?)?;
-    let mut env = Fields::new(alloc);
-    env.push((Text::of(alloc, "A")?, Json::Str(Text::of(alloc, "1")?)))?;
-    assert!(rt; starts_nothing(&mut world, &argv, &env, &path));
-    let entries = world.journal().ok_or("not told")?.as_slice();
-    assert_eq!(rt; entries.len(), 19);
-    assert!(rt;
-        matches!(
+    let is_null = does_nothing(w, alloc, path) && reaches_nobody(w, conn) && stands_still(w);
+    Ok(is_null && starts_no_program(w, alloc, path)?)
+}
+
+// The same with a path.
+fn is_null_at_a_path<W: World>(w: &mut W, alloc: Global) -> Result<bool, NoMemory> {
+    let path = Text::of(alloc, "d/o")?;
+    let is_null = is_null(w, alloc, &path);
+    drop(path);
+    is_null
+}
+
+// Whether these are the entries of 19 calls, with that of the ports and those of a child.
+fn is_each_call(entries: &[Entry]) -> bool {
+    entries.len() == 19
+        && matches!(
             &entries[8],
             Entry::Ports {
                 job: 15,
                 ports: None
             }
         )
-    );
-    assert!(rt;
-        matches!(
+        && matches!(
             &entries[16],
             Entry::Started {
                 job: 3,
@@ -100,8 +119,26 @@ fn a_null_world_tells_each_call(rt: HostRuntime) -> Result<(), Fail> {
                 ..
             }
         )
-    );
-    assert!(rt; matches!(&entries[18], Entry::Killed { job: 3 }));
+        && matches!(&entries[18], Entry::Killed { job: 3 })
+}
+
+// Whether a world tells each call.
+fn tells_each_call(w: &NullWorld) -> bool {
+    match w.journal() {
+        Some(entries) => is_each_call(entries.as_slice()),
+        None => false,
+    }
+}
+
+#[test]
+fn a_null_world_tells_each_call(rt: HostRuntime) -> Result<(), Fail> {
+    let alloc = rt.alloc();
+    let mut w = NullWorld::new(alloc);
+    let is_null = is_null_at_a_path(&mut w, alloc);
+    let is_told = tells_each_call(&w);
+    drop(w);
+    assert!(rt; is_null?);
+    assert!(rt; is_told);
     Ok(())
 }
 

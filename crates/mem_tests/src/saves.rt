@@ -93,7 +93,9 @@ fn makes_a_file<W: SeenCrash>(w: &mut W, alloc: Global) -> Result<bool, Fail> {
 fn a_new_file_is_absent_or_whole(rt: HostRuntime) -> Result<(), Fail> {
     let alloc = rt.alloc();
     let mut w = world(alloc, &[("d/i", "in")], 0, plain_script(alloc, &[])?)?;
-    assert!(rt; makes_a_file(&mut w, alloc)?);
+    let makes = makes_a_file(&mut w, alloc);
+    drop(w);
+    assert!(rt; makes?);
     Ok(())
 }
 
@@ -116,7 +118,9 @@ fn opens_the_temporary<W: SeenCrash>(w: &mut W, alloc: Global) -> Result<bool, F
 fn the_temporary_file_may_be_anything_until_its_sync(rt: HostRuntime) -> Result<(), Fail> {
     let alloc = rt.alloc();
     let mut w = world(alloc, &[], 0, plain_script(alloc, &[])?)?;
-    assert!(rt; opens_the_temporary(&mut w, alloc)?);
+    let opens = opens_the_temporary(&mut w, alloc);
+    drop(w);
+    assert!(rt; opens?);
     Ok(())
 }
 
@@ -147,7 +151,9 @@ fn leaves_each<W: SeenCrash>(w: &mut W, alloc: Global) -> Result<bool, Fail> {
 fn a_failed_rename_leaves_the_last_save_or_its_own(rt: HostRuntime) -> Result<(), Fail> {
     let alloc = rt.alloc();
     let mut w = world(alloc, &[("o", "0")], 0, plain_script(alloc, &[13])?)?;
-    assert!(rt; leaves_each(&mut w, alloc)?);
+    let leaves = leaves_each(&mut w, alloc);
+    drop(w);
+    assert!(rt; leaves?);
     Ok(())
 }
 
@@ -179,7 +185,9 @@ fn leaves_by_number(
     answer: Result<(), SaveFault>,
 ) -> Result<bool, Fail> {
     let mut w = world(alloc, &[("o", "old")], 0, plain_script(alloc, &[number])?)?;
-    leaves_either(&mut w, alloc, "o", answer)
+    let end = leaves_either(&mut w, alloc, "o", answer);
+    drop(w);
+    end
 }
 
 #[test]
@@ -206,7 +214,9 @@ fn burns_between<W: SeenCrash>(
 
 fn leaves_by_fuse(alloc: Global, fuse: u64, answer: Result<(), SaveFault>) -> Result<bool, Fail> {
     let mut w = world(alloc, &[("o", "old")], 0, plain_script(alloc, &[])?)?;
-    burns_between(&mut w, alloc, fuse, answer)
+    let end = burns_between(&mut w, alloc, fuse, answer);
+    drop(w);
+    end
 }
 
 #[test]
@@ -234,7 +244,9 @@ fn replaces<W: SeenCrash>(w: &mut W, alloc: Global, output: &str) -> Result<bool
 
 fn is_replaced(alloc: Global, output: &str) -> Result<bool, Fail> {
     let mut w = world(alloc, &[(output, "old")], 0, plain_script(alloc, &[])?)?;
-    replaces(&mut w, alloc, output)
+    let end = replaces(&mut w, alloc, output);
+    drop(w);
+    end
 }
 
 #[test]
