@@ -40,9 +40,25 @@ pub(crate) fn put_line(
     is_full: bool,
     out: &mut String,
 ) -> Result<(), NoMemory> {
-    match decode(alloc, KEY.as_bytes(), parts)? {
-        Decoded::Good(message) => put_message(alloc, &message, is_full, out)?,
-        _ => out.push_str(" unsigned")?,
+    match decode(alloc, KEY.as_bytes(), parts) {
+        Ok(found) => {
+            let end = put_decoded(alloc, &found, is_full, out);
+            drop(found);
+            end
+        }
+        Err(fault) => Err(fault),
+    }
+}
+
+fn put_decoded(
+    alloc: Global,
+    found: &Decoded,
+    is_full: bool,
+    out: &mut String,
+) -> Result<(), NoMemory> {
+    match found {
+        Decoded::Good(message) => put_message(alloc, message, is_full, out)?,
+        _ => put_word(out, "unsigned")?,
     }
     out.push_str("\n")?;
     Ok(())
