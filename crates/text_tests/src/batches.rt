@@ -1,7 +1,8 @@
 //! What is asked of the jobs of a file.
+use crate::commands::command_of;
 use crate::shown::shown;
 use std::test::Fail;
-use words::{Asks, Command, jobs, read};
+use words::{Asks, Command, jobs};
 
 const WORDS: &str =
     "--jobs f --kernel-path d --merge-streams --allow-error-name E --start-timeout 5";
@@ -11,17 +12,18 @@ const FILE: &str = r#"{"jobs":[{"input":"c","output":"e"},
 
 /// What the jobs file asks for under these words, which single spaces part.
 fn asks_of(rt: &HostRuntime, line: &str, file: &str) -> Result<Asks, Fail> {
-    let mut words = Vec::new(rt.alloc());
-    for word in line.split(' ') {
-        words.push(String::from_str(rt.alloc(), word)?)?;
-    }
-    let Ok(Command::Many { file: path, common }) = read(rt.alloc(), words.as_slice()) else {
-        return Err("the words are refused")?;
+    let command = command_of(rt, line)?;
+    let asks = asks_under(rt, &command, file);
+    drop(command);
+    asks
+}
+
+fn asks_under(rt: &HostRuntime, command: &Command, text: &str) -> Result<Asks, Fail> {
+    let Command::Many { file, common } = command else {
+        return Err("the words are of one job")?;
     };
-    match jobs(rt.alloc(), file.as_bytes(), &path, &common) {
-        Ok(asks) => Ok(asks),
-        Err(_) => Err("the file is refused")?,
-    }
+    let asks = jobs(rt.alloc(), text.as_bytes(), file, common);
+    Ok(asks.map_err(|_| "the file is refused")?)
 }
 
 #[test]

@@ -1,5 +1,7 @@
 //! Command lines and what is answered, worked out by hand from the grammar of the options.
+use crate::commands::words_of;
 use jtext::{Json, NoMemory, Text};
+use std::alloc::Global;
 use std::test::Fail;
 use words::{Command, Usage, read, value_of};
 
@@ -202,25 +204,28 @@ fn answer(read: &Result<Command, Usage>) -> (&'static str, u32) {
     }
 }
 
-/// The words of a row, which single spaces part.
-fn words_of(rt: &HostRuntime, line: &str) -> Result<Vec<String>, Fail> {
-    let mut words = Vec::new(rt.alloc());
-    for word in line.split(' ') {
-        words.push(String::from_str(rt.alloc(), word)?)?;
-    }
-    Ok(words)
+fn answer_to(alloc: Global, words: &[String]) -> (&'static str, u32) {
+    let command = read(alloc, words);
+    let found = answer(&command);
+    drop(command);
+    found
+}
+
+/// Whether the words of a row are answered as it says.
+fn is_answered(alloc: Global, row: &[String]) -> Result<bool, Fail> {
+    let kind = row.first().ok_or("a kind is missing")?;
+    let place = row.get(1).ok_or("a place is missing")?;
+    let at = place.as_str().parse::<u32>()?;
+    let words = row.get(2..).ok_or("the words are missing")?;
+    let (found, n) = answer_to(alloc, words);
+    Ok(found == kind.as_str() && n == at)
 }
 
 #[test]
 fn each_command_line_is_taken_or_refused_at_its_word(rt: HostRuntime) -> Result<(), Fail> {
     for line in LINES.lines() {
         let row = words_of(&rt, line)?;
-        let kind = row.first().ok_or("a kind is missing")?;
-        let place = row.get(1).ok_or("a place is missing")?;
-        let at = place.as_str().parse::<u32>()?;
-        let words = row.get(2..).ok_or("the words are missing")?;
-        let (found, n) = answer(&read(rt.alloc(), words));
-        assert!(rt; found == kind.as_str() && n == at, "{line}");
+        assert!(rt; is_answered(rt.alloc(), row.as_slice())?, "{line}");
     }
     Ok(())
 }

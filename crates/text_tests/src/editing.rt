@@ -4,6 +4,7 @@ use jtext::{
     object, pair, put_compact, put_indented, put_string, read, set_field, set_within, text_pair,
     write_compact,
 };
+use std::alloc::Global;
 use std::test::Fail;
 
 /// A tree, and the tree with 7 under `b` of the object under `a`.
@@ -42,30 +43,66 @@ fn a_value_is_set_in_its_place_or_last(rt: HostRuntime) -> Result<(), Fail> {
     Ok(())
 }
 
+/// An object of a text and a choice.
+fn object_of_two(alloc: Global) -> Result<Json, NoMemory> {
+    let name = text_pair(alloc, "name", "x\n")?;
+    object(alloc, [name, pair(alloc, "on", Json::Bool(true))?])
+}
+
+/// Whether the tree is that object as text.
+fn has_text_of_two(alloc: Global, tree: &Json) -> Result<bool, NoMemory> {
+    let text = b"{\"name\":\"x\\n\",\"on\":true}".as_slice();
+    Ok(write_compact(alloc, tree)?.bytes() == text)
+}
+
+fn is_copied(alloc: Global, tree: &Json) -> Result<bool, NoMemory> {
+    let copied = Json::Obj(copy_fields(alloc, tree.pairs())?);
+    has_text_of_two(alloc, &copied)
+}
+
+/// Whether that object and its copy have that text, and the object is taken apart into its pairs.
+fn is_made_and_parted(alloc: Global) -> Result<bool, NoMemory> {
+    let made = object_of_two(alloc)?;
+    let written = has_text_of_two(alloc, &made);
+    let copied = is_copied(alloc, &made);
+    let parts = made.into_pairs(alloc).len();
+    Ok(written? && copied? && parts == 2)
+}
+
+fn copied_length(alloc: Global, list: &Json) -> Result<usize, NoMemory> {
+    Ok(copy_items(alloc, list.items())?.len())
+}
+
+/// Whether a list of two items is copied and taken apart as such.
+fn is_list_parted(alloc: Global) -> Result<bool, Fail> {
+    let list = read(alloc, b"[1,[2]]", 8)?;
+    let copied = copied_length(alloc, &list);
+    let parts = list.into_items(alloc).len();
+    Ok(copied? == 2 && parts == 2)
+}
+
+fn is_null_empty(alloc: Global) -> bool {
+    Json::Null.into_pairs(alloc).is_empty()
+}
+
+fn is_text(alloc: Global, bytes: &[u8], text: &str) -> Result<bool, JsonFault> {
+    let inside = read(alloc, bytes, 8)?.into_text();
+    Ok(inside.is_some_and(|s| s.as_str() == text))
+}
+
+fn is_number(alloc: Global, bytes: &[u8], text: &str) -> Result<bool, JsonFault> {
+    let inside = read(alloc, bytes, 8)?.into_number();
+    Ok(inside.is_some_and(|n| n.as_str() == text))
+}
+
 #[test]
 fn an_object_is_made_copied_and_taken_apart(rt: HostRuntime) -> Result<(), Fail> {
     let alloc = rt.alloc();
-    let name = text_pair(alloc, "name", "x\n")?;
-    let made = object(alloc, [name, pair(alloc, "on", Json::Bool(true))?])?;
-    let text = b"{\"name\":\"x\\n\",\"on\":true}".as_slice();
-    assert_eq!(rt; write_compact(alloc, &made)?.bytes(), text);
-    let copied = Json::Obj(copy_fields(alloc, made.pairs())?);
-    assert_eq!(rt; write_compact(alloc, &copied)?.bytes(), text);
-    assert_eq!(rt; made.into_pairs(alloc).len(), 2);
-    let list = read(alloc, b"[1,[2]]", 8)?;
-    assert_eq!(rt; copy_items(alloc, list.items())?.len(), 2);
-    assert_eq!(rt; list.into_items(alloc).len(), 2);
-    assert!(rt; Json::Null.into_pairs(alloc).is_empty());
-    assert!(rt;
-        read(alloc, b"\"s\"", 8)?
-            .into_text()
-            .is_some_and(|s| s.as_str() == "s")
-    );
-    assert!(rt;
-        read(alloc, b"1e2", 8)?
-            .into_number()
-            .is_some_and(|n| n.as_str() == "1e2")
-    );
+    assert!(rt; is_made_and_parted(alloc)?);
+    assert!(rt; is_list_parted(alloc)?);
+    assert!(rt; is_null_empty(alloc));
+    assert!(rt; is_text(alloc, b"\"s\"", "s")?);
+    assert!(rt; is_number(alloc, b"1e2", "1e2")?);
     Ok(())
 }
 

@@ -1,6 +1,7 @@
 //! Jobs files and what is answered, worked out by hand from their form.
+use crate::commands::command_of;
 use std::test::Fail;
-use words::{Command, Usage, jobs, read};
+use words::{Asks, Command, Usage, jobs};
 
 /// A jobs file a row: `ok`, `whole` for the empty pointer, or the pointer; and the file, whose path is `f`.
 const FILES: &str = r#"ok {"jobs":[{"input":"a","output":"b"}]}
@@ -78,37 +79,34 @@ whole {"jobs":[{"input":"\ud800","output":"b"}]}
 
 /// `ok`, `whole` or the pointer that is answered for the jobs file `f`.
 fn answer(rt: &HostRuntime, text: &str) -> Result<String, Fail> {
-    let words = words_of(rt)?;
-    let Ok(Command::Many { file, common }) = read(rt.alloc(), words.as_slice()) else {
-        return Err("refused")?;
-    };
-    let answer = match jobs(rt.alloc(), text.as_bytes(), &file, &common) {
-        Ok(_asks) => String::from_str(rt.alloc(), "ok")?,
-        Err(refusal) => String::from_str(rt.alloc(), shown(&refusal))?,
-    };
-    Ok(answer)
+    let command = command_of(rt, "--jobs f")?;
+    let answer = answer_under(rt, &command, text);
+    drop(command);
+    answer
 }
 
-fn shown(refusal: &Usage) -> &str {
-    match refusal {
-        Usage::BadJobs { pointer } => {
+fn answer_under(rt: &HostRuntime, command: &Command, text: &str) -> Result<String, Fail> {
+    let Command::Many { file, common } = command else {
+        return Err("one job")?;
+    };
+    let asks = jobs(rt.alloc(), text.as_bytes(), file, common);
+    let answer = String::from_str(rt.alloc(), shown(&asks));
+    drop(asks);
+    Ok(answer?)
+}
+
+fn shown(asks: &Result<Asks, Usage>) -> &str {
+    match asks {
+        Ok(_) => "ok",
+        Err(Usage::BadJobs { pointer }) => {
             if pointer.bytes().is_empty() {
                 "whole"
             } else {
                 pointer.as_str()
             }
         }
-        _ => "other",
+        Err(_) => "other",
     }
-}
-
-/// A command line of a batch with the jobs file `f`.
-fn words_of(rt: &HostRuntime) -> Result<Vec<String>, Fail> {
-    let mut words = Vec::new(rt.alloc());
-    for word in "--jobs f".split(' ') {
-        words.push(String::from_str(rt.alloc(), word)?)?;
-    }
-    Ok(words)
 }
 
 #[test]

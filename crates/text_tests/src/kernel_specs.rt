@@ -1,6 +1,7 @@
 //! Kernel specs: names, what a `kernel.json` says, arguments and connection files.
-use jtext::{Json, Text, write_compact};
+use jtext::{Json, NoMemory, Text, Texts, write_compact};
 use kspec::{Spec, SpecFault, argv, connection_text, good_name, spec};
+use std::alloc::Global;
 use std::test::Fail;
 
 /// A line a name, and whether a kernel may have it.
@@ -121,17 +122,40 @@ k k
 {connection_file {connection_file
 {prefix}é{ {prefix}é{";
 
-#[test]
-fn names_in_arguments_are_replaced_once(rt: HostRuntime) -> Result<(), Fail> {
-    let alloc = rt.alloc();
+/// The spec of a kernel whose `argv` is this one word.
+fn spec_of(rt: &HostRuntime, word: &str) -> Result<Spec, Fail> {
+    let text = format!(in rt.alloc(); "{{\"argv\":[\"{word}\"]}}")?;
+    let read = spec(rt.alloc(), text.as_str().as_bytes(), false);
+    drop(text);
+    Ok(read.map_err(|_| "refused")?)
+}
+
+/// The arguments, for a connection file and a folder that have each the other's name within.
+fn arguments(alloc: Global, s: &Spec) -> Result<Texts, NoMemory> {
     let file = Text::of(alloc, "/t/{resource_dir}.json")?;
     let folder = Text::of(alloc, "/k/{connection_file}")?;
+    argv(alloc, s, &file, &folder)
+}
+
+fn first_argument(alloc: Global, s: &Spec) -> Result<Text, Fail> {
+    let words = arguments(alloc, s)?;
+    let first = words.get(0).ok_or("no word")?;
+    Ok(first.copy(alloc)?)
+}
+
+/// What this word of `argv` becomes.
+fn word_with_names(rt: &HostRuntime, word: &str) -> Result<Text, Fail> {
+    let s = spec_of(rt, word)?;
+    let first = first_argument(rt.alloc(), &s);
+    drop(s);
+    first
+}
+
+#[test]
+fn names_in_arguments_are_replaced_once(rt: HostRuntime) -> Result<(), Fail> {
     for row in WORDS.lines() {
         let (word, wanted) = row.split_once(' ').ok_or("no answer")?;
-        let text = format!(in alloc; "{{\"argv\":[\"{word}\"]}}")?;
-        let s = spec(alloc, text.as_str().as_bytes(), false).map_err(|_| "refused")?;
-        let words = argv(alloc, &s, &file, &folder)?;
-        let found = words.get(0).ok_or("no word")?;
+        let found = word_with_names(&rt, word)?;
         assert_eq!(rt; found.as_str(), wanted, "{word}");
     }
     Ok(())

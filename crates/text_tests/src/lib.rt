@@ -21,6 +21,8 @@ mod batches;
 #[cfg(test)]
 mod command_lines;
 #[cfg(test)]
+mod commands;
+#[cfg(test)]
 mod jobs_files;
 #[cfg(test)]
 mod options;

@@ -1,4 +1,5 @@
-use jtext::{Bytes, List, NumFault, NumText, Text, Texts};
+use jtext::{Bytes, List, NoMemory, NumFault, NumText, Text, Texts};
+use std::alloc::Global;
 use std::test::Fail;
 
 #[test]
@@ -19,23 +20,46 @@ fn a_list_is_changed_item_by_item(rt: HostRuntime) -> Result<(), Fail> {
     Ok(())
 }
 
+/// Whether bytes hold what they are made of, and then what is added.
+fn has_added(alloc: Global) -> Result<bool, NoMemory> {
+    let mut bytes = Bytes::of(alloc, b"ab")?;
+    bytes.add(b"c")?;
+    Ok(bytes.bytes() == b"abc".as_slice())
+}
+
+/// Whether a text holds what it is made of, and goes into a list.
+fn is_text_pushed(alloc: Global) -> Result<bool, NoMemory> {
+    let text = Text::of(alloc, "g\u{e9}")?;
+    let holds = text.as_str() == "g\u{e9}" && text.bytes() == b"g\xc3\xa9".as_slice();
+    let mut texts = Texts::new(alloc);
+    texts.push(text)?;
+    Ok(holds && texts.len() == 1)
+}
+
+fn is_new_empty(alloc: Global) -> bool {
+    Text::new(alloc).as_str() == ""
+}
+
+/// Whether a text holds the string that it takes as it is.
+fn is_string_held(alloc: Global) -> Result<bool, NoMemory> {
+    let owned = Text::of_string(String::from_str(alloc, "x")?);
+    Ok(owned.as_str() == "x")
+}
+
+/// Whether a list holds the items that it takes as they are.
+fn is_vec_held(alloc: Global) -> Result<bool, NoMemory> {
+    let list = List::of_vec([1u8, 2].to_vec(alloc)?);
+    Ok(list.bytes() == b"\x01\x02".as_slice())
+}
+
 #[test]
 fn bytes_and_texts_hold_what_was_given(rt: HostRuntime) -> Result<(), Fail> {
     let alloc = rt.alloc();
-    let mut bytes = Bytes::of(alloc, b"ab")?;
-    bytes.add(b"c")?;
-    assert_eq!(rt; bytes.bytes(), b"abc".as_slice());
-    let text = Text::of(alloc, "g\u{e9}")?;
-    assert_eq!(rt; text.as_str(), "g\u{e9}");
-    assert_eq!(rt; text.bytes(), b"g\xc3\xa9".as_slice());
-    assert_eq!(rt; Text::new(alloc).as_str(), "");
-    let mut texts = Texts::new(alloc);
-    texts.push(text)?;
-    assert_eq!(rt; texts.len(), 1);
-    let owned = Text::of_string(String::from_str(alloc, "x")?);
-    assert_eq!(rt; owned.as_str(), "x");
-    let list = List::of_vec([1u8, 2].to_vec(alloc)?);
-    assert_eq!(rt; list.bytes(), b"\x01\x02".as_slice());
+    assert!(rt; has_added(alloc)?);
+    assert!(rt; is_text_pushed(alloc)?);
+    assert!(rt; is_new_empty(alloc));
+    assert!(rt; is_string_held(alloc)?);
+    assert!(rt; is_vec_held(alloc)?);
     Ok(())
 }
 

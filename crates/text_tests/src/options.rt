@@ -1,7 +1,8 @@
 //! Each option with the field that it sets, and what stands where it isn't given.
+use crate::commands::command_of;
 use crate::shown::shown;
 use std::test::Fail;
-use words::{Ask, Command, read};
+use words::{Ask, Command};
 
 /// A command line a row, and what is asked of one job, or of all jobs of a batch.
 const LINES: &str = "\
@@ -27,14 +28,10 @@ A B --kernel-path d -p x True -p y -p -p z 007|A B - d . 000001 60000 0 x=true y
 
 /// What the words, which single spaces part, ask for.
 fn ask_of(rt: &HostRuntime, line: &str) -> Result<Ask, Fail> {
-    let mut words = Vec::new(rt.alloc());
-    for word in line.split(' ') {
-        words.push(String::from_str(rt.alloc(), word)?)?;
-    }
-    match read(rt.alloc(), words.as_slice()) {
-        Ok(Command::One(ask)) => Ok(ask),
-        Ok(Command::Many { file: _, common }) => Ok(common),
-        _ => Err("refused")?,
+    match command_of(rt, line)? {
+        Command::One(ask) => Ok(ask),
+        Command::Many { file: _, common } => Ok(common),
+        Command::Exercise(_) => Err("an exercise")?,
     }
 }
 
