@@ -1,27 +1,44 @@
 //! When a kernel is asked and pinged, and when it is lost.
 use jtext::Text;
 use kernel_talk::{Asking, Pings};
+use std::alloc::Global;
+use std::process::Abort;
 use std::test::Fail;
 
-#[test]
-fn a_kernel_is_asked_every_500_ms_until_it_is_ready(rt: HostRuntime) -> Result<(), Fail> {
-    let mut asking = Asking::new(rt.alloc());
+fn expect_requests(rt: &impl Abort, alloc: Global, asking: &mut Asking) -> Result<(), Fail> {
     assert!(rt; !asking.is_due(false, 1000), "it can't be asked yet");
     assert_eq!(rt; asking.next(false, 1000), None);
     assert!(rt; asking.is_due(true, 1000));
     assert_eq!(rt; asking.next(true, 1000), Some(1000));
-    asking.on_request(Text::of(rt.alloc(), "s_1")?, 1000)?;
+    asking.on_request(Text::of(alloc, "s_1")?, 1000)?;
     assert!(rt; !asking.is_due(true, 1499));
     assert_eq!(rt; asking.next(true, 1100), Some(1500));
     assert!(rt; asking.is_due(true, 1500));
-    asking.on_reply(&Text::of(rt.alloc(), "s_2")?);
+    Ok(())
+}
+
+fn expect_end(rt: &impl Abort, alloc: Global, asking: &mut Asking) -> Result<(), Fail> {
+    asking.on_reply(&Text::of(alloc, "s_2")?);
     asking.on_iopub();
     assert!(rt; !asking.is_ready(), "a reply to another request");
-    asking.on_reply(&Text::of(rt.alloc(), "s_1")?);
+    asking.on_reply(&Text::of(alloc, "s_1")?);
     assert!(rt; asking.is_ready());
     assert!(rt; !asking.is_due(true, 9000));
     assert_eq!(rt; asking.next(true, 9000), None);
     Ok(())
+}
+
+fn expect_course(rt: &impl Abort, alloc: Global, asking: &mut Asking) -> Result<(), Fail> {
+    expect_requests(rt, alloc, asking)?;
+    expect_end(rt, alloc, asking)
+}
+
+#[test]
+fn a_kernel_is_asked_every_500_ms_until_it_is_ready(rt: HostRuntime) -> Result<(), Fail> {
+    let mut asking = Asking::new(rt.alloc());
+    let end = expect_course(&rt, rt.alloc(), &mut asking);
+    drop(asking);
+    end
 }
 
 #[test]

@@ -28,18 +28,25 @@ fn hands_out(line: &mut Line, octets: &[u8]) -> bool {
     }
 }
 
+/// One message is sent before the end of the handshake, and one after it.
+fn expect_messages(rt: &impl Abort, alloc: Global, line: &mut Line) -> Result<(), Fail> {
+    assert!(rt; line.take().is_some());
+    say_x(alloc, line)?;
+    assert!(rt; hands_out(line, b""));
+    let peer = start(alloc, ROUTER)?;
+    assert!(rt; hears(line, peer.bytes())?);
+    assert!(rt; hands_out(line, b"\0\x01x"));
+    say_x(alloc, line)?;
+    assert!(rt; hands_out(line, b"\0\x01x"));
+    Ok(())
+}
+
 #[test]
 fn a_message_waits_for_the_end_of_the_handshake(rt: HostRuntime) -> Result<(), Fail> {
     let mut line = Line::new(rt.alloc(), Role::Dealer)?;
-    assert!(rt; line.take().is_some());
-    say_x(rt.alloc(), &mut line)?;
-    assert!(rt; hands_out(&mut line, b""));
-    let peer = start(rt.alloc(), ROUTER)?;
-    assert!(rt; hears(&mut line, peer.bytes())?);
-    assert!(rt; hands_out(&mut line, b"\0\x01x"));
-    say_x(rt.alloc(), &mut line)?;
-    assert!(rt; hands_out(&mut line, b"\0\x01x"));
-    Ok(())
+    let end = expect_messages(&rt, rt.alloc(), &mut line);
+    drop(line);
+    end
 }
 
 fn say_x(alloc: Global, line: &mut Line) -> Result<(), NoMemory> {

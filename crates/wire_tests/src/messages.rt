@@ -4,6 +4,7 @@ use jmsg::{Decoded, Header, Message, date_text, decode, encode, signature};
 use jsign::sign;
 use jtext::{Bytes, NoMemory, Text, read, write_compact};
 use std::alloc::Global;
+use std::process::Abort;
 use std::test::Fail;
 use zmtp_wire::Parts;
 
@@ -67,22 +68,35 @@ fn status(alloc: Global) -> Result<Message, Fail> {
     })
 }
 
+/// The parts of that message under the key. The message is dropped by a call, for a short proof.
+fn status_parts(alloc: Global, key: &[u8]) -> Result<Parts, Fail> {
+    let message = status(alloc)?;
+    let parts = encode(alloc, key, &message);
+    drop(message);
+    Ok(parts?)
+}
+
 /// The signature is Python's.
 #[test]
 fn encodes_to_six_parts(rt: HostRuntime) -> Result<(), Fail> {
     let alloc = rt.alloc();
-    let parts = encode(alloc, b"k", &status(alloc)?)?;
+    let parts = status_parts(alloc, b"k")?;
+    let lines = lines_of(alloc, &parts);
+    let count = parts.len();
+    drop(parts);
     let expected =
         b"<IDS|MSG>\nd1b55cd1f947883ca13a2ca00299a5192cb3b66c73e2663b9c90638e42677d8f\n{\"msg_id\":\"s_1\",\"session\":\"s\",\"username\":\"nbrun\",\"date\":\"2000-01-01T00:00:00.000Z\",\"msg_type\":\"status\",\"version\":\"5.3\"}\n{}\n{}\n{\"execution_state\":\"idle\"}\n";
-    assert_eq!(rt; lines_of(alloc, &parts)?.bytes(), expected.as_slice());
-    assert_eq!(rt; parts.len(), 6);
+    assert_eq!(rt; lines?.bytes(), expected.as_slice());
+    assert_eq!(rt; count, 6);
     Ok(())
 }
 
 /// What the parts are decoded to under the key `k`, encoded again.
 fn passed_on(alloc: Global, parts: &Parts) -> Result<Parts, Fail> {
     let message = good(alloc, b"k", parts)?.ok_or("not decoded")?;
-    Ok(encode(alloc, b"k", &message)?)
+    let again = encode(alloc, b"k", &message);
+    drop(message);
+    Ok(again?)
 }
 
 fn same_lines(alloc: Global, a: &Parts, b: &Parts) -> Result<bool, NoMemory> {
@@ -90,19 +104,31 @@ fn same_lines(alloc: Global, a: &Parts, b: &Parts) -> Result<bool, NoMemory> {
     Ok(lines.bytes() == lines_of(alloc, b)?.bytes())
 }
 
+/// Whether the parts are passed on as they are.
+fn stays_as_it_was(alloc: Global, parts: &Parts) -> Result<bool, Fail> {
+    let again = passed_on(alloc, parts)?;
+    let same = same_lines(alloc, &again, parts);
+    drop(again);
+    Ok(same?)
+}
+
 #[test]
 fn what_was_encoded_is_decoded_and_encoded_as_it_was(rt: HostRuntime) -> Result<(), Fail> {
     let alloc = rt.alloc();
-    let parts = encode(alloc, b"k", &status(alloc)?)?;
-    assert!(rt; same_lines(alloc, &passed_on(alloc, &parts)?, &parts)?);
+    let parts = status_parts(alloc, b"k")?;
+    let stays = stays_as_it_was(alloc, &parts);
+    drop(parts);
+    assert!(rt; stays?);
     Ok(())
 }
 
 #[test]
 fn under_another_key_it_is_unsigned(rt: HostRuntime) -> Result<(), Fail> {
     let alloc = rt.alloc();
-    let parts = encode(alloc, b"l", &status(alloc)?)?;
-    assert_eq!(rt; verdict(alloc, &parts)?, "unsigned");
+    let parts = status_parts(alloc, b"l")?;
+    let answer = verdict(alloc, &parts);
+    drop(parts);
+    assert_eq!(rt; answer?, "unsigned");
     Ok(())
 }
 
@@ -124,13 +150,17 @@ fn header_of_ipykernel(h: &Header) -> bool {
 
 /// As ipykernel sends it: a topic of any octets, white space in the dictionaries, a date with six
 /// decimals, an id of its own form, a key that no standard names, and a buffer. Signed by Python.
-#[test]
-fn reads_a_message_of_ipykernel(rt: HostRuntime) -> Result<(), Fail> {
-    let alloc = rt.alloc();
+fn message_of_ipykernel(alloc: Global) -> Result<Option<Message>, NoMemory> {
     let text =
         b"\xff\x00stream~<IDS|MSG>~8d11f0167673dbe3ee9c1efb87dd65af0416ce3394449a40bd04793b4520c739~{\"msg_id\": \"4d8c2f90-a1b2c3d4e5f60718293a4b5c_4242_17\", \"msg_type\": \"stream\", \"username\": \"jovyan\", \"session\": \"4d8c2f90-a1b2c3d4e5f60718293a4b5c\", \"date\": \"2024-05-21T09:30:00.123456Z\", \"version\": \"5.3\", \"subshell_id\": null}~{\"msg_id\": \"6f1e-nbrun_3\", \"msg_type\": \"execute_request\", \"username\": \"nbrun\", \"session\": \"6f1e-nbrun\", \"date\": \"2024-05-21T09:29:59.000Z\", \"version\": \"5.3\"}~{}~{\"name\": \"stdout\", \"text\": \"h\xc3\xa9llo\\n\"}~\x00\x01";
     let parts = parts_of(alloc, text)?;
-    let m = good(alloc, b"7f3a1c5e-9d04-4a51-8c44-2b6f0c1d9e77", &parts)?.ok_or("not decoded")?;
+    let message = good(alloc, b"7f3a1c5e-9d04-4a51-8c44-2b6f0c1d9e77", &parts);
+    drop(parts);
+    message
+}
+
+/// That message says this.
+fn expect_ipykernel(rt: &impl Abort, alloc: Global, m: &Message) -> Result<(), Fail> {
     assert!(rt; header_of_ipykernel(&m.header));
     assert!(rt; is_text(&m.parent_id, "6f1e-nbrun_3"));
     let content = write_compact(alloc, &m.content)?;
@@ -140,6 +170,14 @@ fn reads_a_message_of_ipykernel(rt: HostRuntime) -> Result<(), Fail> {
     );
     assert_eq!(rt; m.buffers.len(), 1);
     Ok(())
+}
+
+#[test]
+fn reads_a_message_of_ipykernel(rt: HostRuntime) -> Result<(), Fail> {
+    let message = message_of_ipykernel(rt.alloc())?.ok_or("not decoded")?;
+    let end = expect_ipykernel(&rt, rt.alloc(), &message);
+    drop(message);
+    end
 }
 
 #[test]

@@ -1,13 +1,13 @@
 //! Octets from the standard and from libzmq 4.3.4, whose PUB was bound and read over a plain
 //! connection.
 
-ghost use Rattle.std.specs.Prelude.{◌≡◌, ◌∷◌, [], IfOk};
-
-use crate::joined::put_joined;
-use jtext::{Bytes, NoMemory};
+use crate::joined::{put_joined, single};
+use jtext::Bytes;
+use std::alloc::Global;
+use std::process::Abort;
 use std::test::Fail;
 use zmtp_peer::{Peer, is_body};
-use zmtp_wire::{Messages, Parts, Role, WireFault, greeting, put_ready};
+use zmtp_wire::{Messages, Role, WireFault, greeting, put_ready};
 
 /// A peer of this role that was fed the start of the other side, with this minor version, and then
 /// the tail.
@@ -33,15 +33,6 @@ fn fed(
     Ok(peer)
 }
 
-/// A message of one part.
-fn single(rt: &HostRuntime, part: &[u8]) -> Result<Parts, NoMemory>
-    ensures { IfOk result (λ m. m ≡ part.now ∷ []) }
-{
-    let mut parts = Parts::new(rt.alloc());
-    parts.push(Bytes::of(rt.alloc(), part)?)?;
-    Ok(parts)
-}
-
 #[test]
 fn a_side_starts_with_greeting_and_ready_alone(rt: HostRuntime) -> Result<(), Fail> {
     let peer = Peer::new(rt.alloc(), Role::Sub);
@@ -58,7 +49,7 @@ fn a_side_starts_with_greeting_and_ready_alone(rt: HostRuntime) -> Result<(), Fa
 
 #[test]
 fn a_request_has_an_empty_frame_first(rt: HostRuntime) -> Result<(), Fail> {
-    let ping = single(&rt, b"ping")?;
+    let ping = single(rt.alloc(), b"ping")?;
     let rows: [(Role, &[u8]); 3] = [
         (Role::Req, b"\x01\0\x00\x04ping"),
         (Role::Rep, b"\x01\0\x00\x04ping"),
@@ -141,6 +132,38 @@ fn a_side_of_version_3_0_is_asked_by_a_message_and_not_answered(
     Ok(())
 }
 
+/// This piece is answered by the fault.
+fn expect_answer(
+    rt: &impl Abort,
+    peer: &mut Peer,
+    piece: &[u8],
+    out: &mut Messages,
+    fault: WireFault,
+) {
+    assert_eq!(rt; peer.feed(piece, out), Err(fault));
+}
+
+/// A fault at octet 105, which what comes after it brings again, and no message.
+fn expect_fault(rt: &impl Abort, alloc: Global, peer: &mut Peer) {
+    let mut more = Messages::new(alloc);
+    let fault = WireFault::Flags { at: 105 };
+    expect_answer(rt, peer, b"\x08", &mut more, fault);
+    expect_answer(rt, peer, b"\x00\x01B", &mut more, fault);
+    assert_eq!(rt; more.len(), 0);
+}
+
+/// What is owed to the side is given after the fault too.
+fn expect_replies(rt: &impl Abort, alloc: Global, peer: &mut Peer) -> Result<(), Fail> {
+    expect_fault(rt, alloc, peer);
+    let mut out = Bytes::new(alloc);
+    peer.replies(&mut out)?;
+    assert_eq!(rt;
+        out.bytes(),
+        b"\x04\x0A\x09SUBSCRIBE\x04\x07\x04PONGab".as_slice()
+    );
+    Ok(())
+}
+
 #[test]
 fn a_broken_side_is_answered_too(rt: HostRuntime) -> Result<(), Fail> {
     let mut came = Bytes::new(rt.alloc());
@@ -152,18 +175,10 @@ fn a_broken_side_is_answered_too(rt: HostRuntime) -> Result<(), Fail> {
         b"\x04\x09\x04PING\0\x0Aab\x00\x01A",
         &mut came,
     )?;
-    let mut more = Messages::new(rt.alloc());
-    let fault = WireFault::Flags { at: 105 };
-    assert_eq!(rt; peer.feed(b"\x08", &mut more), Err(fault));
-    assert_eq!(rt; peer.feed(b"\x00\x01B", &mut more), Err(fault));
-    assert_eq!(rt; more.len(), 0);
+    let end = expect_replies(&rt, rt.alloc(), &mut peer);
+    drop(peer);
+    end?;
     assert_eq!(rt; came.bytes(), b"A|/".as_slice());
-    let mut out = Bytes::new(rt.alloc());
-    peer.replies(&mut out)?;
-    assert_eq!(rt;
-        out.bytes(),
-        b"\x04\x0A\x09SUBSCRIBE\x04\x07\x04PONGab".as_slice()
-    );
     Ok(())
 }
 

@@ -1,8 +1,10 @@
 //! Octets from the standard and from libzmq 4.3.4, whose sockets were bound and read over a plain
 //! connection.
 
-use crate::joined::put_joined;
+use crate::joined::{put_joined, single};
 use jtext::{Bytes, NoMemory};
+use std::alloc::Global;
+use std::process::Abort;
 use std::test::Fail;
 use zmtp_wire::{
     Decoder, Messages, Parts, Role, WireFault, greeting, is_message, parts_len, put_message,
@@ -146,30 +148,53 @@ fn reads(
     agree_on_fronts(rt, role, octets)
 }
 
-#[test]
-fn what_is_written_is_as_the_standard_has_it(rt: HostRuntime) -> Result<(), Fail> {
-    let alloc = rt.alloc();
+fn expect_ready(rt: &impl Abort, alloc: Global) -> Result<(), Fail> {
     let mut ready = Bytes::new(alloc);
     put_ready(alloc, Role::Dealer, &mut ready)?;
     assert_eq!(rt;
         ready.bytes(),
         b"\x04\x1C\x05READY\x0BSocket-Type\0\0\0\x06DEALER".as_slice()
     );
-    let mut short = Parts::new(alloc);
-    short.push(Bytes::of(alloc, b"A")?)?;
+    Ok(())
+}
+
+/// A message with a short size.
+fn expect_short(rt: &impl Abort, alloc: Global) -> Result<(), Fail> {
+    let parts = single(alloc, b"A")?;
     let mut out = Bytes::new(alloc);
-    put_message(alloc, &short, &mut out)?;
+    let end = put_message(alloc, &parts, &mut out);
+    drop(parts);
+    end?;
     assert_eq!(rt; out.bytes(), b"\x00\x01A".as_slice());
-    let mut long = Parts::new(alloc);
-    long.push(Bytes::of(alloc, &[7; 256])?)?;
+    Ok(())
+}
+
+/// A message with a long size.
+fn expect_long(rt: &impl Abort, alloc: Global) -> Result<(), Fail> {
+    let parts = single(alloc, &[7; 256])?;
     let mut out = Bytes::new(alloc);
-    put_message(alloc, &long, &mut out)?;
+    let end = put_message(alloc, &parts, &mut out);
+    drop(parts);
+    end?;
     assert_eq!(rt; out.len(), 265);
-    assert_eq!(rt; parts_len(&long), 256);
-    assert!(rt; is_message(&long));
-    assert!(rt; !is_message(&Parts::new(alloc)));
     assert!(rt; out.bytes().starts_with(b"\x02\0\0\0\0\0\0\x01\0\x07"));
     Ok(())
+}
+
+fn expect_sizes(rt: &impl Abort, alloc: Global) -> Result<(), Fail> {
+    let parts = single(alloc, &[7; 256])?;
+    assert_eq!(rt; parts_len(&parts), 256);
+    assert!(rt; is_message(&parts));
+    assert!(rt; !is_message(&Parts::new(alloc)));
+    Ok(())
+}
+
+#[test]
+fn what_is_written_is_as_the_standard_has_it(rt: HostRuntime) -> Result<(), Fail> {
+    expect_ready(&rt, rt.alloc())?;
+    expect_short(&rt, rt.alloc())?;
+    expect_long(&rt, rt.alloc())?;
+    expect_sizes(&rt, rt.alloc())
 }
 
 #[test]
@@ -427,26 +452,50 @@ fn a_unit_is_refused_at_its_octet(rt: HostRuntime) -> Result<(), Fail> {
     Ok(())
 }
 
+/// This piece is answered by the fault.
+fn expect_answer(
+    rt: &impl Abort,
+    decoder: &mut Decoder,
+    piece: &[u8],
+    out: &mut Messages,
+    fault: WireFault,
+) {
+    assert_eq!(rt; decoder.feed(piece, out), Err(fault));
+}
+
+/// A message and then a fault, which what comes after it brings again, and no more messages.
+fn expect_flags(rt: &impl Abort, alloc: Global, decoder: &mut Decoder, octets: &[u8]) {
+    let mut out = Messages::new(alloc);
+    let fault = WireFault::Flags { at: 97 };
+    expect_answer(rt, decoder, octets, &mut out, fault);
+    expect_answer(rt, decoder, b"\x00\x01B", &mut out, fault);
+    assert_eq!(rt; out.len(), 1);
+    assert!(rt; decoder.shaken());
+}
+
+/// A broken greeting tells the version as soon as it has come.
+fn expect_signature(rt: &impl Abort, alloc: Global, decoder: &mut Decoder) {
+    let mut out = Messages::new(alloc);
+    let fault = WireFault::Signature { at: 0 };
+    expect_answer(rt, decoder, &[0; 11], &mut out, fault);
+    assert_eq!(rt; decoder.newer(), None);
+    expect_answer(rt, decoder, &[0], &mut out, fault);
+    assert_eq!(rt; decoder.newer(), Some(false));
+    assert!(rt; !decoder.shaken());
+}
+
 #[test]
 fn a_fault_is_given_again(rt: HostRuntime) -> Result<(), Fail> {
     let octets = stream(&rt, Role::Router, b"\x00\x01A\x08")?;
     let mut decoder = Decoder::new(rt.alloc(), Role::Dealer);
-    let mut out = Messages::new(rt.alloc());
+    expect_flags(&rt, rt.alloc(), &mut decoder, octets.bytes());
+    drop(decoder);
+    let mut decoder = Decoder::new(rt.alloc(), Role::Dealer);
+    expect_signature(&rt, rt.alloc(), &mut decoder);
+    drop(decoder);
     let fault = WireFault::Flags { at: 97 };
-    assert_eq!(rt; decoder.feed(octets.bytes(), &mut out), Err(fault));
-    assert_eq!(rt; decoder.feed(b"\x00\x01B", &mut out), Err(fault));
-    assert_eq!(rt; out.len(), 1);
-    assert!(rt; decoder.shaken());
     assert_eq!(rt; fault.number(), 4);
     assert_eq!(rt; fault.place(), 97);
-    // A broken greeting tells the version as soon as it has come.
-    let mut decoder = Decoder::new(rt.alloc(), Role::Dealer);
-    let fault = WireFault::Signature { at: 0 };
-    assert_eq!(rt; decoder.feed(&[0; 11], &mut out), Err(fault));
-    assert_eq!(rt; decoder.newer(), None);
-    assert_eq!(rt; decoder.feed(&[0], &mut out), Err(fault));
-    assert_eq!(rt; decoder.newer(), Some(false));
-    assert!(rt; !decoder.shaken());
     Ok(())
 }
 
