@@ -1,40 +1,63 @@
 //! Notebooks as they are read, prepared and planned.
 use crate::reading::{compact, notebook};
-use nb_model::{Kind, Notebook, code, plan, prepare, tagged};
+use jtext::NoMemory;
+use nb_model::{Cell, Kind, Notebook, code, plan, prepare, tagged};
 use sample_notebooks::{LAB, TWO};
+use std::alloc::Global;
+use std::process::Abort;
 use std::test::Fail;
 
 /// A line a cell of `LAB`: kind, id, count, outputs, whether it is tagged `parameters`, and its source.
 const CELLS: &str = r#"Markdown 5ad6f3b2-9d55-4b0c-8b3f-3a1f0b1f7c11 - 0 no # Title|text
 Code 0c1b7e0e-93f1-4c5c-a7ad-0d5b8a1a2f6c 3 1 yes a = 1|plot(a)"#;
 
+/// The source of the cell in one line.
+fn source_line(alloc: Global, cell: &Cell) -> Result<String, NoMemory> {
+    let source = code(alloc, cell)?;
+    Ok(source.as_str().replace(alloc, "\n", "|")?)
+}
+
+/// The cell as in the rows of `CELLS`.
+fn row_of(alloc: Global, cell: &Cell) -> Result<String, NoMemory> {
+    let count = match &cell.count {
+        Some(count) => count.as_str(),
+        None => "-",
+    };
+    let tag = if tagged(cell, "parameters") {
+        "yes"
+    } else {
+        "no"
+    };
+    let source = source_line(alloc, cell)?;
+    Ok(format!(in alloc;
+        "{:?} {} {count} {} {tag} {source}",
+        cell.kind,
+        cell.id.as_str(),
+        cell.outputs.len()
+    )?)
+}
+
+fn is_row(alloc: Global, cell: &Cell, row: &str) -> Result<bool, NoMemory> {
+    let found = row_of(alloc, cell)?;
+    Ok(found.as_str() == row)
+}
+
+/// The notebook has the cells of the rows, of which none is planned.
+fn compare_cells(rt: &impl Abort, alloc: Global, n: &Notebook) -> Result<(), NoMemory> {
+    assert_eq!(rt; n.cells.len(), 2);
+    for (cell, row) in n.cells.as_slice().iter().zip(CELLS.lines()) {
+        assert!(rt; is_row(alloc, cell, row)?, "{row}");
+    }
+    assert!(rt; plan(alloc, n)?.is_empty());
+    Ok(())
+}
+
 #[test]
 fn a_saved_notebook_is_read(rt: HostRuntime) -> Result<(), Fail> {
     let n = notebook(&rt, LAB)?;
-    assert_eq!(rt; n.cells.len(), 2);
-    for (cell, row) in n.cells.as_slice().iter().zip(CELLS.lines()) {
-        let count = match &cell.count {
-            Some(count) => count.as_str(),
-            None => "-",
-        };
-        let tag = if tagged(cell, "parameters") {
-            "yes"
-        } else {
-            "no"
-        };
-        let source = code(rt.alloc(), cell)?
-            .as_str()
-            .replace(rt.alloc(), "\n", "|")?;
-        let found = format!(in rt.alloc();
-            "{:?} {} {count} {} {tag} {source}",
-            cell.kind,
-            cell.id.as_str(),
-            cell.outputs.len()
-        )?;
-        assert_eq!(rt; found.as_str(), row);
-    }
-    assert_eq!(rt; plan(rt.alloc(), &n)?.len(), 0);
-    Ok(())
+    let end = compare_cells(&rt, rt.alloc(), &n);
+    drop(n);
+    Ok(end?)
 }
 
 /// Two code cells and a markdown cell, which have marks, counts and outputs of an earlier run.
