@@ -5,10 +5,9 @@ ghost use Rattle.progress_save.specs.State.{Fits};
 use crate::notebooks::prepared;
 use crate::saves::{begin, disk, left_at, save};
 use crate::seen::SeenDisk;
-use jtext::{NoMemory, Text};
+use jtext::Text;
 use nb_model::{Cell, Notebook};
 use progress_save::{Progress, laws};
-use std::alloc::Global;
 use std::test::Fail;
 
 /// Puts another cell in place of the second one, and marks it.
@@ -34,35 +33,46 @@ fn other_cell(rt: &HostRuntime) -> Result<Cell, Fail> {
 }
 
 // Saves the notebook with its own second cell and with the other one: what is left then.
-fn saves_twice<W: SeenDisk>(
+fn saves_both<W: SeenDisk>(
     w: &mut W,
-    alloc: Global,
+    rt: &HostRuntime,
+    progress: &mut Progress,
+    path: &Text,
     n: &mut Notebook,
-    cell: Cell,
-) -> Result<&'static str, NoMemory>
-    requires { 1 < length n.old.cells }
+) -> Result<&'static str, Fail>
+    requires second { 1 < length n.old.cells }
+    requires kept { Fits progress.old n.old.cells }
 {
-    let path = Text::of(alloc, "o")?;
-    let mut progress = begin(alloc, &path, n)?;
-    if save(&mut progress, w, n, 0) != Ok(()) {
+    if save(progress, w, n, 0) != Ok(()) {
         return Ok("not saved");
     }
-    change(&mut progress, n, cell);
-    if save(&mut progress, w, n, 0) != Ok(()) {
+    change(progress, n, other_cell(rt)?);
+    if save(progress, w, n, 0) != Ok(()) {
         return Ok("not saved again");
     }
-    left_at(alloc, w, &path, n)
+    Ok(left_at(rt.alloc(), w, path, n)?)
+}
+
+// The same with a progress that is begun for it.
+fn saves_twice<W: SeenDisk>(
+    w: &mut W,
+    rt: &HostRuntime,
+    n: &mut Notebook,
+) -> Result<&'static str, Fail>
+    requires { 1 < length n.old.cells }
+{
+    let path = Text::of(rt.alloc(), "o")?;
+    let mut progress = begin(rt.alloc(), &path, n)?;
+    let left = saves_both(w, rt, &mut progress, &path, n);
+    drop(progress);
+    left
 }
 
 #[test]
 fn a_marked_cell_has_its_new_text(rt: HostRuntime) -> Result<(), Fail> {
     let mut notebook = prepared(&rt)?;
     assert_eq!(rt; notebook.cells.len(), 2);
-    let cell = other_cell(&rt)?;
     let mut disk = disk(rt.alloc(), None)?;
-    assert_eq!(rt;
-        saves_twice(&mut disk, rt.alloc(), &mut notebook, cell)?,
-        "whole"
-    );
+    assert_eq!(rt; saves_twice(&mut disk, &rt, &mut notebook)?, "whole");
     Ok(())
 }

@@ -4,6 +4,7 @@ use nb_model::{Notebook, of_json, prepare};
 use out_fold::Fold;
 use progress_save::settle;
 use sample_notebooks::TWO;
+use std::alloc::Global;
 use std::test::Fail;
 
 /// The notebook prepared.
@@ -15,15 +16,26 @@ pub(crate) fn prepared(rt: &HostRuntime) -> Result<Notebook, Fail> {
 
 /// The notebook of a run that stopped at its first cell.
 pub(crate) fn stopped(rt: &HostRuntime) -> Result<Notebook, Fail> {
-    let alloc = rt.alloc();
     let mut notebook = prepared(rt)?;
-    let mut fold = Fold::new(alloc, 2, false)?;
-    if notebook.cells.len() != 2 {
+    match stop(rt.alloc(), &mut notebook) {
+        Ok(()) => Ok(notebook),
+        Err(fail) => {
+            drop(notebook);
+            Err(fail)
+        }
+    }
+}
+
+/// Settles the first cell of two, at which the run stopped.
+fn stop(alloc: Global, n: &mut Notebook) -> Result<(), Fail> {
+    if n.cells.len() != 2 {
         return Err("another notebook".into());
     }
+    let mut fold = Fold::new(alloc, 2, false)?;
     fold.start(0);
-    settle(alloc, &mut notebook, &fold, 1, Some(0))?;
-    Ok(notebook)
+    let end = settle(alloc, n, &fold, 1, Some(0));
+    drop(fold);
+    Ok(end?)
 }
 
 /// The first cell is settled, and the run stopped at it; the second waits.
