@@ -1,5 +1,5 @@
 //! Contents of the messages that an executor sends.
-ghost use Rattle.std.specs.Prelude.{◌≡◌, IfOk};
+ghost use Rattle.std.specs.Prelude.{◌≡◌, ◌++◌, ◌∷◌, [], IfOk, OnOk};
 ghost use Rattle.jtext.specs.declared.json.Json.TheVariants as json;
 ghost use Rattle.jcontent.specs.Requests as requests;
 
@@ -13,15 +13,21 @@ pub fn execute_content(alloc: Global, code: &Text, stop_on_error: bool) -> Resul
     ensures { IfOk result (λ t. t ≡ requests.execute code.now stop_on_error) }
 {
     let text = Text::of(alloc, code.as_str())?;
-    let none = empty_content(alloc);
-    let code = pair(alloc, "code", Json::Str(text))?;
-    let silent = pair(alloc, "silent", Json::Bool(false))?;
-    let history = pair(alloc, "store_history", Json::Bool(true))?;
-    let expressions = pair(alloc, "user_expressions", none)?;
-    let input = pair(alloc, "allow_stdin", Json::Bool(false))?;
-    let stop = pair(alloc, "stop_on_error", Json::Bool(stop_on_error))?;
-    let pairs = vec![in alloc; code, silent, history, expressions, input, stop]?;
-    Ok(Json::Obj(Fields::of_vec(pairs)))
+    let mut fields = Fields::new(alloc);
+    fields.push(pair(alloc, "code", Json::Str(text))?)?;
+    put_flag(alloc, &mut fields, "silent", false)?;
+    put_flag(alloc, &mut fields, "store_history", true)?;
+    fields.push(pair(alloc, "user_expressions", empty_content(alloc))?)?;
+    put_flag(alloc, &mut fields, "allow_stdin", false)?;
+    put_flag(alloc, &mut fields, "stop_on_error", stop_on_error)?;
+    Ok(Json::Obj(fields))
+}
+
+/// Appends a truth value under this key.
+fn put_flag(alloc: Global, fields: &mut Fields, key: &str, flag: bool) -> Result<(), NoMemory>
+    ensures { OnOk result (fields.new ≡ fields.old ++ (key.now, json.Bool flag) ∷ []) }
+{
+    fields.push(pair(alloc, key, Json::Bool(flag))?)
 }
 
 /// The empty object: the content of a `kernel_info_request` and of an `interrupt_request`.

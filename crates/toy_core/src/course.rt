@@ -36,10 +36,11 @@ pub(crate) fn cell(
 pub(crate) fn info(alloc: Global) -> Result<Notes, NoMemory>
     ensures { IfOk result (λ ns. ns ≡ notes.info_notes) }
 {
-    let busy = publish(status(alloc, "busy")?);
-    let reply = reply(kernel_info_reply(alloc)?);
-    let idle = publish(status(alloc, "idle")?);
-    Ok(Notes::of_vec(vec![in alloc; busy, reply, idle]?))
+    let mut course = Notes::new(alloc);
+    course.push(publish(status(alloc, "busy")?))?;
+    course.push(reply(kernel_info_reply(alloc)?))?;
+    course.push(publish(status(alloc, "idle")?))?;
+    Ok(course)
 }
 
 /// What ends an interrupted cell.
@@ -48,10 +49,11 @@ pub(crate) fn interrupt_notes(alloc: Global, count: u64) -> Result<Notes, NoMemo
 {
     let ename = Text::of(alloc, "KeyboardInterrupt")?;
     let evalue = Text::new(alloc);
-    let error = publish(error(alloc, &ename, &evalue)?);
-    let reply = reply(error_reply(alloc, count, &ename, &evalue)?);
-    let idle = publish(status(alloc, "idle")?);
-    Ok(Notes::of_vec(vec![in alloc; error, reply, idle]?))
+    let mut course = Notes::new(alloc);
+    course.push(publish(error(alloc, &ename, &evalue)?))?;
+    course.push(reply(error_reply(alloc, count, &ename, &evalue)?))?;
+    course.push(publish(status(alloc, "idle")?))?;
+    Ok(course)
 }
 
 /// One message on control.

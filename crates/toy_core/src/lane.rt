@@ -49,6 +49,16 @@ impl Lane {
         })
     }
 
+    /// Two connections that weren't taken up, on these channels.
+    pub(crate) fn two(alloc: Global, one: Chan, other: Chan) -> Result<(Lane, Lane), NoMemory>
+        ensures one { IfOk result (λ p. IsLine one p.0 (spec.no_line one)) }
+        ensures other { IfOk result (λ p. IsLine other p.1 (spec.no_line other)) }
+    {
+        let first = Lane::new(alloc, one)?;
+        let second = Lane::new(alloc, other)?;
+        Ok((first, second))
+    }
+
     /// The connection is taken up: what came and what was due on the one before it counts no more.
     pub(crate) fn open(&mut self, alloc: Global, chan: Chan)
         ensures { (l : spec.Line) →

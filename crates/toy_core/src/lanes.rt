@@ -27,11 +27,13 @@ impl Lanes {
     pub(crate) fn new(alloc: Global) -> Result<Lanes, NoMemory>
         ensures { IfOk result (λ lanes. AreLines lanes spec.no_lines) }
     {
+        let (shell, control) = Lane::two(alloc, Chan::Shell, Chan::Control)?;
+        let (iopub, heart) = Lane::two(alloc, Chan::Iopub, Chan::Heart)?;
         Ok(Lanes {
-            shell: Lane::new(alloc, Chan::Shell)?,
-            control: Lane::new(alloc, Chan::Control)?,
-            iopub: Lane::new(alloc, Chan::Iopub)?,
-            heart: Lane::new(alloc, Chan::Heart)?,
+            shell,
+            control,
+            iopub,
+            heart,
         })
     }
 

@@ -140,9 +140,21 @@ pub(crate) fn put_error(
     ensures { OnOk result (fields.new ≡
         fields.old ++ out.error_fields ename.now evalue.now) }
 {
-    fields.push(text_pair(alloc, "ename", ename.as_str())?)?;
-    fields.push(text_pair(alloc, "evalue", evalue.as_str())?)?;
+    put_text(alloc, fields, "ename", ename.as_str())?;
+    put_text(alloc, fields, "evalue", evalue.as_str())?;
     fields.push(traceback(alloc, ename, evalue)?)
+}
+
+/// Appends a key with a copy of this text.
+pub(crate) fn put_text(
+    alloc: Global,
+    fields: &mut Fields,
+    key: &str,
+    text: &str,
+) -> Result<(), NoMemory>
+    ensures { OnOk result (fields.new ≡ fields.old ++ (key.now, json.Str text.now) ∷ []) }
+{
+    fields.push(text_pair(alloc, key, text)?)
 }
 
 /// `traceback`: the one string that has both.

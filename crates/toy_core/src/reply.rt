@@ -5,7 +5,7 @@ ghost use Rattle.toy_lang.specs.ToyOut as out;
 ghost use Rattle.toy_core.specs.Contents as contents;
 
 use crate::note::Saying;
-use crate::outputs::{count_pair, put_error};
+use crate::outputs::{count_pair, put_error, put_text};
 use jtext::{Fields, Json, NoMemory, Text, object, pair, text_pair};
 use std::alloc::Global;
 
@@ -38,24 +38,25 @@ pub(crate) fn error_reply(
 pub(crate) fn kernel_info_reply(alloc: Global) -> Result<Saying, NoMemory>
     ensures { IfOk result (λ m. m ≡ contents.kernel_info_reply) }
 {
-    let status = text_pair(alloc, "status", "ok")?;
-    let protocol = text_pair(alloc, "protocol_version", "5.3")?;
-    let name = text_pair(alloc, "implementation", "toy")?;
-    let version = text_pair(alloc, "implementation_version", "1")?;
-    let language = pair(alloc, "language_info", language_info(alloc)?)?;
-    let banner = text_pair(alloc, "banner", "toy")?;
-    let content = object(alloc, [status, protocol, name, version, language, banner])?;
-    pair(alloc, "kernel_info_reply", content)
+    let mut fields = Fields::new(alloc);
+    put_text(alloc, &mut fields, "status", "ok")?;
+    put_text(alloc, &mut fields, "protocol_version", "5.3")?;
+    put_text(alloc, &mut fields, "implementation", "toy")?;
+    put_text(alloc, &mut fields, "implementation_version", "1")?;
+    fields.push(pair(alloc, "language_info", language_info(alloc)?)?)?;
+    put_text(alloc, &mut fields, "banner", "toy")?;
+    pair(alloc, "kernel_info_reply", Json::Obj(fields))
 }
 
 fn language_info(alloc: Global) -> Result<Json, NoMemory>
     ensures { IfOk result (λ t. t ≡ contents.language_info) }
 {
-    let name = text_pair(alloc, "name", "toy")?;
-    let version = text_pair(alloc, "version", "1")?;
-    let mimetype = text_pair(alloc, "mimetype", "text/plain")?;
-    let extension = text_pair(alloc, "file_extension", ".toy")?;
-    object(alloc, [name, version, mimetype, extension])
+    let mut fields = Fields::new(alloc);
+    put_text(alloc, &mut fields, "name", "toy")?;
+    put_text(alloc, &mut fields, "version", "1")?;
+    put_text(alloc, &mut fields, "mimetype", "text/plain")?;
+    put_text(alloc, &mut fields, "file_extension", ".toy")?;
+    Ok(Json::Obj(fields))
 }
 
 /// `interrupt_reply`.

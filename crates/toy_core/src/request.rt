@@ -44,13 +44,24 @@ pub(crate) fn request_in(
     let Some(parent) = header_tree(alloc, parts)? else {
         return Ok(None);
     };
-    let Some(message) = message_in(alloc, key, parts)? else {
-        return Ok(None);
-    };
-    let Some(asked) = asked_on(alloc, chan, &message.header.msg_type, &message.content)? else {
+    let Some(asked) = asked_in(alloc, key, chan, parts)? else {
         return Ok(None);
     };
     Ok(Some(Request { parent, asked }))
+}
+
+/// What the parts ask for, where they are a signed message that asks for anything.
+fn asked_in(alloc: Global, key: &Text, chan: Chan, parts: &Parts) -> Result<Option<Asked>, NoMemory>
+    ensures { IfOk result (λ a. a ≡ requests.asked_by chan (decoding.decode key.now parts.now)) }
+{
+    match message_in(alloc, key, parts)? {
+        Some(message) => {
+            let asked = asked_on(alloc, chan, &message.header.msg_type, &message.content);
+            drop(message);
+            asked
+        }
+        None => Ok(None),
+    }
 }
 
 /// The message that the parts are, signed under the key.

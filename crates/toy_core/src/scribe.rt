@@ -1,5 +1,6 @@
 //! Messages, numbered, signed and framed.
 ghost use Rattle.std.specs.Prelude.{◌≡◌, ◌++◌, ◌∷◌, [], IfOk, OnOk, IsTrue, ◌↔◌};
+ghost use Rattle.jmsg.specs.Encoded as encoding;
 ghost use Rattle.toy_core.specs.Sending as sending;
 
 use crate::act::{Act, Acts};
@@ -70,10 +71,29 @@ fn octets(
     ensures { IfOk result (λ octets. octets ≡ sending.body_octets chan
         (sending.frames key.now chan parent.now number saying)) }
 {
-    let message = message_to(alloc, parent, number, saying)?;
     let mut frames = topic_frames(alloc, chan)?;
-    append(&mut frames, encode(alloc, key.bytes(), &message)?)?;
+    put_message(
+        alloc,
+        key,
+        message_to(alloc, parent, number, saying)?,
+        &mut frames,
+    )?;
     body_octets(alloc, chan, &frames)
+}
+
+/// Appends the frames of a message, signed under the key.
+fn put_message(
+    alloc: Global,
+    key: &Text,
+    message: Message,
+    frames: &mut Parts,
+) -> Result<(), NoMemory>
+    ensures { OnOk result (frames.new ≡ frames.old ++ encoding.encode key.now message) }
+{
+    let encoded = encode(alloc, key.bytes(), &message);
+    // By a call: at each end of the scope its many parts would be dropped one by one.
+    drop(message);
+    append(frames, encoded?)
 }
 
 /// A body as it goes out on a channel. One of no parts, of more than 63, or of more than 64 MiB isn't

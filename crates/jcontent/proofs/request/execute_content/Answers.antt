@@ -1,13 +1,20 @@
-use Rattle.std.proofs.Common.{◌∙◌, ap, codes}
-use Rattle.jtext.specs.declared.json.Json.TheVariants as json
-use Rattle.jcontent.proofs.Pairs.{keyed, six_pairs}
+use Rattle.std.proofs.Common.{refl}
 use Rattle.jcontent.proofs.request.execute_content.Goals as goal
 
 pub returns : goal.returns
-returns c = six_pairs (c.of_vec.ensures ∙ c.in_ok-pairs.ensures.items)
-    (keyed (codes "code") c.in_ok-code.ensures (ap (λ s. json.Str s) (c.in_ok-text.ensures ∙ c.as_str.ensures)))
-    c.in_ok-silent.ensures
-    c.in_ok-history.ensures
-    (keyed (codes "user_expressions") c.in_ok-expressions.ensures c.empty_content-none.ensures)
-    c.in_ok-input.ensures
-    c.in_ok-stop.ensures
+returns c =
+    rw (
+      c.in_ok-put_flag-4.ensures,
+      c.in_ok-put_flag-3.ensures,
+      c.in_ok-push-2.ensures.ok,
+      c.in_ok-pair-2.ensures,
+      c.empty_content.ensures,
+      c.in_ok-put_flag-2.ensures,
+      c.in_ok-put_flag.ensures,
+      c.in_ok-push.ensures.ok,
+      c.in_ok-pair.ensures,
+      c.in_ok-text.ensures,
+      c.as_str.ensures,
+      c.new-fields.ensures,
+    )
+    refl

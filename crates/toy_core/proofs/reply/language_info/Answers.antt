@@ -1,5 +1,13 @@
+use Rattle.std.proofs.Common.{refl}
 use Rattle.toy_core.proofs.reply.language_info.Goals as goal
 
 pub returns : goal.returns
 returns c =
-    rw (c.in_ok-name.ensures, c.in_ok-version.ensures, c.in_ok-mimetype.ensures, c.in_ok-extension.ensures) at c.object.ensures
+    rw (
+      c.in_ok-put_text-4.ensures,
+      c.in_ok-put_text-3.ensures,
+      c.in_ok-put_text-2.ensures,
+      c.in_ok-put_text.ensures,
+      c.new-fields.ensures,
+    )
+    refl
