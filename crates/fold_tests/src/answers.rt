@@ -6,8 +6,9 @@ ghost use Rattle.cell_core.specs.StandsFor.{awaits_saved_of};
 
 use cell_core::{Act, Brief, Core, Event, Times, Why, allowed};
 use jcontent::ReplyIs;
-use jtext::{Text, Texts};
+use jtext::{NoMemory, Text, Texts};
 use nb_model::Plan;
+use std::alloc::Global;
 use std::process::Abort;
 use std::test::Fail;
 
@@ -196,10 +197,36 @@ fn a_kernel_that_is_not_ready_in_time_stops_the_job(rt: HostRuntime) -> Result<(
     Ok(())
 }
 
+/// The names of the errors that are allowed: `KeyError` alone.
+fn allowed_names(alloc: Global) -> Result<Texts, NoMemory> {
+    let mut names = Texts::new(alloc);
+    names.push(Text::of(alloc, "KeyError")?)?;
+    Ok(names)
+}
+
+fn error(alloc: Global, ename: &str) -> Result<ReplyIs, NoMemory> {
+    let ename = Text::of(alloc, ename)?;
+    Ok(ReplyIs::Error { ename })
+}
+
+/// Whether the reply is allowed where `KeyError` is by name.
+fn allows(alloc: Global, reply: &ReplyIs, all: bool, tagged: bool) -> Result<bool, NoMemory> {
+    let names = allowed_names(alloc)?;
+    let is_allowed = allowed(reply, all, &names, tagged);
+    drop(names);
+    Ok(is_allowed)
+}
+
+/// Whether an error of that name is allowed where `KeyError` is by name.
+fn allows_error(alloc: Global, ename: &str, all: bool, tagged: bool) -> Result<bool, NoMemory> {
+    let reply = error(alloc, ename)?;
+    let is_allowed = allows(alloc, &reply, all, tagged);
+    drop(reply);
+    is_allowed
+}
+
 #[test]
 fn errors_are_allowed_for_all_by_name_or_by_tag(rt: HostRuntime) -> Result<(), Fail> {
-    let mut names = Texts::new(rt.alloc());
-    names.push(Text::of(rt.alloc(), "KeyError")?)?;
     let rows = [
         ("KeyError", false, false, true),
         ("Key", false, false, false),
@@ -208,11 +235,10 @@ fn errors_are_allowed_for_all_by_name_or_by_tag(rt: HostRuntime) -> Result<(), F
         ("ValueError", false, true, true),
     ];
     for (ename, all, tagged, is) in rows {
-        let reply = ReplyIs::Error {
-            ename: Text::of(rt.alloc(), ename)?,
-        };
-        assert_eq!(rt; allowed(&reply, all, &names, tagged), is);
+        let is_allowed = allows_error(rt.alloc(), ename, all, tagged)?;
+        assert_eq!(rt; is_allowed, is);
     }
-    assert!(rt; allowed(&ReplyIs::Fine, false, &names, false));
+    let is_fine = allows(rt.alloc(), &ReplyIs::Fine, false, false)?;
+    assert!(rt; is_fine);
     Ok(())
 }

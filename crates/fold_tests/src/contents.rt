@@ -9,13 +9,35 @@ use std::test::Fail;
 
 /// What a message of that type with that content says, in short.
 fn said(alloc: Global, kind: &str, content: &str) -> Result<Bytes, Fail> {
+    match jtext::read(alloc, content.as_bytes(), 100) {
+        Ok(tree) => {
+            let said = summary_of_tree(alloc, kind, &tree);
+            drop(tree);
+            Ok(said?)
+        }
+        Err(_) => Err("no tree".into()),
+    }
+}
+
+fn summary_of_tree(alloc: Global, kind: &str, tree: &Json) -> Result<Bytes, NoMemory> {
+    match content_of(alloc, kind, tree) {
+        Ok(content) => {
+            let said = summary(alloc, &content);
+            drop(content);
+            said
+        }
+        Err(e) => Err(e),
+    }
+}
+
+fn content_of(alloc: Global, kind: &str, tree: &Json) -> Result<Content, NoMemory> {
     let kind = Text::of(alloc, kind)?;
-    let Ok(tree) = jtext::read(alloc, content.as_bytes(), 100) else {
-        return Err("no tree".into());
-    };
-    let content = read(alloc, &kind, &tree)?;
+    read(alloc, &kind, tree)
+}
+
+fn summary(alloc: Global, content: &Content) -> Result<Bytes, NoMemory> {
     let mut out = Bytes::new(alloc);
-    put_content(alloc, &mut out, &content)?;
+    put_content(alloc, &mut out, content)?;
     Ok(out)
 }
 

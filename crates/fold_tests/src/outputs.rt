@@ -23,29 +23,53 @@ fn shown(alloc: Global, key: &str, id: &str, text: &str) -> Result<Shown, NoMemo
     })
 }
 
+fn stream(alloc: Global, name: &str, text: &str) -> Result<Content, NoMemory> {
+    let name = Text::of(alloc, name)?;
+    let text = Text::of(alloc, text)?;
+    Ok(Content::Stream { name, text })
+}
+
+fn display(alloc: Global, key: &str, id: &str, text: &str) -> Result<Content, NoMemory> {
+    Ok(Content::Display(shown(alloc, key, id, text)?))
+}
+
+fn update(alloc: Global, id: &str, text: &str) -> Result<Content, NoMemory> {
+    Ok(Content::Update(shown(alloc, "text/plain", id, text)?))
+}
+
+fn outcome(alloc: Global, count: &str, text: &str) -> Result<Content, NoMemory> {
+    let shown = shown(alloc, "text/plain", "", text)?;
+    let count = NumText::of(alloc, count).ok();
+    Ok(Content::Outcome { shown, count })
+}
+
+fn input(alloc: Global, count: &str) -> Content {
+    Content::Input(NumText::of(alloc, count).ok())
+}
+
+fn error(alloc: Global, name: &str, text: &str) -> Result<Content, NoMemory> {
+    let line = Text::of(alloc, text)?;
+    let lines = vec![in alloc; line]?;
+    Ok(Content::Error {
+        ename: Text::of(alloc, name)?,
+        evalue: Text::of(alloc, text)?,
+        traceback: Texts::of_vec(lines),
+    })
+}
+
 /// `stream NAME TEXT`, `show ID TEXT`, `update ID TEXT`, `result COUNT TEXT`, `input COUNT`,
 /// `error NAME TEXT`, `data KEY TEXT`, `clear now`, `clear later`, `status idle`.
 fn content(alloc: Global, line: &str) -> Result<Content, NoMemory> {
     let (kind, rest) = line.split_once(' ').unwrap_or((line, ""));
     let (first, second) = rest.split_once(' ').unwrap_or((rest, ""));
     match kind {
-        "stream" => Ok(Content::Stream {
-            name: Text::of(alloc, first)?,
-            text: Text::of(alloc, second)?,
-        }),
-        "show" => Ok(Content::Display(shown(alloc, "text/plain", first, second)?)),
-        "data" => Ok(Content::Display(shown(alloc, first, "", second)?)),
-        "update" => Ok(Content::Update(shown(alloc, "text/plain", first, second)?)),
-        "result" => Ok(Content::Outcome {
-            shown: shown(alloc, "text/plain", "", second)?,
-            count: NumText::of(alloc, first).ok(),
-        }),
-        "input" => Ok(Content::Input(NumText::of(alloc, first).ok())),
-        "error" => Ok(Content::Error {
-            ename: Text::of(alloc, first)?,
-            evalue: Text::of(alloc, second)?,
-            traceback: Texts::of_vec(vec![in alloc; Text::of(alloc, second)?]?),
-        }),
+        "stream" => stream(alloc, first, second),
+        "show" => display(alloc, "text/plain", first, second),
+        "data" => display(alloc, first, "", second),
+        "update" => update(alloc, first, second),
+        "result" => outcome(alloc, first, second),
+        "input" => Ok(input(alloc, first)),
+        "error" => error(alloc, first, second),
         "clear" => Ok(Content::Clear {
             later: first == "later",
         }),
@@ -54,6 +78,23 @@ fn content(alloc: Global, line: &str) -> Result<Content, NoMemory> {
     }
 }
 
+/// Gives the cell that runs the message of one line.
+fn give_line(alloc: Global, fold: &mut Fold, line: &str, date: &Text) -> Result<(), NoMemory>
+    requires { 0 < next_of fold.old }
+    ensures next { next_of fold.new ≡ next_of fold.old }
+    ensures cells { cells_of fold.new ≡ cells_of fold.old }
+{
+    match content(alloc, line) {
+        Ok(content) => {
+            let end = fold.take(&content, Some(date));
+            drop(content);
+            end
+        }
+        Err(e) => Err(e),
+    }
+}
+
+/// Gives the cell that runs the messages of these lines, which `;` parts.
 fn give(alloc: Global, fold: &mut Fold, lines: &str) -> Result<(), NoMemory>
     requires { 0 < next_of fold.old }
     ensures next { next_of fold.new ≡ next_of fold.old }
@@ -61,8 +102,7 @@ fn give(alloc: Global, fold: &mut Fold, lines: &str) -> Result<(), NoMemory>
 {
     let date = Text::of(alloc, "2026-11-27T09:00:00.123456Z")?;
     for line in lines.split(';') {
-        let content = content(alloc, line)?;
-        fold.take(&content, Some(&date))?;
+        give_line(alloc, fold, line, &date)?;
     }
     Ok(())
 }
@@ -155,12 +195,32 @@ fn update_from_another_cell(alloc: Global, fold: &mut Fold) -> Result<(), NoMemo
     fold.reply(Some(&date))
 }
 
+/// Whether the first cell shows what the third one updated.
+fn shows_update(alloc: Global, fold: &mut Fold) -> Result<bool, NoMemory>
+    requires cells { cells_of fold.old ≡ 3 }
+    requires fresh { next_of fold.old ≡ 0 }
+{
+    update_from_another_cell(alloc, fold)?;
+    let said = outputs_text(alloc, fold, 0)?;
+    Ok(said.bytes() == UPDATED.as_bytes())
+}
+
+/// Whether an update reaches the outputs of another cell.
+fn update_reaches(alloc: Global) -> Result<bool, NoMemory> {
+    match Fold::new(alloc, 3, false) {
+        Ok(mut fold) => {
+            let is_updated = shows_update(alloc, &mut fold);
+            drop(fold);
+            is_updated
+        }
+        Err(e) => Err(e),
+    }
+}
+
 #[test]
 fn an_update_reaches_every_cell(rt: HostRuntime) -> Result<(), Fail> {
-    let mut fold = Fold::new(rt.alloc(), 3, false)?;
-    update_from_another_cell(rt.alloc(), &mut fold)?;
-    let said = outputs_text(rt.alloc(), &fold, 0)?;
-    assert!(rt; said.bytes() == UPDATED.as_bytes());
+    let is_updated = update_reaches(rt.alloc())?;
+    assert!(rt; is_updated);
     Ok(())
 }
 

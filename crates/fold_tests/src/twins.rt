@@ -179,6 +179,24 @@ impl Twins {
         Ok(true)
     }
 
+    /// Gives both this message, with a date or without.
+    fn take(
+        &mut self,
+        alloc: Global,
+        random: &mut Random,
+        content: &Content,
+    ) -> Result<(), NoMemory>
+        requires begun { 0 < next_of self.old.fold }
+        requires begun_plainly { 0 < length (used_of self.old.plain) }
+        ensures next { next_of self.new.fold ≡ next_of self.old.fold }
+        ensures cells { cells_of self.new.fold ≡ cells_of self.old.fold }
+        ensures begun_plainly { length (used_of self.new.plain) ≡ length (used_of self.old.plain) }
+    {
+        let date = id(alloc, random)?;
+        self.fold.take(content, date.as_ref())?;
+        self.plain.take(content, date.as_ref())
+    }
+
     /// Gives both the next message.
     fn give(&mut self, alloc: Global, random: &mut Random) -> Result<(), NoMemory>
         requires begun { 0 < next_of self.old.fold }
@@ -187,10 +205,14 @@ impl Twins {
         ensures cells { cells_of self.new.fold ≡ cells_of self.old.fold }
         ensures begun_plainly { length (used_of self.new.plain) ≡ length (used_of self.old.plain) }
     {
-        let content = content(alloc, random)?;
-        let date = id(alloc, random)?;
-        self.fold.take(&content, date.as_ref())?;
-        self.plain.take(&content, date.as_ref())
+        match content(alloc, random) {
+            Ok(content) => {
+                let end = self.take(alloc, random, &content);
+                drop(content);
+                end
+            }
+            Err(e) => Err(e),
+        }
     }
 
     /// Gives both the reply.
