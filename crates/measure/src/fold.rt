@@ -4,17 +4,17 @@ ghost use Rattle.out_fold.specs.Stands.{cells_of, next_of};
 
 use anyhow::{Error, Result, anyhow, bail};
 use jcontent::{Content, Shown};
-use jtext::{Fields, Json, NoMemory, Text};
+use jtext::{Fields, Json, List, NoMemory, Text};
 use out_fold::Fold;
 use std::alloc::Global;
 use std::time::Instant;
 
 // What the cells take.
-#[derive(Drop)]
-struct Messages {
-    show: Content,
-    stream: Content,
-    update: Content,
+#[derive(Clone, Copy, Drop)]
+struct Messages<'a> {
+    show: &'a Content,
+    stream: &'a Content,
+    update: &'a Content,
 }
 
 /// Folds `count` streams and as many updates of one display, which each of `cells` cells shows and has its share of,
@@ -23,14 +23,18 @@ pub fn measure(rt: &HostRuntime, count: u32, cells: u32) -> Result<()> {
     if cells == 0 {
         return no_cell();
     }
-    let messages = all_messages(rt)?;
-    measure_both(rt, &messages, cells, count / cells)
+    let contents = all_messages(rt)?;
+    let end = measure_both(rt, contents.as_slice(), cells, count / cells);
+    drop(contents);
+    end
 }
 
 /// Times `count` streams of one cell, where the cell before it has that many outputs of one display.
 pub fn measure_takes(rt: &HostRuntime, outputs: u32, count: u32) -> Result<()> {
-    let messages = all_messages(rt)?;
-    measure_streams(rt, &messages, outputs, count)
+    let contents = all_messages(rt)?;
+    let end = measure_streams(rt, contents.as_slice(), outputs, count);
+    drop(contents);
+    end
 }
 
 /// Times `count` updates of one display that each of `cells` cells shows.
@@ -38,8 +42,10 @@ pub fn measure_updates(rt: &HostRuntime, cells: u32, count: u32) -> Result<()> {
     if cells == 0 {
         return no_cell();
     }
-    let messages = all_messages(rt)?;
-    measure_shown(rt, &messages, cells, count)
+    let contents = all_messages(rt)?;
+    let end = measure_shown(rt, contents.as_slice(), cells, count);
+    drop(contents);
+    end
 }
 
 fn no_cell() -> Result<()> {
@@ -50,23 +56,36 @@ fn no_memory() -> Error {
     anyhow!("no memory")
 }
 
-fn measure_both(rt: &HostRuntime, messages: &Messages, cells: u32, each: u32) -> Result<()> {
-    let fold = time_fold(rt, messages, cells, each)?;
-    time_outputs(rt, &fold, cells)
+fn measure_both(rt: &HostRuntime, contents: &[Content], cells: u32, each: u32) -> Result<()> {
+    let messages = messages_of(contents)?;
+    let fold = time_fold(rt, &messages, cells, each)?;
+    let end = time_outputs(rt, &fold, cells);
+    drop(fold);
+    end
 }
 
-fn measure_streams(rt: &HostRuntime, messages: &Messages, outputs: u32, count: u32) -> Result<()> {
-    match fold_of_two(rt.alloc(), messages, outputs) {
-        Ok(mut fold) => time_takes(rt, &mut fold, &messages.stream, count),
+fn measure_streams(rt: &HostRuntime, contents: &[Content], outputs: u32, count: u32) -> Result<()> {
+    let messages = messages_of(contents)?;
+    match fold_of_two(rt.alloc(), &messages, outputs) {
+        Ok(mut fold) => {
+            let end = time_takes(rt, &mut fold, messages.stream, count);
+            drop(fold);
+            end
+        }
         Err(_) => Err(no_memory()),
     }
 }
 
-fn measure_shown(rt: &HostRuntime, messages: &Messages, cells: u32, count: u32) -> Result<()>
+fn measure_shown(rt: &HostRuntime, contents: &[Content], cells: u32, count: u32) -> Result<()>
     requires { 0 < cells }
 {
-    match full_fold(rt.alloc(), messages, cells, 0) {
-        Ok(mut fold) => time_takes(rt, &mut fold, &messages.update, count),
+    let messages = messages_of(contents)?;
+    match full_fold(rt.alloc(), &messages, cells, 0) {
+        Ok(mut fold) => {
+            let end = time_takes(rt, &mut fold, messages.update, count);
+            drop(fold);
+            end
+        }
         Err(_) => Err(no_memory()),
     }
 }
@@ -129,7 +148,7 @@ fn fold_of_two(alloc: Global, messages: &Messages, outputs: u32) -> Result<Fold,
 {
     let mut fold = empty(alloc, 2)?;
     begin(&mut fold, 0);
-    take_all(&mut fold, &messages.show, outputs)?;
+    take_all(&mut fold, messages.show, outputs)?;
     begin(&mut fold, 1);
     Ok(fold)
 }
@@ -158,7 +177,7 @@ fn fill(fold: &mut Fold, messages: &Messages, cell: u32, each: u32) -> Result<()
     ensures cells { cells_of fold.new ≡ cells_of fold.old }
 {
     begin(fold, cell);
-    take(fold, &messages.show)?;
+    take(fold, messages.show)?;
     take_both(fold, messages, each)
 }
 
@@ -169,8 +188,8 @@ fn take_both(fold: &mut Fold, messages: &Messages, count: u32) -> Result<(), NoM
     ensures cells { cells_of fold.new ≡ cells_of fold.old }
 {
     for taken in 0..count {
-        take(fold, &messages.stream)?;
-        take(fold, &messages.update)?;
+        take(fold, messages.stream)?;
+        take(fold, messages.update)?;
     }
     Ok(())
 }
@@ -213,22 +232,43 @@ fn outputs_in(fold: &Fold, cell: u32) -> Result<usize, NoMemory>
     Ok(outputs.len())
 }
 
-fn all_messages(rt: &HostRuntime) -> Result<Messages> {
+fn all_messages(rt: &HostRuntime) -> Result<List<Content>> {
     match make_messages(rt.alloc()) {
-        Ok(messages) => Ok(messages),
+        Ok(contents) => Ok(contents),
         Err(_) => bail!("no memory"),
     }
 }
 
-fn make_messages(alloc: Global) -> Result<Messages, NoMemory> {
-    let show = Content::Display(shown(alloc)?);
-    let stream = stream(alloc)?;
-    let update = Content::Update(shown(alloc)?);
-    Ok(Messages {
-        show,
-        stream,
-        update,
-    })
+// A display, a stream, and an update of the display.
+fn make_messages(alloc: Global) -> Result<List<Content>, NoMemory> {
+    let mut contents = List::new(alloc);
+    push_messages(alloc, &mut contents)?;
+    Ok(contents)
+}
+
+fn push_messages(alloc: Global, contents: &mut List<Content>) -> Result<(), NoMemory> {
+    contents.push(display(alloc)?)?;
+    contents.push(stream(alloc)?)?;
+    contents.push(update(alloc)?)
+}
+
+fn messages_of(contents: &[Content]) -> Result<Messages> {
+    match contents {
+        [show, stream, update] => Ok(Messages {
+            show,
+            stream,
+            update,
+        }),
+        _ => bail!("there are three messages"),
+    }
+}
+
+fn display(alloc: Global) -> Result<Content, NoMemory> {
+    Ok(Content::Display(shown(alloc)?))
+}
+
+fn update(alloc: Global) -> Result<Content, NoMemory> {
+    Ok(Content::Update(shown(alloc)?))
 }
 
 fn stream(alloc: Global) -> Result<Content, NoMemory> {

@@ -1,5 +1,5 @@
 //! Feeding a decoder with messages of one frame, in pieces.
-ghost use Rattle.std.specs.Prelude.{◌≡◌, ◌≤◌, ◌∷◌, [], IfOk, replicate};
+ghost use Rattle.std.specs.Prelude.{◌≡◌, ◌<◌, ◌≤◌, ◌∷◌, [], IfOk, replicate};
 ghost use Rattle.zmtp_wire.specs.Writing.{message_octets};
 
 use anyhow::{Result, bail};
@@ -13,24 +13,58 @@ pub fn measure(rt: &HostRuntime, size: u32, piece: u32, count: u32) -> Result<()
     if piece == 0 || size > 1 << 26 {
         bail!("a piece has at least one octet, a message at most 64 MiB");
     }
-    let Ok(stream) = stream(rt.alloc(), size, count) else {
-        bail!("no memory");
-    };
-    let start = Instant::now(rt)?;
-    let mut decoder = Decoder::new(rt.alloc(), Role::Sub);
-    let mut found = 0usize;
-    for part in stream.bytes().chunks(piece as usize) {
-        let mut messages = Messages::new(rt.alloc());
-        if decoder.feed(part, &mut messages).is_err() {
-            bail!("the stream is broken");
+    match stream(rt.alloc(), size, count) {
+        Ok(stream) => {
+            let end = measure_stream(rt, stream.bytes(), piece);
+            drop(stream);
+            end
         }
-        found = found.saturating_add(messages.len());
+        Err(_) => bail!("no memory"),
     }
+}
+
+fn measure_stream(rt: &HostRuntime, stream: &[u8], piece: u32) -> Result<()>
+    requires { 0 < piece }
+{
+    let mut decoder = Decoder::new(rt.alloc(), Role::Sub);
+    let end = time_feed(rt, &mut decoder, stream, piece);
+    drop(decoder);
+    end
+}
+
+fn time_feed(rt: &HostRuntime, decoder: &mut Decoder, stream: &[u8], piece: u32) -> Result<()>
+    requires { 0 < piece }
+{
+    let start = Instant::now(rt)?;
+    let found = feed_all(rt.alloc(), decoder, stream, piece)?;
     let fed = start.elapsed(rt)?.as_millis();
     let octets = stream.len();
     println!(rt; "feed {fed}")?;
     println!(rt; "octets {octets} messages {found}")?;
     Ok(())
+}
+
+// How many messages the stream brings.
+fn feed_all(alloc: Global, decoder: &mut Decoder, stream: &[u8], piece: u32) -> Result<usize>
+    requires { 0 < piece }
+{
+    let mut found = 0usize;
+    for part in stream.chunks(piece as usize) {
+        found = found.saturating_add(feed(alloc, decoder, part)?);
+    }
+    Ok(found)
+}
+
+// How many messages the piece brings.
+fn feed(alloc: Global, decoder: &mut Decoder, part: &[u8]) -> Result<usize> {
+    let mut messages = Messages::new(alloc);
+    let is_broken = decoder.feed(part, &mut messages).is_err();
+    let found = messages.len();
+    drop(messages);
+    if is_broken {
+        bail!("the stream is broken");
+    }
+    Ok(found)
 }
 
 // What a PUB sends: greeting, READY, and the messages.

@@ -115,15 +115,24 @@ fn is_signed(parts: &[Bytes]) -> bool {
 
 fn message(alloc: Global, size: u32) -> Result<Parts, NoMemory> {
     let content = content(alloc, size)?;
-    let signature = sign(KEY, HEADER, PARENT, b"{}", content.bytes());
     let mut parts = Parts::new(alloc);
-    parts.push(Bytes::of(alloc, b"<IDS|MSG>")?)?;
-    parts.push(Bytes::of(alloc, &signature)?)?;
-    parts.push(Bytes::of(alloc, HEADER)?)?;
-    parts.push(Bytes::of(alloc, PARENT)?)?;
-    parts.push(Bytes::of(alloc, b"{}")?)?;
+    push_head(alloc, &mut parts, content.bytes())?;
     parts.push(content)?;
     Ok(parts)
+}
+
+// The frames in front of the content.
+fn push_head(alloc: Global, parts: &mut Parts, content: &[u8]) -> Result<(), NoMemory> {
+    let signature = sign(KEY, HEADER, PARENT, b"{}", content);
+    push(alloc, parts, b"<IDS|MSG>")?;
+    push(alloc, parts, &signature)?;
+    push(alloc, parts, HEADER)?;
+    push(alloc, parts, PARENT)?;
+    push(alloc, parts, b"{}")
+}
+
+fn push(alloc: Global, parts: &mut Parts, octets: &[u8]) -> Result<(), NoMemory> {
+    parts.push(Bytes::of(alloc, octets)?)
 }
 
 // The content of a stream message.
