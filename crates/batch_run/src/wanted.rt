@@ -13,11 +13,12 @@ pub(crate) struct Wanted {
 
 impl Wanted {
     ghost use Rattle.std.specs.Prelude.{◌≡◌};
-    ghost use Rattle.job_run.specs.Task.{ports_of_job};
+    ghost use Rattle.job_run.specs.Task.{ports_of_job, pings_kernel};
 
     /// Those of this job.
     pub(crate) fn of(job: &Job) -> Wanted
-        ensures { result.ports ≡ ports_of_job job.now }
+        ensures ports { result.ports ≡ ports_of_job job.now }
+        ensures heart { result.heart ≡ pings_kernel job.now }
     {
         Wanted {
             ports: job.ports(),

@@ -1,5 +1,5 @@
 -- What a job is to execute, and in which times.
-use Rattle.std.specs.Prelude.{ℕ, List, length}
+use Rattle.std.specs.Prelude.{ℕ, Bool, List, length}
 use Rattle.nb_model.specs.declared.notebook.Notebook.{Notebook}
 use Rattle.nb_model.specs.Planned.{plan}
 use Rattle.words.specs.declared.ask.Ask.{Ask}
@@ -19,6 +19,10 @@ output_of_job j = j.paths.output
 -- the ports of its kernel, for shell, iopub, stdin, control and heartbeat
 abbrev pub ports_of_job : Job → List ℕ
 ports_of_job j = j.ports
+
+-- whether its kernel is pinged
+abbrev pub pings_kernel : Job → Bool
+pings_kernel j = j.run.terms.heartbeat
 
 -- the times that were asked for
 abbrev pub times_of : Ask → Times

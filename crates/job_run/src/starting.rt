@@ -440,25 +440,40 @@ fn execution_of(
     nb_model::laws::plan_in_order();
     let Agenda { notebook, cells } = agenda;
     let count = notebook.cells.len() as u32;
-    let seen = Seen::new(alloc)?;
-    let session = Session::new(alloc, pairs.name, pairs.key)?;
-    let book = JobNotebook::new(alloc, notebook, terms.merge, output)?;
-    let lines = Lines::new(alloc)?;
     let core = Core::new(cells, count, terms.times);
-    Ok(Execution {
-        alloc,
-        terms,
-        book,
-        core,
-        lines,
-        session,
-        seen,
-        asking: Asking::new(alloc),
-        is_ready: false,
-        pings: Pings::new(),
-        clock: 0,
-        request: None,
-        sent: 0,
-        broken: None,
-    })
+    let book = JobNotebook::new(alloc, notebook, terms.merge, output)?;
+    match talk_of(alloc, pairs) {
+        Ok((lines, session, seen)) => Ok(Execution {
+            alloc,
+            terms,
+            book,
+            core,
+            lines,
+            session,
+            seen,
+            asking: Asking::new(alloc),
+            is_ready: false,
+            pings: Pings::new(),
+            clock: 0,
+            request: None,
+            sent: 0,
+            broken: None,
+        }),
+        Err(NoMemory) => {
+            // By calls, as where a job ends.
+            drop(book);
+            drop(core);
+            Err(NoMemory)
+        }
+    }
+}
+
+/// What an execution speaks with its kernel by, under the key of these random words.
+fn talk_of(alloc: Global, pairs: RandomPairs) -> Result<(Lines, Session, Seen), NoMemory>
+    ensures { IfOk result (λ t. t.1.key ≡ key_of pairs) }
+{
+    let lines = Lines::new(alloc)?;
+    let session = Session::new(alloc, pairs.name, pairs.key)?;
+    let seen = Seen::new(alloc)?;
+    Ok((lines, session, seen))
 }

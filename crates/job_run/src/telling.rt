@@ -16,6 +16,7 @@ impl Job {
     ghost use Rattle.job_saves.specs.Children.{HasEnd};
     ghost use Rattle.job_saves.specs.Course.{Origin, HasCalled, keeps_open};
     ghost use Rattle.job_run.specs.Task.{task_of_job, output_of_job, ports_of_job};
+    ghost use Rattle.job_run.specs.Task.{pings_kernel};
     ghost use Rattle.job_end.specs.declared.end.End.TheVariants as ending;
     ghost use Rattle.job_run.specs.Told.{IsOutside, IsEnding};
     ghost use Rattle.job_run.specs.Run.{Runs, RunsOn, KeepsRun, EndsWith, IsLost, IsSpent};
@@ -24,7 +25,9 @@ impl Job {
     ghost use Rattle.job_run.specs.Steps.{JobStays, JobGoesOn};
 
     /// Its number among the jobs of the run.
-    pub fn number(&self) -> u8 {
+    pub fn number(&self) -> u8
+        ensures { result ≡ number_of self.now }
+    {
         self.number
     }
 
@@ -36,7 +39,9 @@ impl Job {
     }
 
     /// Whether its kernel is pinged.
-    pub fn has_heartbeat(&self) -> bool {
+    pub fn has_heartbeat(&self) -> bool
+        ensures { result ≡ pings_kernel self.now }
+    {
         self.run.terms.heartbeat
     }
 

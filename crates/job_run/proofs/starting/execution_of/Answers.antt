@@ -5,8 +5,8 @@ use Rattle.job_notebook.specs.State.{begun_of, settled_of}
 use Rattle.job_run.specs.Told.{Tells}
 use Rattle.job_run.proofs.starting.execution_of.Goals as goal
 
-pub returns-clause-first : goal.returns-clause-first
-returns-clause-first c =
+pub returns-in-Ok-clause-first : goal.returns-in-Ok-clause-first
+returns-in-Ok-clause-first c =
     let core = c.new-core.result in
     let book = c.in_ok-book.book in
     let rises : AllPairs (λ i j. i < j) c.args.agenda.cells = subst (λ (p : _). AllPairs (λ i j. i < j) p) (sym c.args.agenda.plan) (c.plan_in_order.ensures.increasing c.args.agenda.notebook) in
@@ -32,20 +32,20 @@ returns-clause-first c =
       counted = record { heard = ∣ record { tells = told; count = refl } ∣₁; stops = λ cause is. absurd (cc) };
     }
 
-pub returns-clause-key : goal.returns-clause-key
-returns-clause-key c = ap (λ s. s.key) c.in_ok-session.ensures
+pub returns-in-Ok-clause-key : goal.returns-in-Ok-clause-key
+returns-in-Ok-clause-key c = c.in-Ok.ensures
 
-pub returns-clause-output : goal.returns-clause-output
-returns-clause-output c = c.in_ok-book.ensures.output
+pub returns-in-Ok-clause-output : goal.returns-in-Ok-clause-output
+returns-in-Ok-clause-output c = c.in_ok-book.ensures.output
 
-pub returns-clause-merge : goal.returns-clause-merge
-returns-clause-merge c = c.in_ok-book.ensures.merge
+pub returns-in-Ok-clause-merge : goal.returns-in-Ok-clause-merge
+returns-in-Ok-clause-merge c = c.in_ok-book.ensures.merge
 
-pub returns-clause-keeps : goal.returns-clause-keeps
-returns-clause-keeps c = c.in_ok-book.ensures.read
+pub returns-in-Ok-clause-keeps : goal.returns-in-Ok-clause-keeps
+returns-in-Ok-clause-keeps c = c.in_ok-book.ensures.read
 
-pub returns-clause-task : goal.returns-clause-task
-returns-clause-task c =
+pub returns-in-Ok-clause-task : goal.returns-in-Ok-clause-task
+returns-in-Ok-clause-task c =
     let core = c.new-core.result in
     let counted = subst (λ n. task_of core ≡ record { plan = c.args.agenda.cells; cells = n; times = c.args.terms.times }) c.len-count.ensures c.new-core.ensures.of in
     subst (λ (p : _). task_of core ≡ record { plan = p; cells = length c.args.agenda.notebook.cells; times = c.args.terms.times }) c.args.agenda.plan counted
