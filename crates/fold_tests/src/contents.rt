@@ -20,14 +20,10 @@ fn said(alloc: Global, kind: &str, content: &str) -> Result<Bytes, Fail> {
 }
 
 fn summary_of_tree(alloc: Global, kind: &str, tree: &Json) -> Result<Bytes, NoMemory> {
-    match content_of(alloc, kind, tree) {
-        Ok(content) => {
-            let said = summary(alloc, &content);
-            drop(content);
-            said
-        }
-        Err(e) => Err(e),
-    }
+    let content = content_of(alloc, kind, tree)?;
+    let said = summary(alloc, &content);
+    drop(content);
+    said
 }
 
 fn content_of(alloc: Global, kind: &str, tree: &Json) -> Result<Content, NoMemory> {

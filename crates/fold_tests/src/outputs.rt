@@ -84,14 +84,10 @@ fn give_line(alloc: Global, fold: &mut Fold, line: &str, date: &Text) -> Result<
     ensures next { next_of fold.new ≡ next_of fold.old }
     ensures cells { cells_of fold.new ≡ cells_of fold.old }
 {
-    match content(alloc, line) {
-        Ok(content) => {
-            let end = fold.take(&content, Some(date));
-            drop(content);
-            end
-        }
-        Err(e) => Err(e),
-    }
+    let content = content(alloc, line)?;
+    let end = fold.take(&content, Some(date));
+    drop(content);
+    end
 }
 
 /// Gives the cell that runs the messages of these lines, which `;` parts.
@@ -207,14 +203,10 @@ fn shows_update(alloc: Global, fold: &mut Fold) -> Result<bool, NoMemory>
 
 /// Whether an update reaches the outputs of another cell.
 fn update_reaches(alloc: Global) -> Result<bool, NoMemory> {
-    match Fold::new(alloc, 3, false) {
-        Ok(mut fold) => {
-            let is_updated = shows_update(alloc, &mut fold);
-            drop(fold);
-            is_updated
-        }
-        Err(e) => Err(e),
-    }
+    let mut fold = Fold::new(alloc, 3, false)?;
+    let is_updated = shows_update(alloc, &mut fold);
+    drop(fold);
+    is_updated
 }
 
 #[test]

@@ -205,14 +205,10 @@ impl Twins {
         ensures cells { cells_of self.new.fold ≡ cells_of self.old.fold }
         ensures begun_plainly { length (used_of self.new.plain) ≡ length (used_of self.old.plain) }
     {
-        match content(alloc, random) {
-            Ok(content) => {
-                let end = self.take(alloc, random, &content);
-                drop(content);
-                end
-            }
-            Err(e) => Err(e),
-        }
+        let content = content(alloc, random)?;
+        let end = self.take(alloc, random, &content);
+        drop(content);
+        end
     }
 
     /// Gives both the reply.
