@@ -1,6 +1,7 @@
 //! The calls of the disk that a save makes, in order.
 use jtext::{Bytes, Text};
 use save_disk::{SavePath, save};
+use std::alloc::Global;
 use std::test::Fail;
 use world::{Did, Entry};
 use world_mem::{Files, MemDisk, Sizes};
@@ -33,10 +34,12 @@ fn save_calls(rt: &HostRuntime, output: &str, fail: Option<u64>) -> Result<Strin
     if let Some(number) = fail {
         fails.push(number)?;
     }
-    let mut disk = MemDisk::new(alloc, Files::new(alloc), fails)?;
     let path = SavePath::of(alloc, &Text::of(alloc, output)?)?;
+    let mut disk = MemDisk::new(alloc, Files::new(alloc), fails)?;
     let _ = save(&mut disk, &path, b"x");
-    calls(rt, &disk)
+    let said = calls(rt, &disk);
+    drop(disk);
+    said
 }
 
 /// A line an output: its path, and the folder that is synced.
@@ -85,11 +88,18 @@ fn a_done_save_leaves_the_text_alone(rt: HostRuntime) -> Result<(), Fail> {
     let mut files = Files::new(alloc);
     files.push((Text::of(alloc, "o")?, Bytes::of(alloc, b"old")?))?;
     let mut disk = MemDisk::new(alloc, files, Sizes::new(alloc))?;
-    let path = SavePath::of(alloc, &Text::of(alloc, "o")?)?;
-    let saved = save(&mut disk, &path, b"new");
-    assert!(rt; saved.is_ok());
-    let output = disk.file(&Text::of(alloc, "o")?).map(|bytes| bytes.bytes());
-    assert!(rt; output == Some(b"new"));
-    assert!(rt; disk.file(&Text::of(alloc, "o.nbrun-tmp")?).is_none());
+    let left = saves_alone(alloc, &mut disk);
+    drop(disk);
+    assert!(rt; left?);
     Ok(())
+}
+
+/// Whether a save to `o` is done, and the text stands there and nowhere else.
+fn saves_alone(alloc: Global, disk: &mut MemDisk) -> Result<bool, Fail> {
+    let path = SavePath::of(alloc, &Text::of(alloc, "o")?)?;
+    let is_done = save(disk, &path, b"new").is_ok();
+    let output = disk.file(&Text::of(alloc, "o")?).map(|bytes| bytes.bytes());
+    let is_there = output == Some(b"new");
+    let is_alone = disk.file(&Text::of(alloc, "o.nbrun-tmp")?).is_none();
+    Ok(is_done && is_there && is_alone)
 }

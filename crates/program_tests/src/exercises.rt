@@ -1,5 +1,5 @@
 //! The exercise, as the words ask for it: its line, its status, and that the line is of its run.
-use crate::runs::{Quiet, status_within, world};
+use crate::runs::{status_and_text, world};
 use job_end::Answer;
 use jtext::NoMemory;
 use nbrun_top::Exercise;
@@ -52,39 +52,50 @@ const ROWS: [(u64, &str, u8, &str); 5] = [
     ),
 ];
 
-fn said<'a>(w: &'a Quiet) -> Result<&'a str, Fail> {
-    Ok(std::str::from_utf8(w.said().bytes()).map_err(|_| "no text")?)
+/// What a run of these words answers and says in a world without a notebook, with at most that many
+/// waits.
+fn run(rt: &HostRuntime, words: &str, turns: u64) -> Result<(u8, String), Fail> {
+    let mut w = world(rt, b"", None)?;
+    let ran = status_and_text(rt, words, turns, &mut w);
+    drop(w);
+    ran
+}
+
+/// Whether it answers this status and says this line.
+fn says(rt: &HostRuntime, words: &str, turns: u64, code: u8, line: &str) -> Result<bool, Fail> {
+    let (answered, said) = run(rt, words, turns)?;
+    Ok(answered == code && said.as_str() == line)
+}
+
+/// The status of the exercise of eight cells with at most that many waits, and its line.
+fn status_and_line(rt: &HostRuntime, turns: u64) -> Result<(u8, String), Fail> {
+    let alloc = rt.alloc();
+    let mut v = exercise_world(alloc, 8)?;
+    let run = exercise(alloc, 8, turns, &mut v);
+    drop(v);
+    let tally = run?;
+    let (cells, outputs, code) = (tally.cells, tally.outputs, tally.answer.status);
+    drop(tally);
+    let line = format!(in alloc; "exercise 8: cells {cells} outputs {outputs} status {code}\n")?;
+    Ok((code, line))
 }
 
 #[test]
 fn an_exercise_is_one_line(rt: HostRuntime) -> Result<(), Fail> {
     for (turns, words, code, line) in ROWS {
-        let mut w = world(&rt, b"", None)?;
-        assert_eq!(rt; status_within(&rt, words, turns, &mut w)?, code, "{words}");
-        assert_eq!(rt; said(&w)?, line);
+        assert!(rt; says(&rt, words, turns, code, line)?, "{words}");
     }
     Ok(())
 }
 
 #[test]
 fn the_line_has_the_numbers_of_the_run(rt: HostRuntime) -> Result<(), Fail> {
-    let alloc = rt.alloc();
     for turns in 0..61 {
-        let mut v = exercise_world(alloc, 8)?;
-        let tally = exercise(alloc, 8, turns, &mut v)?;
-        let cells = tally.cells;
-        let outputs = tally.outputs;
-        let code = tally.answer.status;
-        let line = format!(in alloc;
-            "exercise 8: cells {cells} outputs {outputs} status {code}\n"
-        )?;
-        let mut w = world(&rt, b"", None)?;
-        assert_eq!(rt;
-            status_within(&rt, "--exercise 8", turns, &mut w)?,
-            code,
+        let (code, line) = status_and_line(&rt, turns)?;
+        assert!(rt;
+            says(&rt, "--exercise 8", turns, code, line.as_str())?,
             "{turns}"
         );
-        assert_eq!(rt; said(&w)?, line.as_str());
     }
     Ok(())
 }

@@ -66,6 +66,18 @@ pub(crate) fn status_within(
     Ok(run(alloc, given.as_slice(), &limits, &Toys, w))
 }
 
+/// The status that it answers with at most that many waits, and what it says.
+pub(crate) fn status_and_text(
+    rt: &HostRuntime,
+    words: &str,
+    turns: u64,
+    w: &mut Quiet,
+) -> Result<(u8, String), Fail> {
+    let code = status_within(rt, words, turns, w)?;
+    let said = std::str::from_utf8(w.said().bytes()).map_err(|_| "no text")?;
+    Ok((code, String::from_str(rt.alloc(), said)?))
+}
+
 /// Whether the run answers this status, says this text, and leaves these bytes at the output.
 pub(crate) fn gives(
     rt: &HostRuntime,

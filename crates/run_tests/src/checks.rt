@@ -1,4 +1,5 @@
 //! What a run has left.
+use crate::jobs::run;
 use job_end::Answer;
 use jtext::{List, NoMemory, Text};
 use std::alloc::Global;
@@ -11,6 +12,18 @@ pub(crate) fn has_status(answers: &List<Answer>, place: usize, status: u8) -> bo
         Some(answer) => answer.status == status,
         None => false,
     }
+}
+
+/// Whether the job of these words, alone, ends with this status, and just this is said.
+pub(crate) fn ends<K: KernelSide>(
+    alloc: Global,
+    w: &mut MemWorld<K>,
+    words: &str,
+    status: u8,
+    said: &str,
+) -> Result<bool, NoMemory> {
+    let answers = run(alloc, w, words)?;
+    Ok(answers.len() == 1 && has_status(&answers, 0, status) && has_said(w, said))
 }
 
 /// Whether just this was said.

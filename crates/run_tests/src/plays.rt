@@ -161,8 +161,19 @@ pub(crate) fn play_within(
     turns: u64,
 ) -> Result<Played, NoMemory> {
     let mut w = world_of(alloc, input, pair(alloc, trick)?, pieces, &[])?;
-    let answers = run_within(alloc, &mut w, words, turns)?;
-    Played::of(alloc, &w, answers, "out.ipynb")
+    let played = play_in(alloc, &mut w, words, turns);
+    drop(w);
+    played
+}
+
+fn play_in(
+    alloc: Global,
+    w: &mut MemWorld<Scripted>,
+    words: &str,
+    turns: u64,
+) -> Result<Played, NoMemory> {
+    let answers = run_within(alloc, w, words, turns)?;
+    Played::of(alloc, w, answers, "out.ipynb")
 }
 
 /// What a job on the notebook of two cells leaves, with a kernel with this trick.
@@ -174,6 +185,12 @@ pub(crate) fn play(alloc: Global, trick: Trick) -> Result<Played, NoMemory> {
 /// output is that of the second.
 pub(crate) fn play_two(alloc: Global, trick: Trick) -> Result<Played, NoMemory> {
     let mut w = world_of(alloc, TWO, pair(alloc, trick)?, &[], &[])?;
-    let answers = run_two(alloc, &mut w, "in.ipynb a.ipynb", "in.ipynb b.ipynb")?;
-    Played::of(alloc, &w, answers, "b.ipynb")
+    let played = play_two_in(alloc, &mut w);
+    drop(w);
+    played
+}
+
+fn play_two_in(alloc: Global, w: &mut MemWorld<Scripted>) -> Result<Played, NoMemory> {
+    let answers = run_two(alloc, w, "in.ipynb a.ipynb", "in.ipynb b.ipynb")?;
+    Played::of(alloc, w, answers, "b.ipynb")
 }

@@ -1,9 +1,10 @@
 //! Whole jobs with the toy kernel as it is.
-use crate::checks::{has_said, has_status, holds};
-use crate::jobs::{run, run_two, world_by, world_of};
+use crate::checks::{self, has_said, has_status, holds};
+use crate::jobs::{run_two, world_by, world_of};
 use crate::notebooks::{notebook, notebook_with};
 use crate::plays::pair;
 use crate::rule::Trick;
+use crate::scripted::Scripted;
 use crate::toys::toys;
 use jtext::NoMemory;
 use sample_notebooks::{TWO, TWO_SAVED};
@@ -16,24 +17,27 @@ use world_mem::{MemWorld, Script, Sizes};
 // Whether a job on this input, asked for by these words, has this status and says this.
 fn ends(alloc: Global, input: &str, words: &str, status: u8, said: &str) -> Result<bool, NoMemory> {
     let mut w = world_of(alloc, input, toys(alloc, 2, 3)?, &[], &[])?;
-    let answers = run(alloc, &mut w, words)?;
-    Ok(has_status(&answers, 0, status) && has_said(&w, said))
+    let is_so = checks::ends(alloc, &mut w, words, status, said);
+    drop(w);
+    is_so
 }
 
-// Whether the output is what comes out of `TWO`.
-fn is_two(alloc: Global, w: &MemWorld<Toy>) -> Result<bool, NoMemory> {
-    holds(alloc, w, "out.ipynb", TWO_SAVED)
+// Whether a job in this world is done, and its output is what comes out of `TWO`.
+fn is_two(alloc: Global, w: &mut MemWorld<Toy>) -> Result<bool, NoMemory> {
+    let said = "saved 0/2 out.ipynb\nsaved 1/2 out.ipynb\nsaved 2/2 out.ipynb\nout.ipynb: done\n";
+    Ok(
+        checks::ends(alloc, w, "in.ipynb out.ipynb", 0, said)?
+            && holds(alloc, w, "out.ipynb", TWO_SAVED)?,
+    )
 }
 
 #[test]
 fn a_notebook_is_executed(rt: HostRuntime) -> Result<(), Fail> {
     let alloc = rt.alloc();
     let mut w = world_of(alloc, TWO, toys(alloc, 2, 3)?, &[], &[])?;
-    let answers = run(alloc, &mut w, "in.ipynb out.ipynb")?;
-    assert_eq!(rt; answers.len(), 1);
-    let said = "saved 0/2 out.ipynb\nsaved 1/2 out.ipynb\nsaved 2/2 out.ipynb\nout.ipynb: done\n";
-    assert!(rt; has_said(&w, said));
-    assert!(rt; is_two(alloc, &w)?);
+    let is_so = is_two(alloc, &mut w);
+    drop(w);
+    assert!(rt; is_so?);
     Ok(())
 }
 
@@ -47,8 +51,9 @@ fn refused_connects_are_made_again(rt: HostRuntime) -> Result<(), Fail> {
         refusals: 8,
     };
     let mut w = world_by(alloc, TWO, toys(alloc, 2, 3)?, script)?;
-    run(alloc, &mut w, "in.ipynb out.ipynb")?;
-    assert!(rt; is_two(alloc, &w)?);
+    let is_so = is_two(alloc, &mut w);
+    drop(w);
+    assert!(rt; is_so?);
     Ok(())
 }
 
@@ -56,8 +61,9 @@ fn refused_connects_are_made_again(rt: HostRuntime) -> Result<(), Fail> {
 fn octets_come_one_by_one(rt: HostRuntime) -> Result<(), Fail> {
     let alloc = rt.alloc();
     let mut w = world_of(alloc, TWO, toys(alloc, 2, 3)?, &[1], &[])?;
-    run(alloc, &mut w, "in.ipynb out.ipynb")?;
-    assert!(rt; is_two(alloc, &w)?);
+    let is_so = is_two(alloc, &mut w);
+    drop(w);
+    assert!(rt; is_so?);
     Ok(())
 }
 
@@ -158,15 +164,19 @@ fn two_jobs_run_side_by_side(rt: HostRuntime) -> Result<(), Fail> {
         &[],
         &[],
     )?;
-    let answers = run_two(alloc, &mut w, "in.ipynb a.ipynb", "in.ipynb b.ipynb")?;
-    assert_eq!(rt; answers.len(), 2);
-    for answer in answers.iter() {
-        assert_eq!(rt; answer.status, 0);
-    }
+    let is_so = are_done(alloc, &mut w);
+    drop(w);
+    assert!(rt; is_so?);
+    Ok(())
+}
+
+// Whether two jobs are done, each of whose saves comes between those of the other.
+fn are_done(alloc: Global, w: &mut MemWorld<Scripted>) -> Result<bool, NoMemory> {
+    let answers = run_two(alloc, w, "in.ipynb a.ipynb", "in.ipynb b.ipynb")?;
     let said =
         "saved 0/1 a.ipynb\nsaved 0/1 b.ipynb\nsaved 1/1 a.ipynb\nsaved 1/1 b.ipynb\na.ipynb: done\nb.ipynb: done\n";
-    assert!(rt; has_said(&w, said));
-    Ok(())
+    let are_two = answers.len() == 2 && has_status(&answers, 0, 0) && has_status(&answers, 1, 0);
+    Ok(are_two && has_said(w, said))
 }
 
 #[test]

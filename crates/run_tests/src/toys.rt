@@ -2,7 +2,7 @@
 ghost use Rattle.std.specs.Prelude.{◌≡◌, ◌≤◌, All, IfOk};
 ghost use Rattle.toy_core.specs.Toy.{latest_of};
 
-use crate::checks::{has, has_said, has_status, third_rename};
+use crate::checks::{ends, has, has_status, third_rename};
 use crate::jobs::{run, world_of};
 use crate::notebooks::notebook;
 use jtext::NoMemory;
@@ -12,7 +12,7 @@ use std::alloc::Global;
 use std::process::Abort;
 use std::test::Fail;
 use toy_core::Toy;
-use world_mem::Kernels;
+use world_mem::{Kernels, MemWorld};
 
 /// A toy kernel that signs under the key of these two words.
 pub(crate) fn toy(alloc: Global, first: u64, second: u64) -> Result<Toy, NoMemory>
@@ -37,43 +37,67 @@ fn messages_signed_with_another_key_are_not_taken(rt: HostRuntime) -> Result<(),
     let alloc = rt.alloc();
     let input = notebook(alloc, &["print 1"])?;
     let mut w = world_of(alloc, input.as_str(), toys(alloc, 6, 7)?, &[], &[])?;
-    let answers = run(alloc, &mut w, "in.ipynb out.ipynb --start-timeout 1")?;
-    assert!(rt; has_status(&answers, 0, 7));
-    assert!(rt; has_said(&w, "saved 0/1 out.ipynb\nout.ipynb: kernel not ready\n"));
-    assert!(rt; has(alloc, &w, "out.ipynb", "\"outputs\": []", 1)?);
-    assert!(rt; has(alloc, &w, "out.ipynb", "\"status\": \"pending\"", 1)?);
+    let is_so = is_never_ready(alloc, &mut w);
+    drop(w);
+    assert!(rt; is_so?);
     Ok(())
+}
+
+// Whether the kernel isn't ready in time, and nothing of the cell comes to the output.
+fn is_never_ready(alloc: Global, w: &mut MemWorld<Toy>) -> Result<bool, NoMemory> {
+    let words = "in.ipynb out.ipynb --start-timeout 1";
+    let said = "saved 0/1 out.ipynb\nout.ipynb: kernel not ready\n";
+    Ok(
+        ends(alloc, w, words, 7, said)?
+            && has(alloc, w, "out.ipynb", "\"outputs\": []", 1)?
+            && has(alloc, w, "out.ipynb", "\"status\": \"pending\"", 1)?,
+    )
 }
 
 #[test]
 fn a_save_that_fails_ends_the_job(rt: HostRuntime) -> Result<(), Fail> {
     let alloc = rt.alloc();
-    let mut w = world_of(alloc, TWO, toys(alloc, 2, 3)?, &[], &[])?;
-    run(alloc, &mut w, "in.ipynb out.ipynb")?;
-    let number = third_rename(&w);
+    let number = third_save(alloc)?;
     let mut w = world_of(alloc, TWO, toys(alloc, 2, 3)?, &[], &[number])?;
-    let answers = run(alloc, &mut w, "in.ipynb out.ipynb")?;
-    assert!(rt; has_status(&answers, 0, 10));
-    assert!(rt;
-        has_said(
-            &w,
-            "saved 0/2 out.ipynb\nsaved 1/2 out.ipynb\nout.ipynb: cannot save: rename\n"
-        )
-    );
+    let said = "saved 0/2 out.ipynb\nsaved 1/2 out.ipynb\nout.ipynb: cannot save: rename\n";
+    let is_so = ends(alloc, &mut w, "in.ipynb out.ipynb", 10, said);
+    drop(w);
+    assert!(rt; is_so?);
     Ok(())
+}
+
+// The number of the call that is the third rename, where none fails.
+fn third_save(alloc: Global) -> Result<u64, NoMemory> {
+    let mut w = world_of(alloc, TWO, toys(alloc, 2, 3)?, &[], &[])?;
+    let answers = run(alloc, &mut w, "in.ipynb out.ipynb");
+    let number = third_rename(&w);
+    drop(w);
+    answers?;
+    Ok(number)
 }
 
 // Whether a job on these cells is done, and its output has so many displays, each of this value.
 fn shows(alloc: Global, cells: &[&str], displays: usize, value: &str) -> Result<bool, NoMemory> {
     let input = notebook(alloc, cells)?;
     let mut w = world_of(alloc, input.as_str(), toys(alloc, 2, 3)?, &[], &[])?;
-    let answers = run(alloc, &mut w, "in.ipynb out.ipynb")?;
+    let is_so = run_shows(alloc, &mut w, displays, value);
+    drop(w);
+    is_so
+}
+
+fn run_shows(
+    alloc: Global,
+    w: &mut MemWorld<Toy>,
+    displays: usize,
+    value: &str,
+) -> Result<bool, NoMemory> {
+    let answers = run(alloc, w, "in.ipynb out.ipynb")?;
     let display = "\"output_type\": \"display_data\"";
     let line = format!(in alloc; "\n       \"{value}\"\n")?;
     Ok(
         has_status(&answers, 0, 0)
-            && has(alloc, &w, "out.ipynb", display, displays)?
-            && has(alloc, &w, "out.ipynb", line.as_str(), displays)?,
+            && has(alloc, w, "out.ipynb", display, displays)?
+            && has(alloc, w, "out.ipynb", line.as_str(), displays)?,
     )
 }
 
