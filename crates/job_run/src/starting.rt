@@ -472,8 +472,8 @@ fn execution_of(
 fn talk_of(alloc: Global, pairs: RandomPairs) -> Result<(Lines, Session, Seen), NoMemory>
     ensures { IfOk result (λ t. t.1.key ≡ key_of pairs) }
 {
-    let lines = Lines::new(alloc)?;
-    let session = Session::new(alloc, pairs.name, pairs.key)?;
     let seen = Seen::new(alloc)?;
+    let session = Session::new(alloc, pairs.name, pairs.key)?;
+    let lines = Lines::new(alloc)?;
     Ok((lines, session, seen))
 }
