@@ -2,9 +2,10 @@
 ghost use Rattle.jtext.specs.Texts.{AllStrings};
 
 use crate::worlds::{
-    children, open_descriptors, real_world, start_script, start_with, status, text, texts,
+    Real, children, open_descriptors, real_world, start_script, start_with, status, text, texts,
 };
 use jtext::{Fields, Json};
+use std::process::Abort;
 use std::test::Fail;
 use std::time::{Duration, Instant};
 use std::{fs, process};
@@ -13,6 +14,12 @@ use world::{Did, Kids, Reports, Wire};
 #[test]
 fn children_of_several_jobs_end_with_their_own_status(rt: HostRuntime) -> Result<(), Fail> {
     let mut w = real_world(&rt)?;
+    let end = end_each(&rt, &rt, &mut w);
+    drop(w);
+    end
+}
+
+fn end_each(rt: &HostRuntime, stop: &impl Abort, w: &mut Real) -> Result<(), Fail> {
     let rows = [
         (0u8, "exit 0", 0),
         (3, "exit 7", 7),
@@ -20,43 +27,49 @@ fn children_of_several_jobs_end_with_their_own_status(rt: HostRuntime) -> Result
         (15, "kill -15 $$", 143),
     ];
     for (job, script, _) in rows {
-        assert!(rt; start_script(&rt, &mut w, job, script)?, "{script}");
+        assert!(stop; start_script(rt, w, job, script)?, "{script}");
     }
     for (job, script, ended) in rows {
-        assert_eq!(rt; status(&mut w, job), Some(ended), "{script}");
-        assert_eq!(rt; w.look(job), Some(ended), "{script}, looked at again");
+        assert_eq!(stop; status(w, job), Some(ended), "{script}");
+        assert_eq!(stop; w.look(job), Some(ended), "{script}, looked at again");
         w.end(job);
-        assert_eq!(rt; w.look(job), None, "{script}, after its end");
+        assert_eq!(stop; w.look(job), None, "{script}, after its end");
     }
-    assert_eq!(rt; w.child_faults(), 0);
+    assert_eq!(stop; w.child_faults(), 0);
     Ok(())
 }
 
 #[test]
 fn a_child_that_ignores_its_end_is_killed(rt: HostRuntime) -> Result<(), Fail> {
     let mut w = real_world(&rt)?;
+    let end = end_the_stubborn(&rt, &rt, &mut w);
+    drop(w);
+    end
+}
+
+fn end_the_stubborn(rt: &HostRuntime, stop: &impl Abort, w: &mut Real) -> Result<(), Fail> {
     let script = "trap '' TERM INT HUP; echo $$ > stubborn.tmp; mv stubborn.tmp stubborn; \
         while :; do sleep 1; done";
-    assert!(rt; start_script(&rt, &mut w, 1, script)?);
+    assert!(stop; start_script(rt, w, 1, script)?);
     let mut reports = Reports { ready: [false; 64] };
     for _ in 0..1000u32 {
-        if fs::exists(&rt, "stubborn")? {
+        if fs::exists(rt, "stubborn")? {
             break;
         }
         w.wait(10, &mut reports);
     }
-    let number = fs::read_to_string(&rt, "stubborn")?;
+    let number = fs::read_to_string(rt, "stubborn")?;
     let here = format!(in rt.alloc(); "/proc/{}", number.as_str().trim())?;
-    assert!(rt; fs::exists(&rt, here.as_str())?, "{here}");
-    assert_eq!(rt; w.look(1), None);
-    let start = Instant::now(&rt)?;
+    assert!(stop; fs::exists(rt, here.as_str())?, "{here}");
+    assert_eq!(stop; w.look(1), None);
+    let start = Instant::now(rt)?;
     w.end(1);
-    assert!(rt;
-        start.elapsed(&rt)? >= Duration::from_millis(50),
+    assert!(stop;
+        start.elapsed(rt)? >= Duration::from_millis(50),
         "killed before it could end by itself"
     );
-    assert!(rt; !fs::exists(&rt, here.as_str())?, "{here}");
-    fs::remove_file(&rt, "stubborn")?;
+    assert!(stop; !fs::exists(rt, here.as_str())?, "{here}");
+    fs::remove_file(rt, "stubborn")?;
     Ok(())
 }
 
@@ -73,25 +86,31 @@ fn a_second_start_ends_the_first_child(rt: HostRuntime) -> Result<(), Fail> {
 #[test]
 fn what_is_no_program_can_not_be_started(rt: HostRuntime) -> Result<(), Fail> {
     let mut w = real_world(&rt)?;
+    let end = start_no_program(&rt, &rt, &mut w);
+    drop(w);
+    end
+}
+
+fn start_no_program(rt: &HostRuntime, stop: &impl Abort, w: &mut Real) -> Result<(), Fail> {
     let env = Fields::new(rt.alloc());
-    fs::write(&rt, "unmarked", "exit 0")?;
+    fs::write(rt, "unmarked", "exit 0")?;
     let rows = [
         ("./no-such-program", "."),
         ("./unmarked", "."),
         ("/bin/sh", "no-such-folder"),
     ];
     for (program, folder) in rows {
-        let argv = texts(&rt, &[program])?;
-        assert_eq!(rt; argv.len(), 1);
-        assert_eq!(rt;
-            w.start(0, &argv, &env, &text(&rt, folder)?),
+        let argv = texts(rt, &[program])?;
+        assert_eq!(stop; argv.len(), 1);
+        assert_eq!(stop;
+            w.start(0, &argv, &env, &text(rt, folder)?),
             Did::Failed,
             "{program}"
         );
-        assert_eq!(rt; w.look(0), None, "{program}");
+        assert_eq!(stop; w.look(0), None, "{program}");
     }
-    assert_eq!(rt; w.child_faults(), 3);
-    fs::remove_file(&rt, "unmarked")?;
+    assert_eq!(stop; w.child_faults(), 3);
+    fs::remove_file(rt, "unmarked")?;
     Ok(())
 }
 

@@ -5,6 +5,7 @@ use crate::worlds::{Real, open_descriptors, real_world};
 use mio::net::{TcpListener, TcpStream};
 use std::io::{ErrorKind, Read, Write};
 use std::net::{Ipv4Addr, SocketAddr};
+use std::process::Abort;
 use std::test::Fail;
 use world::{Chan, Conn, Connected, Did, Got, Put, Reports, Wire};
 
@@ -79,45 +80,53 @@ fn write_on(w: &mut Real) -> Put {
 #[test]
 fn a_port_that_nobody_listens_on_is_refused(rt: HostRuntime) -> Result<(), Fail> {
     let mut w = real_world(&rt)?;
+    let end = connect_in_vain(&rt, &rt, &mut w);
+    drop(w);
+    end
+}
+
+fn connect_in_vain(rt: &HostRuntime, stop: &impl Abort, w: &mut Real) -> Result<(), Fail> {
     let [port, ..] = w.free_ports(2).ok_or("no ports")?;
     for round in 0..3u8 {
         let connected = w.connect(SHELL, port);
-        assert_ne!(rt; connected, Connected::Failed, "round {round}");
+        assert_ne!(stop; connected, Connected::Failed, "round {round}");
         if connected == Connected::Begun {
-            assert_eq!(rt; read_on(&mut w), Got::Refused, "round {round}");
+            assert_eq!(stop; read_on(w), Got::Refused, "round {round}");
         }
     }
     if w.connect(SHELL, port) == Connected::Begun {
-        assert_eq!(rt; write_on(&mut w), Put::Refused);
+        assert_eq!(stop; write_on(w), Put::Refused);
     }
-    assert_eq!(rt; w.net_faults(), 0);
+    assert_eq!(stop; w.net_faults(), 0);
     let mut buf = [0u8; 4];
-    assert_eq!(rt; w.read(SHELL, &mut buf), Got::Failed, "it is closed");
-    assert_eq!(rt;
-        Wire::write(&mut w, SHELL, b"x"),
-        Put::Failed,
-        "it is closed"
-    );
-    assert_eq!(rt; w.net_faults(), 2);
+    assert_eq!(stop; w.read(SHELL, &mut buf), Got::Failed, "it is closed");
+    assert_eq!(stop; Wire::write(w, SHELL, b"x"), Put::Failed, "it is closed");
+    assert_eq!(stop; w.net_faults(), 2);
     Ok(())
 }
 
 #[test]
 fn a_far_end_that_closes_in_the_middle_has_ended_it(rt: HostRuntime) -> Result<(), Fail> {
     let mut w = real_world(&rt)?;
-    let mut peer = taken_up(&rt, &mut w)?;
+    let end = read_to_the_end(&rt, &rt, &mut w);
+    drop(w);
+    end
+}
+
+fn read_to_the_end(rt: &HostRuntime, stop: &impl Abort, w: &mut Real) -> Result<(), Fail> {
+    let mut peer = taken_up(rt, w)?;
     peer.write_all(b"hal")?;
     drop(peer);
-    assert_eq!(rt; read_on(&mut w), Got::Piece(3));
-    assert_eq!(rt; read_on(&mut w), Got::Ended);
+    assert_eq!(stop; read_on(w), Got::Piece(3));
+    assert_eq!(stop; read_on(w), Got::Ended);
     let mut reports = Reports { ready: [true; 64] };
-    assert_eq!(rt; w.wait(0, &mut reports), Did::Done);
-    assert!(rt;
+    assert_eq!(stop; w.wait(0, &mut reports), Did::Done);
+    assert!(stop;
         reports.ready == [false; 64],
         "what has ended is not reported"
     );
-    assert_eq!(rt; write_on(&mut w), Put::Ended);
-    assert_eq!(rt; w.net_faults(), 0);
+    assert_eq!(stop; write_on(w), Put::Ended);
+    assert_eq!(stop; w.net_faults(), 0);
     Ok(())
 }
 
@@ -243,14 +252,20 @@ fn first_byte(w: &mut Real, conn: Conn) -> Option<u8>
 #[test]
 fn all_64_connections_stand_beside_each_other(rt: HostRuntime) -> Result<(), Fail> {
     let mut w = real_world(&rt)?;
-    let listener = TcpListener::bind(&rt, SocketAddr::from((Ipv4Addr::LOCALHOST, 0)))?;
+    let end = connect_all(&rt, &rt, &mut w);
+    drop(w);
+    end
+}
+
+fn connect_all(rt: &HostRuntime, stop: &impl Abort, w: &mut Real) -> Result<(), Fail> {
+    let listener = TcpListener::bind(rt, SocketAddr::from((Ipv4Addr::LOCALHOST, 0)))?;
     let port = listener.local_addr()?.port();
     let mut peers = Vec::new(rt.alloc());
     let mut number = 0u8;
     for job in 0..16u8 {
         for chan in CHANNELS {
-            assert_eq!(rt; w.connect(Conn { job, chan }, port), Connected::Begun);
-            let mut peer = accepted(&mut w, &listener)?;
+            assert_eq!(stop; w.connect(Conn { job, chan }, port), Connected::Begun);
+            let mut peer = accepted(w, &listener)?;
             peer.write_all(&[number])?;
             peers.push(peer)?;
             number = number.wrapping_add(1);
@@ -259,43 +274,49 @@ fn all_64_connections_stand_beside_each_other(rt: HostRuntime) -> Result<(), Fai
     number = 0;
     for job in 0..16u8 {
         for chan in CHANNELS {
-            assert_eq!(rt; first_byte(&mut w, Conn { job, chan }), Some(number));
+            assert_eq!(stop; first_byte(w, Conn { job, chan }), Some(number));
             number = number.wrapping_add(1);
         }
     }
-    assert_eq!(rt; number, 64);
-    assert_eq!(rt; w.net_faults(), 0);
+    assert_eq!(stop; number, 64);
+    assert_eq!(stop; w.net_faults(), 0);
     Ok(())
 }
 
 #[test]
 fn a_stuck_connection_is_reported_once_the_far_end_reads(rt: HostRuntime) -> Result<(), Fail> {
     let mut w = real_world(&rt)?;
-    let peer = taken_up(&rt, &mut w)?;
+    let end = write_until_stuck(&rt, &rt, &mut w);
+    drop(w);
+    end
+}
+
+fn write_until_stuck(rt: &HostRuntime, stop: &impl Abort, w: &mut Real) -> Result<(), Fail> {
+    let peer = taken_up(rt, w)?;
     let bytes = [7u8; 4096];
     let mut put = Put::Took(1);
     for _ in 0..100_000u32 {
-        put = Wire::write(&mut w, SHELL, &bytes);
+        put = Wire::write(w, SHELL, &bytes);
         if !matches!(&put, Put::Took(_)) {
             break;
         }
     }
-    assert_eq!(rt; put, Put::Stuck);
+    assert_eq!(stop; put, Put::Stuck);
     let mut reports = Reports { ready: [false; 64] };
     w.wait(0, &mut reports);
-    assert_eq!(rt; w.wait(0, &mut reports), Did::Done);
-    assert!(rt; !reports.ready[PLACE], "it was told already");
+    assert_eq!(stop; w.wait(0, &mut reports), Did::Done);
+    assert!(stop; !reports.ready[PLACE], "it was told already");
     let mut buf = [0u8; 4096];
     for _ in 0..100_000u32 {
         if (&peer).read(&mut buf).is_err() {
             break;
         }
     }
-    assert_eq!(rt; w.wait(5000, &mut reports), Did::Done);
-    assert!(rt; reports.ready[PLACE]);
+    assert_eq!(stop; w.wait(5000, &mut reports), Did::Done);
+    assert!(stop; reports.ready[PLACE]);
     w.close(SHELL);
-    assert_eq!(rt; w.wait(0, &mut reports), Did::Done);
-    assert!(rt;
+    assert_eq!(stop; w.wait(0, &mut reports), Did::Done);
+    assert!(stop;
         reports.ready == [false; 64],
         "what is closed is not reported"
     );
@@ -305,14 +326,20 @@ fn a_stuck_connection_is_reported_once_the_far_end_reads(rt: HostRuntime) -> Res
 #[test]
 fn no_port_is_given_twice(rt: HostRuntime) -> Result<(), Fail> {
     let mut w = real_world(&rt)?;
+    let end = take_all_ports(&rt, &rt, &mut w);
+    drop(w);
+    end
+}
+
+fn take_all_ports(rt: &HostRuntime, stop: &impl Abort, w: &mut Real) -> Result<(), Fail> {
     let mut given = Vec::new(rt.alloc());
     for job in 0..16u8 {
         for port in w.free_ports(job).ok_or("no ports")? {
-            assert!(rt; 0 < port && !given.contains(&port), "job {job} has {port}");
+            assert!(stop; 0 < port && !given.contains(&port), "job {job} has {port}");
             given.push(port)?;
         }
     }
-    assert_eq!(rt; w.net_faults(), 0);
+    assert_eq!(stop; w.net_faults(), 0);
     Ok(())
 }
 
