@@ -43,13 +43,16 @@ to_save x settled n i = record { heard = i.heard; stops = λ cause is. absurd (c
 
 -- ---- what leaves the core alone
 
-pub told_counted : (x y : Execution) (act : Act) (n : ℕ) → KeepsTold x y → IsCounted x act n → IsCounted y act n
-told_counted x y act n k i = record {
-  heard = subst (λ c. ∥ TellsOf c y.clock (is_some y.broken) n ∥₁) (sym k.core)
-      (subst (λ t. ∥ TellsOf x.core t (is_some y.broken) n ∥₁) (sym k.clock)
-      (subst (λ b. ∥ TellsOf x.core x.clock (is_some b) n ∥₁) (sym k.broken) i.heard));
-  stops = λ cause is. subst (λ c. StopsAfter n (task_of c) cause) (sym k.core) (i.stops cause is);
+same_counted : (x y : Execution) (act : Act) (n : ℕ) → y.core ≡ x.core → y.clock ≡ x.clock → y.broken ≡ x.broken → IsCounted x act n → IsCounted y act n
+same_counted x y act n core clock broken i = record {
+  heard = subst (λ c. ∥ TellsOf c y.clock (is_some y.broken) n ∥₁) (sym core)
+      (subst (λ t. ∥ TellsOf x.core t (is_some y.broken) n ∥₁) (sym clock)
+      (subst (λ b. ∥ TellsOf x.core x.clock (is_some b) n ∥₁) (sym broken) i.heard));
+  stops = λ cause is. subst (λ c. StopsAfter n (task_of c) cause) (sym core) (i.stops cause is);
 }
+
+pub told_counted : (x y : Execution) (act : Act) (n : ℕ) → KeepsTold x y → IsCounted x act n → IsCounted y act n
+told_counted x y act n k i = same_counted x y act n k.core k.clock k.broken i
 
 -- ---- over the journal
 
@@ -135,7 +138,7 @@ event_counts x core e act n m steps may more i = record {
 -- ---- the clock and the stream that broke
 
 pub later_counts : (x y : Execution) (n : ℕ) → y.core ≡ x.core → x.clock ≤ y.clock → y.broken ≡ x.broken → IsCounted x Nothing n → IsCounted y Nothing n
-later_counts x y n core later broken i = told_counted (record x { clock = y.clock }) y Nothing n (record { core = core; clock = refl; broken = broken })
+later_counts x y n core later broken i = same_counted (record x { clock = y.clock }) y Nothing n core refl broken
     (record { heard = tells_later x.core x.clock y.clock (is_some x.broken) n later i.heard; stops = i.stops })
 
 pub named_counts : (x y : Execution) (n : ℕ) → y.core ≡ x.core → y.clock ≡ x.clock → is_some y.broken ≡ true → IsCounted x Nothing n → IsCounted y Nothing n

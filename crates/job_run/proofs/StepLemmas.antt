@@ -28,6 +28,7 @@ module _ {W : Type 0} {journal : W → Option (List Entry)} {tally : W → Count
     course = λ o s. h.course o (g.course o s);
     calls = λ cast since from s. h.calls cast since from (g.calls cast since from s);
     task = h.task ∙ g.task;
+    terms = h.terms ∙ g.terms;
     own = h.own;
     counts = λ at. h.counts (g.counts at);
   }
@@ -40,6 +41,7 @@ module _ {W : Type 0} {journal : W → Option (List Entry)} {tally : W → Count
     course = λ o s. s;
     calls = λ cast since from s. s;
     task = refl;
+    terms = refl;
     own = tt;
     counts = λ at. at;
   }
@@ -52,19 +54,21 @@ module _ {W : Type 0} {journal : W → Option (List Entry)} {tally : W → Count
     course = λ o s. s;
     calls = λ cast since from s. s;
     task = refl;
+    terms = refl;
     own = tt;
     counts = λ at. starved_on U x (journal p);
   }
 
   -- a step after what has changed the core alone, which counts as many saves as before
-  pub goes_told : {U : Type 0} {p q : W} {x y z : Execution} {a b : Act} {result : Result U End} → y.book ≡ x.book → task_of y.core ≡ task_of x.core
+  pub goes_told : {U : Type 0} {p q : W} {x y z : Execution} {a b : Act} {result : Result U End} → y.book ≡ x.book → task_of y.core ≡ task_of x.core → y.terms ≡ x.terms
       → ((n : ℕ) → IsCounted x a n → IsCounted y b n) → Proceeds journal tally p q y z b result → Proceeds journal tally p q x z a result
-  goes_told {U} {p} {q} {x} {y} {z} {a} {b} book task counts g = record {
+  goes_told {U} {p} {q} {x} {y} {z} {a} {b} book task terms counts g = record {
     holds = g.holds;
     calm = g.calm;
     course = λ o s. g.course o (subst (λ k. Stands o k true (journal p) (tally p)) (sym book) s);
     calls = λ cast since from s. g.calls cast since from (subst (λ k. HasPart cast since from k (journal p) (tally p)) (sym book) s);
     task = g.task ∙ task;
+    terms = g.terms ∙ terms;
     own = g.own;
     counts = λ at. g.counts (counts_by x y a b (journal p) (ap output_of book) counts at);
   }
@@ -72,7 +76,7 @@ module _ {W : Type 0} {journal : W → Option (List Entry)} {tally : W → Count
   -- a step after what has changed neither the core nor the notebook
   pub goes_kept : {U : Type 0} {p q : W} {x y z : Execution} {act : Act} {result : Result U End} → y.book ≡ x.book → KeepsTold x y
       → Proceeds journal tally p q y z act result → Proceeds journal tally p q x z act result
-  goes_kept {U} {p} {q} {x} {y} {z} {act} book told g = goes_told book (ap task_of told.core) (λ n i. told_counted x y act n told i) g
+  goes_kept {U} {p} {q} {x} {y} {z} {act} book told g = goes_told book (ap task_of told.core) told.terms (λ n i. told_counted x y act n told i) g
 
   -- a step after a message was used
   pub goes_used : {U : Type 0} {p q : W} {x y z : Execution} {act : Act} {result : Result U End} → StaysOn x.book y.book → KeepsPart x.book y.book → KeepsTold x y
@@ -83,6 +87,7 @@ module _ {W : Type 0} {journal : W → Option (List Entry)} {tally : W → Count
     course = λ o s. g.course o (stays o true (journal p) (tally p) s);
     calls = λ cast since from s. g.calls cast since from (part cast since from (journal p) (tally p) s);
     task = g.task ∙ ap task_of told.core;
+    terms = g.terms ∙ told.terms;
     own = g.own;
     counts = λ at. g.counts (counts_kept x y act (journal p) told (part_output x.book y.book part) at);
   }

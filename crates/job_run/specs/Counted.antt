@@ -47,11 +47,12 @@ pub record HasCount (core : Core) (clock : ℕ) (is_named : Bool) (act : Act) (n
 abbrev pub IsCounted : Execution → Act → ℕ → Type 0
 IsCounted x act n = HasCount x.core x.clock (is_some x.broken) act n
 
--- neither the core, its clock nor the stream that broke has changed
+-- neither the core, its clock, the stream that broke nor the terms have changed
 pub record KeepsTold (old new : Execution) : Type 0 where
   pub core : new.core ≡ old.core
   pub clock : new.clock ≡ old.clock
   pub broken : new.broken ≡ old.broken
+  pub terms : new.terms ≡ old.terms
 
 -- after what was done: so it is still, or the job ends after so many
 abbrev pub IsCountedOn : {U : Type 0} → Execution → Result U End → ℕ → Type 0

@@ -13,7 +13,7 @@ use Rattle.job_saves.specs.Sessions.{IsSaveCall}
 use Rattle.job_run.specs.Counted.{IsCountedAt, CountsOn}
 use Rattle.job_run.specs.Held.{Holds, IsCalm}
 use Rattle.job_run.specs.Run.{KeepsRun, KeepsRole, RunsOn, CallsInRole, EndsNot}
-use Rattle.job_run.specs.Task.{task_of_job, output_of_job}
+use Rattle.job_run.specs.Task.{task_of_job, output_of_job, pings_kernel}
 use Rattle.job_run.specs.Told.{EndsBy}
 use Rattle.job_run.specs.declared.execution.Execution.{Execution}
 use Rattle.job_run.specs.declared.job.Job.{Job}
@@ -30,6 +30,8 @@ pub record Proceeds {W U : Type 0} (journal : W → Option (List Entry)) (tally 
   pub calls : CallsOwn journal tally old new was.book now.book
   -- the core has the task that it had
   pub task : task_of now.core ≡ task_of was.core
+  -- what is asked of it stays
+  pub terms : now.terms ≡ was.terms
   -- where the job ends, it ends as a run does
   pub own : IfErr result (EndsBy (task_of now.core))
   -- the core was told of as many saves as were acknowledged, where it was so
@@ -47,7 +49,9 @@ pub record JobStays (was now : Job) : Type 0 where
   pub calls : KeepsRole was now
   -- the task of its core is the one that it was
   pub task : task_of_job now ≡ task_of_job was
-  -- and so is the output that its last line names
+  -- its kernel is pinged where it was
+  pub pings : pings_kernel now ≡ pings_kernel was
+  -- the output that its last line names is the one that it was
   pub output : output_of_job now ≡ output_of_job was
   -- it was ended from outside only where it had been
   pub still : EndsNot was now
@@ -60,7 +64,9 @@ pub record JobGoesOn {W : Type 0} (journal : W → Option (List Entry)) (tally :
   pub calls : CallsInRole journal tally old new was now
   -- the task of its core is the one that it was
   pub task : task_of_job now ≡ task_of_job was
-  -- and so is the output that its last line names
+  -- its kernel is pinged where it was
+  pub pings : pings_kernel now ≡ pings_kernel was
+  -- the output that its last line names is the one that it was
   pub output : output_of_job now ≡ output_of_job was
   -- it was ended from outside only where it had been
   pub still : EndsNot was now

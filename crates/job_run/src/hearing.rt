@@ -79,6 +79,7 @@ impl Execution {
         ensures named { is_some self.new.broken ≡ true }
         ensures core { self.new.core ≡ self.old.core }
         ensures clock { self.new.clock ≡ self.old.clock }
+        ensures terms { self.new.terms ≡ self.old.terms }
         ensures book { self.new.book ≡ self.old.book }
     {
         self.broken = Some((chan, fault));

@@ -39,6 +39,7 @@ pub(crate) fn outcome_of(
     ensures lost { IsLost result → done ≡ Err ending.NetFault }
     ensures spent { IsSpent result → done ≡ Err ending.Spent }
     ensures task { task_of run.new.core ≡ task_of run.old.core }
+    ensures terms { run.new.terms ≡ run.old.terms }
     ensures end { IfSome result (IsEnding output.now (task_of run.new.core)) }
     ensures once { AsksOnce run.old run.new }
     ensures counts { (n : ℕ) → IsCountedBy run.old done n → IsCountedIn result run.new n }
@@ -62,6 +63,7 @@ fn farewell(alloc: Global, output: &Text, run: &mut Execution, end: &End) -> Ans
     ensures lost { result.status ≡ 14 → end.now ≡ ending.NetFault }
     ensures spent { result.status ≡ 16 → end.now ≡ ending.Spent }
     ensures task { task_of run.new.core ≡ task_of run.old.core }
+    ensures terms { run.new.terms ≡ run.old.terms }
     ensures end { IsEnding output.now (task_of run.new.core) result }
     ensures once { AsksOnce run.old run.new }
     ensures counts { (n : ℕ) → EndsJobAfter n (task_of run.old.core) end.now →

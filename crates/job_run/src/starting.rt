@@ -17,7 +17,7 @@ ghost use Rattle.job_saves.specs.Course.{Origin, Stands, HasPart, CountsWork, st
 ghost use Rattle.cell_core.specs.StandsFor.{task_of};
 ghost use Rattle.job_run.specs.Told.{StartsBy, IsEndOfLaunch};
 ghost use Rattle.job_run.specs.Held.{Holds, IsCalm, IsFirst};
-ghost use Rattle.job_run.specs.Task.{task_of_job, output_of_job, ports_of_job};
+ghost use Rattle.job_run.specs.Task.{task_of_job, output_of_job, ports_of_job, pings_kernel};
 ghost use Rattle.job_run.specs.Task.{task_for, task_in, times_of};
 ghost use Rattle.job_run.specs.Run.{Runs, IsRole, HasRole, MayStart, StartsAs, StartsInRole};
 ghost use Rattle.job_run.specs.Run.{BeginsNew, StartsCounted, HasPorts, HasNoPorts, EndCause};
@@ -58,6 +58,7 @@ impl Job {
     ghost use Rattle.job_run.specs.Run.{EndsLaunch, OnlyReads};
     ghost use Rattle.job_run.specs.Run.{HasPorts, KeepsPorts, outcome_of};
     ghost use Rattle.job_run.specs.Task.{task_of_job, output_of_job, ports_of_job, task_for};
+    ghost use Rattle.job_run.specs.Task.{pings_kernel};
     ghost use Rattle.job_run.specs.Told.{StartsBy};
 
     /// Saves the notebook with no cell settled and starts the kernel that was found for it. Where
@@ -94,11 +95,13 @@ impl Job {
         // calls rose, and never by a budget of turns.
         ensures cause { IfErr result (EndCause (W.counts w.old) (W.counts w.new)) }
         // It ends by that start or as a run does; where it runs its core is to execute the cells of
-        // the agenda in the times that were asked for, and its last line names its output.
+        // the agenda in the times that were asked for, its last line names its output, and its kernel
+        // is pinged where that was asked for.
         ensures own { IfErr result (StartsBy (task_for ask agenda.notebook)) }
         ensures task { IfOk result (λ j. task_of_job j ≡ task_for ask agenda.notebook) }
         ensures output { IfOk result (λ j. output_of_job j ≡ ask.output) }
         ensures fresh { IfOk result (λ j. outcome_of j ≡ None) }
+        ensures pings { IfOk result (λ j. pings_kernel j ≡ ask.heartbeat) }
         ensures ports { IfOk result (λ j. HasPorts number (ports_of_job j) (W.journal w.new)) }
         // Where events brought its end, as many of them are saves as were acknowledged.
         ensures counted { (o : Origin) → IsFor ask.output ask.merge agenda.notebook o →
@@ -144,6 +147,7 @@ impl Job {
         ensures task { IfOk result (λ j. task_of_job j ≡ task_for ask agenda.notebook) }
         ensures output { IfOk result (λ j. output_of_job j ≡ ask.output) }
         ensures fresh { IfOk result (λ j. outcome_of j ≡ None) }
+        ensures pings { IfOk result (λ j. pings_kernel j ≡ ask.heartbeat) }
         ensures ports { IfOk result (λ j. HasPorts number (ports_of_job j) (W.journal w.new)) }
     {
         match parts_of(alloc, ask, agenda, pairs) {
@@ -160,6 +164,7 @@ impl Job {
         ensures number { number_of self.new ≡ number_of self.old }
         ensures outcome { outcome_of self.new ≡ outcome_of self.old }
         ensures task { task_of_job self.new ≡ task_of_job self.old }
+        ensures pings { pings_kernel self.new ≡ pings_kernel self.old }
         ensures output { output_of_job self.new ≡ output_of_job self.old }
         ensures ports { IfOk result (λ _.
             HasPorts (number_of self.new) (ports_of_job self.new) (W.journal w.new)) }
@@ -272,6 +277,7 @@ fn start_saved<W: World>(
     ensures task { IfOk result (λ j. task_of_job j ≡ task_of run.core) }
     ensures output { IfOk result (λ j. output_of_job j ≡ paths.output) }
     ensures fresh { IfOk result (λ j. outcome_of j ≡ None) }
+    ensures pings { IfOk result (λ j. pings_kernel j ≡ run.terms.heartbeat) }
     ensures ports { IfOk result (λ j. HasPorts number (ports_of_job j) (W.journal w.new)) }
 {
     laws::jobs_begin_and_end();
@@ -323,6 +329,7 @@ fn with_kernel<W: World>(job: Job, w: &mut W, kernel: &Kernel, here: &Text) -> R
     ensures task { IfOk result (λ j. task_of_job j ≡ task_of_job job) }
     ensures output { IfOk result (λ j. output_of_job j ≡ output_of_job job) }
     ensures fresh { IfOk result (λ j. outcome_of j ≡ None) }
+    ensures pings { IfOk result (λ j. pings_kernel j ≡ pings_kernel job) }
     ensures ports { IfOk result (λ j.
         HasPorts (number_of job) (ports_of_job j) (W.journal w.new)) }
 {
@@ -371,6 +378,7 @@ fn parts_of(
     ensures connection { IfOk result (λ p. p.0.connection ≡ connection_of ask.output) }
     ensures folder { IfOk result (λ p. p.0.cwd ≡ ask.cwd) }
     ensures task { IfOk result (λ p. task_of p.1.core ≡ task_for ask agenda.notebook) }
+    ensures pings { IfOk result (λ p. p.1.terms.heartbeat ≡ ask.heartbeat) }
     ensures key { IfOk result (λ p. p.1.session.key ≡ key_of pairs) }
     ensures paths { IfOk result (λ p. p.0.output ≡ ask.output) }
 {
@@ -397,6 +405,7 @@ fn paths_of(alloc: Global, ask: &Ask) -> Result<Paths, NoMemory>
 fn terms_of(ask: Ask) -> Terms
     requires { IsRunnable ask }
     ensures merge { result.merge ≡ ask.merge }
+    ensures pings { result.heartbeat ≡ ask.heartbeat }
     ensures times { result.times ≡ times_of ask }
 {
     let Ask {
@@ -433,6 +442,7 @@ fn execution_of(
     ensures output { IfOk result (λ x. output_of x.book ≡ output.now) }
     ensures merge { IfOk result (λ x. merge_of x.book ≡ terms.merge) }
     ensures keeps { IfOk result (λ x. KeepsRead x.book agenda.notebook) }
+    ensures terms { IfOk result (λ x. x.terms ≡ terms) }
     ensures task { IfOk result (λ x. task_of x.core ≡
         task_in terms.times agenda.notebook) }
     ensures key { IfOk result (λ x. x.session.key ≡ key_of pairs) }

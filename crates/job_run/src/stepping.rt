@@ -62,6 +62,7 @@ impl Execution {
         ensures request { self.new.request ≡ self.old.request }
         ensures book { self.new.book ≡ self.old.book }
         ensures session { self.new.session ≡ self.old.session }
+        ensures terms { self.new.terms ≡ self.old.terms }
         ensures task { task_of self.new.core ≡ task_of self.old.core }
         ensures counts { (n : ℕ) → IsCounted self.old Act.Nothing n →
             IsCounted self.new result.act n }
@@ -97,6 +98,7 @@ impl Execution {
         ensures calls { CallsOwn W.journal W.counts w.old w.new self.old.book self.new.book }
         ensures saves { OnlySaves W.journal w.old w.new self.old.book }
         ensures task { task_of self.new.core ≡ task_of self.old.core }
+        ensures terms { self.new.terms ≡ self.old.terms }
         ensures own { IfErr result (EndsBy (task_of self.new.core)) }
         ensures counts { IsCountedAt self.old Act.Nothing (W.journal w.old) →
             CountsFor self.new result (W.journal w.new) }
@@ -117,6 +119,7 @@ impl Execution {
         ensures calls { KeepsPart self.old.book self.new.book }
         ensures saved { stays_open result ≡ true }
         ensures task { task_of self.new.core ≡ task_of self.old.core }
+        ensures terms { self.new.terms ≡ self.old.terms }
         ensures own { IfErr result (EndsBy (task_of self.new.core)) }
         ensures counts { (n : ℕ) → IsCounted self.old act n → IsCountedOn self.new result n }
         ensures asks { OnOk result (Asks (requests_of act) self.old self.new) }
@@ -172,6 +175,7 @@ impl Execution {
         ensures calls { KeepsPart self.old.book self.new.book }
         ensures saved { stays_open result ≡ true }
         ensures task { task_of self.new.core ≡ task_of self.old.core }
+        ensures terms { self.new.terms ≡ self.old.terms }
         ensures own { IfErr result (EndsBy (task_of self.new.core)) }
         ensures counts { (n : ℕ) → IsCounted self.old Act.Nothing n →
             IsCountedOn self.new result n }

@@ -164,6 +164,7 @@ impl Job {
         ensures course { KeepsRun self.old self.new }
         ensures calls { KeepsRole self.old self.new }
         ensures task { task_of_job self.new ≡ task_of_job self.old }
+        ensures pings { pings_kernel self.new ≡ pings_kernel self.old }
         ensures output { output_of_job self.new ≡ output_of_job self.old }
         ensures still { IsSpent (outcome self.new) → IsSpent (outcome self.old) }
     {
@@ -178,6 +179,7 @@ impl Job {
         ensures course { KeepsRun self.old self.new }
         ensures calls { KeepsRole self.old self.new }
         ensures task { task_of_job self.new ≡ task_of_job self.old }
+        ensures pings { pings_kernel self.new ≡ pings_kernel self.old }
         ensures output { output_of_job self.new ≡ output_of_job self.old }
         ensures still { IsLost (outcome self.new) → IsLost (outcome self.old) }
     {
@@ -240,6 +242,7 @@ impl Job {
         ensures course { KeepsRun self.old self.new }
         ensures calls { KeepsRole self.old self.new }
         ensures task { task_of_job self.new ≡ task_of_job self.old }
+        ensures pings { pings_kernel self.new ≡ pings_kernel self.old }
         ensures output { output_of_job self.new ≡ output_of_job self.old }
         ensures lost { IsLost (outcome self.new) → end ≡ ending.NetFault }
         ensures spent { IsSpent (outcome self.new) → end ≡ ending.Spent }

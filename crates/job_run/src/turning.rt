@@ -80,6 +80,7 @@ impl Execution {
         ensures core { self.new.core ≡ self.old.core }
         ensures later { self.old.clock ≤ self.new.clock }
         ensures broken { self.new.broken ≡ self.old.broken }
+        ensures terms { self.new.terms ≡ self.old.terms }
         ensures book { self.new.book ≡ self.old.book }
         ensures session { self.new.session ≡ self.old.session }
     {
@@ -110,6 +111,7 @@ impl Execution {
         ensures holds { Holds self.new }
         ensures calm { IsCalm self.new }
         ensures book { self.new.book ≡ self.old.book }
+        ensures terms { self.new.terms ≡ self.old.terms }
         ensures task { task_of self.new.core ≡ task_of self.old.core }
         ensures counts { (n : ℕ) → IsCounted self.old Nothing n → IsCounted self.new Nothing n }
     {

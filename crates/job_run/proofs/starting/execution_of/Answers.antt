@@ -49,3 +49,6 @@ returns-in-Ok-clause-task c =
     let core = c.new-core.result in
     let counted = subst (λ n. task_of core ≡ record { plan = c.args.agenda.cells; cells = n; times = c.args.terms.times }) c.len-count.ensures c.new-core.ensures.of in
     subst (λ (p : _). task_of core ≡ record { plan = p; cells = length c.args.agenda.notebook.cells; times = c.args.terms.times }) c.args.agenda.plan counted
+
+pub returns-in-Ok-clause-terms : goal.returns-in-Ok-clause-terms
+returns-in-Ok-clause-terms c = refl

@@ -1,4 +1,4 @@
-use Rattle.std.proofs.Common.{sym, subst}
+use Rattle.std.proofs.Common.{◌≡◌, ap, sym, subst, ◌∙◌}
 use Rattle.job_saves.specs.Course.{Stands, stays_open}
 use Rattle.job_saves.proofs.CourseLemmas.{job_ends}
 use Rattle.job_run.proofs.TurnLemmas.{first_counts, launches_counted, first_ends}
@@ -6,7 +6,9 @@ use Rattle.job_run.proofs.RunLemmas.{begun, begun_role}
 use Rattle.job_run.proofs.LaunchLemmas.{ends_then, may_later, may_run}
 use Rattle.job_saves.specs.Children.{HasEnd}
 use Rattle.job_run.specs.Run.{HasNoPorts, HasPorts}
-use Rattle.job_run.specs.Task.{ports_of_job}
+use Rattle.job_run.specs.Task.{ports_of_job, pings_kernel}
+use Rattle.job_run.specs.declared.execution.Execution.{Execution}
+use Rattle.job_run.specs.declared.terms.Terms.{Terms}
 use Rattle.std.specs.Prelude.{IfOk}
 use Rattle.job_run.proofs.CauseLemmas.{causes_stay, own_caused, calls_grow, calls_told, calls_end, calls_ask_none, calls_output}
 use Rattle.job_run.proofs.StopLemmas.{starts_by, launches, of_run, at_paths}
@@ -85,3 +87,8 @@ returns-in-Err-clause-counted g c o s fresh =
     let f = c.save_first in
     first_ends o c.args.run f.new.self (task_of c.args.run.core) (g.W.Journal.journal c.args.w.now) (g.W.Journal.journal f.new.w) c.in-Err.end s.output (f.ensures.goes.course o s).output f.ensures.goes.task
     c.requires.first.counted fresh c.in-Err.ensures.goes.counts
+
+pub returns-in-Ok-clause-pings : goal.returns-in-Ok-clause-pings
+returns-in-Ok-clause-pings g c =
+    subst (λ b. IfOk c.with_kernel.result (λ j. pings_kernel j ≡ b))
+    (ap (λ (x : Execution). x.terms.heartbeat) c.job_of.ensures.run ∙ ap (λ (t : Terms). t.heartbeat) c.save_first.ensures.goes.terms) c.with_kernel.ensures.pings

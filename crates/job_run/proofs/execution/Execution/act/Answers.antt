@@ -18,6 +18,7 @@ loop-act-init g c = record {
   calls = λ cast since from s. s;
   saves = told_start (λ x. start);
   task = refl;
+  terms = refl;
   session = refl;
   counts = λ h. h;
 }
@@ -35,6 +36,7 @@ loop-act-preserved g c =
           (calls_output c.args.self.now.book c.loop-act.self.book (g.W.Journal.journal c.args.w.now) (g.W.Journal.journal c.loop-act.w) (g.W.Journal.counts c.args.w.now) (g.W.Journal.counts c.loop-act.w) i.calls)
           i.saves e.saves;
       task = e.task ∙ i.task;
+      terms = e.terms ∙ i.terms;
       session = e.asks ∙ i.session;
       counts = λ h. e.counts (quiet_at c.loop-act.self c.loop-act.act (g.W.Journal.journal c.loop-act.w) (i.counts h));
     }
@@ -51,6 +53,7 @@ returns g c =
             (p.course o _ _ _ (i.course o s));
         calls = λ cast since from s. p.calls cast since from _ _ (i.calls cast since from s);
         task = p.task ∙ i.task;
+        terms = p.terms ∙ i.terms;
         own = p.own;
         counts = λ h. counts_on c.loop-act.self c.perform.new.self c.loop-act.act c.perform.result (g.W.Journal.journal c.loop-act.w)
             (part_output c.loop-act.self.book c.perform.new.self.book p.calls) p.counts (i.counts h);
@@ -76,6 +79,7 @@ returns-in_err-act-clause-goes g c =
       course = λ o s. e.course o (i.course o s);
       calls = λ cast since from s. e.calls cast since from (i.calls cast since from s);
       task = e.task ∙ i.task;
+      terms = e.terms ∙ i.terms;
       own = e.own;
       counts = λ h. e.counts (quiet_at c.loop-act.self c.loop-act.act (g.W.Journal.journal c.loop-act.w) (i.counts h));
     })

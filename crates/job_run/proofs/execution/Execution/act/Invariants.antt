@@ -18,6 +18,7 @@ invariant-loop-act g l =
       calls : CallsOwn g.W.Journal.journal g.W.Journal.counts l.fn.w l.w l.fn.self.book l.self.book;
       saves : Told (g.W.Journal.journal l.fn.w) (g.W.Journal.journal l.w) (Since (IsSaveCall (output_of l.fn.self.book)));
       task : task_of l.self.core ≡ task_of l.fn.self.core;
+      terms : l.self.terms ≡ l.fn.self.terms;
       session : l.self.session ≡ l.fn.self.session;
       counts : IsCountedAt l.fn.self l.fn.act (g.W.Journal.journal l.fn.w) → IsCountedAt l.self l.act (g.W.Journal.journal l.w);
     }

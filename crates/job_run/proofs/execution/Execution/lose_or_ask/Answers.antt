@@ -22,6 +22,7 @@ returns-in-Ok g c =
       course = λ o s. subst (λ b. Stands o b (stays_open c.ask_or_end.result) j k) (sym book) (subst (λ q. Stands o x.book q j k) (sym e.saved) (l.course o s));
       calls = λ cast since from s. subst (λ b. HasPart cast since from b j k) (sym book) (l.calls cast since from s);
       task = ap (λ (z : Execution). task_of z.core) e.asked ∙ l.task;
+      terms = ap (λ (z : Execution). z.terms) e.asked ∙ l.terms;
       own = e.own;
       counts = λ h. counts_on x y Nothing c.ask_or_end.result j (ap output_of book) e.counts (l.counts h);
     }

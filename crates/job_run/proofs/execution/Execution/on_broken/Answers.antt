@@ -8,4 +8,4 @@ pub returns : goal.returns
 returns g c =
     let x = c.args.self.now in
     let b = c.note_broken in
-    goes_told b.ensures.book (ap task_of b.ensures.core) (λ n i. named_counts x b.new.self n b.ensures.core b.ensures.clock b.ensures.named i) c.step.ensures.goes
+    goes_told b.ensures.book (ap task_of b.ensures.core) b.ensures.terms (λ n i. named_counts x b.new.self n b.ensures.core b.ensures.clock b.ensures.named i) c.step.ensures.goes

@@ -20,7 +20,7 @@ returns-clause-goes g c =
     let x = c.args.self.now in
     let m = c.now-ms.ensures in
     let t = c.turn_clock in
-    let rest = goes_told {x = x} t.ensures.book (ap task_of t.ensures.core) (λ n i. later_counts x t.new.self n t.ensures.core t.ensures.later t.ensures.broken i) c.hear_clock.ensures.goes in
+    let rest = goes_told {x = x} t.ensures.book (ap task_of t.ensures.core) t.ensures.terms (λ n i. later_counts x t.new.self n t.ensures.core t.ensures.later t.ensures.broken i) c.hear_clock.ensures.goes in
     record {
       holds = rest.holds;
       calm = rest.calm;
@@ -28,6 +28,7 @@ returns-clause-goes g c =
       calls = λ cast since from s. rest.calls cast since from
           (entry_called cast since from x.book _ _ _ _ _ (λ past. record { number = s.number; ask = s.ask; has = s.has; is = tt }) clock_quiet (λ past. tt) m.tells (moment_works m.later m.counts) s);
       task = rest.task;
+      terms = rest.terms;
       own = rest.own;
       counts = λ h. rest.counts (counts_passed x Nothing (g.W.Journal.journal c.args.w.now) (g.W.Journal.journal c.now-ms.new.self) _ (λ past. refl) m.tells h);
     }

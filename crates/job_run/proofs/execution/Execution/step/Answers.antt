@@ -5,7 +5,7 @@ use Rattle.job_run.proofs.StepLemmas.{goes_told}
 use Rattle.job_run.proofs.execution.Execution.step.Goals as goal
 
 pub returns-clause-goes : goal.returns-clause-goes
-returns-clause-goes g c = goes_told c.tell-step.ensures.book c.tell-step.ensures.task c.tell-step.ensures.counts c.act.ensures.goes
+returns-clause-goes g c = goes_told c.tell-step.ensures.book c.tell-step.ensures.task c.tell-step.ensures.terms c.tell-step.ensures.counts c.act.ensures.goes
 
 pub returns-clause-saves : goal.returns-clause-saves
 returns-clause-saves g c =

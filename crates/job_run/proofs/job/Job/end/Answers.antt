@@ -1,10 +1,11 @@
-use Rattle.std.proofs.Common.{Err, refl, sym, subst}
+use Rattle.std.proofs.Common.{Err, refl, sym, ap, subst}
 use Rattle.job_end.specs.declared.end.End.TheVariants as end
 use Rattle.job_saves.specs.Course.{Stands, keeps_open}
 use Rattle.cell_core.specs.StandsFor.{task_of}
 use Rattle.job_run.proofs.TurnLemmas.{end_counts, outside_job}
 use Rattle.job_run.proofs.OutcomeLemmas.{err_same}
 use Rattle.job_run.proofs.RunLemmas.{turns, plays_on}
+use Rattle.job_run.specs.declared.terms.Terms.{Terms}
 use Rattle.job_run.proofs.job.Job.end.Goals as goal
 
 pub returns-clause-course : goal.returns-clause-course
@@ -27,3 +28,6 @@ returns-clause-spent c h = err_same (Err c.args.end) c.args.end end.Spent refl (
 
 pub outcome_of-requires-clause-own : goal.outcome_of-requires-clause-own
 outcome_of-requires-clause-own c = outside_job (task_of c.args.self.now.run.core) c.args.end c.requires.outside
+
+pub returns-clause-pings : goal.returns-clause-pings
+returns-clause-pings c = ap (λ (t : Terms). t.heartbeat) c.outcome_of.ensures.terms

@@ -1,4 +1,4 @@
-use Rattle.std.proofs.Common.{true, refl, sym, ◌∙◌}
+use Rattle.std.proofs.Common.{true, refl, sym, ap, ◌∙◌}
 use Rattle.world.proofs.CountsLemmas.{grow_same}
 use Rattle.job_saves.specs.Course.{stays_open}
 use Rattle.cell_core.specs.StandsFor.{task_of}
@@ -11,6 +11,7 @@ use Rattle.job_saves.proofs.CourseLemmas.{others_pass}
 use Rattle.job_run.proofs.CountLemmas.{counts_passed}
 use Rattle.job_run.proofs.WorkLemmas.{same_works}
 use Rattle.job_run.proofs.PartLemmas.{kids_quiet}
+use Rattle.job_run.specs.declared.terms.Terms.{Terms}
 use Rattle.job_run.proofs.job.Job.on_moment.Goals as goal
 
 pub outcome_of-requires-clause-own : goal.outcome_of-requires-clause-own
@@ -30,6 +31,7 @@ returns g c =
           plays_on cast since from c.args.self.now _ t.new.self.book _ _ _ _
           (λ s. t.ensures.calls cast since from (entry_called cast since from _ _ _ _ _ _ (λ past. record { number = c.args.self.now.number; ask = r.role.ask; has = r.role.has; is = refl }) kids_quiet (λ past. tt) c.look.ensures.tells (same_works c.look.ensures.same) s)) e.calls refl refl r;
       task = e.task ∙ t.ensures.task;
+      pings = ap (λ (x : Terms). x.heartbeat) (e.terms ∙ t.ensures.terms);
       output = refl;
       still = record {
         lost = λ h. absurd (not_lost (task_of t.new.self.core) t.result t.ensures.own (e.lost h));
