@@ -30,8 +30,8 @@ use Rattle.job_end.specs.Answers.{Answers, said, starved, starved_answer}
 use Rattle.job_end.specs.Statuses.{status_of}
 use Rattle.job_saves.specs.Course.{Origin, IsFor, Begins}
 use Rattle.job_run.specs.declared.job.Job.{Job}
-use Rattle.job_run.specs.Run.{Runs, RunsCounted, BeginsNew, StartsAs, outcome_of, HasPorts}
-use Rattle.job_run.specs.Task.{ports_of_job, task_for, task_of_job, output_of_job}
+use Rattle.job_run.specs.Run.{Runs, RunsCounted, BeginsNew, StartsAs}
+use Rattle.job_run.specs.Task.{task_for, task_of_job}
 use Rattle.job_saves.specs.Speaking.{IsAnswer}
 use Rattle.job_run.specs.Told.{EndsJob, StartsBy, IsEnding, IsCaused, cause_of}
 use Rattle.job_run.proofs.StopLemmas.{why_in, start_caused}
@@ -113,26 +113,12 @@ module _ (output : List ℕ) where
   pub starved_end : (a : Answer) → a ≡ starved_answer → IsAnswer output a
   starved_end a is = ∣ record { end = end.NoMemory; answers = subst (λ x. Answers output end.NoMemory x) (sym is) starved } ∣₁
 
-  pub answered_output : (to : List ℕ) (begun : Result Job End) (result : Result Job Answer) → AnswersAs output begun result → IfOk begun (λ j. output_of_job j ≡ to)
-      → IfOk result (λ j. output_of_job j ≡ to)
-  answered_output to (Ok j) (Ok k) same h = ap output_of_job same ∙ h
-  answered_output to (Err e) (Err answer) answers h = tt
-  answered_output to (Ok j) (Err answer) wrong h = absurd wrong
-  answered_output to (Err e) (Ok k) wrong h = absurd wrong
-
-  pub answered_fresh : (begun : Result Job End) (result : Result Job Answer) → AnswersAs output begun result → IfOk begun (λ j. outcome_of j ≡ None)
-      → IfOk result (λ j. outcome_of j ≡ None)
-  answered_fresh (Ok j) (Ok k) same h = ap outcome_of same ∙ h
-  answered_fresh (Err e) (Err answer) answers h = tt
-  answered_fresh (Ok j) (Err answer) wrong h = absurd wrong
-  answered_fresh (Err e) (Ok k) wrong h = absurd wrong
-
-  pub answered_ports : (number : ℕ) (journal : Option (List Entry)) (begun : Result Job End) (result : Result Job Answer) → AnswersAs output begun result
-      → IfOk begun (λ j. HasPorts number (ports_of_job j) journal) → IfOk result (λ j. HasPorts number (ports_of_job j) journal)
-  answered_ports number journal (Ok j) (Ok k) same h = subst (λ (x : Job). HasPorts number (ports_of_job x) journal) (sym same) h
-  answered_ports number journal (Err e) (Err answer) answers h = tt
-  answered_ports number journal (Ok j) (Err answer) wrong h = absurd wrong
-  answered_ports number journal (Err e) (Ok k) wrong h = absurd wrong
+  -- what stands of the job that runs
+  pub answered_ok : (P : Job → Type 0) (begun : Result Job End) (result : Result Job Answer) → AnswersAs output begun result → IfOk begun P → IfOk result P
+  answered_ok P (Ok j) (Ok k) same h = subst P (sym same) h
+  answered_ok P (Err e) (Err answer) answers h = tt
+  answered_ok P (Ok j) (Err answer) wrong h = absurd wrong
+  answered_ok P (Err e) (Ok k) wrong h = absurd wrong
 
   -- what isn't watched says nothing of its saves
   unwatched_new : (o : Origin) (j : Option (List Entry)) → o.is_watched ≡ false → BeginsNew o j

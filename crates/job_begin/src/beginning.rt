@@ -20,7 +20,7 @@ ghost use Rattle.job_saves.specs.Speaking.{IsAnswer};
 ghost use Rattle.job_saves.specs.Course.{GoesOn, CallsOwn, CountsWork};
 ghost use Rattle.job_saves.specs.Course.{IsEndOfRun, IsEndOfSave, stays_open, keeps_open};
 ghost use Rattle.job_run.specs.Run.{EndCause, RunsCounted, outcome_of, HasPorts};
-ghost use Rattle.job_run.specs.Task.{output_of_job, ports_of_job};
+ghost use Rattle.job_run.specs.Task.{output_of_job, ports_of_job, pings_kernel};
 ghost use Rattle.save_course.specs.Course.{IsRested};
 ghost use Rattle.kernel_start.specs.Finding.{IsNotRead};
 ghost use Rattle.words.specs.Runnable.{IsRunnable};
@@ -79,11 +79,12 @@ pub fn begin<W: World>(
     // The status and the line are those of an end; where it runs, its last line names its output.
     ensures answer { IfErr result (IsAnswer ask.output) }
     ensures output { IfOk result (λ j. output_of_job j ≡ ask.output) }
-    // Where it runs it has not ended, and a save that fails comes only where a count rose, whatever
-    // the world tells.
+    // Where it runs it has not ended, its kernel is pinged where that was asked for, and a save that
+    // fails comes only where a count rose, whatever the world tells.
     ensures runs { IfOk result (λ j.
         RunsCounted (W.counts w.old) j (W.journal w.new) (W.counts w.new)) }
     ensures fresh { IfOk result (λ j. outcome_of j ≡ None) }
+    ensures pings { IfOk result (λ j. pings_kernel j ≡ ask.heartbeat) }
     ensures ports { IfOk result (λ j. HasPorts number (ports_of_job j) (W.journal w.new)) }
 {
     laws::other_calls_pass();
@@ -189,6 +190,7 @@ fn begin_with<W: World>(
         (KernelEnds ask (first_of ask notebook) (W.journal w.old) (W.journal w.new)) }
     ensures output { IfOk result (λ j. output_of_job j ≡ ask.output) }
     ensures fresh { IfOk result (λ j. outcome_of j ≡ None) }
+    ensures pings { IfOk result (λ j. pings_kernel j ≡ ask.heartbeat) }
     ensures ports { IfOk result (λ j. HasPorts number (ports_of_job j) (W.journal w.new)) }
 {
     jobs_end_unsaved();
@@ -324,6 +326,7 @@ fn execute<W: World>(
         (KernelEnds ask notebook (W.journal w.old) (W.journal w.new)) }
     ensures output { IfOk result (λ j. output_of_job j ≡ ask.output) }
     ensures fresh { IfOk result (λ j. outcome_of j ≡ None) }
+    ensures pings { IfOk result (λ j. pings_kernel j ≡ ask.heartbeat) }
     ensures ports { IfOk result (λ j. HasPorts number (ports_of_job j) (W.journal w.new)) }
 {
     laws::other_calls_pass();

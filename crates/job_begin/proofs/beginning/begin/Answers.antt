@@ -1,13 +1,15 @@
-use Rattle.std.proofs.Common.{refl, subst}
+use Rattle.std.proofs.Common.{◌≡◌, None, refl, subst}
 use Rattle.world.specs.Moments.{start}
 use Rattle.world.proofs.MomentsLemmas.{told_start, told_as, told_both}
 use Rattle.job_saves.specs.Reads.{first_of}
 use Rattle.job_saves.proofs.TellingLemmas.{lacks_later}
 use Rattle.job_begin.specs.Begun.{AnswersAs, without}
 use Rattle.job_begin.proofs.BeginLemmas.{told_appends, save_rose, begun_so, disk_calls, disk_keeps_end, disk_asks_none, input_read, answered_role, answered_left}
+use Rattle.job_run.specs.Run.{outcome_of, HasPorts}
+use Rattle.job_run.specs.Task.{output_of_job, ports_of_job, pings_kernel}
 use Rattle.job_run.proofs.LaunchLemmas.{ends_then}
 use Rattle.job_begin.proofs.CauseLemmas.{unsaved_caused, all_caused, answer_unspent, starved_unspent, all_unspent}
-use Rattle.job_begin.proofs.EndLemmas.{unread_starved, unread_answer, answered_kernel, at_moments, answered_with, answered_end, starved_end, answered_output, answered_fresh, answered_ports, counted}
+use Rattle.job_begin.proofs.EndLemmas.{unread_starved, unread_answer, answered_kernel, at_moments, answered_with, answered_end, starved_end, answered_ok, counted}
 use Rattle.std.specs.Prelude.{IfErr}
 use Rattle.job_saves.specs.Speaking.{IsAnswer}
 use Rattle.job_begin.proofs.beginning.begin.Goals as goal
@@ -78,7 +80,7 @@ pub returns-in-Ok-input_of-clause-answer : goal.returns-in-Ok-input_of-clause-an
 returns-in-Ok-input_of-clause-answer g c = subst (λ q. IfErr c.answer_of.result (IsAnswer q)) c.in-Ok.ensures (answered_end c.in-Ok.output c.begin_with-begun.result c.answer_of.result c.answer_of.ensures)
 
 pub returns-in-Ok-input_of-clause-output : goal.returns-in-Ok-input_of-clause-output
-returns-in-Ok-input_of-clause-output g c = answered_output c.in-Ok.output c.args.ask.output c.begin_with-begun.result c.answer_of.result c.answer_of.ensures c.begin_with-begun.ensures.output
+returns-in-Ok-input_of-clause-output g c = answered_ok c.in-Ok.output (λ j. output_of_job j ≡ c.args.ask.output) c.begin_with-begun.result c.answer_of.result c.answer_of.ensures c.begin_with-begun.ensures.output
 
 pub returns-in-Ok-input_of-clause-runs : goal.returns-in-Ok-input_of-clause-runs
 returns-in-Ok-input_of-clause-runs g c =
@@ -86,7 +88,7 @@ returns-in-Ok-input_of-clause-runs g c =
     counted c.in-Ok.output c.args.ask c.in-Ok-input_of.notebook c.begin_with-begun.result c.answer_of.result _ _ _ _ _ c.answer_of.ensures e.work.grow c.begin_with-begun.ensures.course
 
 pub returns-in-Ok-input_of-clause-fresh : goal.returns-in-Ok-input_of-clause-fresh
-returns-in-Ok-input_of-clause-fresh g c = answered_fresh c.in-Ok.output c.begin_with-begun.result c.answer_of.result c.answer_of.ensures c.begin_with-begun.ensures.fresh
+returns-in-Ok-input_of-clause-fresh g c = answered_ok c.in-Ok.output (λ j. outcome_of j ≡ None) c.begin_with-begun.result c.answer_of.result c.answer_of.ensures c.begin_with-begun.ensures.fresh
 
 -- ---- it is not out of waits
 
@@ -101,4 +103,8 @@ returns-in-Ok-input_of-clause-spent g c = all_unspent (g.W.Journal.counts c.inpu
 
 pub returns-in-Ok-input_of-clause-ports : goal.returns-in-Ok-input_of-clause-ports
 returns-in-Ok-input_of-clause-ports g c =
-    answered_ports c.in-Ok.output c.args.number (g.W.Journal.journal c.begin_with-begun.new.w) c.begin_with-begun.result c.answer_of.result c.answer_of.ensures c.begin_with-begun.ensures.ports
+    answered_ok c.in-Ok.output (λ j. HasPorts c.args.number (ports_of_job j) (g.W.Journal.journal c.begin_with-begun.new.w)) c.begin_with-begun.result c.answer_of.result c.answer_of.ensures c.begin_with-begun.ensures.ports
+
+pub returns-in-Ok-input_of-clause-pings : goal.returns-in-Ok-input_of-clause-pings
+returns-in-Ok-input_of-clause-pings g c =
+    answered_ok c.in-Ok.output (λ j. pings_kernel j ≡ c.args.ask.heartbeat) c.begin_with-begun.result c.answer_of.result c.answer_of.ensures c.begin_with-begun.ensures.pings

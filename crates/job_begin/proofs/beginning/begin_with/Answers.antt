@@ -95,3 +95,6 @@ returns-clause-counted g c o for s fresh =
     let same : c.in-Ok.notebook ≡ first_of a n = c.in-Ok.ensures ∙ sym (ap (λ b. if b then n else prepared_notebook n) c.if-ask.false) in
     subst (λ first. IfErr c.execute.result (EndsCounted o (counted_task a first) (g.W.Journal.journal c.execute.new.w))) same
     (c.execute.ensures.counted o (record { output_is = for.output_is; merge_is = for.merge_is; first_is = for.first_is ∙ sym same }) s fresh)
+
+pub returns-clause-pings : goal.returns-clause-pings
+returns-clause-pings g c = c.execute.ensures.pings

@@ -114,3 +114,6 @@ returns-in-Ok-kernel_of-clause-counted g c o for s fresh =
 
 pub returns-in-Err-clause-counted : goal.returns-in-Err-clause-counted
 returns-in-Err-clause-counted g c o for s fresh = uncaused_counts o (counted_task c.args.ask c.args.notebook) (g.W.Journal.journal c.kernel_of.new.w) c.in-Err.end c.in-Err.ensures.uncaused
+
+pub returns-in-Ok-kernel_of-clause-pings : goal.returns-in-Ok-kernel_of-clause-pings
+returns-in-Ok-kernel_of-clause-pings g c = c.start.ensures.pings
