@@ -24,7 +24,7 @@ pub(crate) struct Jobs {
 impl Jobs {
     ghost use Rattle.std.specs.Prelude.{◌≡◌, ◌<◌, ◌≤◌, ◌+◌, IfOk, IfSome, IsTrue};
     ghost use Rattle.job_run.specs.Run.{HasPorts};
-    ghost use Rattle.job_run.specs.Task.{ports_of_job};
+    ghost use Rattle.job_run.specs.Task.{ports_of_job, pings_kernel};
     ghost use Rattle.std.specs.Prelude.{List as Plain, Option as Maybe, Some, None, length, slice_get, slice_set};
     ghost use Rattle.words.specs.Runnable.{IsRunnable};
     ghost use Rattle.words.specs.declared.ask.Ask.{Ask as Asked};
@@ -73,6 +73,9 @@ impl Jobs {
         // The connections that it wants are on the ports that were given for it.
         ensures ports { IfOk result (λ o.
             IfSome o (λ wanted. HasPorts number wanted.ports (W.journal w.new))) }
+        // That of the heartbeat is among them where its kernel is to be pinged.
+        ensures heart { IfOk result (λ o.
+            IfSome o (λ wanted. wanted.heart ≡ ask.heartbeat)) }
     {
         match begin(self.alloc, w, number as u8, ask, here) {
             Ok(job) => Ok(Some(self.start(number, job))),
@@ -86,6 +89,7 @@ impl Jobs {
         ensures slots { self.new.slots.items
             ≡ slice_set self.old.slots.items number (Slot.Running job) }
         ensures ports { result.ports ≡ ports_of_job job }
+        ensures heart { result.heart ≡ pings_kernel job }
     {
         let wanted = Wanted::of(&job);
         let former = mem::replace(&mut self.slots[number], Slot::Running(job));

@@ -1,4 +1,4 @@
-use Rattle.std.proofs.Common.{length, set, Ok, Err, sym, ◌∙◌, ap, subst}
+use Rattle.std.proofs.Common.{◌≡◌, length, set, Ok, Err, sym, ◌∙◌, ap, subst}
 use Rattle.std.proofs.lemmas.List.{length-set}
 use Rattle.batch_run.specs.declared.slot.Slot.TheVariants.{Running, Ended}
 use Rattle.batch_run.specs.Stands.{AllStand, WaitingFrom}
@@ -41,3 +41,9 @@ returns-in-Ok-clause-ports g c = subst (λ ports. HasPorts c.args.number ports (
 
 pub returns-in-Err-clause-ports : goal.returns-in-Err-clause-ports
 returns-in-Err-clause-ports g c = none_wanted c.end.result (λ wanted. HasPorts c.args.number wanted.ports (g.W.Journal.journal c.end.new.w)) c.end.ensures.none
+
+pub returns-in-Ok-clause-heart : goal.returns-in-Ok-clause-heart
+returns-in-Ok-clause-heart g c = c.start.ensures.heart ∙ c.in-Ok.ensures.pings
+
+pub returns-in-Err-clause-heart : goal.returns-in-Err-clause-heart
+returns-in-Err-clause-heart g c = none_wanted c.end.result (λ wanted. wanted.heart ≡ c.args.ask.heartbeat) c.end.ensures.none
