@@ -19,7 +19,7 @@ use Rattle.ready_loop.specs.declared.readiness.Loop.{Loop}
 use Rattle.ready_loop.specs.declared.stage.Stage.{Stage}
 use Rattle.ready_loop.specs.declared.stage.Stage.TheVariants.{Fresh, Begun, Closed}
 use Rattle.ready_loop.specs.Link.{MayRead, MayWrite, connect_link, begun_link, closed_link, is_begun, is_known}
-use Rattle.ready_loop.specs.Begins.{BeginMoment, Begins, BeginsOne, port_of, CloseMoment, CloseCame, ClosesOne, closing, begun_in, failed_closed, is_of_job}
+use Rattle.ready_loop.specs.Begins.{BeginMoment, Begins, BeginsOne, IsBegun, port_of, CloseMoment, CloseCame, ClosesOne, closing, begun_in, failed_closed, is_of_job}
 use Rattle.ready_loop.specs.Queues.{held_in, rest_at}
 use Rattle.ready_loop.specs.Begins as begins
 use Rattle.ready_loop.specs.History.{History, no_change, with_begun, with_all_begun, conn_on, chans, after_begin}
@@ -89,6 +89,20 @@ begin_known conn how last port links now link found is p = elim (cases_eq p (pla
       ∙ sym (ap (λ b. b || known_in (slice_get links p)) (not_at p conn ne))
 ]
 
+-- a connect was called for this one too
+abbrev KnowsToo : Conn → Loop → Loop → Type 0
+KnowsToo conn l new = (p : ℕ) → known_at new p ≡ is_at p conn || known_at l p
+
+-- so it is known
+known_own : (conn : Conn) (l new : Loop) → KnowsToo conn l new → known_at new (place_of conn) ≡ true
+known_own conn l new known =
+    known (place_of conn) ∙ ap (λ b. b || known_at l (place_of conn)) (at_own conn)
+
+-- and one that was known stays so
+known_more : (conn : Conn) (l new : Loop) → KnowsToo conn l new → (p : ℕ) → known_at l p ≡ true
+    → known_at new p ≡ true
+known_more conn l new known p was = known p ∙ or_right (is_at p conn) (known_at l p) was
+
 -- nothing comes to be held for it
 pub begin_holds : (conn : Conn) (l new : Loop) → new.queues ≡ l.queues
     → ((p : ℕ) → known_at new p ≡ is_at p conn || known_at l p) → HoldsForKnown l → HoldsForKnown new
@@ -126,6 +140,29 @@ pub begins_last : {U : Type 0} {job : ℕ} {ports : List ℕ} (chan : Chan) (res
     → BeginsOne (conn_on job chan) (port_of ports chan) result x y → Begins job ports (chan ∷ []) result x y
 begins_last chan (Ok u) x y one = begins_then u chan [] (Ok u) x y y one (begins.done u y)
 begins_last chan (Err fault) x y one = begins_failed chan [] fault x y one
+
+-- the three that each job has are begun
+pub begun_three : (job : ℕ) (a b c d : Loop) → KnowsToo (conn_on job Shell) a b
+    → KnowsToo (conn_on job Control) b c → KnowsToo (conn_on job Iopub) c d → IsBegun job false d
+begun_three job a b c d shell control iopub = record {
+  shell = known_more (conn_on job Iopub) c d iopub (place_of (conn_on job Shell))
+      (known_more (conn_on job Control) b c control (place_of (conn_on job Shell))
+      (known_own (conn_on job Shell) a b shell));
+  control = known_more (conn_on job Iopub) c d iopub (place_of (conn_on job Control))
+      (known_own (conn_on job Control) b c control);
+  iopub = known_own (conn_on job Iopub) c d iopub;
+  heart_too = λ e. absurd (false≢true e);
+}
+
+-- and that of the heartbeat
+pub begun_four : (job : ℕ) (heart : Bool) (d e : Loop) → IsBegun job false d
+    → KnowsToo (conn_on job Heart) d e → IsBegun job heart e
+begun_four job heart d e begun known = record {
+  shell = known_more (conn_on job Heart) d e known (place_of (conn_on job Shell)) begun.shell;
+  control = known_more (conn_on job Heart) d e known (place_of (conn_on job Control)) begun.control;
+  iopub = known_more (conn_on job Heart) d e known (place_of (conn_on job Iopub)) begun.iopub;
+  heart_too = λ wanted. known_own (conn_on job Heart) d e known;
+}
 
 -- after the last connect, whatever it answered
 pub after_last : {U : Type 0} (job : ℕ) (r : Result U LoopFault)

@@ -2,6 +2,7 @@ pub mod BeginLemmas
 pub mod BegunLemmas
 pub mod CallLemmas
 pub mod ConnectLemmas
+pub mod FaultLemmas
 pub mod KeyLemmas
 pub mod LookLemmas
 pub mod MapLemmas

@@ -204,6 +204,12 @@ read_lowers answer last q links now link found is may =
     let falls = link_read answer last link may in
     omega (arith, sums, here, same, falls)
 
+-- a connection that is to be read is left
+pub not_drained : {l now : Loop} {q : ℕ} {link : Link} → q < 64 → now ≡ l
+    → slice_get now.links q ≡ Some link → MayRead link → IsDrained l → ⊥
+not_drained {q = q} {link} low same found may d =
+    d.each q link low (subst (λ (k : Loop). slice_get k.links q ≡ Some link) same found) may
+
 -- what is known of the connection at a place, and back
 pub may_here : (P : Link → Type 0) (links : List Link) (q : ℕ) (link : Link) → slice_get links q ≡ Some link
     → IsSomeAnd (slice_get links q) P → P link

@@ -188,6 +188,12 @@ pub others_kept : (job port p : ℕ) (chan : Chan) (old new : List (Option ℕ))
 others_kept job port p chan old new adds other =
     adds.others p (λ e. false≢true (sym (not_of_chan job p chan other) ∙ eq-eqb p (place_of (conn_on job chan)) e))
 
+-- and none of them becomes known
+pub others_known : (job : ℕ) (chan : Chan) (l new : Loop)
+    → ((p : ℕ) → known_at new p ≡ is_at p (conn_on job chan) || known_at l p)
+    → (p : ℕ) → is_of_job job p ≡ false → known_at new p ≡ known_at l p
+others_known job chan l new known p other = known p ∙ ap (λ b. b || known_at l p) (not_of_chan job p chan other)
+
 -- ---- the connects
 
 -- each port that is kept is kept on

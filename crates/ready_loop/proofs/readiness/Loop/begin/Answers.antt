@@ -3,14 +3,15 @@ use Rattle.world.specs.declared.chan.Chan.TheVariants.{Shell, Control, Iopub, He
 use Rattle.world.specs.Places.{place_of}
 use Rattle.world.proofs.MomentsLemmas.{told_as, told_then}
 use Rattle.ready_loop.specs.declared.fault.LoopFault.{LoopFault}
-use Rattle.ready_loop.specs.Begins.{Begins, BeginMoment}
+use Rattle.ready_loop.specs.Begins.{Begins, BeginMoment, IsBegun}
 use Rattle.ready_loop.specs.History.{conn_on, after_begin, chans}
 use Rattle.ready_loop.specs.States.{failed_after}
-use Rattle.ready_loop.proofs.StateLemmas.{sound_ok}
+use Rattle.ready_loop.proofs.StateLemmas.{sound_as, sound_ok}
 use Rattle.ready_loop.proofs.StandLemmas.{goes_then, goes_step}
-use Rattle.ready_loop.proofs.BeginLemmas.{fresh_other, begins_then, begins_failed, begins_last, after_last}
+use Rattle.ready_loop.proofs.BeginLemmas.{fresh_other, begins_then, begins_failed, begins_last, begun_three, begun_four, after_last}
 use Rattle.ready_loop.proofs.PartLemmas.{calls_then}
-use Rattle.ready_loop.proofs.WireLemmas.{grows_more, wired_then, has_none, has_more, others_kept}
+use Rattle.ready_loop.proofs.FaultLemmas.{on_ok, of_conn, of_conn_if, fails_then, cause_last}
+use Rattle.ready_loop.proofs.WireLemmas.{grows_more, wired_then, has_none, has_more, others_kept, others_known}
 use Rattle.ready_loop.proofs.readiness.Loop.begin.Goals as goal
 
 pub begin_on-requires-clause-fresh : goal.begin_on-requires-clause-fresh
@@ -190,3 +191,186 @@ returns-then-not-heart-clause-kept g c = λ p other. others_kept c.args.job _ p 
 pub returns-clause-kept : goal.returns-clause-kept
 returns-clause-kept g c = λ p other. others_kept c.args.job _ p Heart _ _ c.begin_on-4.ensures.ports other ∙ others_kept c.args.job _ p Iopub _ _ c.in-Ok-begin_on-2.ensures.ports other
     ∙ others_kept c.args.job _ p Control _ _ c.in-Ok-begin_on.ensures.ports other ∙ others_kept c.args.job _ p Shell _ _ c.in-Ok.ensures.ports other
+
+-- ---- the fault
+
+pub returns-in-Err-clause-fault : goal.returns-in-Err-clause-fault
+returns-in-Err-clause-fault g c = of_conn c.in-Err.ensures.fault
+
+pub returns-in-Err-begin_on-clause-fault : goal.returns-in-Err-begin_on-clause-fault
+returns-in-Err-begin_on-clause-fault g c = of_conn c.in-Err-begin_on.ensures.fault
+
+pub returns-in-Err-begin_on-2-clause-fault : goal.returns-in-Err-begin_on-2-clause-fault
+returns-in-Err-begin_on-2-clause-fault g c = of_conn c.in-Err-begin_on-2.ensures.fault
+
+pub returns-then-not-heart-clause-fault : goal.returns-then-not-heart-clause-fault
+returns-then-not-heart-clause-fault g c = tt
+
+pub returns-clause-fault : goal.returns-clause-fault
+returns-clause-fault g c = of_conn_if c.begin_on-4.result (conn_on c.args.job Heart) c.begin_on-4.ensures.fault
+
+-- ---- the connections that are known
+
+pub returns-in-Err-clause-begun : goal.returns-in-Err-clause-begun
+returns-in-Err-clause-begun g c = tt
+
+pub returns-in-Err-begin_on-clause-begun : goal.returns-in-Err-begin_on-clause-begun
+returns-in-Err-begin_on-clause-begun g c = tt
+
+pub returns-in-Err-begin_on-2-clause-begun : goal.returns-in-Err-begin_on-2-clause-begun
+returns-in-Err-begin_on-2-clause-begun g c = tt
+
+pub returns-then-not-heart-clause-begun : goal.returns-then-not-heart-clause-begun
+returns-then-not-heart-clause-begun g c = subst (λ (heart : Bool). IsBegun c.args.job heart c.begin_on-3.new.self) (sym c.if-not-heart.true)
+    (begun_three c.args.job c.args.self.now c.begin_on.new.self c.begin_on-2.new.self c.begin_on-3.new.self
+    c.in-Ok.ensures.known c.in-Ok-begin_on.ensures.known c.in-Ok-begin_on-2.ensures.known)
+
+pub returns-clause-begun : goal.returns-clause-begun
+returns-clause-begun g c = on_ok c.begin_on-4.result (begun_four c.args.job c.args.heart c.begin_on-3.new.self c.begin_on-4.new.self
+    (begun_three c.args.job c.args.self.now c.begin_on.new.self c.begin_on-2.new.self c.begin_on-3.new.self
+    c.in-Ok.ensures.known c.in-Ok-begin_on.ensures.known c.in-Ok-begin_on-2.ensures.known)
+    c.begin_on-4.ensures.known)
+
+pub returns-in-Err-clause-others : goal.returns-in-Err-clause-others
+returns-in-Err-clause-others g c = λ p other. others_known c.args.job Shell c.args.self.now c.begin_on.new.self c.in-Err.ensures.known p other
+
+pub returns-in-Err-begin_on-clause-others : goal.returns-in-Err-begin_on-clause-others
+returns-in-Err-begin_on-clause-others g c = λ p other. others_known c.args.job Control c.begin_on.new.self c.begin_on-2.new.self c.in-Err-begin_on.ensures.known p other
+    ∙ others_known c.args.job Shell c.args.self.now c.begin_on.new.self c.in-Ok.ensures.known p other
+
+pub returns-in-Err-begin_on-2-clause-others : goal.returns-in-Err-begin_on-2-clause-others
+returns-in-Err-begin_on-2-clause-others g c = λ p other. others_known c.args.job Iopub c.begin_on-2.new.self c.begin_on-3.new.self c.in-Err-begin_on-2.ensures.known p other
+    ∙ others_known c.args.job Control c.begin_on.new.self c.begin_on-2.new.self c.in-Ok-begin_on.ensures.known p other
+    ∙ others_known c.args.job Shell c.args.self.now c.begin_on.new.self c.in-Ok.ensures.known p other
+
+pub returns-then-not-heart-clause-others : goal.returns-then-not-heart-clause-others
+returns-then-not-heart-clause-others g c = λ p other. others_known c.args.job Iopub c.begin_on-2.new.self c.begin_on-3.new.self c.in-Ok-begin_on-2.ensures.known p other
+    ∙ others_known c.args.job Control c.begin_on.new.self c.begin_on-2.new.self c.in-Ok-begin_on.ensures.known p other
+    ∙ others_known c.args.job Shell c.args.self.now c.begin_on.new.self c.in-Ok.ensures.known p other
+
+pub returns-clause-others : goal.returns-clause-others
+returns-clause-others g c = λ p other. others_known c.args.job Heart c.begin_on-3.new.self c.begin_on-4.new.self c.begin_on-4.ensures.known p other
+    ∙ others_known c.args.job Iopub c.begin_on-2.new.self c.begin_on-3.new.self c.in-Ok-begin_on-2.ensures.known p other
+    ∙ others_known c.args.job Control c.begin_on.new.self c.begin_on-2.new.self c.in-Ok-begin_on.ensures.known p other
+    ∙ others_known c.args.job Shell c.args.self.now c.begin_on.new.self c.in-Ok.ensures.known p other
+
+-- ---- what is to be done
+
+pub returns-in-Err-clause-drained : goal.returns-in-Err-clause-drained
+returns-in-Err-clause-drained g c = c.in-Err.ensures.drained
+
+pub returns-in-Err-begin_on-clause-drained : goal.returns-in-Err-begin_on-clause-drained
+returns-in-Err-begin_on-clause-drained g c = λ d. c.in-Err-begin_on.ensures.drained (c.in-Ok.ensures.drained d)
+
+pub returns-in-Err-begin_on-2-clause-drained : goal.returns-in-Err-begin_on-2-clause-drained
+returns-in-Err-begin_on-2-clause-drained g c = λ d. c.in-Err-begin_on-2.ensures.drained (c.in-Ok-begin_on.ensures.drained (c.in-Ok.ensures.drained d))
+
+pub returns-then-not-heart-clause-drained : goal.returns-then-not-heart-clause-drained
+returns-then-not-heart-clause-drained g c = λ d. c.in-Ok-begin_on-2.ensures.drained (c.in-Ok-begin_on.ensures.drained (c.in-Ok.ensures.drained d))
+
+pub returns-clause-drained : goal.returns-clause-drained
+returns-clause-drained g c = λ d. c.begin_on-4.ensures.drained (c.in-Ok-begin_on-2.ensures.drained (c.in-Ok-begin_on.ensures.drained (c.in-Ok.ensures.drained d)))
+
+pub returns-in-Err-clause-holds : goal.returns-in-Err-clause-holds
+returns-in-Err-clause-holds g c = c.in-Err.ensures.holds
+
+pub returns-in-Err-begin_on-clause-holds : goal.returns-in-Err-begin_on-clause-holds
+returns-in-Err-begin_on-clause-holds g c = λ h. c.in-Err-begin_on.ensures.holds (c.in-Ok.ensures.holds h)
+
+pub returns-in-Err-begin_on-2-clause-holds : goal.returns-in-Err-begin_on-2-clause-holds
+returns-in-Err-begin_on-2-clause-holds g c = λ h. c.in-Err-begin_on-2.ensures.holds (c.in-Ok-begin_on.ensures.holds (c.in-Ok.ensures.holds h))
+
+pub returns-then-not-heart-clause-holds : goal.returns-then-not-heart-clause-holds
+returns-then-not-heart-clause-holds g c = λ h. c.in-Ok-begin_on-2.ensures.holds (c.in-Ok-begin_on.ensures.holds (c.in-Ok.ensures.holds h))
+
+pub returns-clause-holds : goal.returns-clause-holds
+returns-clause-holds g c = λ h. c.begin_on-4.ensures.holds (c.in-Ok-begin_on-2.ensures.holds (c.in-Ok-begin_on.ensures.holds (c.in-Ok.ensures.holds h)))
+
+pub returns-in-Err-clause-offered : goal.returns-in-Err-clause-offered
+returns-in-Err-clause-offered g c = c.in-Err.ensures.offered
+
+pub returns-in-Err-begin_on-clause-offered : goal.returns-in-Err-begin_on-clause-offered
+returns-in-Err-begin_on-clause-offered g c = λ h o.
+    let h1 = c.in-Ok.ensures.holds h in
+    c.in-Err-begin_on.ensures.offered h1 (c.in-Ok.ensures.offered h o)
+
+pub returns-in-Err-begin_on-2-clause-offered : goal.returns-in-Err-begin_on-2-clause-offered
+returns-in-Err-begin_on-2-clause-offered g c = λ h o.
+    let h1 = c.in-Ok.ensures.holds h in
+    let h2 = c.in-Ok-begin_on.ensures.holds h1 in
+    c.in-Err-begin_on-2.ensures.offered h2 (c.in-Ok-begin_on.ensures.offered h1 (c.in-Ok.ensures.offered h o))
+
+pub returns-then-not-heart-clause-offered : goal.returns-then-not-heart-clause-offered
+returns-then-not-heart-clause-offered g c = λ h o.
+    let h1 = c.in-Ok.ensures.holds h in
+    let h2 = c.in-Ok-begin_on.ensures.holds h1 in
+    c.in-Ok-begin_on-2.ensures.offered h2 (c.in-Ok-begin_on.ensures.offered h1 (c.in-Ok.ensures.offered h o))
+
+pub returns-clause-offered : goal.returns-clause-offered
+returns-clause-offered g c = λ h o.
+    let h1 = c.in-Ok.ensures.holds h in
+    let h2 = c.in-Ok-begin_on.ensures.holds h1 in
+    let h3 = c.in-Ok-begin_on-2.ensures.holds h2 in
+    c.begin_on-4.ensures.offered h3 (c.in-Ok-begin_on-2.ensures.offered h2 (c.in-Ok-begin_on.ensures.offered h1 (c.in-Ok.ensures.offered h o)))
+
+-- ---- what has failed
+
+pub returns-in-Err-clause-failed : goal.returns-in-Err-clause-failed
+returns-in-Err-clause-failed g c = c.in-Err.ensures.failed
+
+pub returns-in-Err-begin_on-clause-failed : goal.returns-in-Err-begin_on-clause-failed
+returns-in-Err-begin_on-clause-failed g c = fails_then c.in-Ok.ensures.failed.each c.in-Err-begin_on.ensures.failed
+
+pub returns-in-Err-begin_on-2-clause-failed : goal.returns-in-Err-begin_on-2-clause-failed
+returns-in-Err-begin_on-2-clause-failed g c = fails_then (λ p. c.in-Ok-begin_on.ensures.failed.each p ∙ c.in-Ok.ensures.failed.each p) c.in-Err-begin_on-2.ensures.failed
+
+pub returns-then-not-heart-clause-failed : goal.returns-then-not-heart-clause-failed
+returns-then-not-heart-clause-failed g c = fails_then (λ p. c.in-Ok-begin_on.ensures.failed.each p ∙ c.in-Ok.ensures.failed.each p) c.in-Ok-begin_on-2.ensures.failed
+
+pub returns-clause-failed : goal.returns-clause-failed
+returns-clause-failed g c = fails_then (λ p. c.in-Ok-begin_on-2.ensures.failed.each p ∙ c.in-Ok-begin_on.ensures.failed.each p ∙ c.in-Ok.ensures.failed.each p) c.begin_on-4.ensures.failed
+
+pub returns-in-Err-clause-sound : goal.returns-in-Err-clause-sound
+returns-in-Err-clause-sound g c = tt
+
+pub returns-in-Err-begin_on-clause-sound : goal.returns-in-Err-begin_on-clause-sound
+returns-in-Err-begin_on-clause-sound g c = tt
+
+pub returns-in-Err-begin_on-2-clause-sound : goal.returns-in-Err-begin_on-2-clause-sound
+returns-in-Err-begin_on-2-clause-sound g c = tt
+
+pub returns-then-not-heart-clause-sound : goal.returns-then-not-heart-clause-sound
+returns-then-not-heart-clause-sound g c = sound_as c.args.self.now c.begin_on-3.new.self (λ p. c.in-Ok-begin_on-2.ensures.failed.each p ∙ c.in-Ok-begin_on.ensures.failed.each p ∙ c.in-Ok.ensures.failed.each p)
+
+pub returns-in-Err-clause-left : goal.returns-in-Err-clause-left
+returns-in-Err-clause-left g c = c.in-Err.ensures.only.left
+
+pub returns-in-Err-begin_on-clause-left : goal.returns-in-Err-begin_on-clause-left
+returns-in-Err-begin_on-clause-left g c = c.in-Err-begin_on.ensures.only.left ∙ c.in-Ok.ensures.only.left
+
+pub returns-in-Err-begin_on-2-clause-left : goal.returns-in-Err-begin_on-2-clause-left
+returns-in-Err-begin_on-2-clause-left g c = c.in-Err-begin_on-2.ensures.only.left ∙ c.in-Ok-begin_on.ensures.only.left ∙ c.in-Ok.ensures.only.left
+
+pub returns-then-not-heart-clause-left : goal.returns-then-not-heart-clause-left
+returns-then-not-heart-clause-left g c = c.in-Ok-begin_on-2.ensures.only.left ∙ c.in-Ok-begin_on.ensures.only.left ∙ c.in-Ok.ensures.only.left
+
+pub returns-clause-left : goal.returns-clause-left
+returns-clause-left g c = c.begin_on-4.ensures.only.left ∙ c.in-Ok-begin_on-2.ensures.only.left ∙ c.in-Ok-begin_on.ensures.only.left ∙ c.in-Ok.ensures.only.left
+
+pub returns-in-Err-clause-calls : goal.returns-in-Err-clause-calls
+returns-in-Err-clause-calls g c = c.in-Err.ensures.calls
+
+pub returns-in-Err-clause-cause : goal.returns-in-Err-clause-cause
+returns-in-Err-clause-cause g c = c.in-Err.ensures.cause
+
+pub returns-in-Err-begin_on-clause-cause : goal.returns-in-Err-begin_on-clause-cause
+returns-in-Err-begin_on-clause-cause g c = cause_last c.in-Ok.ensures.cause c.in-Err-begin_on.ensures.cause
+
+pub returns-in-Err-begin_on-2-clause-cause : goal.returns-in-Err-begin_on-2-clause-cause
+returns-in-Err-begin_on-2-clause-cause g c = cause_last (cause_last c.in-Ok.ensures.cause c.in-Ok-begin_on.ensures.cause) c.in-Err-begin_on-2.ensures.cause
+
+pub returns-then-not-heart-clause-cause : goal.returns-then-not-heart-clause-cause
+returns-then-not-heart-clause-cause g c = cause_last (cause_last c.in-Ok.ensures.cause c.in-Ok-begin_on.ensures.cause) c.in-Ok-begin_on-2.ensures.cause
+
+pub returns-clause-cause : goal.returns-clause-cause
+returns-clause-cause g c = cause_last (cause_last (cause_last c.in-Ok.ensures.cause c.in-Ok-begin_on.ensures.cause) c.in-Ok-begin_on-2.ensures.cause) c.begin_on-4.ensures.cause

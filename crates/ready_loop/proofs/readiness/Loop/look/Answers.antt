@@ -1,14 +1,15 @@
-use Rattle.std.proofs.Common.{◌∙◌, ap, refl, sym, ◌≡◌, List}
+use Rattle.std.proofs.Common.{◌∙◌, ap, refl, sym, ◌≡◌, List, ◌-◌}
 use Rattle.world.specs.declared.entry.Entry.{Entry}
 use Rattle.world.specs.Places.{time}
 use Rattle.ready_loop.proofs.TableLemmas.{told_from}
-use Rattle.world.proofs.MomentsLemmas.{told_as, told_then, told_both}
+use Rattle.world.proofs.MomentsLemmas.{told_as, told_then, told_both, told_start}
 use Rattle.ready_loop.specs.declared.readiness.Loop.{Loop}
 use Rattle.ready_loop.proofs.NameLemmas.{named_failed, named_known}
-use Rattle.ready_loop.proofs.StateLemmas.{sound_as, known_then}
-use Rattle.ready_loop.proofs.LookLemmas.{looked_until, looked_failed, looked_done, looked_names, may_then, left_of, counts_of}
+use Rattle.ready_loop.proofs.StateLemmas.{sound_as, known_then, known_start}
+use Rattle.ready_loop.proofs.LookLemmas.{looked_until, looked_failed, looked_done, looked_names, may_then, left_of, counts_of, looked_spent}
 use Rattle.ready_loop.proofs.PartLemmas.{calls_start, calls_then}
 use Rattle.ready_loop.proofs.WireLemmas.{grows_same, wired_start, wired_then, wired_on}
+use Rattle.ready_loop.proofs.FaultLemmas.{not_spent, wait_as, wait_last}
 use Rattle.ready_loop.proofs.readiness.Loop.look.Goals as goal
 
 pub returns-in-Err-clause-looked : goal.returns-in-Err-clause-looked
@@ -87,3 +88,99 @@ returns-in-Done-clause-ports g c = c.name_ends.ensures.ports ∙ c.in-Done.ensur
 
 pub returns-in-Done-clause-wires : goal.returns-in-Done-clause-wires
 returns-in-Done-clause-wires g c = wired_on c.name_ends.ensures.ports (wired_then (grows_same c.in-Done.ensures.ports) c.in-Ok.ensures.wires c.in-Done.ensures.wires)
+
+pub returns-then-self-eq0-clause-looked : goal.returns-then-self-eq0-clause-looked
+returns-then-self-eq0-clause-looked g c = told_start (λ x. looked_spent c.args.jobs (g.W.Journal.counts c.args.w.now).last c.args.self.now x)
+
+pub returns-then-self-eq0-clause-names : goal.returns-then-self-eq0-clause-names
+returns-then-self-eq0-clause-names g c = told_start (λ x. record { so = λ h stand. tt })
+
+pub returns-then-self-eq0-clause-spent : goal.returns-then-self-eq0-clause-spent
+returns-then-self-eq0-clause-spent g c = (λ e. c.if-self-eq0.true, λ z. refl)
+
+pub returns-then-self-eq0-clause-still : goal.returns-then-self-eq0-clause-still
+returns-then-self-eq0-clause-still g c = λ e. refl
+
+pub returns-then-self-eq0-clause-left : goal.returns-then-self-eq0-clause-left
+returns-then-self-eq0-clause-left g c = refl
+
+pub returns-then-self-eq0-clause-drained : goal.returns-then-self-eq0-clause-drained
+returns-then-self-eq0-clause-drained g c = λ conn e. c.requires.drained
+
+pub returns-then-self-eq0-clause-failed : goal.returns-then-self-eq0-clause-failed
+returns-then-self-eq0-clause-failed g c = record { each = λ p. refl }
+
+pub returns-then-self-eq0-clause-sound : goal.returns-then-self-eq0-clause-sound
+returns-then-self-eq0-clause-sound g c = tt
+
+pub returns-then-self-eq0-clause-known : goal.returns-then-self-eq0-clause-known
+returns-then-self-eq0-clause-known g c = known_start c.args.self.now
+
+pub returns-then-self-eq0-clause-ports : goal.returns-then-self-eq0-clause-ports
+returns-then-self-eq0-clause-ports g c = refl
+
+pub returns-then-self-eq0-clause-cause : goal.returns-then-self-eq0-clause-cause
+returns-then-self-eq0-clause-cause g c = refl
+
+pub returns-in-Err-clause-names : goal.returns-in-Err-clause-names
+returns-in-Err-clause-names g c = told_as c.in-Err.ensures.goes (λ x y a. record { so = λ h stand. tt })
+
+pub returns-in-Err-clause-spent : goal.returns-in-Err-clause-spent
+returns-in-Err-clause-spent g c = (λ e. absurd (not_spent c.in-Err.fault c.in-Err.ensures.fault e), λ z. absurd (c.if-self-eq0.false z))
+
+pub returns-in-Err-clause-still : goal.returns-in-Err-clause-still
+returns-in-Err-clause-still g c = λ e. absurd (not_spent c.in-Err.fault c.in-Err.ensures.fault e)
+
+pub returns-in-Err-clause-failed : goal.returns-in-Err-clause-failed
+returns-in-Err-clause-failed g c = record { each = c.in-Err.ensures.failed.each }
+
+pub returns-in-Err-clause-sound : goal.returns-in-Err-clause-sound
+returns-in-Err-clause-sound g c = tt
+
+pub returns-in-Err-clause-known : goal.returns-in-Err-clause-known
+returns-in-Err-clause-known g c = c.in-Err.ensures.known
+
+pub returns-in-Err-clause-ports : goal.returns-in-Err-clause-ports
+returns-in-Err-clause-ports g c = c.in-Err.ensures.ports
+
+pub returns-in-Err-clause-calls : goal.returns-in-Err-clause-calls
+returns-in-Err-clause-calls g c = c.in-Err.ensures.calls
+
+pub returns-in-Failed-clause-names : goal.returns-in-Failed-clause-names
+returns-in-Failed-clause-names g c = told_then c.in-Ok.ensures.goes c.in-Failed.ensures.came (λ x y z a b. record { so = λ h stand. tt })
+
+pub returns-in-Failed-clause-spent : goal.returns-in-Failed-clause-spent
+returns-in-Failed-clause-spent g c = (λ e. let no : ⊥ = cc in absurd no, λ z. absurd (c.if-self-eq0.false z))
+
+pub returns-in-Failed-clause-still : goal.returns-in-Failed-clause-still
+returns-in-Failed-clause-still g c = λ e. let no : ⊥ = cc in absurd no
+
+pub returns-in-Failed-clause-left : goal.returns-in-Failed-clause-left
+returns-in-Failed-clause-left g c = ap (λ (l : Loop). l.left) c.in-Failed.ensures.same ∙ ap (λ n. n - 1) c.in-Ok.ensures.left
+
+pub returns-in-Failed-clause-drained : goal.returns-in-Failed-clause-drained
+returns-in-Failed-clause-drained g c = λ conn e. let no : ⊥ = cc in absurd no
+
+pub returns-in-Failed-clause-failed : goal.returns-in-Failed-clause-failed
+returns-in-Failed-clause-failed g c = record { each = λ p. c.in-Failed.ensures.failed p ∙ c.in-Ok.ensures.failed.each p }
+
+pub returns-in-Failed-clause-sound : goal.returns-in-Failed-clause-sound
+returns-in-Failed-clause-sound g c = tt
+
+pub returns-in-Failed-clause-cause : goal.returns-in-Failed-clause-cause
+returns-in-Failed-clause-cause g c = wait_as (λ u. refl) (wait_last c.in-Ok.ensures.cause c.in-Failed.ensures.cause)
+
+pub returns-in-Done-clause-spent : goal.returns-in-Done-clause-spent
+returns-in-Done-clause-spent g c = (λ e. let no : ⊥ = cc in absurd no, λ z. absurd (c.if-self-eq0.false z))
+
+pub returns-in-Done-clause-still : goal.returns-in-Done-clause-still
+returns-in-Done-clause-still g c = λ e. let no : ⊥ = cc in absurd no
+
+pub returns-in-Done-clause-left : goal.returns-in-Done-clause-left
+returns-in-Done-clause-left g c = ap (λ (l : Loop). l.left) c.name_ends.ensures.same ∙ ap (λ (l : Loop). l.left) c.in-Done.ensures.same ∙ ap (λ n. n - 1) c.in-Ok.ensures.left
+
+pub returns-in-Done-clause-drained : goal.returns-in-Done-clause-drained
+returns-in-Done-clause-drained g c = λ conn e. let no : ⊥ = cc in absurd no
+
+pub returns-in-Done-clause-cause : goal.returns-in-Done-clause-cause
+returns-in-Done-clause-cause g c = wait_as (λ none. absurd none) (wait_last c.in-Ok.ensures.cause c.in-Done.ensures.cause)

@@ -1,12 +1,17 @@
-use Rattle.std.proofs.Common.{rules, arith, ◌≡◌, ◌∙◌, ◌∷◌, ℕ, ap, take, subst, refl, Some, slice_get}
+use Rattle.std.proofs.Common.{rules, arith, ◌≡◌, ◌∙◌, ◌∷◌, ℕ, ap, take, subst, refl, Some, slice_get, Bool, ◌||◌}
 use Rattle.world.specs.declared.entry.Entry.TheVariants as made
 use Rattle.world.specs.Moments.{start, more}
 use Rattle.world.proofs.MomentsLemmas.{told_start, told_one, told_then}
 use Rattle.ready_loop.specs.declared.readiness.Loop.{Loop}
 use Rattle.ready_loop.proofs.StandLemmas.{goes_start, goes_then}
-use Rattle.ready_loop.proofs.StateLemmas.{sound_as, known_start, known_then}
+use Rattle.ready_loop.proofs.StateLemmas.{sound_as, known_start, known_then, each_next, and_here, not_drained}
 use Rattle.ready_loop.proofs.PartLemmas.{calls_start, calls_then}
 use Rattle.ready_loop.proofs.WireLemmas.{grows_same, wired_start, wired_then}
+use Rattle.std.proofs.lemmas.Bool.{false≢true}
+use Rattle.world.specs.Places.{is_at}
+use Rattle.ready_loop.specs.Link.{MayRead}
+use Rattle.ready_loop.specs.States.{NotRead}
+use Rattle.ready_loop.proofs.FaultLemmas.{cause_as, cause_last}
 use Rattle.ready_loop.proofs.readiness.Loop.next.Goals as goal
 
 pub loop-place-init : goal.loop-place-init
@@ -161,3 +166,168 @@ returns-clause-wires g c = c.loop-place.invariant.wires
 
 pub returns-clause-ports : goal.returns-clause-ports
 returns-clause-ports g c = c.loop-place.invariant.ports
+
+pub loop-place-preserved-then-not-may_read : goal.loop-place-preserved-then-not-may_read
+loop-place-preserved-then-not-may_read g c =
+    let inv = c.loop-place.invariant in
+    record {
+      room = inv.room;
+      some = inv.some;
+      wires = inv.wires;
+      ports = inv.ports;
+      calls = inv.calls;
+      goes = inv.goes;
+      dry = inv.dry;
+      below = each_next {P = NotRead} c.loop-place.place c.loop-place.self.links c.at.result c.at.ensures.found (λ m. absurd (false≢true (c.if-not-may_read.ensures.1 m))) inv.below;
+      reads = inv.reads;
+      none = inv.none;
+      offered = inv.offered;
+      known = inv.known;
+      failed = inv.failed;
+      same = inv.same;
+      cause = inv.cause;
+    }
+
+pub returns-in-Piece-clause-fault : goal.returns-in-Piece-clause-fault
+returns-in-Piece-clause-fault g c = tt
+
+pub returns-in-Piece-clause-quiet : goal.returns-in-Piece-clause-quiet
+returns-in-Piece-clause-quiet g c = λ e. let no : ⊥ = cc in absurd no
+
+pub returns-in-Piece-clause-none : goal.returns-in-Piece-clause-none
+returns-in-Piece-clause-none g c = λ d. absurd (not_drained c.loop-place-test.true (c.loop-place.invariant.none d) c.at.ensures.found (c.if-not-may_read.ensures.0 refl) d)
+
+pub returns-in-Piece-clause-offered : goal.returns-in-Piece-clause-offered
+returns-in-Piece-clause-offered g c = λ o. c.in-Piece.ensures.offered (c.loop-place.invariant.offered o)
+
+pub returns-in-Piece-clause-failed : goal.returns-in-Piece-clause-failed
+returns-in-Piece-clause-failed g c = record { each = λ p. c.in-Piece.ensures.failed p ∙ c.loop-place.invariant.failed p }
+
+pub returns-in-Piece-clause-known : goal.returns-in-Piece-clause-known
+returns-in-Piece-clause-known g c = known_then c.loop-place.invariant.known c.in-Piece.ensures.known
+
+pub returns-in-Piece-clause-left : goal.returns-in-Piece-clause-left
+returns-in-Piece-clause-left g c = ap (λ (l : Loop). l.left) c.in-Piece.ensures.same ∙ ap (λ (l : Loop). l.left) c.loop-place.invariant.same
+
+pub returns-in-Piece-clause-cause : goal.returns-in-Piece-clause-cause
+returns-in-Piece-clause-cause g c = cause_as (λ e. absurd (false≢true e)) (cause_last c.loop-place.invariant.cause c.in-Piece.ensures.cause)
+
+pub returns-in-Ended-clause-fault : goal.returns-in-Ended-clause-fault
+returns-in-Ended-clause-fault g c = tt
+
+pub returns-in-Ended-clause-quiet : goal.returns-in-Ended-clause-quiet
+returns-in-Ended-clause-quiet g c = λ e. let no : ⊥ = cc in absurd no
+
+pub returns-in-Ended-clause-none : goal.returns-in-Ended-clause-none
+returns-in-Ended-clause-none g c = λ d. absurd (not_drained c.loop-place-test.true (c.loop-place.invariant.none d) c.at.ensures.found (c.if-not-may_read.ensures.0 refl) d)
+
+pub returns-in-Ended-clause-offered : goal.returns-in-Ended-clause-offered
+returns-in-Ended-clause-offered g c = λ o. c.in-Ended.ensures.offered (c.loop-place.invariant.offered o)
+
+pub returns-in-Ended-clause-failed : goal.returns-in-Ended-clause-failed
+returns-in-Ended-clause-failed g c = record { each = λ p. c.in-Ended.ensures.failed p ∙ c.loop-place.invariant.failed p }
+
+pub returns-in-Ended-clause-known : goal.returns-in-Ended-clause-known
+returns-in-Ended-clause-known g c = known_then c.loop-place.invariant.known c.in-Ended.ensures.known
+
+pub returns-in-Ended-clause-left : goal.returns-in-Ended-clause-left
+returns-in-Ended-clause-left g c = ap (λ (l : Loop). l.left) c.in-Ended.ensures.same ∙ ap (λ (l : Loop). l.left) c.loop-place.invariant.same
+
+pub returns-in-Ended-clause-cause : goal.returns-in-Ended-clause-cause
+returns-in-Ended-clause-cause g c = cause_as (λ e. absurd (false≢true e)) (cause_last c.loop-place.invariant.cause c.in-Ended.ensures.cause)
+
+pub returns-in-Refused-clause-fault : goal.returns-in-Refused-clause-fault
+returns-in-Refused-clause-fault g c = tt
+
+pub returns-in-Refused-clause-quiet : goal.returns-in-Refused-clause-quiet
+returns-in-Refused-clause-quiet g c = λ e. let no : ⊥ = cc in absurd no
+
+pub returns-in-Refused-clause-none : goal.returns-in-Refused-clause-none
+returns-in-Refused-clause-none g c = λ d. absurd (not_drained c.loop-place-test.true (c.loop-place.invariant.none d) c.at.ensures.found (c.if-not-may_read.ensures.0 refl) d)
+
+pub returns-in-Refused-clause-offered : goal.returns-in-Refused-clause-offered
+returns-in-Refused-clause-offered g c = λ o. c.in-Refused.ensures.offered (c.loop-place.invariant.offered o)
+
+pub returns-in-Refused-clause-failed : goal.returns-in-Refused-clause-failed
+returns-in-Refused-clause-failed g c = record { each = λ p. c.in-Refused.ensures.failed p ∙ c.loop-place.invariant.failed p }
+
+pub returns-in-Refused-clause-known : goal.returns-in-Refused-clause-known
+returns-in-Refused-clause-known g c = known_then c.loop-place.invariant.known c.in-Refused.ensures.known
+
+pub returns-in-Refused-clause-left : goal.returns-in-Refused-clause-left
+returns-in-Refused-clause-left g c = ap (λ (l : Loop). l.left) c.in-Refused.ensures.same ∙ ap (λ (l : Loop). l.left) c.loop-place.invariant.same
+
+pub returns-in-Refused-clause-cause : goal.returns-in-Refused-clause-cause
+returns-in-Refused-clause-cause g c = cause_as (λ e. absurd (false≢true e)) (cause_last c.loop-place.invariant.cause c.in-Refused.ensures.cause)
+
+pub returns-in-Failed-clause-fault : goal.returns-in-Failed-clause-fault
+returns-in-Failed-clause-fault g c = tt
+
+pub returns-in-Failed-clause-quiet : goal.returns-in-Failed-clause-quiet
+returns-in-Failed-clause-quiet g c = λ e. let no : ⊥ = cc in absurd no
+
+pub returns-in-Failed-clause-none : goal.returns-in-Failed-clause-none
+returns-in-Failed-clause-none g c = λ d. absurd (not_drained c.loop-place-test.true (c.loop-place.invariant.none d) c.at.ensures.found (c.if-not-may_read.ensures.0 refl) d)
+
+pub returns-in-Failed-clause-offered : goal.returns-in-Failed-clause-offered
+returns-in-Failed-clause-offered g c = λ o. c.in-Failed.ensures.offered (c.loop-place.invariant.offered o)
+
+pub returns-in-Failed-clause-failed : goal.returns-in-Failed-clause-failed
+returns-in-Failed-clause-failed g c = record { each = λ p. c.in-Failed.ensures.failed p ∙ ap (λ (b : Bool). is_at p c.conn_at-conn.result || b) (c.loop-place.invariant.failed p) }
+
+pub returns-in-Failed-clause-known : goal.returns-in-Failed-clause-known
+returns-in-Failed-clause-known g c = known_then c.loop-place.invariant.known c.in-Failed.ensures.known
+
+pub returns-in-Failed-clause-left : goal.returns-in-Failed-clause-left
+returns-in-Failed-clause-left g c = ap (λ (l : Loop). l.left) c.in-Failed.ensures.same ∙ ap (λ (l : Loop). l.left) c.loop-place.invariant.same
+
+pub returns-in-Failed-clause-cause : goal.returns-in-Failed-clause-cause
+returns-in-Failed-clause-cause g c = cause_as (λ e. refl) (cause_last c.loop-place.invariant.cause c.in-Failed.ensures.cause)
+
+pub returns-in-Failed-clause-sound : goal.returns-in-Failed-clause-sound
+returns-in-Failed-clause-sound g c = tt
+
+pub returns-clause-goes : goal.returns-clause-goes
+returns-clause-goes g c = c.loop-place.invariant.goes
+
+pub returns-clause-came : goal.returns-clause-came
+returns-clause-came g c = c.loop-place.invariant.dry
+
+pub returns-clause-fault : goal.returns-clause-fault
+returns-clause-fault g c = tt
+
+pub returns-clause-quiet : goal.returns-clause-quiet
+returns-clause-quiet g c = λ e. record { each = λ p link low found. c.loop-place.invariant.below p link (omega arith) found }
+
+pub returns-clause-none : goal.returns-clause-none
+returns-clause-none g c = λ d. refl
+
+pub returns-clause-offered : goal.returns-clause-offered
+returns-clause-offered g c = c.loop-place.invariant.offered
+
+pub returns-clause-failed : goal.returns-clause-failed
+returns-clause-failed g c = record { each = c.loop-place.invariant.failed }
+
+pub returns-clause-known : goal.returns-clause-known
+returns-clause-known g c = c.loop-place.invariant.known
+
+pub returns-clause-left : goal.returns-clause-left
+returns-clause-left g c = ap (λ (l : Loop). l.left) c.loop-place.invariant.same
+
+pub returns-clause-calls : goal.returns-clause-calls
+returns-clause-calls g c = c.loop-place.invariant.calls
+
+pub returns-clause-cause : goal.returns-clause-cause
+returns-clause-cause g c = cause_as false≢true c.loop-place.invariant.cause
+
+pub read_at-requires-clause-place : goal.read_at-requires-clause-place
+read_at-requires-clause-place g c = c.conn_at-conn.ensures.place
+
+pub read_at-requires-clause-job : goal.read_at-requires-clause-job
+read_at-requires-clause-job g c = c.conn_at-conn.ensures.job
+
+pub read_at-requires-clause-buf : goal.read_at-requires-clause-buf
+read_at-requires-clause-buf g c = c.loop-place.invariant.some
+
+pub read_at-requires-clause-may : goal.read_at-requires-clause-may
+read_at-requires-clause-may g c = and_here MayRead c.loop-place.self.links c.loop-place.place c.at.result c.at.ensures.found (c.if-not-may_read.ensures.0 refl)

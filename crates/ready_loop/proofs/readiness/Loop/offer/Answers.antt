@@ -45,3 +45,57 @@ returns-in-Ok-clause-ports g c = c.name_ends.ensures.ports ∙ c.in-Ok.ensures.p
 
 pub returns-in-Ok-clause-wires : goal.returns-in-Ok-clause-wires
 returns-in-Ok-clause-wires g c = wired_on c.name_ends.ensures.ports c.in-Ok.ensures.wires
+
+pub returns-in-Err-clause-came : goal.returns-in-Err-clause-came
+returns-in-Err-clause-came g c = c.in-Err.ensures.came
+
+pub returns-in-Err-clause-fault : goal.returns-in-Err-clause-fault
+returns-in-Err-clause-fault g c = c.in-Err.ensures.fault
+
+pub returns-in-Err-clause-names : goal.returns-in-Err-clause-names
+returns-in-Err-clause-names g c = told_as c.in-Err.ensures.goes (λ x y a. record { so = λ h stand. tt })
+
+pub returns-in-Err-clause-offered : goal.returns-in-Err-clause-offered
+returns-in-Err-clause-offered g c = tt
+
+pub returns-in-Err-clause-calm : goal.returns-in-Err-clause-calm
+returns-in-Err-clause-calm g c = tt
+
+pub returns-in-Err-clause-drained : goal.returns-in-Err-clause-drained
+returns-in-Err-clause-drained g c = c.in-Err.ensures.drained
+
+pub returns-in-Err-clause-failed : goal.returns-in-Err-clause-failed
+returns-in-Err-clause-failed g c = record { each = c.in-Err.ensures.failed.each }
+
+pub returns-in-Err-clause-sound : goal.returns-in-Err-clause-sound
+returns-in-Err-clause-sound g c = tt
+
+pub returns-in-Err-clause-known : goal.returns-in-Err-clause-known
+returns-in-Err-clause-known g c = c.in-Err.ensures.known
+
+pub returns-in-Err-clause-left : goal.returns-in-Err-clause-left
+returns-in-Err-clause-left g c = c.in-Err.ensures.left
+
+pub returns-in-Err-clause-ports : goal.returns-in-Err-clause-ports
+returns-in-Err-clause-ports g c = c.in-Err.ensures.ports
+
+pub returns-in-Err-clause-calls : goal.returns-in-Err-clause-calls
+returns-in-Err-clause-calls g c = c.in-Err.ensures.calls
+
+pub returns-in-Err-clause-cause : goal.returns-in-Err-clause-cause
+returns-in-Err-clause-cause g c = c.in-Err.ensures.cause
+
+pub returns-in-Ok-clause-came : goal.returns-in-Ok-clause-came
+returns-in-Ok-clause-came g c = told_as c.in-Ok.ensures.goes (λ x y a. tt)
+
+pub returns-in-Ok-clause-fault : goal.returns-in-Ok-clause-fault
+returns-in-Ok-clause-fault g c = tt
+
+pub returns-in-Ok-clause-left : goal.returns-in-Ok-clause-left
+returns-in-Ok-clause-left g c = ap (λ l. l.left) c.name_ends.ensures.same ∙ c.in-Ok.ensures.left
+
+pub returns-in-Ok-clause-calls : goal.returns-in-Ok-clause-calls
+returns-in-Ok-clause-calls g c = c.in-Ok.ensures.calls
+
+pub returns-in-Ok-clause-cause : goal.returns-in-Ok-clause-cause
+returns-in-Ok-clause-cause g c = c.in-Ok.ensures.cause

@@ -1,10 +1,16 @@
-use Rattle.std.proofs.Common.{rules, arith, false, ◌∙◌, ap, refl}
-use Rattle.world.proofs.MomentsLemmas.{told_start, told_then}
+use Rattle.std.proofs.Common.{rules, arith, false, ◌∙◌, ap, refl, ◌≡◌, ℕ, subst, sym, Result, IfErr}
+use Rattle.world.proofs.MomentsLemmas.{told_start, told_then, told_as}
 use Rattle.ready_loop.proofs.StandLemmas.{goes_start, goes_then, cause_then}
 use Rattle.ready_loop.proofs.StateLemmas.{offered_more, known_start, known_then}
 use Rattle.ready_loop.proofs.OfferLemmas.{offer_moment}
 use Rattle.ready_loop.proofs.PartLemmas.{calls_start, calls_then}
 use Rattle.ready_loop.proofs.WireLemmas.{grows_same, wired_start, wired_then}
+use Rattle.std.proofs.lemmas.Bool.{false≢true}
+use Rattle.ready_loop.proofs.FaultLemmas.{fails_then, cause_as, cause_last, handed_on}
+use Rattle.std.proofs.lemmas.Result.{IfOk-from_err}
+use Rattle.ready_loop.specs.declared.fault.LoopFault.{LoopFault}
+use Rattle.ready_loop.specs.Offers.{IsOfConn, FaultCame}
+use Rattle.ready_loop.specs.States.{FailsOnly, AllOfferedBelow}
 use Rattle.ready_loop.proofs.readiness.Loop.offer_all.Goals as goal
 
 pub loop-place-init : goal.loop-place-init
@@ -57,3 +63,60 @@ returns-clause-wires g c = c.loop-place.invariant.wires
 
 pub returns-clause-ports : goal.returns-clause-ports
 returns-clause-ports g c = c.loop-place.invariant.ports
+
+pub returns-in_err-offer_at-clause-came : goal.returns-in_err-offer_at-clause-came
+returns-in_err-offer_at-clause-came g c = told_then c.loop-place.invariant.goes c.in_err-offer_at.ensures.came (λ x y z a came. subst (λ (r : Result (Unit {0}) LoopFault). FaultCame r z) (sym (handed_on c.from_residual.ensures.1)) came)
+
+pub returns-in_err-offer_at-clause-fault : goal.returns-in_err-offer_at-clause-fault
+returns-in_err-offer_at-clause-fault g c = subst (λ (r : Result (Unit {0}) LoopFault). IfErr r IsOfConn) (sym (handed_on c.from_residual.ensures.1)) c.in_err-offer_at.ensures.fault
+
+pub returns-in_err-offer_at-clause-offered : goal.returns-in_err-offer_at-clause-offered
+returns-in_err-offer_at-clause-offered g c = IfOk-from_err c.from_residual.result (λ u. AllOfferedBelow 64 (g.W.Journal.counts c.offer_at.new.w).last c.offer_at.new.self) c.from_residual.ensures.0
+
+pub returns-in_err-offer_at-clause-drained : goal.returns-in_err-offer_at-clause-drained
+returns-in_err-offer_at-clause-drained g c = λ d. c.in_err-offer_at.ensures.drained (c.loop-place.invariant.drained d)
+
+pub returns-in_err-offer_at-clause-failed : goal.returns-in_err-offer_at-clause-failed
+returns-in_err-offer_at-clause-failed g c = subst (λ (r : Result (Unit {0}) LoopFault). FailsOnly r c.args.self.now c.offer_at.new.self) (sym (handed_on c.from_residual.ensures.1))
+    (fails_then c.loop-place.invariant.failed c.in_err-offer_at.ensures.failed)
+
+pub returns-in_err-offer_at-clause-known : goal.returns-in_err-offer_at-clause-known
+returns-in_err-offer_at-clause-known g c = known_then c.loop-place.invariant.known c.in_err-offer_at.ensures.known
+
+pub returns-in_err-offer_at-clause-left : goal.returns-in_err-offer_at-clause-left
+returns-in_err-offer_at-clause-left g c = c.in_err-offer_at.ensures.only.left ∙ c.loop-place.invariant.left
+
+pub returns-in_err-offer_at-clause-cause : goal.returns-in_err-offer_at-clause-cause
+returns-in_err-offer_at-clause-cause g c = cause_as (λ e. refl) (cause_last c.loop-place.invariant.cause c.in_err-offer_at.ensures.cause)
+
+pub returns-clause-goes : goal.returns-clause-goes
+returns-clause-goes g c = c.loop-place.invariant.goes
+
+pub returns-clause-came : goal.returns-clause-came
+returns-clause-came g c = told_as c.loop-place.invariant.goes (λ x y a. tt)
+
+pub returns-clause-fault : goal.returns-clause-fault
+returns-clause-fault g c = tt
+
+pub returns-clause-offered : goal.returns-clause-offered
+returns-clause-offered g c =
+    let end : c.loop-place.place ≡ 64 = omega arith in
+    subst (λ (n : ℕ). AllOfferedBelow n (g.W.Journal.counts c.loop-place.w).last c.loop-place.self) end c.loop-place.invariant.offered
+
+pub returns-clause-drained : goal.returns-clause-drained
+returns-clause-drained g c = c.loop-place.invariant.drained
+
+pub returns-clause-failed : goal.returns-clause-failed
+returns-clause-failed g c = record { each = c.loop-place.invariant.failed }
+
+pub returns-clause-known : goal.returns-clause-known
+returns-clause-known g c = c.loop-place.invariant.known
+
+pub returns-clause-left : goal.returns-clause-left
+returns-clause-left g c = c.loop-place.invariant.left
+
+pub returns-clause-calls : goal.returns-clause-calls
+returns-clause-calls g c = c.loop-place.invariant.calls
+
+pub returns-clause-cause : goal.returns-clause-cause
+returns-clause-cause g c = cause_as false≢true c.loop-place.invariant.cause

@@ -1,12 +1,15 @@
-use Rattle.std.proofs.Common.{rules, arith, ◌≡◌, ◌≢◌, ◌/◌, ◌∙◌, refl, true, false, ap}
+use Rattle.std.proofs.Common.{rules, arith, ◌≡◌, ◌≢◌, ◌/◌, ◌∙◌, refl, true, false, ap, ℕ, subst}
 use Rattle.std.proofs.lemmas.Option.{unwrap_or-slice_get}
 use Rattle.world.proofs.MomentsLemmas.{told_start, told_then, told_both, told_as}
-use Rattle.ready_loop.specs.Offers.{is_looked}
+use Rattle.ready_loop.specs.Offers.{is_looked, BeginsBelow}
 use Rattle.ready_loop.proofs.StandLemmas.{goes_start, goes_then, cause_then}
 use Rattle.ready_loop.proofs.StateLemmas.{known_start, known_then, calm_joins}
 use Rattle.ready_loop.proofs.LookLemmas.{below_none, below_skip, below_more, look_moment, offered_at}
 use Rattle.ready_loop.proofs.PartLemmas.{calls_start, calls_then}
 use Rattle.ready_loop.proofs.WireLemmas.{grows_same, wired_start, wired_then}
+use Rattle.std.proofs.lemmas.Bool.{false≢true}
+use Rattle.ready_loop.proofs.FaultLemmas.{fails_then, cause_as, cause_last}
+use Rattle.world.specs.Moments.{Told}
 use Rattle.ready_loop.proofs.readiness.Loop.offer_jobs.Goals as goal
 
 pub loop-place-init : goal.loop-place-init
@@ -89,3 +92,71 @@ returns-clause-wires g c = c.loop-place.invariant.wires
 
 pub returns-clause-ports : goal.returns-clause-ports
 returns-clause-ports g c = c.loop-place.invariant.ports
+
+pub returns-in-Err-clause-came : goal.returns-in-Err-clause-came
+returns-in-Err-clause-came g c = told_then c.loop-place.invariant.goes c.in-Err.ensures.came (λ x y z a b. b)
+
+pub returns-in-Err-clause-fault : goal.returns-in-Err-clause-fault
+returns-in-Err-clause-fault g c = c.in-Err.ensures.fault
+
+pub returns-in-Err-clause-begins : goal.returns-in-Err-clause-begins
+returns-in-Err-clause-begins g c = tt
+
+pub returns-in-Err-clause-offered : goal.returns-in-Err-clause-offered
+returns-in-Err-clause-offered g c = tt
+
+pub returns-in-Err-clause-calm : goal.returns-in-Err-clause-calm
+returns-in-Err-clause-calm g c = tt
+
+pub returns-in-Err-clause-drained : goal.returns-in-Err-clause-drained
+returns-in-Err-clause-drained g c = λ d. c.in-Err.ensures.drained (c.loop-place.invariant.drained d)
+
+pub returns-in-Err-clause-failed : goal.returns-in-Err-clause-failed
+returns-in-Err-clause-failed g c = fails_then c.loop-place.invariant.failed c.in-Err.ensures.failed
+
+pub returns-in-Err-clause-known : goal.returns-in-Err-clause-known
+returns-in-Err-clause-known g c = known_then c.loop-place.invariant.known c.in-Err.ensures.known
+
+pub returns-in-Err-clause-left : goal.returns-in-Err-clause-left
+returns-in-Err-clause-left g c = c.in-Err.ensures.only.left ∙ c.loop-place.invariant.left
+
+pub returns-in-Err-clause-cause : goal.returns-in-Err-clause-cause
+returns-in-Err-clause-cause g c = cause_last c.loop-place.invariant.cause c.in-Err.ensures.cause
+
+pub returns-clause-goes : goal.returns-clause-goes
+returns-clause-goes g c = c.loop-place.invariant.goes
+
+pub returns-clause-came : goal.returns-clause-came
+returns-clause-came g c = told_as c.loop-place.invariant.goes (λ x y a. tt)
+
+pub returns-clause-fault : goal.returns-clause-fault
+returns-clause-fault g c = tt
+
+pub returns-clause-begins : goal.returns-clause-begins
+returns-clause-begins g c =
+    let end : c.loop-place.place ≡ 64 = omega arith in
+    subst (λ (n : ℕ). Told (g.W.Journal.journal c.args.w.now) (g.W.Journal.journal c.loop-place.w) (BeginsBelow n c.args.jobs.now c.args.self.now)) end c.loop-place.invariant.begins
+
+pub returns-clause-offered : goal.returns-clause-offered
+returns-clause-offered g c = c.loop-place.invariant.offered
+
+pub returns-clause-calm : goal.returns-clause-calm
+returns-clause-calm g c = c.loop-place.invariant.calm
+
+pub returns-clause-drained : goal.returns-clause-drained
+returns-clause-drained g c = c.loop-place.invariant.drained
+
+pub returns-clause-failed : goal.returns-clause-failed
+returns-clause-failed g c = record { each = c.loop-place.invariant.failed }
+
+pub returns-clause-known : goal.returns-clause-known
+returns-clause-known g c = c.loop-place.invariant.known
+
+pub returns-clause-left : goal.returns-clause-left
+returns-clause-left g c = c.loop-place.invariant.left
+
+pub returns-clause-calls : goal.returns-clause-calls
+returns-clause-calls g c = c.loop-place.invariant.calls
+
+pub returns-clause-cause : goal.returns-clause-cause
+returns-clause-cause g c = cause_as false≢true c.loop-place.invariant.cause
