@@ -1,5 +1,5 @@
 //! Objects made of given pairs.
-ghost use Rattle.std.specs.Prelude.{◌≡◌, IfOk};
+ghost use Rattle.std.specs.Prelude.{◌≡◌, ◌++◌, ◌∷◌, [], IfOk, OnErr, OnOk};
 ghost use Rattle.jtext.specs.declared.json.Json.TheVariants as json;
 
 use crate::json::Fields;
@@ -25,6 +25,14 @@ pub fn text_pair(alloc: Global, key: &str, text: &str) -> Result<(Text, Json), N
     ensures { IfOk result (λ p. p ≡ (key.now, json.Str text.now)) }
 {
     pair(alloc, key, string(alloc, text)?)
+}
+
+/// Appends a copy of the key, with the string of a copy of `text`, or leaves the pairs as they are.
+pub fn put_text(alloc: Global, fields: &mut Fields, key: &str, text: &str) -> Result<(), NoMemory>
+    ensures ok { OnOk result (fields.new ≡ fields.old ++ (key.now, json.Str text.now) ∷ []) }
+    ensures err { OnErr result (fields.new ≡ fields.old) }
+{
+    fields.push(text_pair(alloc, key, text)?)
 }
 
 /// The object of those pairs, in their order.

@@ -36,7 +36,7 @@ mod indent;
 pub mod laws;
 mod sorted;
 
-pub use build::{object, pair, string, text_pair};
+pub use build::{object, pair, put_text, string, text_pair};
 pub use bundle::{is_bundle, is_json_type, is_multiline};
 pub use compact::{put_compact, write_compact};
 pub use duplicate::{copy, copy_fields, copy_items, copy_texts, texts_of};

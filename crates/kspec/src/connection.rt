@@ -5,7 +5,7 @@ ghost use Rattle.jtext.specs.Print.{compact};
 ghost use Rattle.jtext.specs.declared.json.Json.TheVariants as json;
 ghost use Rattle.kspec.specs.Connection.{connection};
 
-use jtext::{Bytes, Fields, Json, NoMemory, NumText, Text, pair, text_pair, write_compact};
+use jtext::{Bytes, Fields, Json, NoMemory, NumText, Text, pair, put_text, write_compact};
 use std::alloc::Global;
 
 /// The text of the connection file (jupyter_client, "Connection files") with these ports of this
@@ -39,10 +39,4 @@ fn put_port(alloc: Global, fields: &mut Fields, key: &str, number: u16) -> Resul
     let digits = format!(in alloc; "{number}")?;
     let number = NumText::of_number(alloc, digits.as_str())?;
     fields.push(pair(alloc, key, Json::Num(number))?)
-}
-
-fn put_text(alloc: Global, fields: &mut Fields, key: &str, text: &str) -> Result<(), NoMemory>
-    ensures { OnOk result (fields.new ≡ fields.old ++ (key.now, json.Str text.now) ∷ []) }
-{
-    fields.push(text_pair(alloc, key, text)?)
 }

@@ -13,7 +13,7 @@ use crate::joining::{run_len, run_text};
 use crate::latest::{Data, Latest};
 use crate::tree::{display_tree, error_tree, result_tree, stream_tree};
 use jcontent::{Content, Shown};
-use jtext::{Fields, Items, Json, NoMemory, Text, text_pair};
+use jtext::{Fields, Items, Json, NoMemory, Text, put_text};
 use std::alloc::Global;
 
 /// The outputs as trees, with the data that are known of their display ids.
@@ -174,7 +174,7 @@ fn put_date(
         ≡ fields.old ++ date_pair key.now (option_copied date.entry)) }
 {
     match date {
-        Some(text) => fields.push(text_pair(alloc, key, text.as_str())?),
+        Some(text) => put_text(alloc, fields, key, text.as_str()),
         None => Ok(()),
     }
 }

@@ -4,7 +4,9 @@ ghost use Rattle.jtext.specs.declared.json.Json.TheVariants as json;
 ghost use Rattle.toy_lang.specs.ToyOut as out;
 
 use crate::note::Saying;
-use jtext::{Fields, Items, Json, NoMemory, NumText, Text, object, pair, string, text_pair};
+use jtext::{
+    Fields, Items, Json, NoMemory, NumText, Text, object, pair, put_text, string, text_pair,
+};
 use std::alloc::Global;
 
 /// `status` with an execution state.
@@ -143,18 +145,6 @@ pub(crate) fn put_error(
     put_text(alloc, fields, "ename", ename.as_str())?;
     put_text(alloc, fields, "evalue", evalue.as_str())?;
     fields.push(traceback(alloc, ename, evalue)?)
-}
-
-/// Appends a key with a copy of this text.
-pub(crate) fn put_text(
-    alloc: Global,
-    fields: &mut Fields,
-    key: &str,
-    text: &str,
-) -> Result<(), NoMemory>
-    ensures { OnOk result (fields.new ≡ fields.old ++ (key.now, json.Str text.now) ∷ []) }
-{
-    fields.push(text_pair(alloc, key, text)?)
 }
 
 /// `traceback`: the one string that has both.

@@ -5,8 +5,8 @@ ghost use Rattle.toy_lang.specs.ToyOut as out;
 ghost use Rattle.toy_core.specs.Contents as contents;
 
 use crate::note::Saying;
-use crate::outputs::{count_pair, put_error, put_text};
-use jtext::{Fields, Json, NoMemory, Text, object, pair, text_pair};
+use crate::outputs::{count_pair, put_error};
+use jtext::{Fields, Json, NoMemory, Text, object, pair, put_text, text_pair};
 use std::alloc::Global;
 
 /// `execute_reply` of a cell without an error.
@@ -28,7 +28,7 @@ pub(crate) fn error_reply(
     ensures { IfOk result (λ m. m ≡ out.error_reply count ename.now evalue.now) }
 {
     let mut fields = Fields::new(alloc);
-    fields.push(text_pair(alloc, "status", "error")?)?;
+    put_text(alloc, &mut fields, "status", "error")?;
     fields.push(count_pair(alloc, count)?)?;
     put_error(alloc, &mut fields, ename, evalue)?;
     pair(alloc, "execute_reply", Json::Obj(fields))

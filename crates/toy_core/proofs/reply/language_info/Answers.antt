@@ -4,10 +4,10 @@ use Rattle.toy_core.proofs.reply.language_info.Goals as goal
 pub returns : goal.returns
 returns c =
     rw (
-      c.in_ok-put_text-4.ensures,
-      c.in_ok-put_text-3.ensures,
-      c.in_ok-put_text-2.ensures,
-      c.in_ok-put_text.ensures,
+      c.in_ok-put_text-4.ensures.ok,
+      c.in_ok-put_text-3.ensures.ok,
+      c.in_ok-put_text-2.ensures.ok,
+      c.in_ok-put_text.ensures.ok,
       c.new-fields.ensures,
     )
     refl
