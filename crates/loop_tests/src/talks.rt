@@ -99,12 +99,9 @@ fn sends_in_order(l: &mut Loop, w: &mut TalkWorld) -> bool
 // The same by a new loop.
 fn sends_by_a_loop(alloc: Global, w: &mut TalkWorld) -> Result<bool, NoMemory> {
     let mut l = Loop::new(alloc, 9)?;
-    let is_sent = match queue_two(&mut l, w, alloc) {
-        Ok(is_begun) => Ok(is_begun && sends_in_order(&mut l, w)),
-        Err(fault) => Err(fault),
-    };
+    let is_sent = queue_two(&mut l, w, alloc)? && sends_in_order(&mut l, w);
     drop(l);
-    is_sent
+    Ok(is_sent)
 }
 
 #[test]

@@ -40,14 +40,10 @@ pub(crate) fn put_line(
     is_full: bool,
     out: &mut String,
 ) -> Result<(), NoMemory> {
-    match decode(alloc, KEY.as_bytes(), parts) {
-        Ok(found) => {
-            let end = put_decoded(alloc, &found, is_full, out);
-            drop(found);
-            end
-        }
-        Err(fault) => Err(fault),
-    }
+    let found = decode(alloc, KEY.as_bytes(), parts)?;
+    let end = put_decoded(alloc, &found, is_full, out);
+    drop(found);
+    end
 }
 
 fn put_decoded(
