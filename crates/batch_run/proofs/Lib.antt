@@ -1,5 +1,6 @@
 pub mod CallLemmas
 pub mod CauseLemmas
+pub mod DueLemmas
 pub mod EndLemmas
 pub mod JournalLemmas
 pub mod LineLemmas

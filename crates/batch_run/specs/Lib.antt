@@ -1,4 +1,5 @@
 pub mod Batch
+pub mod Due
 pub mod Kept
 pub mod Lines
 pub mod Stands

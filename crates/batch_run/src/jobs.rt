@@ -27,6 +27,7 @@ impl Jobs {
     ghost use Rattle.job_run.specs.Task.{ports_of_job, pings_kernel};
     ghost use Rattle.std.specs.Prelude.{List as Plain, Option as Maybe, Some, None, length, slice_get, slice_set};
     ghost use Rattle.words.specs.Runnable.{IsRunnable};
+    ghost use Rattle.batch_run.specs.Due.{IsEarliestDue, SlotWantsLook, is_slot_over};
     ghost use Rattle.words.specs.declared.ask.Ask.{Ask as Asked};
     ghost use Rattle.world.specs.declared.entry.Entry.{Entry};
     ghost use Rattle.batch_run.specs.Stands.{AllStand, AllEnded, EndedBelow, KeepsAll, Outset};
@@ -73,7 +74,7 @@ impl Jobs {
         // The connections that it wants are on the ports that were given for it.
         ensures ports { IfOk result (λ o.
             IfSome o (λ wanted. HasPorts number wanted.ports (W.journal w.new))) }
-        // That of the heartbeat is among them where its kernel is to be pinged.
+        // That of the heartbeat is among them where that was asked for.
         ensures heart { IfOk result (λ o.
             IfSome o (λ wanted. wanted.heart ≡ ask.heartbeat)) }
     {
@@ -131,10 +132,12 @@ impl Jobs {
     }
 
     /// Whether a job runs of which it stands how it ended.
-    pub(crate) fn is_over(&self, number: usize) -> bool {
+    pub(crate) fn is_over(&self, number: usize) -> bool
+        ensures { result ≡ is_slot_over (slice_get self.now.slots.items number) }
+    {
         match self.slots.get(number) {
-            Some(Slot::Running(job)) => job.outcome().is_some(),
-            _ => false,
+            Some(slot) => slot.is_over(),
+            None => false,
         }
     }
 
@@ -163,21 +166,23 @@ impl Jobs {
     }
 
     /// The earliest moment at which the clock brings something to a job that runs.
-    pub(crate) fn due(&self) -> Option<u64> {
+    pub(crate) fn due(&self) -> Option<u64>
+        ensures { IsEarliestDue self.now.slots.items result }
+    {
         let mut due = None;
         for slot in self.slots.iter() {
-            if let Slot::Running(job) = slot {
-                due = earlier(due, job.due());
-            }
+            due = earlier(due, slot.next_moment());
         }
         due
     }
 
     /// Whether a last look of the job is to be made.
-    pub(crate) fn wants_look(&self, number: usize) -> bool {
+    pub(crate) fn wants_look(&self, number: usize) -> bool
+        ensures { SlotWantsLook (slice_get self.now.slots.items number) result }
+    {
         match self.slots.get(number) {
-            Some(Slot::Running(job)) => job.wants_look(),
-            _ => false,
+            Some(slot) => slot.wants_look(),
+            None => false,
         }
     }
 }

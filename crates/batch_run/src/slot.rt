@@ -18,9 +18,40 @@ pub(crate) enum Slot {
 }
 
 impl Slot {
-    ghost use Rattle.std.specs.Prelude.{◌<◌, ◌^◌};
+    ghost use Rattle.std.specs.Prelude.{◌≡◌, ◌<◌, ◌^◌, Some};
+    ghost use Rattle.batch_run.specs.Due.{IsSlotDue, SlotWantsLook, is_slot_over};
     ghost use Rattle.batch_run.specs.Stands.{HasEnded, SlotKeeps, SlotStays};
     ghost use Rattle.batch_run.specs.Stands.{IsCutOff, IsOutOfWaits, SlotStaysIf};
+
+    /// Whether a job runs of which it stands how it ended.
+    pub(crate) fn is_over(&self) -> bool
+        ensures { result ≡ is_slot_over (Some self.now) }
+    {
+        match self {
+            Slot::Running(job) => job.outcome().is_some(),
+            Slot::Waiting | Slot::Ended(_) => false,
+        }
+    }
+
+    /// Whether a last look of the job is to be made.
+    pub(crate) fn wants_look(&self) -> bool
+        ensures { SlotWantsLook (Some self.now) result }
+    {
+        match self {
+            Slot::Running(job) => job.wants_look(),
+            Slot::Waiting | Slot::Ended(_) => false,
+        }
+    }
+
+    /// The next moment at which the clock brings something to the job.
+    pub(crate) fn next_moment(&self) -> Option<u64>
+        ensures { IsSlotDue self.now result }
+    {
+        match self {
+            Slot::Running(job) => job.due(),
+            Slot::Waiting | Slot::Ended(_) => None,
+        }
+    }
 
     /// Hands out what the job has queued on this channel, where there is anything.
     pub(crate) fn hand_out(&mut self, chan: Chan) -> Option<Bytes>

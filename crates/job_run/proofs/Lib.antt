@@ -7,6 +7,7 @@ pub mod HoldLemmas
 pub mod LaunchLemmas
 pub mod OutcomeLemmas
 pub mod PartLemmas
+pub mod QueueLemmas
 pub mod RunLemmas
 pub mod StepLemmas
 pub mod StopLemmas

@@ -1,7 +1,7 @@
 -- Calls of a job go on with its course.
 use Rattle.std.specs.Prelude.{IfSome}
-use Rattle.std.proofs.Common.{◌≡◌, ◌≢◌, ℕ, Bool, true, false, List, ◌∷◌, Option, Some, None, is_some, refl, sym, ap, subst}
-use Rattle.std.specs.Prelude.{IfSome}
+use Rattle.std.proofs.Common.{◌≡◌, ◌≢◌, ℕ, Bool, true, false, List, ◌∷◌, Option, Some, None, Result, Err, is_some, refl, sym, ap, subst, ◌∙◌}
+use Rattle.std.specs.Prelude.{IfErr}
 use Rattle.std.specs.Str.{bytes_eq}
 use Rattle.world.specs.Counts.{CountsGrow}
 use Rattle.world.specs.Moments.{Since, start, more as later, Told, Tells}
@@ -11,7 +11,13 @@ use Rattle.job_end.specs.Answers.{starved_answer}
 use Rattle.world.specs.Parts.{OnSay, part_of}
 use Rattle.job_saves.proofs.CourseLemmas.{others_pass, calls_part, job_ends}
 use Rattle.job_saves.proofs.KeptLemmas.{entry_quiet}
-use Rattle.job_run.proofs.OutcomeLemmas.{starved_shut, starved_fails}
+use Rattle.job_run.proofs.OutcomeLemmas.{not_lost, not_spent, starved_shut, starved_fails}
+use Rattle.job_end.specs.declared.end.End.{End}
+use Rattle.job_end.specs.declared.end.End.TheVariants as end
+use Rattle.cell_core.specs.StandsFor.{task_of}
+use Rattle.job_run.specs.declared.terms.Terms.{Terms}
+use Rattle.job_run.specs.Steps.{JobKeeps}
+use Rattle.job_run.specs.Told.{EndsBy}
 use Rattle.world.specs.declared.entry.Entry.{Entry}
 use Rattle.world.specs.Counts.{Counts}
 use Rattle.job_notebook.specs.declared.notebook.JobNotebook.{JobNotebook}
@@ -27,9 +33,9 @@ use Rattle.job_notebook.specs.State.{output_of}
 use Rattle.save_disk.specs.Places.{save_count}
 use Rattle.job_run.specs.Counted.{IsCounted, IsCountedIn}
 use Rattle.cell_core.specs.Task.{Task}
-use Rattle.job_run.specs.Task.{task_of_job}
+use Rattle.job_run.specs.Task.{task_of_job, output_of_job}
 use Rattle.job_run.proofs.TurnLemmas.{running_count, count_passes, ended_count, starved_count}
-use Rattle.job_run.specs.Run.{IsNew, CountsAll, Runs, HasEnded, HasFailed, EndsWith, IsRole, HasRole}
+use Rattle.job_run.specs.Run.{IsNew, CountsAll, Runs, HasEnded, HasFailed, EndsWith, IsLost, IsSpent, IsRole, HasRole}
 
 -- a job that hasn't ended has saved all
 running_open : (is_open : Bool) (outcome : Option Answer) → (is_open ≡ false → HasEnded outcome) → is_some outcome ≡ false → is_open ≡ true
@@ -186,3 +192,14 @@ begun_role cast since from j x number paths journal counts run same_number same 
 pub unstarted : (o : Origin) (j : Job) (journal : Option (List Entry)) (counts : Counts) → j.outcome ≡ None → Runs o j journal counts → Ends o true journal counts
 unstarted o j journal counts outcome r =
     job_ends o j.run.book true journal counts (runs_open o j journal counts (ap is_some outcome) r)
+
+-- A job keeps what it is to do over a call of its execution, and what that ends isn't ended from outside.
+pub keeps_on : {A : Type 0} {was now : Job} (x : Execution) (r : Result A End) → task_of now.run.core ≡ task_of x.core → task_of x.core ≡ task_of was.run.core
+    → now.run.terms ≡ x.terms → x.terms ≡ was.run.terms → output_of_job now ≡ output_of_job was → IfErr r (EndsBy (task_of x.core))
+    → (IsLost now.outcome → r ≡ Err end.NetFault) → (IsSpent now.outcome → r ≡ Err end.Spent) → JobKeeps was now
+keeps_on {A} {was} {now} x r task before terms kept output own lost spent = record {
+  task = task ∙ before;
+  pings = ap (λ (t : Terms). t.heartbeat) (terms ∙ kept);
+  output = output;
+  still = record { lost = λ h. absurd (not_lost (task_of x.core) r own (lost h)); spent = λ h. absurd (not_spent (task_of x.core) r own (spent h)) };
+}

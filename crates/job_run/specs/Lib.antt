@@ -3,6 +3,7 @@ pub mod Due
 pub mod Heard
 pub mod Held
 pub mod Pings
+pub mod Queues
 pub mod Run
 pub mod Steps
 pub mod Task

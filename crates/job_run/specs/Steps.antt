@@ -41,12 +41,8 @@ pub record Proceeds {W U : Type 0} (journal : W → Option (List Entry)) (tally 
 abbrev pub OnlySaves : {W : Type 0} → (W → Option (List Entry)) → W → W → JobNotebook → Type 0
 OnlySaves journal old new book = Told (journal old) (journal new) (Since (IsSaveCall (output_of book)))
 
--- what a job is told without a call of the world leaves it as it stands
-pub record JobStays (was now : Job) : Type 0 where
-  -- on its course
-  pub course : KeepsRun was now
-  -- with no calls but its own
-  pub calls : KeepsRole was now
+-- a job is to do what it was, and it isn't ended from outside
+pub record JobKeeps (was now : Job) : Type 0 where
   -- the task of its core is the one that it was
   pub task : task_of_job now ≡ task_of_job was
   -- its kernel is pinged where it was
@@ -56,17 +52,20 @@ pub record JobStays (was now : Job) : Type 0 where
   -- it was ended from outside only where it had been
   pub still : EndsNot was now
 
+-- what a job is told without a call of the world leaves it as it stands
+pub record JobStays (was now : Job) : Type 0 where
+  -- on its course
+  pub course : KeepsRun was now
+  -- with no calls but its own
+  pub calls : KeepsRole was now
+  -- what it is to do stays
+  pub keeps : JobKeeps was now
+
 -- so do the calls that a job makes of the world
 pub record JobGoesOn {W : Type 0} (journal : W → Option (List Entry)) (tally : W → Counts) (old new : W) (was now : Job) : Type 0 where
   -- on its course
   pub course : RunsOn journal tally old new was now
   -- they are its own
   pub calls : CallsInRole journal tally old new was now
-  -- the task of its core is the one that it was
-  pub task : task_of_job now ≡ task_of_job was
-  -- its kernel is pinged where it was
-  pub pings : pings_kernel now ≡ pings_kernel was
-  -- the output that its last line names is the one that it was
-  pub output : output_of_job now ≡ output_of_job was
-  -- it was ended from outside only where it had been
-  pub still : EndsNot was now
+  -- what it is to do stays
+  pub keeps : JobKeeps was now

@@ -37,15 +37,28 @@ pub(crate) struct Execution {
 }
 
 impl Execution {
+    ghost use Rattle.std.specs.Prelude.{◌≡◌, ℕ, List};
+    ghost use Rattle.world.specs.declared.chan.Chan.TheVariants.{Heart};
+    ghost use Rattle.kernel_lines.specs.Happened.{History};
+    ghost use Rattle.kernel_lines.specs.Line.{StandsFor};
+    ghost use Rattle.kernel_lines.specs.Lines.{line_on};
+    ghost use Rattle.job_run.specs.Due.{Past, can_ping, next_moment};
+
     /// The next moment at which the clock brings something, in milliseconds since 1970-01-01 UTC.
-    pub(crate) fn due(&self) -> Option<u64> {
+    pub(crate) fn due(&self) -> Option<u64>
+        ensures { (past : Past self.now) → result ≡ next_moment self.now past }
+    {
         let asks = self.asking.next(self.lines.can_ask(), self.clock);
         let pings = self.pings.next(self.can_ping(), self.clock);
         earlier(self.core.due(), earlier(asks, pings))
     }
 
     /// Whether the kernel can be pinged: it is ready, and the handshake on the heartbeat is finished.
-    pub(crate) fn can_ping(&self) -> bool {
+    pub(crate) fn can_ping(&self) -> bool
+        ensures { (heart : History) (out : List ℕ) →
+            StandsFor (line_on self.now.lines Heart) heart out →
+            result ≡ can_ping self.now heart }
+    {
         self.terms.heartbeat && self.is_ready && self.lines.of(Chan::Heart).is_shaken()
     }
 }

@@ -23,6 +23,8 @@ impl Job {
     ghost use Rattle.job_run.specs.Run.{HasRole, CallsInRole, KeepsRole};
     ghost use Rattle.job_run.specs.Run.{number_of, outcome_of as outcome};
     ghost use Rattle.job_run.specs.Steps.{JobStays, JobGoesOn};
+    ghost use Rattle.job_run.specs.Due.{IsDue, WantsLook};
+    ghost use Rattle.job_run.specs.Queues.{HandsOutOn};
 
     /// Its number among the jobs of the run.
     pub fn number(&self) -> u8
@@ -60,7 +62,8 @@ impl Job {
 
     /// Hands out what is queued on this channel, where there is anything.
     pub fn hand_out(&mut self, chan: Chan) -> Option<Bytes>
-        ensures { JobStays self.old self.new }
+        ensures stays { JobStays self.old self.new }
+        ensures queue { HandsOutOn chan self.old self.new result }
     {
         self.run.lines.take(chan)
     }
@@ -73,12 +76,16 @@ impl Job {
     }
 
     /// Whether a last look of the job is to be made.
-    pub fn wants_look(&self) -> bool {
+    pub fn wants_look(&self) -> bool
+        ensures { WantsLook self.now result }
+    {
         !self.is_over() && self.run.core.wants_look()
     }
 
     /// The next moment at which the clock brings something, in milliseconds since 1970-01-01 UTC.
-    pub fn due(&self) -> Option<u64> {
+    pub fn due(&self) -> Option<u64>
+        ensures { IsDue self.now result }
+    {
         if self.is_over() {
             return None;
         }

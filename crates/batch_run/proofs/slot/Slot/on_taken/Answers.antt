@@ -6,8 +6,8 @@ use Rattle.batch_run.proofs.slot.Slot.on_taken.Goals as goal
 pub returns-in-Running : goal.returns-in-Running
 returns-in-Running c = λ asks start from slots k journal counts found s.
     job_goes_on asks start from slots journal journal counts counts k c.in-Running.job c.on_taken.new.self
-    (λ o r. c.on_taken.ensures.course o journal counts r) (λ path since then l. c.on_taken.ensures.calls path since then journal counts l) c.on_taken.ensures.task c.on_taken.ensures.output
-    (λ l. inl (c.on_taken.ensures.still.lost l)) (λ l. inl (c.on_taken.ensures.still.spent l)) (found ∙ ap Some c.in-Running.is) s
+    (λ o r. c.on_taken.ensures.course o journal counts r) (λ path since then l. c.on_taken.ensures.calls path since then journal counts l) c.on_taken.ensures.keeps.task c.on_taken.ensures.keeps.output
+    (λ l. inl (c.on_taken.ensures.keeps.still.lost l)) (λ l. inl (c.on_taken.ensures.keeps.still.spent l)) (found ∙ ap Some c.in-Running.is) s
 
 pub returns : goal.returns
 returns c = λ asks start from slots k journal counts found s. slot_rests asks start from slots k c.args.self.now journal counts found s

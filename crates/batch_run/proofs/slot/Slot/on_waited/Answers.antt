@@ -6,8 +6,8 @@ use Rattle.batch_run.proofs.slot.Slot.on_waited.Goals as goal
 pub returns-in-Running : goal.returns-in-Running
 returns-in-Running c = λ asks start from slots k journal counts found s.
     job_goes_on asks start from slots journal journal counts counts k c.in-Running.job c.on_waited.new.self
-    (λ o r. c.on_waited.ensures.course o journal counts r) (λ path since then l. c.on_waited.ensures.calls path since then journal counts l) c.on_waited.ensures.task c.on_waited.ensures.output
-    (λ l. inl (c.on_waited.ensures.still.lost l)) (λ l. inl (c.on_waited.ensures.still.spent l)) (found ∙ ap Some c.in-Running.is) s
+    (λ o r. c.on_waited.ensures.course o journal counts r) (λ path since then l. c.on_waited.ensures.calls path since then journal counts l) c.on_waited.ensures.keeps.task c.on_waited.ensures.keeps.output
+    (λ l. inl (c.on_waited.ensures.keeps.still.lost l)) (λ l. inl (c.on_waited.ensures.keeps.still.spent l)) (found ∙ ap Some c.in-Running.is) s
 
 pub returns : goal.returns
 returns c = λ asks start from slots k journal counts found s. slot_rests asks start from slots k c.args.self.now journal counts found s

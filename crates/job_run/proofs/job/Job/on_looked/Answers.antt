@@ -1,11 +1,9 @@
-use Rattle.std.proofs.Common.{refl, sym, ap, ◌∙◌}
+use Rattle.std.proofs.Common.{refl, sym, ◌∙◌}
 use Rattle.job_saves.specs.Course.{stays_open}
 use Rattle.cell_core.specs.StandsFor.{task_of}
-use Rattle.job_run.proofs.OutcomeLemmas.{not_lost, not_spent}
 use Rattle.job_run.proofs.StopLemmas.{job_ends}
 use Rattle.job_run.proofs.TurnLemmas.{turn_counts}
-use Rattle.job_run.proofs.RunLemmas.{turns, plays_on}
-use Rattle.job_run.specs.declared.terms.Terms.{Terms}
+use Rattle.job_run.proofs.RunLemmas.{keeps_on, turns, plays_on}
 use Rattle.job_run.proofs.job.Job.on_looked.Goals as goal
 
 pub outcome_of-requires-clause-own : goal.outcome_of-requires-clause-own
@@ -22,11 +20,5 @@ returns g c =
           (g.W.Journal.journal c.args.w.now) (g.W.Journal.journal t.new.w) from to e.saves t.ensures.counts e.counts h) r;
       calls = λ cast since from r.
           plays_on cast since from c.args.self.now _ t.new.self.book _ _ _ _ (t.ensures.calls cast since from) e.calls refl refl r;
-      task = e.task ∙ t.ensures.task;
-      pings = ap (λ (x : Terms). x.heartbeat) (e.terms ∙ t.ensures.terms);
-      output = refl;
-      still = record {
-        lost = λ h. absurd (not_lost (task_of t.new.self.core) t.result t.ensures.own (e.lost h));
-        spent = λ h. absurd (not_spent (task_of t.new.self.core) t.result t.ensures.own (e.spent h));
-      };
+      keeps = keeps_on t.new.self t.result e.task t.ensures.task e.terms t.ensures.terms refl t.ensures.own e.lost e.spent;
     }

@@ -1,17 +1,15 @@
-use Rattle.std.proofs.Common.{true, refl, sym, ap, ◌∙◌}
+use Rattle.std.proofs.Common.{true, refl, sym, ◌∙◌}
 use Rattle.world.proofs.CountsLemmas.{grow_same}
 use Rattle.job_saves.specs.Course.{stays_open}
 use Rattle.cell_core.specs.StandsFor.{task_of}
-use Rattle.job_run.proofs.OutcomeLemmas.{not_lost, not_spent}
 use Rattle.job_run.proofs.StopLemmas.{job_ends}
 use Rattle.job_run.proofs.TurnLemmas.{turn_counts}
-use Rattle.job_run.proofs.RunLemmas.{turns, plays_on, told_spares, entry_called}
+use Rattle.job_run.proofs.RunLemmas.{keeps_on, turns, plays_on, told_spares, entry_called}
 use Rattle.cell_core.specs.declared.act.Act.TheVariants.{Nothing}
 use Rattle.job_saves.proofs.CourseLemmas.{others_pass}
 use Rattle.job_run.proofs.CountLemmas.{counts_passed}
 use Rattle.job_run.proofs.WorkLemmas.{same_works}
 use Rattle.job_run.proofs.PartLemmas.{kids_quiet}
-use Rattle.job_run.specs.declared.terms.Terms.{Terms}
 use Rattle.job_run.proofs.job.Job.on_moment.Goals as goal
 
 pub outcome_of-requires-clause-own : goal.outcome_of-requires-clause-own
@@ -30,11 +28,5 @@ returns g c =
       calls = λ cast since from r.
           plays_on cast since from c.args.self.now _ t.new.self.book _ _ _ _
           (λ s. t.ensures.calls cast since from (entry_called cast since from _ _ _ _ _ _ (λ past. record { number = c.args.self.now.number; ask = r.role.ask; has = r.role.has; is = refl }) kids_quiet (λ past. tt) c.look.ensures.tells (same_works c.look.ensures.same) s)) e.calls refl refl r;
-      task = e.task ∙ t.ensures.task;
-      pings = ap (λ (x : Terms). x.heartbeat) (e.terms ∙ t.ensures.terms);
-      output = refl;
-      still = record {
-        lost = λ h. absurd (not_lost (task_of t.new.self.core) t.result t.ensures.own (e.lost h));
-        spent = λ h. absurd (not_spent (task_of t.new.self.core) t.result t.ensures.own (e.spent h));
-      };
+      keeps = keeps_on t.new.self t.result e.task t.ensures.task e.terms t.ensures.terms refl t.ensures.own e.lost e.spent;
     }
