@@ -1,5 +1,5 @@
 //! The answers of the core, event by event.
-ghost use Rattle.std.specs.Prelude.{◌≡◌};
+ghost use Rattle.std.specs.Prelude.{◌≡◌, true, false};
 ghost use Rattle.cell_core.specs.Events.{is_saved};
 ghost use Rattle.cell_core.specs.Holds.{is_save, IsSmall};
 ghost use Rattle.cell_core.specs.StandsFor.{awaits_saved_of};
@@ -36,73 +36,91 @@ fn tell(rt: &impl Abort, core: &mut Core, e: Event, takes: bool, act: Act)
     assert_eq!(rt; step.act, act);
 }
 
+/// The first of two cells runs and is saved.
+fn run_first(rt: &impl Abort, core: &mut Core)
+    requires { awaits_saved_of core.old ≡ true }
+    ensures { awaits_saved_of core.new ≡ true }
+{
+    tell(rt, core, Event::Saved, false, Act::Start);
+    tell(rt, core, Event::Ready, false, Act::Send(0));
+    tell(rt, core, Event::Io(Brief::Else), true, Act::Nothing);
+    tell(rt, core, Event::Reply { fatal: false }, true, Act::Nothing);
+    tell(rt, core, Event::Io(Brief::Idle), true, Act::Save(1));
+    assert_eq!(rt; core.failing(), None);
+}
+
+/// The second of two cells fails.
+fn fail_second(rt: &impl Abort, core: &mut Core)
+    requires { awaits_saved_of core.old ≡ true }
+{
+    tell(rt, core, Event::Saved, false, Act::Send(2));
+    tell(rt, core, Event::Reply { fatal: true }, true, Act::Nothing);
+    tell(rt, core, Event::Io(Brief::Idle), true, Act::Save(3));
+    assert_eq!(rt; core.failing(), Some(2));
+    tell(rt, core, Event::Saved, false, Act::Stop(Why::CellError));
+}
+
 #[test]
 fn the_second_of_two_cells_fails(rt: HostRuntime) -> Result<(), Fail> {
     let plan = Plan::of_vec(vec![in rt.alloc(); 0, 2]?);
     let mut core = Core::new(plan, 3, LIMITS);
-    tell(&rt, &mut core, Event::Saved, false, Act::Start);
-    tell(&rt, &mut core, Event::Ready, false, Act::Send(0));
-    tell(&rt, &mut core, Event::Io(Brief::Else), true, Act::Nothing);
-    tell(
-        &rt,
-        &mut core,
-        Event::Reply { fatal: false },
-        true,
-        Act::Nothing,
-    );
-    tell(&rt, &mut core, Event::Io(Brief::Idle), true, Act::Save(1));
-    assert_eq!(rt; core.failing(), None);
-    tell(&rt, &mut core, Event::Saved, false, Act::Send(2));
-    tell(
-        &rt,
-        &mut core,
-        Event::Reply { fatal: true },
-        true,
-        Act::Nothing,
-    );
-    tell(&rt, &mut core, Event::Io(Brief::Idle), true, Act::Save(3));
-    assert_eq!(rt; core.failing(), Some(2));
-    tell(
-        &rt,
-        &mut core,
-        Event::Saved,
-        false,
-        Act::Stop(Why::CellError),
-    );
+    run_first(&rt, &mut core);
+    fail_second(&rt, &mut core);
     Ok(())
+}
+
+fn expect_due(rt: &impl Abort, core: &Core, moment: Option<u64>) {
+    assert_eq!(rt; core.due(), moment);
+}
+
+/// A request is sent, which is to end a second later.
+fn send_hurried(rt: &impl Abort, core: &mut Core)
+    requires { awaits_saved_of core.old ≡ true }
+    ensures { awaits_saved_of core.new ≡ false }
+{
+    tell(rt, core, Event::Saved, false, Act::Start);
+    expect_due(rt, core, None);
+    tell(rt, core, Event::Moment(0), false, Act::Nothing);
+    expect_due(rt, core, Some(1000));
+    tell(rt, core, Event::Moment(20), false, Act::Nothing);
+    tell(rt, core, Event::Ready, false, Act::Send(0));
+    expect_due(rt, core, Some(1020));
+}
+
+/// The request is interrupted once the second is over.
+fn interrupt(rt: &impl Abort, core: &mut Core)
+    requires { awaits_saved_of core.old ≡ false }
+    ensures { awaits_saved_of core.new ≡ false }
+{
+    tell(rt, core, Event::Moment(1019), false, Act::Nothing);
+    assert!(rt; !core.wants_look());
+    tell(rt, core, Event::Moment(1030), false, Act::Look);
+    assert!(rt; core.wants_look());
+    tell(rt, core, Event::Looked, false, Act::Interrupt);
+    assert!(rt; !core.wants_look());
+    expect_due(rt, core, Some(11030));
+}
+
+/// The request has not ended ten seconds later, and the job stops.
+fn time_out(rt: &impl Abort, core: &mut Core)
+    requires { awaits_saved_of core.old ≡ false }
+{
+    tell(rt, core, Event::Moment(11030), false, Act::Look);
+    tell(rt, core, Event::Looked, false, Act::Save(1));
+    assert_eq!(rt; core.failing(), Some(0));
+    expect_due(rt, core, None);
+    tell(rt, core, Event::Saved, false, Act::Stop(Why::TimedOut));
+    tell(rt, core, Event::Ready, false, Act::Nothing);
+    assert_eq!(rt; core.failing(), Some(0));
 }
 
 #[test]
 fn an_interrupt_that_is_not_answered_times_out(rt: HostRuntime) -> Result<(), Fail> {
     let plan = Plan::of_vec(vec![in rt.alloc(); 0]?);
     let mut core = Core::new(plan, 1, HURRIED);
-    tell(&rt, &mut core, Event::Saved, false, Act::Start);
-    assert_eq!(rt; core.due(), None);
-    tell(&rt, &mut core, Event::Moment(0), false, Act::Nothing);
-    assert_eq!(rt; core.due(), Some(1000));
-    tell(&rt, &mut core, Event::Moment(20), false, Act::Nothing);
-    tell(&rt, &mut core, Event::Ready, false, Act::Send(0));
-    assert_eq!(rt; core.due(), Some(1020));
-    tell(&rt, &mut core, Event::Moment(1019), false, Act::Nothing);
-    assert!(rt; !core.wants_look());
-    tell(&rt, &mut core, Event::Moment(1030), false, Act::Look);
-    assert!(rt; core.wants_look());
-    tell(&rt, &mut core, Event::Looked, false, Act::Interrupt);
-    assert!(rt; !core.wants_look());
-    assert_eq!(rt; core.due(), Some(11030));
-    tell(&rt, &mut core, Event::Moment(11030), false, Act::Look);
-    tell(&rt, &mut core, Event::Looked, false, Act::Save(1));
-    assert_eq!(rt; core.failing(), Some(0));
-    assert_eq!(rt; core.due(), None);
-    tell(
-        &rt,
-        &mut core,
-        Event::Saved,
-        false,
-        Act::Stop(Why::TimedOut),
-    );
-    tell(&rt, &mut core, Event::Ready, false, Act::Nothing);
-    assert_eq!(rt; core.failing(), Some(0));
+    send_hurried(&rt, &mut core);
+    interrupt(&rt, &mut core);
+    time_out(&rt, &mut core);
     Ok(())
 }
 

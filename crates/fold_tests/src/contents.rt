@@ -1,10 +1,12 @@
 //! Contents as ipykernel, xeus and IRkernel send them, contents that lack what they need, and what
 //! is sent.
+use crate::trees::tree_text;
 use jcontent::{
     Content, ReplyIs, Shown, State, empty_content, execute_content, read, shutdown_content,
 };
 use jtext::{Bytes, Json, NoMemory, NumText, Text, Texts, write_compact};
 use std::alloc::Global;
+use std::process::Abort;
 use std::test::Fail;
 
 /// What a message of that type with that content says, in short.
@@ -231,19 +233,25 @@ fn a_content_without_its_shape_is_another(rt: HostRuntime) -> Result<(), Fail> {
     Ok(())
 }
 
+/// A request to execute one line.
+fn request_of_line(alloc: Global) -> Result<Json, NoMemory> {
+    let code = Text::of(alloc, "print(\"a\")\n")?;
+    execute_content(alloc, &code, true)
+}
+
+/// The tree is this text.
+fn expect_text(rt: &impl Abort, alloc: Global, tree: Json, text: &[u8]) -> Result<(), Fail> {
+    let found = tree_text(alloc, tree)?;
+    assert_eq!(rt; found.bytes(), text);
+    Ok(())
+}
+
 #[test]
 fn sends_what_the_standard_names(rt: HostRuntime) -> Result<(), Fail> {
     let alloc = rt.alloc();
-    let code = Text::of(alloc, "print(\"a\")\n")?;
-    let request = execute_content(alloc, &code, true)?;
-    let execute = write_compact(alloc, &request)?;
-    assert_eq!(rt;
-        execute.bytes(),
-        br#"{"code":"print(\"a\")\n","silent":false,"store_history":true,"user_expressions":{},"allow_stdin":false,"stop_on_error":true}"#.as_slice()
-    );
-    let info = write_compact(alloc, &empty_content(alloc))?;
-    assert_eq!(rt; info.bytes(), b"{}".as_slice());
-    let shutdown = write_compact(alloc, &shutdown_content(alloc)?)?;
-    assert_eq!(rt; shutdown.bytes(), b"{\"restart\":false}".as_slice());
-    Ok(())
+    let execute =
+        br#"{"code":"print(\"a\")\n","silent":false,"store_history":true,"user_expressions":{},"allow_stdin":false,"stop_on_error":true}"#;
+    expect_text(&rt, alloc, request_of_line(alloc)?, execute)?;
+    expect_text(&rt, alloc, empty_content(alloc), b"{}")?;
+    expect_text(&rt, alloc, shutdown_content(alloc)?, b"{\"restart\":false}")
 }

@@ -13,4 +13,6 @@ mod places;
 #[cfg(test)]
 mod requests;
 #[cfg(test)]
+mod trees;
+#[cfg(test)]
 mod twins;

@@ -1,11 +1,13 @@
 //! Outputs, counts and dates after a few messages, written one a line.
-ghost use Rattle.std.specs.Prelude.{◌≡◌, ◌<◌, IfOk};
+ghost use Rattle.std.specs.Prelude.{◌≡◌, ◌<◌};
 ghost use Rattle.out_fold.specs.Stands.{cells_of, next_of};
 
+use crate::trees::tree_text;
 use jcontent::{Content, Shown, State};
 use jtext::{Bytes, Fields, Json, NoMemory, NumText, Text, Texts, write_compact};
 use out_fold::Fold;
 use std::alloc::Global;
+use std::process::Abort;
 use std::test::Fail;
 
 fn shown(alloc: Global, key: &str, id: &str, text: &str) -> Result<Shown, NoMemory> {
@@ -106,15 +108,25 @@ fn give(alloc: Global, fold: &mut Fold, lines: &str) -> Result<(), NoMemory>
 fn outputs_text(alloc: Global, fold: &Fold, cell: u32) -> Result<Bytes, NoMemory>
     requires { cell < cells_of fold.now }
 {
-    write_compact(alloc, &Json::Arr(fold.outputs(cell)?))
+    tree_text(alloc, Json::Arr(fold.outputs(cell)?))
+}
+
+/// The outputs of the first cell after these messages, which `;` parts.
+fn outputs_after(alloc: Global, fold: &mut Fold, lines: &str) -> Result<Bytes, NoMemory>
+    requires cells { 0 < cells_of fold.old }
+    requires fresh { next_of fold.old ≡ 0 }
+{
+    fold.start(0);
+    give(alloc, fold, lines)?;
+    outputs_text(alloc, fold, 0)
 }
 
 /// The outputs of one cell after these messages, which `;` parts.
 fn outputs_of(alloc: Global, merge: bool, lines: &str) -> Result<Bytes, NoMemory> {
     let mut fold = Fold::new(alloc, 1, merge)?;
-    fold.start(0);
-    give(alloc, &mut fold, lines)?;
-    outputs_text(alloc, &fold, 0)
+    let said = outputs_after(alloc, &mut fold, lines);
+    drop(fold);
+    said
 }
 
 /// The first of the rows `MESSAGES -> OUTPUTS` that doesn't hold of one cell.
@@ -216,14 +228,24 @@ fn an_update_reaches_every_cell(rt: HostRuntime) -> Result<(), Fail> {
     Ok(())
 }
 
-#[test]
-fn a_cell_has_the_count_that_was_said_last(rt: HostRuntime) -> Result<(), Fail> {
-    let mut fold = Fold::new(rt.alloc(), 3, false)?;
-    update_from_another_cell(rt.alloc(), &mut fold)?;
+/// The first cell has the count of its result, and the second one none.
+fn expect_counts(rt: &impl Abort, alloc: Global, fold: &mut Fold) -> Result<(), Fail>
+    requires cells { cells_of fold.old ≡ 3 }
+    requires fresh { next_of fold.old ≡ 0 }
+{
+    update_from_another_cell(alloc, fold)?;
     let count = fold.count(0);
     assert!(rt; count.is_some_and(|n| n.as_str() == "8"));
     assert!(rt; fold.count(1).is_none());
     Ok(())
+}
+
+#[test]
+fn a_cell_has_the_count_that_was_said_last(rt: HostRuntime) -> Result<(), Fail> {
+    let mut fold = Fold::new(rt.alloc(), 3, false)?;
+    let end = expect_counts(&rt, rt.alloc(), &mut fold);
+    drop(fold);
+    end
 }
 
 /// The dates of a cell that was begun, was idle and was replied to.
@@ -235,13 +257,19 @@ fn dates_text(alloc: Global, fold: &mut Fold) -> Result<Bytes, NoMemory>
     give(alloc, fold, "input 7;status idle")?;
     let date = Text::of(alloc, "R")?;
     fold.reply(Some(&date))?;
-    write_compact(alloc, &Json::Obj(fold.dates(0)?))
+    tree_text(alloc, Json::Obj(fold.dates(0)?))
+}
+
+fn dates_of_one(alloc: Global) -> Result<Bytes, NoMemory> {
+    let mut fold = Fold::new(alloc, 1, false)?;
+    let said = dates_text(alloc, &mut fold);
+    drop(fold);
+    said
 }
 
 #[test]
 fn dates_are_those_of_the_last_messages(rt: HostRuntime) -> Result<(), Fail> {
-    let mut fold = Fold::new(rt.alloc(), 1, false)?;
-    let said = dates_text(rt.alloc(), &mut fold)?;
+    let said = dates_of_one(rt.alloc())?;
     let dates =
         r#"{"iopub.execute_input":"2026-11-27T09:00:00.123456Z","iopub.status.idle":"2026-11-27T09:00:00.123456Z","shell.execute_reply":"R"}"#;
     assert!(rt; said.bytes() == dates.as_bytes());
@@ -268,8 +296,9 @@ fn touches_both(alloc: Global, fold: &mut Fold) -> Result<bool, NoMemory>
 #[test]
 fn an_update_touches_the_cells_that_show_it(rt: HostRuntime) -> Result<(), Fail> {
     let mut fold = Fold::new(rt.alloc(), 4, false)?;
-    let both = touches_both(rt.alloc(), &mut fold)?;
-    assert!(rt; both);
+    let both = touches_both(rt.alloc(), &mut fold);
+    drop(fold);
+    assert!(rt; both?);
     Ok(())
 }
 
@@ -293,17 +322,17 @@ fn all_are(
     Ok(items.len() == outputs)
 }
 
-/// A fold of two cells: many outputs of one display in the first, and one in the second, which
-/// updates it.
-fn fold_with_updates(alloc: Global, outputs: u32) -> Result<Fold, NoMemory>
-    ensures { IfOk result (λ f. cells_of f ≡ 2) }
+/// Gives the first of two cells many outputs of one display, and the second one, which updates it,
+/// another.
+fn update_many(alloc: Global, fold: &mut Fold, outputs: u32) -> Result<(), NoMemory>
+    requires cells { cells_of fold.old ≡ 2 }
+    requires fresh { next_of fold.old ≡ 0 }
+    ensures { cells_of fold.new ≡ cells_of fold.old }
 {
-    let mut fold = Fold::new(alloc, 2, false)?;
     fold.start(0);
-    show_often(alloc, &mut fold, outputs)?;
+    show_often(alloc, fold, outputs)?;
     fold.start(1);
-    give(alloc, &mut fold, "show x 2;update y 3;update x 4")?;
-    Ok(fold)
+    give(alloc, fold, "show x 2;update y 3;update x 4")
 }
 
 /// Gives the cell that runs so many outputs of one display.
@@ -313,20 +342,42 @@ fn show_often(alloc: Global, fold: &mut Fold, outputs: u32) -> Result<(), NoMemo
     ensures cells { cells_of fold.new ≡ cells_of fold.old }
 {
     let show = content(alloc, "show x 1")?;
-    for shown in 0..outputs {
-        fold.take(&show, None)?;
+    let end = give_often(fold, &show, outputs);
+    drop(show);
+    end
+}
+
+/// Gives the cell that runs this message so many times.
+fn give_often(fold: &mut Fold, content: &Content, times: u32) -> Result<(), NoMemory>
+    requires { 0 < next_of fold.old }
+    ensures next { next_of fold.new ≡ next_of fold.old }
+    ensures cells { cells_of fold.new ≡ cells_of fold.old }
+{
+    for given in 0..times {
+        fold.take(content, None)?;
     }
     Ok(())
 }
 
 const FOUR: &str = r#"{"data":{"text/plain":["4"]},"metadata":{},"output_type":"display_data"}"#;
 
-#[test]
-fn ten_thousand_outputs_of_one_display_show_its_last_update(rt: HostRuntime) -> Result<(), Fail> {
-    let fold = fold_with_updates(rt.alloc(), 10_000)?;
-    let first = all_are(rt.alloc(), &fold, 0, 10_000, FOUR)?;
+/// All outputs of both cells show the last update.
+fn expect_fours(rt: &impl Abort, alloc: Global, fold: &mut Fold) -> Result<(), Fail>
+    requires cells { cells_of fold.old ≡ 2 }
+    requires fresh { next_of fold.old ≡ 0 }
+{
+    update_many(alloc, fold, 10_000)?;
+    let first = all_are(alloc, fold, 0, 10_000, FOUR)?;
     assert!(rt; first);
-    let second = all_are(rt.alloc(), &fold, 1, 1, FOUR)?;
+    let second = all_are(alloc, fold, 1, 1, FOUR)?;
     assert!(rt; second);
     Ok(())
+}
+
+#[test]
+fn ten_thousand_outputs_of_one_display_show_its_last_update(rt: HostRuntime) -> Result<(), Fail> {
+    let mut fold = Fold::new(rt.alloc(), 2, false)?;
+    let end = expect_fours(&rt, rt.alloc(), &mut fold);
+    drop(fold);
+    end
 }

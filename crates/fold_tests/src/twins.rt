@@ -1,6 +1,7 @@
 //! The fold beside the plain one, over pseudo-random lists of messages.
+use crate::trees::tree_text;
 use jcontent::{Content, ReplyIs, Shown, State};
-use jtext::{Fields, Json, NoMemory, NumText, Text, Texts, write_compact};
+use jtext::{Fields, Json, NoMemory, NumText, Text, Texts};
 use out_fold::{Fold, PlainFold};
 use std::alloc::Global;
 use std::test::Fail;
@@ -135,16 +136,16 @@ impl Twins {
     fn same_outputs(&self, alloc: Global, cell: u32) -> Result<bool, NoMemory>
         requires { cell < cells_of self.now.fold }
     {
-        let outputs = write_compact(alloc, &Json::Arr(self.fold.outputs(cell)?))?;
-        let plain_outputs = write_compact(alloc, &Json::Arr(self.plain.outputs(cell)?))?;
+        let outputs = tree_text(alloc, Json::Arr(self.fold.outputs(cell)?))?;
+        let plain_outputs = tree_text(alloc, Json::Arr(self.plain.outputs(cell)?))?;
         Ok(outputs.bytes() == plain_outputs.bytes())
     }
 
     fn same_dates(&self, alloc: Global, cell: u32) -> Result<bool, NoMemory>
         requires { cell < cells_of self.now.fold }
     {
-        let dates = write_compact(alloc, &Json::Obj(self.fold.dates(cell)?))?;
-        let plain_dates = write_compact(alloc, &Json::Obj(self.plain.dates(cell)?))?;
+        let dates = tree_text(alloc, Json::Obj(self.fold.dates(cell)?))?;
+        let plain_dates = tree_text(alloc, Json::Obj(self.plain.dates(cell)?))?;
         Ok(dates.bytes() == plain_dates.bytes())
     }
 
@@ -267,7 +268,9 @@ fn agree_throughout(alloc: Global, seed: u64) -> Result<bool, NoMemory> {
         fold: Fold::new(alloc, CELLS, merge)?,
         plain: PlainFold::new(alloc, merge),
     };
-    twins.agree_on_all(alloc, &mut random)
+    let agree = twins.agree_on_all(alloc, &mut random);
+    drop(twins);
+    agree
 }
 
 #[test]
