@@ -2,7 +2,7 @@
 
 use jmsg::{Decoded, Header, Message, date_text, decode, encode, signature};
 use jsign::sign;
-use jtext::{Bytes, NoMemory, Text, read, write_compact};
+use jtext::{Bytes, Fields, Json, NoMemory, Text, read, write_compact};
 use std::alloc::Global;
 use std::process::Abort;
 use std::test::Fail;
@@ -58,12 +58,14 @@ fn status_header(alloc: Global) -> Result<Header, NoMemory> {
 
 /// A message of type `status`, with no parent.
 fn status(alloc: Global) -> Result<Message, Fail> {
+    let content = read(alloc, b"{\"execution_state\":\"idle\"}", 100)?;
+    let header = status_header(alloc)?;
     Ok(Message {
-        header: status_header(alloc)?,
+        header,
         parent_id: None,
-        parent: read(alloc, b"{}", 100)?,
-        metadata: read(alloc, b"{}", 100)?,
-        content: read(alloc, b"{\"execution_state\":\"idle\"}", 100)?,
+        parent: Json::Obj(Fields::new(alloc)),
+        metadata: Json::Obj(Fields::new(alloc)),
+        content,
         buffers: Parts::new(alloc),
     })
 }
@@ -76,17 +78,22 @@ fn status_parts(alloc: Global, key: &[u8]) -> Result<Parts, Fail> {
     Ok(parts?)
 }
 
-/// The signature is Python's.
-#[test]
-fn encodes_to_six_parts(rt: HostRuntime) -> Result<(), Fail> {
-    let alloc = rt.alloc();
+/// The lines of its parts under the key `k`, and how many there are.
+fn status_lines(alloc: Global) -> Result<(Bytes, usize), Fail> {
     let parts = status_parts(alloc, b"k")?;
     let lines = lines_of(alloc, &parts);
     let count = parts.len();
     drop(parts);
+    Ok((lines?, count))
+}
+
+/// The signature is Python's.
+#[test]
+fn encodes_to_six_parts(rt: HostRuntime) -> Result<(), Fail> {
+    let (lines, count) = status_lines(rt.alloc())?;
     let expected =
         b"<IDS|MSG>\nd1b55cd1f947883ca13a2ca00299a5192cb3b66c73e2663b9c90638e42677d8f\n{\"msg_id\":\"s_1\",\"session\":\"s\",\"username\":\"nbrun\",\"date\":\"2000-01-01T00:00:00.000Z\",\"msg_type\":\"status\",\"version\":\"5.3\"}\n{}\n{}\n{\"execution_state\":\"idle\"}\n";
-    assert_eq!(rt; lines?.bytes(), expected.as_slice());
+    assert_eq!(rt; lines.bytes(), expected.as_slice());
     assert_eq!(rt; count, 6);
     Ok(())
 }
@@ -251,6 +258,14 @@ fn refuses_signed_frames_that_are_no_dictionaries(rt: HostRuntime) -> Result<(),
     Ok(())
 }
 
+/// What a message of these parts is under the key `k`.
+fn verdict_on(alloc: Global, text: &[u8]) -> Result<&'static str, NoMemory> {
+    let parts = parts_of(alloc, text)?;
+    let answer = verdict(alloc, &parts);
+    drop(parts);
+    answer
+}
+
 /// Signed by Python.
 #[test]
 fn refuses_frames_that_are_not_utf_8(rt: HostRuntime) -> Result<(), Fail> {
@@ -259,8 +274,8 @@ fn refuses_frames_that_are_not_utf_8(rt: HostRuntime) -> Result<(), Fail> {
         b"<IDS|MSG>~2f976b374a18441fd367e7c58c22af5ed9da3ee93bdbca06ae3ee8a3e05d82c5~{\"msg_id\":\"a\",\"msg_type\":\"b\"}~{}~{}~{\"a\":\"\xff\"}";
     let header =
         b"<IDS|MSG>~f7bd4c6dfe933d2858a7f0024d159c79663eb40cc0c7ac288545d2801c914c04~{\"msg_id\":\"\xc3(\",\"msg_type\":\"b\"}~{}~{}~{}";
-    assert_eq!(rt; verdict(alloc, &parts_of(alloc, content)?)?, "not json");
-    assert_eq!(rt; verdict(alloc, &parts_of(alloc, header)?)?, "not json");
+    assert_eq!(rt; verdict_on(alloc, content)?, "not json");
+    assert_eq!(rt; verdict_on(alloc, header)?, "not json");
     Ok(())
 }
 
@@ -277,26 +292,45 @@ fn nested(alloc: Global, lists: usize) -> Result<Bytes, NoMemory> {
     Ok(text)
 }
 
+fn add_frame(alloc: Global, parts: &mut Parts, frame: &[u8]) -> Result<(), NoMemory> {
+    parts.push(Bytes::of(alloc, frame)?)
+}
+
+/// Appends the signature and the frames of a message with this content.
+fn add_signed(alloc: Global, parts: &mut Parts, content: &[u8]) -> Result<(), NoMemory> {
+    let header = b"{\"msg_id\":\"a\",\"msg_type\":\"b\"}";
+    let signature = sign(b"k", header, b"{}", b"{}", content);
+    add_frame(alloc, parts, &signature)?;
+    add_frame(alloc, parts, header)?;
+    add_frame(alloc, parts, b"{}")?;
+    add_frame(alloc, parts, b"{}")?;
+    add_frame(alloc, parts, content)
+}
+
 /// A signed message with that object as its content.
 fn with_nested(alloc: Global, lists: usize) -> Result<Parts, NoMemory> {
-    let header = b"{\"msg_id\":\"a\",\"msg_type\":\"b\"}";
     let content = nested(alloc, lists)?;
-    let signature = sign(b"k", header, b"{}", b"{}", content.bytes());
     let mut parts = parts_of(alloc, b"<IDS|MSG>")?;
-    parts.push(Bytes::of(alloc, &signature)?)?;
-    parts.push(Bytes::of(alloc, header)?)?;
-    parts.push(Bytes::of(alloc, b"{}")?)?;
-    parts.push(Bytes::of(alloc, b"{}")?)?;
-    parts.push(content)?;
+    let end = add_signed(alloc, &mut parts, content.bytes());
+    drop(content);
+    end?;
     Ok(parts)
+}
+
+/// What that message is under the key `k`.
+fn verdict_on_nested(alloc: Global, lists: usize) -> Result<&'static str, NoMemory> {
+    let parts = with_nested(alloc, lists)?;
+    let answer = verdict(alloc, &parts);
+    drop(parts);
+    answer
 }
 
 #[test]
 fn reads_dictionaries_nested_100_deep_and_no_deeper(rt: HostRuntime) -> Result<(), Fail> {
     let alloc = rt.alloc();
-    assert_eq!(rt; verdict(alloc, &with_nested(alloc, 99)?)?, "good");
-    assert_eq!(rt; verdict(alloc, &with_nested(alloc, 100)?)?, "not json");
-    assert_eq!(rt; verdict(alloc, &with_nested(alloc, 100_000)?)?, "not json");
+    assert_eq!(rt; verdict_on_nested(alloc, 99)?, "good");
+    assert_eq!(rt; verdict_on_nested(alloc, 100)?, "not json");
+    assert_eq!(rt; verdict_on_nested(alloc, 100_000)?, "not json");
     Ok(())
 }
 
@@ -310,17 +344,22 @@ const NOT_FOUND: &[u8] = br#"<IDS|MSG>~7~~~~
 <IDS|MSG>~7777777777777777777777777777777777777777777777777777777777777777~~~
 7777777777777777777777777777777777777777777777777777777777777777~~~~"#;
 
+/// The signature of a message of these parts.
+fn signature_in(alloc: Global, line: &[u8]) -> Result<Option<[u8; 64]>, NoMemory> {
+    let parts = parts_of(alloc, line)?;
+    let found = signature(&parts);
+    drop(parts);
+    Ok(found)
+}
+
 #[test]
 fn finds_the_signature_untested(rt: HostRuntime) -> Result<(), Fail> {
     let alloc = rt.alloc();
     for line in FOUND.split(|byte| *byte == b'\n') {
-        assert!(rt;
-            signature(&parts_of(alloc, line)?) == Some([b'7'; 64]),
-            "{line:?}"
-        );
+        assert!(rt; signature_in(alloc, line)? == Some([b'7'; 64]), "{line:?}");
     }
     for line in NOT_FOUND.split(|byte| *byte == b'\n') {
-        assert!(rt; signature(&parts_of(alloc, line)?).is_none(), "{line:?}");
+        assert!(rt; signature_in(alloc, line)?.is_none(), "{line:?}");
     }
     Ok(())
 }

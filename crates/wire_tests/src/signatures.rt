@@ -1,6 +1,7 @@
 //! Signatures by RFC 4231 and by Python's `hmac`, and the last ones seen.
 
 use jsign::{Seen, Signer, check, sign};
+use std::process::Abort;
 use std::test::Fail;
 
 /// A key, four frames, and the signature that they have.
@@ -155,17 +156,28 @@ fn numbered(number: u32) -> [u8; 64] {
     sig
 }
 
-#[test]
-fn forgets_the_oldest_of_more_than_65536(rt: HostRuntime) -> Result<(), Fail> {
-    let mut seen = Seen::new(rt.alloc())?;
+fn see_as_many_as_are_kept(rt: &impl Abort, seen: &mut Seen) -> Result<(), Fail> {
     assert!(rt; seen.fresh(&numbered(0))?);
     for number in 1..65_536 {
         assert!(rt; seen.fresh(&numbered(number))?, "{number}");
     }
+    Ok(())
+}
+
+fn see_one_more(rt: &impl Abort, seen: &mut Seen) -> Result<(), Fail> {
+    see_as_many_as_are_kept(rt, seen)?;
     assert!(rt; !seen.fresh(&numbered(0))?);
     assert!(rt; !seen.fresh(&numbered(65_535))?);
     assert!(rt; seen.fresh(&numbered(65_536))?);
     assert!(rt; seen.fresh(&numbered(0))?);
     assert!(rt; !seen.fresh(&numbered(2))?);
     Ok(())
+}
+
+#[test]
+fn forgets_the_oldest_of_more_than_65536(rt: HostRuntime) -> Result<(), Fail> {
+    let mut seen = Seen::new(rt.alloc())?;
+    let end = see_one_more(&rt, &mut seen);
+    drop(seen);
+    end
 }

@@ -7,7 +7,7 @@ use std::alloc::Global;
 use std::process::Abort;
 use std::test::Fail;
 use zmtp_wire::{
-    Decoder, Messages, Parts, Role, WireFault, greeting, is_message, parts_len, put_message,
+    Decoder, Messages, Parts, Role, Scan, WireFault, greeting, is_message, parts_len, put_message,
     put_ready, whole,
 };
 
@@ -42,20 +42,39 @@ struct Heard {
     newer: Option<bool>,
 }
 
-fn listen(rt: &HostRuntime, role: Role, octets: &[u8], size: usize) -> Result<Heard, Fail> {
-    let mut decoder = Decoder::new(rt.alloc(), role);
-    let mut out = Messages::new(rt.alloc());
+/// Gives the decoder the octets in pieces of this size, and says what it answers to the last one.
+fn feed_all(
+    decoder: &mut Decoder,
+    octets: &[u8],
+    size: usize,
+    out: &mut Messages,
+) -> Result<(), WireFault> {
     let mut answer = Ok(());
     for piece in octets.chunks(size.max(1)) {
-        answer = decoder.feed(piece, &mut out);
+        answer = decoder.feed(piece, out);
     }
-    let mut messages = Bytes::new(rt.alloc());
-    put_joined(&out, &mut messages)?;
-    let mut owed = Bytes::new(rt.alloc());
+    answer
+}
+
+/// The contexts that are owed, each with a `|` behind it.
+fn owed_text(alloc: Global, decoder: &mut Decoder) -> Result<Bytes, NoMemory> {
+    let mut owed = Bytes::new(alloc);
     for context in decoder.owed().as_slice() {
         owed.add(context.bytes())?;
         owed.push(b'|')?;
     }
+    Ok(owed)
+}
+
+fn summary(
+    alloc: Global,
+    decoder: &mut Decoder,
+    out: &Messages,
+    answer: Result<(), WireFault>,
+) -> Result<Heard, NoMemory> {
+    let mut messages = Bytes::new(alloc);
+    put_joined(out, &mut messages)?;
+    let owed = owed_text(alloc, decoder)?;
     Ok(Heard {
         messages,
         owed,
@@ -65,27 +84,45 @@ fn listen(rt: &HostRuntime, role: Role, octets: &[u8], size: usize) -> Result<He
     })
 }
 
+fn listen(rt: &HostRuntime, role: Role, octets: &[u8], size: usize) -> Result<Heard, Fail> {
+    let mut out = Messages::new(rt.alloc());
+    let mut decoder = Decoder::new(rt.alloc(), role);
+    let answer = feed_all(&mut decoder, octets, size, &mut out);
+    let heard = summary(rt.alloc(), &mut decoder, &out, answer);
+    drop(decoder);
+    drop(out);
+    Ok(heard?)
+}
+
+/// Whether the decoder told what the plain reader found.
+fn tells_of(alloc: Global, heard: &Heard, scan: &Scan) -> Result<bool, NoMemory> {
+    let mut found = Bytes::new(alloc);
+    put_joined(&scan.messages, &mut found)?;
+    let answers = heard.answer == Ok(()) && heard.shaken == scan.shaken;
+    Ok(answers && heard.messages.bytes() == found.bytes())
+}
+
+/// Whether the plain reader tells the same of these octets.
+fn agrees(rt: &HostRuntime, role: Role, octets: &[u8], heard: &Heard) -> Result<bool, Fail> {
+    match whole(rt.alloc(), role, octets) {
+        Ok(scan) => {
+            let same = tells_of(rt.alloc(), heard, &scan);
+            drop(scan);
+            Ok(same?)
+        }
+        Err(fault) => Ok(heard.answer == Err(fault)),
+    }
+}
+
 /// Whether the plain reader and the decoder tell the same of each front of the octets.
 fn agree_on_fronts(rt: &HostRuntime, role: Role, octets: &[u8]) -> Result<bool, Fail> {
     for len in 0..=octets.len() {
         let (front, _) = octets.split_at(len);
         let heard = listen(rt, role, front, 2)?;
-        match whole(rt.alloc(), role, front) {
-            Ok(scan) => {
-                let mut found = Bytes::new(rt.alloc());
-                put_joined(&scan.messages, &mut found)?;
-                if heard.answer != Ok(()) || heard.shaken != scan.shaken {
-                    return Ok(false);
-                }
-                if heard.messages.bytes() != found.bytes() {
-                    return Ok(false);
-                }
-            }
-            Err(fault) => {
-                if heard.answer != Err(fault) {
-                    return Ok(false);
-                }
-            }
+        let same = agrees(rt, role, front, &heard);
+        drop(heard);
+        if !same? {
+            return Ok(false);
         }
     }
     Ok(true)
@@ -117,6 +154,23 @@ fn refuses(
     agree_on_fronts(rt, role, octets)
 }
 
+/// Whether the plain reader finds these messages after a handshake.
+fn scans(rt: &HostRuntime, role: Role, octets: &[u8], messages: &[u8]) -> Result<bool, Fail> {
+    let mut found = Bytes::new(rt.alloc());
+    let scan = whole(rt.alloc(), role, octets)?;
+    let end = put_joined(&scan.messages, &mut found);
+    let shaken = scan.shaken;
+    drop(scan);
+    end?;
+    Ok(found.bytes() == messages && shaken)
+}
+
+fn tells(heard: &Heard, messages: &[u8], owed: &[u8], newer: bool) -> bool {
+    let is_read = heard.answer == Ok(()) && heard.messages.bytes() == messages;
+    let is_shaken = heard.shaken && heard.newer == Some(newer);
+    is_read && heard.owed.bytes() == owed && is_shaken
+}
+
 /// Whether the plain reader and the decoder, in pieces of 1, 2, 3 and all octets, give these
 /// messages and contexts, and agree on each front of the octets.
 fn reads(
@@ -127,21 +181,14 @@ fn reads(
     owed: &[u8],
     newer: bool,
 ) -> Result<bool, Fail> {
-    let scan = whole(rt.alloc(), role, octets)?;
-    let mut found = Bytes::new(rt.alloc());
-    put_joined(&scan.messages, &mut found)?;
-    if found.bytes() != messages || !scan.shaken {
+    if !scans(rt, role, octets, messages)? {
         return Ok(false);
     }
     for size in [1, 2, 3, octets.len()] {
         let heard = listen(rt, role, octets, size)?;
-        if heard.answer != Ok(())
-            || heard.messages.bytes() != messages
-            || heard.owed.bytes() != owed
-        {
-            return Ok(false);
-        }
-        if !heard.shaken || heard.newer != Some(newer) {
+        let is_so = tells(&heard, messages, owed, newer);
+        drop(heard);
+        if !is_so {
             return Ok(false);
         }
     }
@@ -197,17 +244,24 @@ fn what_is_written_is_as_the_standard_has_it(rt: HostRuntime) -> Result<(), Fail
     expect_sizes(&rt, rt.alloc())
 }
 
+/// How many messages a stream of a ROUTER with this tail has, the rest, and whether it is shaken.
+fn scan_of(rt: &HostRuntime, tail: &[u8]) -> Result<(usize, u64, bool), Fail> {
+    let octets = stream(rt, Role::Router, tail)?;
+    let scan = whole(rt.alloc(), Role::Dealer, octets.bytes())?;
+    let found = (scan.messages.len(), scan.rest, scan.shaken);
+    drop(scan);
+    Ok(found)
+}
+
 #[test]
 fn a_stream_gives_its_messages_and_a_rest(rt: HostRuntime) -> Result<(), Fail> {
-    let octets = stream(&rt, Role::Router, b"\x00\x01A\x00")?;
-    let scan = whole(rt.alloc(), Role::Dealer, octets.bytes())?;
-    assert_eq!(rt; scan.messages.len(), 1);
-    assert_eq!(rt; scan.rest, 1);
-    assert!(rt; scan.shaken);
-    let octets = stream(&rt, Role::Router, b"\x02\0\0\0\0\x04\0\0\0")?;
-    let scan = whole(rt.alloc(), Role::Dealer, octets.bytes())?;
-    assert_eq!(rt; scan.messages.len(), 0);
-    assert_eq!(rt; scan.rest, 9);
+    let (messages, rest, shaken) = scan_of(&rt, b"\x00\x01A\x00")?;
+    assert_eq!(rt; messages, 1);
+    assert_eq!(rt; rest, 1);
+    assert!(rt; shaken);
+    let (messages, rest, _) = scan_of(&rt, b"\x02\0\0\0\0\x04\0\0\0")?;
+    assert_eq!(rt; messages, 0);
+    assert_eq!(rt; rest, 9);
     Ok(())
 }
 
@@ -303,15 +357,19 @@ fn libzmq_is_understood(rt: HostRuntime) -> Result<(), Fail> {
     Ok(())
 }
 
+/// The stream of a peer of version 3.0, and then the tail.
+fn old_stream(rt: &HostRuntime, peer: Role, tail: &[u8]) -> Result<Bytes, NoMemory> {
+    let mut octets = Bytes::of(rt.alloc(), OLD)?;
+    put_ready(rt.alloc(), peer, &mut octets)?;
+    octets.add(tail)?;
+    Ok(octets)
+}
+
 #[test]
 fn a_peer_of_version_3_0_is_owed_nothing(rt: HostRuntime) -> Result<(), Fail> {
-    let mut octets = Bytes::of(rt.alloc(), OLD)?;
-    put_ready(rt.alloc(), Role::Pub, &mut octets)?;
-    octets.add(b"\x04\x09\x04PING\0\x0Aab")?;
+    let octets = old_stream(&rt, Role::Pub, b"\x04\x09\x04PING\0\x0Aab")?;
     assert!(rt; reads(&rt, Role::Sub, octets.bytes(), b"", b"", false)?);
-    let mut octets = Bytes::of(rt.alloc(), OLD)?;
-    put_ready(rt.alloc(), Role::Sub, &mut octets)?;
-    octets.add(b"\x04\x0B\x09SUBSCRIBEx")?;
+    let octets = old_stream(&rt, Role::Sub, b"\x04\x0B\x09SUBSCRIBEx")?;
     assert!(rt; reads(&rt, Role::Pub, octets.bytes(), b"", b"", false)?);
     Ok(())
 }
@@ -387,6 +445,16 @@ fn the_case_of_a_property_name_is_free(rt: HostRuntime) -> Result<(), Fail> {
     Ok(())
 }
 
+/// A stream with 63 frames of one message, and the flags of one that is not its last either.
+fn stream_of_frames(rt: &HostRuntime) -> Result<Bytes, NoMemory> {
+    let mut many = stream(rt, Role::Router, b"")?;
+    for _ in 0..63u8 {
+        many.add(b"\x01\0")?;
+    }
+    many.push(1)?;
+    Ok(many)
+}
+
 #[test]
 fn a_unit_is_refused_at_its_octet(rt: HostRuntime) -> Result<(), Fail> {
     let rows: [(&[u8], WireFault, &[u8]); 8] = [
@@ -435,20 +503,9 @@ fn a_unit_is_refused_at_its_octet(rt: HostRuntime) -> Result<(), Fail> {
         let refused = refuses(&rt, Role::Dealer, octets.bytes(), fault, before)?;
         assert!(rt; refused, "{fault:?}: {tail:?}");
     }
-    let mut many = stream(&rt, Role::Router, b"")?;
-    for _ in 0..63u8 {
-        many.add(b"\x01\0")?;
-    }
-    many.push(1)?;
-    assert!(rt;
-        refuses(
-            &rt,
-            Role::Dealer,
-            many.bytes(),
-            WireFault::TooMany { at: 220 },
-            b""
-        )?
-    );
+    let many = stream_of_frames(&rt)?;
+    let fault = WireFault::TooMany { at: 220 };
+    assert!(rt; refuses(&rt, Role::Dealer, many.bytes(), fault, b"")?);
     Ok(())
 }
 
@@ -499,18 +556,32 @@ fn a_fault_is_given_again(rt: HostRuntime) -> Result<(), Fail> {
     Ok(())
 }
 
+fn feed_each(decoder: &mut Decoder, octets: &[u8], out: &mut Messages) -> Result<(), WireFault> {
+    for octet in octets {
+        decoder.feed(&[*octet], out)?;
+    }
+    Ok(())
+}
+
+/// How many messages a decoder gives that is fed these octets one by one.
+fn count_messages(alloc: Global, octets: &[u8]) -> Result<usize, WireFault> {
+    let mut out = Messages::new(alloc);
+    let mut decoder = Decoder::new(alloc, Role::Dealer);
+    let end = feed_each(&mut decoder, octets, &mut out);
+    drop(decoder);
+    let count = out.len();
+    drop(out);
+    end?;
+    Ok(count)
+}
+
 #[test]
 fn a_mebibyte_in_pieces_of_one_octet_is_one_message(rt: HostRuntime) -> Result<(), Fail> {
-    let alloc = rt.alloc();
     let mut octets = stream(&rt, Role::Router, b"\x02\0\0\0\0\0\x10\0\0")?;
     for _ in 0..1_048_576u32 {
         octets.push(7)?;
     }
-    let mut decoder = Decoder::new(alloc, Role::Dealer);
-    let mut out = Messages::new(alloc);
-    for octet in octets.bytes() {
-        decoder.feed(&[*octet], &mut out)?;
-    }
-    assert_eq!(rt; out.len(), 1);
+    let count = count_messages(rt.alloc(), octets.bytes())?;
+    assert_eq!(rt; count, 1);
     Ok(())
 }
