@@ -26,14 +26,22 @@ fn asks_under(rt: &HostRuntime, command: &Command, text: &str) -> Result<Asks, F
     Ok(asks.map_err(|_| "the file is refused")?)
 }
 
+/// Each of the jobs with a semicolon behind it.
+fn asks_text(rt: &HostRuntime, asks: &Asks) -> Result<String, Fail> {
+    let mut text = String::new(rt.alloc());
+    for ask in asks.as_slice() {
+        text.push_str(shown(rt, ask)?.as_str())?;
+        text.push_str(";")?;
+    }
+    Ok(text)
+}
+
 #[test]
 fn each_job_gives_its_own_and_keeps_the_rest(rt: HostRuntime) -> Result<(), Fail> {
     let asks = asks_of(&rt, WORDS, FILE)?;
-    let mut found = String::new(rt.alloc());
-    for ask in asks.as_slice() {
-        found.push_str(shown(&rt, ask)?.as_str())?;
-        found.push_str(";")?;
-    }
+    let found = asks_text(&rt, &asks);
+    drop(asks);
+    let found = found?;
     let expected = "c e - d . 001001 5000 0 E;a b toy d w 001001 5000 0 E y=[] x='1' z=1e2;";
     assert!(rt; found.as_str() == expected, "{found}");
     Ok(())

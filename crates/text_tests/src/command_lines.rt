@@ -2,6 +2,7 @@
 use crate::commands::words_of;
 use jtext::{Json, NoMemory, Text};
 use std::alloc::Global;
+use std::process::Abort;
 use std::test::Fail;
 use words::{Command, Usage, read, value_of};
 
@@ -221,11 +222,18 @@ fn is_answered(alloc: Global, row: &[String]) -> Result<bool, Fail> {
     Ok(found == kind.as_str() && n == at)
 }
 
+/// Whether the line is answered as it says.
+fn is_line_answered(rt: &HostRuntime, line: &str) -> Result<bool, Fail> {
+    let row = words_of(rt, line)?;
+    let is_so = is_answered(rt.alloc(), row.as_slice());
+    drop(row);
+    is_so
+}
+
 #[test]
 fn each_command_line_is_taken_or_refused_at_its_word(rt: HostRuntime) -> Result<(), Fail> {
     for line in LINES.lines() {
-        let row = words_of(&rt, line)?;
-        assert!(rt; is_answered(rt.alloc(), row.as_slice())?, "{line}");
+        assert!(rt; is_line_answered(&rt, line)?, "{line}");
     }
     Ok(())
 }
@@ -239,6 +247,14 @@ fn shape(value: &Result<Json, NoMemory>) -> &'static str {
         Ok(Json::Str(_)) => "string",
         _ => "other",
     }
+}
+
+/// What the word stands for.
+fn shape_of(alloc: Global, word: &str) -> &'static str {
+    let value = value_of(alloc, word);
+    let found = shape(&value);
+    drop(value);
+    found
 }
 
 /// A word a row, after what it stands for.
@@ -270,35 +286,42 @@ string|[1]";
 fn a_word_stands_for_a_number_where_json_has_it(rt: HostRuntime) -> Result<(), Fail> {
     for line in VALUES.lines() {
         let (kind, word) = line.split_once('|').ok_or("a word is missing")?;
-        assert!(rt; shape(&value_of(rt.alloc(), word)) == kind, "{line}");
+        assert!(rt; shape_of(rt.alloc(), word) == kind, "{line}");
     }
+    Ok(())
+}
+
+/// The refusal, which is dropped by a call, says this.
+fn expect_said(rt: &impl Abort, alloc: Global, usage: Usage, want: &str) -> Result<(), Fail> {
+    let said = format!(in alloc; "{usage}");
+    drop(usage);
+    assert_eq!(rt; said?.as_str(), want);
     Ok(())
 }
 
 #[test]
 fn a_refusal_says_what_is_wrong_and_where(rt: HostRuntime) -> Result<(), Fail> {
     let alloc = rt.alloc();
-    for (usage, want) in [
-        (Usage::Missing, "missing"),
-        (Usage::Unknown { i: 0 }, "unknown at 0"),
-        (Usage::NoValue { i: 1 }, "no value at 1"),
-        (Usage::BadNumber { i: 2 }, "bad number at 2"),
-        (Usage::Twice { i: 3 }, "twice at 3"),
-        (Usage::Extra { i: 10 }, "extra at 10"),
-        (
-            Usage::SamePath { i: 4_294_967_295 },
-            "same path at 4294967295",
-        ),
-        (Usage::BadName { i: 4 }, "bad name at 4"),
-        (Usage::NoMemory, "out of memory"),
-    ] {
-        assert_eq!(rt; format!(in alloc; "{usage}")?.as_str(), want);
-    }
+    let most = 4_294_967_295;
+    expect_said(&rt, alloc, Usage::Missing, "missing")?;
+    expect_said(&rt, alloc, Usage::Unknown { i: 0 }, "unknown at 0")?;
+    expect_said(&rt, alloc, Usage::NoValue { i: 1 }, "no value at 1")?;
+    expect_said(&rt, alloc, Usage::BadNumber { i: 2 }, "bad number at 2")?;
+    expect_said(&rt, alloc, Usage::Twice { i: 3 }, "twice at 3")?;
+    expect_said(&rt, alloc, Usage::Extra { i: 10 }, "extra at 10")?;
+    expect_said(
+        &rt,
+        alloc,
+        Usage::SamePath { i: most },
+        "same path at 4294967295",
+    )?;
+    expect_said(&rt, alloc, Usage::BadName { i: 4 }, "bad name at 4")?;
+    expect_said(&rt, alloc, Usage::NoMemory, "out of memory")?;
     let pointer = Text::of(alloc, "/jobs/0")?;
-    let usage = Usage::BadJobs { pointer };
-    assert_eq!(rt;
-        format!(in alloc; "{usage}")?.as_str(),
-        "bad jobs at /jobs/0"
-    );
-    Ok(())
+    expect_said(
+        &rt,
+        alloc,
+        Usage::BadJobs { pointer },
+        "bad jobs at /jobs/0",
+    )
 }

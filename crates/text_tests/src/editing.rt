@@ -24,22 +24,35 @@ const EDITS: [(&str, &str); 7] = [
     ),
 ];
 
+/// Whether the tree, which is dropped by a call, has this text.
+fn has_text(alloc: Global, tree: Json, text: &str) -> Result<bool, NoMemory> {
+    let written = write_compact(alloc, &tree);
+    drop(tree);
+    Ok(written?.bytes() == text.as_bytes())
+}
+
+/// The tree with 7 under `b` of the object under `a`.
+fn tree_with_seven(alloc: Global, text: &str) -> Result<Json, Fail> {
+    let seven = NumText::of(alloc, "7")?;
+    let tree = read(alloc, text.as_bytes(), 8)?;
+    Ok(set_within(alloc, "a", "b", Json::Num(seven), tree)?)
+}
+
+/// An object whose one value was set.
+fn tree_with_null(alloc: Global) -> Result<Json, Fail> {
+    let tree = read(alloc, b"{\"a\":1}", 8)?;
+    Ok(set_field(alloc, "a", Json::Null, tree)?)
+}
+
 #[test]
 fn a_value_is_set_in_its_place_or_last(rt: HostRuntime) -> Result<(), Fail> {
     let alloc = rt.alloc();
     for (text, want) in EDITS {
-        let seven = Json::Num(NumText::of(alloc, "7")?);
-        let edited = set_within(alloc, "a", "b", seven, read(alloc, text.as_bytes(), 8)?)?;
-        assert!(rt;
-            write_compact(alloc, &edited)?.bytes() == want.as_bytes(),
-            "{text}"
-        );
+        let is_edited = has_text(alloc, tree_with_seven(alloc, text)?, want)?;
+        assert!(rt; is_edited, "{text}");
     }
-    let edited = set_field(alloc, "a", Json::Null, read(alloc, b"{\"a\":1}", 8)?)?;
-    assert_eq!(rt;
-        write_compact(alloc, &edited)?.bytes(),
-        b"{\"a\":null}".as_slice()
-    );
+    let is_null = has_text(alloc, tree_with_null(alloc)?, "{\"a\":null}")?;
+    assert!(rt; is_null);
     Ok(())
 }
 
@@ -120,14 +133,20 @@ fn texts_are_equal_wherever_they_lie(rt: HostRuntime) -> Result<(), Fail> {
     Ok(())
 }
 
+fn put_all(alloc: Global, out: &mut Bytes, tree: &Json) -> Result<(), NoMemory> {
+    put_string(out, "a\"\u{e9}\u{1}")?;
+    put_compact(out, tree)?;
+    put_indented(alloc, out, 2, tree)
+}
+
 #[test]
 fn writers_append_to_what_they_are_lent(rt: HostRuntime) -> Result<(), Fail> {
     let alloc = rt.alloc();
-    let tree = read(alloc, b"{\"b\":[1],\"a\":{}}", 8)?;
     let mut out = Bytes::of(alloc, b">")?;
-    put_string(&mut out, "a\"\u{e9}\u{1}")?;
-    put_compact(&mut out, &tree)?;
-    put_indented(alloc, &mut out, 2, &tree)?;
+    let tree = read(alloc, b"{\"b\":[1],\"a\":{}}", 8)?;
+    let end = put_all(alloc, &mut out, &tree);
+    drop(tree);
+    end?;
     let want =
         ">\"a\\\"\u{e9}\\u0001\"{\"b\":[1],\"a\":{}}{\n   \"a\": {},\n   \"b\": [\n    1\n   ]\n  }";
     assert_eq!(rt; out.bytes(), want.as_bytes());

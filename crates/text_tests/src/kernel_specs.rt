@@ -1,5 +1,5 @@
 //! Kernel specs: names, what a `kernel.json` says, arguments and connection files.
-use jtext::{Json, NoMemory, Text, Texts, write_compact};
+use jtext::{Bytes, Fields, Json, NoMemory, Text, Texts, write_compact};
 use kspec::{Spec, SpecFault, argv, connection_text, good_name, spec};
 use std::alloc::Global;
 use std::test::Fail;
@@ -16,47 +16,81 @@ a/b false
 naïve false
 a:b false";
 
+/// Whether a kernel may have the name.
+fn is_good(alloc: Global, name: &str) -> Result<bool, NoMemory> {
+    let name = Text::of(alloc, name)?;
+    let is_so = good_name(&name);
+    drop(name);
+    Ok(is_so)
+}
+
+/// Whether a kernel may have a name of that length.
+fn is_length_good(alloc: Global, length: usize) -> Result<bool, Fail> {
+    let long = "k".repeat(alloc, length)?;
+    let is_so = is_good(alloc, long.as_str());
+    drop(long);
+    Ok(is_so?)
+}
+
+fn is_empty_good(alloc: Global) -> bool {
+    good_name(&Text::new(alloc))
+}
+
 #[test]
 fn names_are_of_a_folder_below(rt: HostRuntime) -> Result<(), Fail> {
     for row in NAMES.lines() {
         let (name, wanted) = row.split_once(' ').ok_or("no answer")?;
-        let found = good_name(&Text::of(rt.alloc(), name)?);
+        let found = is_good(rt.alloc(), name)?;
         assert_eq!(rt; found, wanted == "true", "{name}");
     }
-    assert!(rt; !good_name(&Text::new(rt.alloc())));
+    assert!(rt; !is_empty_good(rt.alloc()));
     for (length, wanted) in [(128, true), (129, false)] {
-        let long = "k".repeat(rt.alloc(), length)?;
-        assert_eq!(rt;
-            good_name(&Text::of(rt.alloc(), long.as_str())?),
-            wanted,
-            "{length}"
-        );
+        let found = is_length_good(rt.alloc(), length)?;
+        assert_eq!(rt; found, wanted, "{length}");
     }
     Ok(())
 }
 
-/// The words, the environment and whether the kernel is interrupted by a message; or why the spec is refused.
+/// Each word with a blank behind it.
+fn words_text(alloc: Global, words: &Texts) -> Result<String, Fail> {
+    let mut text = String::new(alloc);
+    for word in words.as_slice() {
+        text.push_str(word.as_str())?;
+        text.push(' ')?;
+    }
+    Ok(text)
+}
+
+/// The object of these pairs in one line. It is dropped by a call, for a short proof.
+fn fields_text(alloc: Global, fields: Fields) -> Result<Bytes, NoMemory> {
+    let object = Json::Obj(fields);
+    let text = write_compact(alloc, &object);
+    drop(object);
+    text
+}
+
+/// The words, the environment and whether the kernel is interrupted by a message.
+fn spec_text(alloc: Global, s: Spec) -> Result<String, Fail> {
+    let Spec {
+        argv,
+        env,
+        by_message,
+    } = s;
+    let words = words_text(alloc, &argv);
+    drop(argv);
+    let env = fields_text(alloc, env);
+    let mut text = words?;
+    let env = env?;
+    text.push_str(std::str::from_utf8(env.bytes()).map_err(|_| "no text")?)?;
+    text.push_str(if by_message { " message" } else { " signal" })?;
+    Ok(text)
+}
+
+/// What the spec says, or why it is refused.
 fn told(rt: &HostRuntime, bytes: &[u8], interrupt: bool) -> Result<String, Fail> {
-    let alloc = rt.alloc();
-    match spec(alloc, bytes, interrupt) {
-        Ok(
-            Spec {
-                argv,
-                env,
-                by_message,
-            },
-        ) => {
-            let mut said = String::new(alloc);
-            for word in argv.as_slice() {
-                said.push_str(word.as_str())?;
-                said.push(' ')?;
-            }
-            let env = write_compact(alloc, &Json::Obj(env))?;
-            said.push_str(std::str::from_utf8(env.bytes()).map_err(|_| "no text")?)?;
-            said.push_str(if by_message { " message" } else { " signal" })?;
-            Ok(said)
-        }
-        Err(fault) => Ok(format!(in alloc; "{fault}")?),
+    match spec(rt.alloc(), bytes, interrupt) {
+        Ok(s) => spec_text(rt.alloc(), s),
+        Err(fault) => Ok(format!(in rt.alloc(); "{fault}")?),
     }
 }
 
@@ -90,23 +124,40 @@ fn specs_are_read_or_refused_by_their_first_fault(rt: HostRuntime) -> Result<(),
     Ok(())
 }
 
-/// A spec with so many blanks behind it, so that it has that size, and one with a value nested so deep.
+/// What a spec says with so many blanks behind it that it has that size.
+fn told_of_size(rt: &HostRuntime, size: usize) -> Result<String, Fail> {
+    let mut bytes = Vec::from_slice(rt.alloc(), br#"{"argv":["k"]}"#)?;
+    bytes.resize(size, b' ')?;
+    let found = told(rt, bytes.as_slice(), false);
+    drop(bytes);
+    found
+}
+
+/// A spec with a value nested so deep.
+fn deep_spec(alloc: Global, deep: usize) -> Result<String, Fail> {
+    let open = "[".repeat(alloc, deep)?;
+    let close = "]".repeat(alloc, deep)?;
+    let open = open.as_str();
+    let close = close.as_str();
+    Ok(format!(in alloc; "{{\"argv\":[\"k\"],\"x\":{open}{close}}}")?)
+}
+
+/// What that spec says.
+fn told_of_depth(rt: &HostRuntime, deep: usize) -> Result<String, Fail> {
+    let text = deep_spec(rt.alloc(), deep)?;
+    let found = told(rt, text.as_str().as_bytes(), false);
+    drop(text);
+    found
+}
+
 #[test]
 fn specs_have_a_size_and_a_depth(rt: HostRuntime) -> Result<(), Fail> {
-    let alloc = rt.alloc();
     for (size, wanted) in [(1 << 20, "k {} signal"), ((1 << 20) + 1, "not JSON")] {
-        let mut bytes = Vec::from_slice(alloc, br#"{"argv":["k"]}"#)?;
-        bytes.resize(size, b' ')?;
-        let found = told(&rt, bytes.as_slice(), false)?;
+        let found = told_of_size(&rt, size)?;
         assert_eq!(rt; found.as_str(), wanted, "{size}");
     }
     for (deep, wanted) in [(99, "k {} signal"), (100, "not JSON")] {
-        let open = "[".repeat(alloc, deep)?;
-        let close = "]".repeat(alloc, deep)?;
-        let open = open.as_str();
-        let close = close.as_str();
-        let text = format!(in alloc; "{{\"argv\":[\"k\"],\"x\":{open}{close}}}")?;
-        let found = told(&rt, text.as_str().as_bytes(), false)?;
+        let found = told_of_depth(&rt, deep)?;
         assert_eq!(rt; found.as_str(), wanted, "{deep}");
     }
     Ok(())

@@ -1,10 +1,14 @@
+ghost use Rattle.std.specs.Prelude.{◌≡◌, []};
+
 use jtext::{Bytes, List, NoMemory, NumFault, NumText, Text, Texts};
 use std::alloc::Global;
+use std::process::Abort;
 use std::test::Fail;
 
-#[test]
-fn a_list_is_changed_item_by_item(rt: HostRuntime) -> Result<(), Fail> {
-    let mut list: List<u32> = List::new(rt.alloc());
+/// Changes an empty list item by item.
+fn change(rt: &impl Abort, list: &mut List<u32>) -> Result<(), Fail>
+    requires { list.old ≡ [] }
+{
     list.push(10)?;
     list.push(30)?;
     list.insert(1, 20)?;
@@ -16,7 +20,16 @@ fn a_list_is_changed_item_by_item(rt: HostRuntime) -> Result<(), Fail> {
     assert_eq!(rt; list.as_slice(), [11, 20, 40].as_slice());
     assert!(rt; matches!(list.get(2), Some(40)));
     assert!(rt; list.get(3).is_none());
-    assert_eq!(rt; list.into_vec().as_slice(), [11, 20, 40].as_slice());
+    Ok(())
+}
+
+#[test]
+fn a_list_is_changed_item_by_item(rt: HostRuntime) -> Result<(), Fail> {
+    let mut list: List<u32> = List::new(rt.alloc());
+    let end = change(&rt, &mut list);
+    let items = list.into_vec();
+    end?;
+    assert_eq!(rt; items.as_slice(), [11, 20, 40].as_slice());
     Ok(())
 }
 

@@ -2,7 +2,7 @@
 use crate::commands::command_of;
 use crate::shown::shown;
 use std::test::Fail;
-use words::{Ask, Command};
+use words::Command;
 
 /// A command line a row, and what is asked of one job, or of all jobs of a batch.
 const LINES: &str = "\
@@ -27,10 +27,17 @@ A B --kernel-path d -p x True -p y -p -p z 007|A B - d . 000001 60000 0 x=true y
 --jobs f --kernel-path d --merge-streams|  - d . 001001 60000 0";
 
 /// What the words, which single spaces part, ask for.
-fn ask_of(rt: &HostRuntime, line: &str) -> Result<Ask, Fail> {
-    match command_of(rt, line)? {
-        Command::One(ask) => Ok(ask),
-        Command::Many { file: _, common } => Ok(common),
+fn ask_text(rt: &HostRuntime, line: &str) -> Result<String, Fail> {
+    let command = command_of(rt, line)?;
+    let text = command_text(rt, &command);
+    drop(command);
+    text
+}
+
+fn command_text(rt: &HostRuntime, command: &Command) -> Result<String, Fail> {
+    match command {
+        Command::One(ask) => shown(rt, ask),
+        Command::Many { file: _, common } => shown(rt, common),
         Command::Exercise(_) => Err("an exercise")?,
     }
 }
@@ -39,8 +46,7 @@ fn ask_of(rt: &HostRuntime, line: &str) -> Result<Ask, Fail> {
 fn each_option_sets_its_field(rt: HostRuntime) -> Result<(), Fail> {
     for line in LINES.lines() {
         let (words, expected) = line.split_once('|').ok_or("what is asked is missing")?;
-        let ask = ask_of(&rt, words)?;
-        let found = shown(&rt, &ask)?;
+        let found = ask_text(&rt, words)?;
         assert!(rt; found.as_str() == expected, "{line}");
     }
     Ok(())

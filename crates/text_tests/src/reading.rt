@@ -1,4 +1,5 @@
 use jtext::{Json, JsonFault, read};
+use std::alloc::Global;
 use std::test::Fail;
 
 /// A line a text: what is answered, at which place, and the text, read with three levels. Worked
@@ -134,16 +135,24 @@ lone 2 [\"\\uD800\"]\n\
 lone 2 {\"\\ud800\":1}\n\
 lone 9 {\"a\":1,\"a\\udc00\":2}\n";
 
-fn answer(read: Result<Json, JsonFault>) -> (&'static str, u64) {
+fn answer(read: &Result<Json, JsonFault>) -> (&'static str, u64) {
     match read {
         Ok(_) => ("ok", 0),
-        Err(JsonFault::NotUtf8 { at }) => ("utf8", at),
-        Err(JsonFault::Bad { at }) => ("bad", at),
-        Err(JsonFault::Deep { at }) => ("deep", at),
-        Err(JsonFault::Repeated { at }) => ("repeated", at),
-        Err(JsonFault::Lone { at }) => ("lone", at),
+        Err(JsonFault::NotUtf8 { at }) => ("utf8", *at),
+        Err(JsonFault::Bad { at }) => ("bad", *at),
+        Err(JsonFault::Deep { at }) => ("deep", *at),
+        Err(JsonFault::Repeated { at }) => ("repeated", *at),
+        Err(JsonFault::Lone { at }) => ("lone", *at),
         Err(JsonFault::NoMemory) => ("memory", 0),
     }
+}
+
+/// What is answered to these bytes, read with that many levels.
+fn answer_to(alloc: Global, bytes: &[u8], levels: u32) -> (&'static str, u64) {
+    let tree = read(alloc, bytes, levels);
+    let found = answer(&tree);
+    drop(tree);
+    found
 }
 
 #[test]
@@ -152,7 +161,7 @@ fn each_fault_is_answered_at_its_place(rt: HostRuntime) -> Result<(), Fail> {
         let (kind, rest) = line.split_once(' ').ok_or("a kind is missing")?;
         let (place, text) = rest.split_once(' ').ok_or("a place is missing")?;
         let at = place.parse::<u64>()?;
-        let (found, n) = answer(read(rt.alloc(), text.as_bytes(), 3));
+        let (found, n) = answer_to(rt.alloc(), text.as_bytes(), 3);
         assert!(rt; found == kind && n == at, "{line}");
     }
     Ok(())
@@ -172,7 +181,7 @@ fn bytes_that_no_text_has_are_refused(rt: HostRuntime) -> Result<(), Fail> {
         ("bad", 0, b"\x0c1"),
     ];
     for (kind, at, bytes) in rows {
-        let (found, n) = answer(read(rt.alloc(), bytes, 3));
+        let (found, n) = answer_to(rt.alloc(), bytes, 3);
         assert!(rt; found == kind && n == at, "{kind} {at}");
     }
     Ok(())
@@ -181,7 +190,7 @@ fn bytes_that_no_text_has_are_refused(rt: HostRuntime) -> Result<(), Fail> {
 #[test]
 fn brackets_without_end_are_too_deep(rt: HostRuntime) -> Result<(), Fail> {
     let brackets = vec![in rt.alloc(); b'['; 33_554_432]?;
-    let (found, n) = answer(read(rt.alloc(), &brackets, 128));
+    let (found, n) = answer_to(rt.alloc(), &brackets, 128);
     assert!(rt; found == "deep" && n == 128);
     Ok(())
 }

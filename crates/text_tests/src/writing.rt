@@ -1,11 +1,21 @@
-use jtext::{copy, field, read, write_compact, write_indented};
+use jtext::{Bytes, Json, NoMemory, copy, field, read, write_compact, write_indented};
+use std::alloc::Global;
+use std::process::Abort;
 use std::test::Fail;
 
+/// The text of a copy, which is dropped by a call.
+fn copied_text(alloc: Global, tree: &Json) -> Result<Bytes, NoMemory> {
+    let copied = copy(alloc, tree)?;
+    let out = write_compact(alloc, &copied);
+    drop(copied);
+    out
+}
+
 fn compact_again(rt: &HostRuntime, text: &str) -> Result<bool, Fail> {
-    let alloc = rt.alloc();
-    let tree = read(alloc, text.as_bytes(), 128)?;
-    let out = write_compact(alloc, &copy(alloc, &tree)?)?;
-    Ok(out.bytes() == text.as_bytes())
+    let tree = read(rt.alloc(), text.as_bytes(), 128)?;
+    let out = copied_text(rt.alloc(), &tree);
+    drop(tree);
+    Ok(out?.bytes() == text.as_bytes())
 }
 
 #[test]
@@ -24,9 +34,10 @@ fn compact_text_is_read_copied_and_written_as_it_was(rt: HostRuntime) -> Result<
 }
 
 fn compact_is(rt: &HostRuntime, text: &str, want: &str) -> Result<bool, Fail> {
-    let alloc = rt.alloc();
-    let out = write_compact(alloc, &read(alloc, text.as_bytes(), 128)?)?;
-    Ok(out.bytes() == want.as_bytes())
+    let tree = read(rt.alloc(), text.as_bytes(), 128)?;
+    let out = write_compact(rt.alloc(), &tree);
+    drop(tree);
+    Ok(out?.bytes() == want.as_bytes())
 }
 
 #[test]
@@ -43,9 +54,10 @@ fn white_space_and_escapes_leave_no_trace(rt: HostRuntime) -> Result<(), Fail> {
 }
 
 fn indented_is(rt: &HostRuntime, text: &str, want: &str) -> Result<bool, Fail> {
-    let alloc = rt.alloc();
-    let out = write_indented(alloc, &read(alloc, text.as_bytes(), 128)?)?;
-    Ok(out.bytes() == want.as_bytes())
+    let tree = read(rt.alloc(), text.as_bytes(), 128)?;
+    let out = write_indented(rt.alloc(), &tree);
+    drop(tree);
+    Ok(out?.bytes() == want.as_bytes())
 }
 
 /// What `json.dumps(.., sort_keys=True, indent=1, ensure_ascii=False)` of Python writes, and a line end.
@@ -74,13 +86,20 @@ fn indented_text_is_what_python_writes(rt: HostRuntime) -> Result<(), Fail> {
     Ok(())
 }
 
+/// The tree has a list under `b`, nothing under `c`, and the list nothing under `a`.
+fn expect_fields(rt: &impl Abort, alloc: Global, tree: &Json) -> Result<(), Fail> {
+    let found = field(tree, "b").ok_or("no b")?;
+    assert!(rt; field(tree, "c").is_none());
+    assert!(rt; field(found, "a").is_none());
+    let list = write_compact(alloc, found)?;
+    assert_eq!(rt; list.bytes(), b"[2]".as_slice());
+    Ok(())
+}
+
 #[test]
 fn a_field_is_found_by_its_key(rt: HostRuntime) -> Result<(), Fail> {
-    let alloc = rt.alloc();
-    let tree = read(alloc, b"{\"a\":1,\"\\u0062\":[2]}", 4)?;
-    let found = field(&tree, "b").ok_or("no b")?;
-    assert_eq!(rt; write_compact(alloc, found)?.bytes(), b"[2]".as_slice());
-    assert!(rt; field(&tree, "c").is_none());
-    assert!(rt; field(found, "a").is_none());
-    Ok(())
+    let tree = read(rt.alloc(), b"{\"a\":1,\"\\u0062\":[2]}", 4)?;
+    let end = expect_fields(&rt, rt.alloc(), &tree);
+    drop(tree);
+    end
 }
