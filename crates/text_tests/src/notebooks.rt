@@ -1,17 +1,11 @@
-use jtext::{read, write_compact, write_indented};
+use crate::writing::indented_is;
+use jtext::{read, write_compact};
 use sample_notebooks::{DEFAULTS_SAVED, EMPTY, EMPTY_SAVED, TWO_SAVED};
 use std::test::Fail;
 
 /// `DEFAULTS_SAVED` in one line.
 const INJECTED: &str =
     r##"{"cells":[{"cell_type":"code","execution_count":null,"id":"a","metadata":{"tags":["parameters"]},"outputs":[],"source":["a = 0"]},{"cell_type":"code","execution_count":null,"id":"injected-parameters","metadata":{"tags":["injected-parameters"]},"outputs":[],"source":["# Parameters\n","a = 1e2\n","b = \"007\"\n","c = True\n"]}],"metadata":{"papermill":{"parameters":{"a":1e2,"b":"007","c":true}}},"nbformat":4,"nbformat_minor":5}"##;
-
-fn is_saved_as(rt: &HostRuntime, text: &str, saved: &str) -> Result<bool, Fail> {
-    let tree = read(rt.alloc(), text.as_bytes(), 128)?;
-    let out = write_indented(rt.alloc(), &tree);
-    drop(tree);
-    Ok(out?.bytes() == saved.as_bytes())
-}
 
 #[test]
 fn a_notebook_is_saved_with_each_number_as_it_was_written(rt: HostRuntime) -> Result<(), Fail> {
@@ -30,7 +24,7 @@ fn a_notebook_is_saved_with_each_number_as_it_was_written(rt: HostRuntime) -> Re
             DEFAULTS_SAVED,
         ),
     ] {
-        assert!(rt; is_saved_as(&rt, text, saved)?, "{name}");
+        assert!(rt; indented_is(&rt, text, saved)?, "{name}");
     }
     Ok(())
 }
@@ -48,6 +42,6 @@ fn line_of(rt: &HostRuntime, text: &str) -> Result<String, Fail> {
 #[test]
 fn a_notebook_in_one_line_is_saved_as_it_was(rt: HostRuntime) -> Result<(), Fail> {
     let line = line_of(&rt, TWO_SAVED)?;
-    assert!(rt; is_saved_as(&rt, line.as_str(), TWO_SAVED)?);
+    assert!(rt; indented_is(&rt, line.as_str(), TWO_SAVED)?);
     Ok(())
 }

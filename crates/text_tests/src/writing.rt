@@ -53,7 +53,8 @@ fn white_space_and_escapes_leave_no_trace(rt: HostRuntime) -> Result<(), Fail> {
     Ok(())
 }
 
-fn indented_is(rt: &HostRuntime, text: &str, want: &str) -> Result<bool, Fail> {
+/// Whether the text is this one once it is read and written with indents.
+pub(crate) fn indented_is(rt: &HostRuntime, text: &str, want: &str) -> Result<bool, Fail> {
     let tree = read(rt.alloc(), text.as_bytes(), 128)?;
     let out = write_indented(rt.alloc(), &tree);
     drop(tree);
