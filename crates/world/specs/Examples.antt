@@ -1,12 +1,13 @@
 -- Small journals, computed by laws: what a crash leaves and how a connection stands after each.
-use Rattle.std.specs.Prelude.{List, [], ◌∷◌, codes, true, false, replicate}
+use Rattle.std.specs.Prelude.{List, [], ◌∷◌, None, codes, true, false, replicate}
 use Rattle.world.specs.declared.chan.Chan.TheVariants.{Control}
 use Rattle.world.specs.declared.conn.Conn.{Conn}
-use Rattle.world.specs.declared.connected.Connected.TheVariants.{Begun}
+use Rattle.world.specs.declared.connected.Connected.TheVariants as connected
 use Rattle.world.specs.declared.side.Side.TheVariants as side
 use Rattle.world.specs.declared.did.Did.TheVariants.{Done, Failed}
 use Rattle.world.specs.declared.entry.Entry.{Entry}
 use Rattle.world.specs.declared.entry.Entry.TheVariants as made
+use Rattle.world.specs.declared.read_file.ReadFile.TheVariants as found
 
 -- a temporary file of one byte, synced and renamed to `d/o`
 abbrev pub renamed_save : List Entry
@@ -38,7 +39,7 @@ abbrev pub read_journal : List Entry
 read_journal =
     made.Got example_conn 10 (7 ∷ 8 ∷ [])
     ∷ made.Waited 500 (record { ready = replicate 64 true }) Done
-    ∷ made.Connected example_conn 9000 Begun
+    ∷ made.Connected example_conn 9000 connected.Begun
     ∷ made.Moment 3
     ∷ []
 
@@ -56,8 +57,34 @@ closed_journal =
 
 -- what came before its wait
 abbrev pub begun_journal : List Entry
-begun_journal = made.Connected example_conn 9000 Begun ∷ made.Moment 3 ∷ []
+begun_journal = made.Connected example_conn 9000 connected.Begun ∷ made.Moment 3 ∷ []
 
 -- a wait and the clock entry of the turn
 abbrev pub turn_journal : List Entry
 turn_journal = made.Moment 4 ∷ made.Waited 0 (record { ready = replicate 64 false }) Done ∷ []
+
+-- failed calls: one of the disk, five on connections, and one of each other part that can fail
+abbrev pub failed_journal : List Entry
+failed_journal =
+    made.Said (120 ∷ []) Failed
+    ∷ made.Word None
+    ∷ made.Started 1 (codes "k" ∷ []) [] (codes ".") Failed
+    ∷ made.Waited 0 (record { ready = replicate 64 false }) Failed
+    ∷ made.PutFailed example_conn
+    ∷ made.ReadFailed example_conn
+    ∷ made.Connected example_conn 9000 connected.Failed
+    ∷ made.Ports 1 None
+    ∷ made.Read (codes "d/i") 10 found.Failed
+    ∷ []
+
+-- answers that didn't bring what was asked for, and are no failures
+abbrev pub unanswered_journal : List Entry
+unanswered_journal =
+    made.Looked 1 None
+    ∷ made.Refused example_conn side.Write
+    ∷ made.Stuck example_conn
+    ∷ made.Dry example_conn
+    ∷ made.Connected example_conn 9000 connected.Refused
+    ∷ made.Read (codes "d/i") 10 found.NoMemory
+    ∷ made.Read (codes "d/i") 10 found.Big
+    ∷ []

@@ -3,6 +3,7 @@ pub mod Calls
 pub mod Counts
 pub mod Disk
 pub mod Examples
+pub mod Faults
 pub mod Jobs
 pub mod Kernel
 pub mod Moments

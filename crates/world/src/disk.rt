@@ -1,7 +1,10 @@
 //! Files, by their paths.
-ghost use Rattle.std.specs.Prelude.{◌≡◌, ◌<◌, length};
+ghost use Rattle.std.specs.Prelude.{◌≡◌, ◌<◌, length, IfSome};
 ghost use Rattle.world.specs.declared.entry.Entry.{Entry};
 ghost use Rattle.world.specs.Counts.{CountsBy, DiskCause};
+ghost use Rattle.world.specs.Faults.{fault_count};
+ghost use Rattle.world.specs.Parts.{OnDisk};
+ghost use Rattle.world.specs.Rises.{clipped};
 ghost use Rattle.world.specs.Told.{Adds, taken_of, did_of, TookSome, FoundWithin};
 
 use crate::{Did, Journal, ReadFile, Wrote};
@@ -11,9 +14,12 @@ use std::alloc::Global;
 /// Files that are read whole, and written piece by piece. What a crash leaves of them is
 /// `specs/Disk`.
 pub trait Disk: Journal {
-    /// How many calls of the disk have failed, up to the last value of a `u64`.
+    /// How many calls of the disk have failed, up to the last value of a `u64`: the journal's
+    /// count, where it is told.
     fn disk_faults(&self) -> u64
-        ensures { result ≡ (Self.counts self.now).disk };
+        ensures is { result ≡ (Self.counts self.now).disk }
+        ensures told { IfSome (Self.journal self.now)
+            (λ past. result ≡ clipped (fault_count OnDisk past)) };
 
     /// Reads the file where it has at most `most` bytes. Memory for them may be refused.
     fn read_file(&mut self, alloc: Global, path: &Text, most: u64) -> ReadFile

@@ -1,7 +1,10 @@
 //! Child programs.
-ghost use Rattle.std.specs.Prelude.{◌≡◌, ◌<◌, length};
+ghost use Rattle.std.specs.Prelude.{◌≡◌, ◌<◌, length, IfSome};
 ghost use Rattle.world.specs.declared.entry.Entry.{Entry};
 ghost use Rattle.world.specs.Counts.{CountsBy, ChildCause};
+ghost use Rattle.world.specs.Faults.{fault_count};
+ghost use Rattle.world.specs.Parts.{OnKids};
+ghost use Rattle.world.specs.Rises.{clipped};
 ghost use Rattle.jtext.specs.Texts.{AllStrings};
 ghost use Rattle.world.specs.Told.{Adds};
 
@@ -10,9 +13,12 @@ use jtext::{Fields, Text, Texts};
 
 /// One child program for each job.
 pub trait Kids: Journal {
-    /// How many children could not be started, up to the last value of a `u64`.
+    /// How many children could not be started, up to the last value of a `u64`: the journal's
+    /// count, where it is told.
     fn child_faults(&self) -> u64
-        ensures { result ≡ (Self.counts self.now).child };
+        ensures is { result ≡ (Self.counts self.now).child }
+        ensures told { IfSome (Self.journal self.now)
+            (λ past. result ≡ clipped (fault_count OnKids past)) };
 
     /// Starts the child of a job in the folder `dir`: the program and its arguments are `argv`, and
     /// the variables of `env` are added to the environment.

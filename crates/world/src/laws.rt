@@ -13,10 +13,11 @@ ghost use Rattle.world.specs.declared.left.Left.TheVariants as left;
 ghost use Rattle.world.specs.declared.reports.Reports.{Reports};
 ghost use Rattle.world.specs.declared.side.Side.{Side};
 ghost use Rattle.world.specs.Acked.{ack_count};
-ghost use Rattle.world.specs.Counts.{Counts, WaitCause};
+ghost use Rattle.world.specs.Counts.{Counts, WaitCause, no_counts};
 ghost use Rattle.world.specs.Disk.{folder_of, here_of, leaves, place, untouched_place, IsUnsettled};
 ghost use Rattle.world.specs.Disk.{OnlyFormerOr};
 ghost use Rattle.world.specs.Examples as example;
+ghost use Rattle.world.specs.Faults.{counts_in, fault_count};
 ghost use Rattle.world.specs.Jobs.{IsOfJob, before_shut, shut_at};
 ghost use Rattle.world.specs.Moments.{Since};
 ghost use Rattle.world.specs.Parts.{IsNotOf, OnDisk, OnWire, OnClock};
@@ -272,6 +273,22 @@ pub fn waits_of_small_journals()
         ≡ since_wait example.read_journal ++ to_wait example.read_journal }
     ensures turn { turn_moment example.turn_journal ≡ Some 4 }
     ensures no_turn { turn_moment (Entry.Moment 5 ∷ example.turn_journal) ≡ None }
+{}
+
+/// How many calls of each part have failed in some journals.
+pub fn faults_of_small_journals()
+    ensures failed { counts_in example.failed_journal ≡ record {
+      disk = 1;
+      net = 5;
+      waits = 1;
+      child = 1;
+      rand = 1;
+      say = 1;
+      last = 0;
+    } }
+    ensures saved { fault_count OnDisk example.unsynced_save ≡ 1 }
+    ensures unanswered { counts_in example.unanswered_journal ≡ no_counts }
+    ensures none { counts_in [] ≡ no_counts }
 {}
 
 /// Where a job is shut, and what came before.

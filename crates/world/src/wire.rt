@@ -2,21 +2,31 @@
 ghost use Rattle.std.specs.Prelude.{◌≡◌, ◌<◌, ℕ, false, length, replicate, IfSome, All};
 ghost use Rattle.world.specs.declared.entry.Entry.{Entry};
 ghost use Rattle.world.specs.Counts.{CountsBy, NetCause, WaitCause};
+ghost use Rattle.world.specs.Faults.{fault_count};
 ghost use Rattle.world.specs.Moments.{Told};
+ghost use Rattle.world.specs.Parts.{OnWire};
 ghost use Rattle.world.specs.Places.{place_of, IsUnused, OnlyUp};
+ghost use Rattle.world.specs.Rises.{clipped};
 ghost use Rattle.world.specs.Told.{Adds, AreDifferent, read_entry, GotSome, write_entry, PutSome};
+ghost use Rattle.world.specs.Waits.{wait_count};
 
 use crate::{Conn, Connected, Did, Got, Journal, Put, Reports};
 
 /// Connections on this machine, at most four to each of 16 jobs, none of which ever blocks.
 pub trait Wire: Journal {
-    /// How many calls of this trait have failed, up to the last value of a `u64`.
+    /// How many calls of this trait have failed, up to the last value of a `u64`: the journal's
+    /// count, where it is told.
     fn net_faults(&self) -> u64
-        ensures { result ≡ (Self.counts self.now).net };
+        ensures is { result ≡ (Self.counts self.now).net }
+        ensures told { IfSome (Self.journal self.now)
+            (λ past. result ≡ clipped (fault_count OnWire past)) };
 
-    /// How often `wait` was called, up to the last value of a `u64`.
+    /// How often `wait` was called, up to the last value of a `u64`: the journal's count, where it
+    /// is told.
     fn waits(&self) -> u64
-        ensures { result ≡ (Self.counts self.now).waits };
+        ensures is { result ≡ (Self.counts self.now).waits }
+        ensures told { IfSome (Self.journal self.now)
+            (λ past. result ≡ clipped (wait_count past)) };
 
     /// Five different ports above 0, for shell, iopub, stdin, control and heartbeat.
     fn free_ports(&mut self, job: u8) -> Option<[u16; 5]>

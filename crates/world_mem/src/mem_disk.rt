@@ -4,8 +4,8 @@ ghost use Rattle.std.specs.Str.{bytes_eq};
 ghost use Rattle.world.specs.declared.entry.Entry.{Entry};
 ghost use Rattle.world.specs.Counts.{CountsBy, DiskCause, SayCause};
 ghost use Rattle.world.specs.Told.{Adds, taken_of, did_of, TookSome, FoundWithin};
-ghost use Rattle.world_mem.specs.Disk.{journal_in, counts_in};
 ghost use Rattle.world_mem.specs.Folder.{file_at};
+ghost use Rattle.world_mem.specs.Journals.{AreCounted, told_of};
 ghost use Rattle.world_mem.specs.Store.{files_of, is_to_fail, fails_on_disk, fails_without};
 ghost use Rattle.world_mem.specs.Store.{did_unless, did_find, FoundAs, TookAll};
 ghost use Rattle.world_mem.specs.Store.{Creates, Appends, Renames, Removes, Says};
@@ -27,9 +27,21 @@ pub struct MemDisk {
     alloc: Global,
     journal: Option<Entries>,
     store: Store,
+    // No call on connections, of children, of the clock or for random words is told.
+    ghost counted: { AreCounted (told_of journal) (record {
+      disk = store.disk_faults;
+      net = 0;
+      waits = 0;
+      child = 0;
+      rand = 0;
+      say = store.say_faults;
+      last = 0;
+    }) },
 }
 
 impl MemDisk {
+    ghost use Rattle.world_mem.specs.Disk.{journal_in};
+
     /// A disk with these files. `fails` are the numbers, from 0, of the calls that fail: all calls
     /// that make an entry are numbered together, in their order.
     pub fn new(alloc: Global, files: Files, fails: Sizes) -> Result<MemDisk, NoMemory>
@@ -80,6 +92,8 @@ impl MemDisk {
 }
 
 impl Journal for MemDisk {
+    ghost use Rattle.world_mem.specs.Disk.{journal_in, counts_in};
+
     ghost journal = { journal_in };
 
     ghost counts = { counts_in };
@@ -87,6 +101,8 @@ impl Journal for MemDisk {
 
 // The clauses of the trait, and what this disk answers.
 impl Disk for MemDisk {
+    ghost use Rattle.world_mem.specs.Disk.{journal_in, counts_in};
+
     fn disk_faults(&self) -> u64 {
         self.store.disk_faults()
     }
@@ -207,6 +223,8 @@ impl Disk for MemDisk {
 }
 
 impl Say for MemDisk {
+    ghost use Rattle.world_mem.specs.Disk.{journal_in, counts_in};
+
     fn say_faults(&self) -> u64 {
         self.store.say_faults()
     }

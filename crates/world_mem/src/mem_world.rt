@@ -2,6 +2,7 @@
 ghost use Rattle.std.specs.Prelude.{◌≡◌, ◌<◌, ◌≤◌, ◌^◌, ◌↔◌, All, Err, IfOk, None};
 ghost use Rattle.std.specs.Prelude.{Some, false, option_map, replicate};
 ghost use Rattle.world_mem.specs.Folder.{file_at};
+ghost use Rattle.world_mem.specs.Journals.{AreCounted};
 ghost use Rattle.world_mem.specs.Near.{journal_of, counts_of, IsImageAt, IsNew, IsPast};
 ghost use Rattle.world_mem.specs.Near.{MayBeLeft};
 ghost use Rattle.world_mem.specs.Store.{files_of};
@@ -22,6 +23,7 @@ pub struct MemWorld<K: KernelSide> {
     pub(crate) near: Near,
     pub(crate) far: Far<K>,
     ghost timely: { near.journal.timed.last ≤ far.clock },
+    ghost counted: { AreCounted (journal_of near) (counts_of near) },
 }
 
 impl<K: KernelSide> MemWorld<K> {

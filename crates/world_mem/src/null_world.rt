@@ -1,7 +1,6 @@
 //! A world that does nothing.
 ghost use Rattle.std.specs.Prelude.{◌≡◌, Some, [], option_map};
-ghost use Rattle.world_mem.specs.Journals.{told_of};
-ghost use Rattle.world_mem.specs.Null.{counts_of};
+ghost use Rattle.world_mem.specs.Journals.{AreCounted, told_of};
 
 use crate::count::rise;
 use crate::telling;
@@ -26,9 +25,20 @@ pub struct NullWorld {
     child_faults: u64,
     rand_faults: u64,
     say_faults: u64,
+    ghost counted: { AreCounted (told_of journal.entries) (record {
+      disk = disk_faults;
+      net = net_faults;
+      waits = waits;
+      child = child_faults;
+      rand = rand_faults;
+      say = say_faults;
+      last = journal.last;
+    }) },
 }
 
 impl NullWorld {
+    ghost use Rattle.world_mem.specs.Null.{counts_of};
+
     /// The world with an empty journal and all counts 0.
     pub fn new(alloc: Global) -> NullWorld
         ensures told { told_of result.journal.entries ≡ Some [] }
@@ -63,6 +73,8 @@ impl NullWorld {
 }
 
 impl Journal for NullWorld {
+    ghost use Rattle.world_mem.specs.Null.{counts_of};
+
     ghost journal = { λ w. told_of w.journal.entries };
 
     ghost counts = { counts_of };

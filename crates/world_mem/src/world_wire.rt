@@ -19,6 +19,8 @@ ghost use Rattle.world_mem.specs.Wire.{ports_unless, put_by, room_of, ReadAs};
 
 use crate::MemWorld;
 use crate::count::rise_by;
+use crate::far::Far;
+use crate::near::Near;
 use world::{Conn, Connected, Did, Entry, Give, Got, KernelSide, Put, Reports, Wire, World};
 
 // The clauses of the trait, and what this world answers.
@@ -71,7 +73,7 @@ impl<K: KernelSide> Wire for MemWorld<K> {
         ensures ups { self.new.near.journal.ups
             ≡ ups_after (Entry.Connected conn port result) self.old.near.journal.ups }
     {
-        let how = self.try_connect(conn);
+        let how = self.far.try_connect(&mut self.near, conn);
         self.near
             .journal
             .tell(Ok(Entry::Connected { conn, port, how }));
@@ -104,7 +106,7 @@ impl<K: KernelSide> Wire for MemWorld<K> {
         ensures ups { self.new.near.journal.ups ≡ ups_after
             (read_entry conn (length buf.old) result buf.new) self.old.near.journal.ups }
     {
-        let got = self.try_read(conn, buf);
+        let got = self.far.try_read(&mut self.near, conn, buf);
         self.near.journal.tell_read(self.near.alloc, conn, buf, got);
         got
     }
@@ -131,7 +133,7 @@ impl<K: KernelSide> Wire for MemWorld<K> {
         ensures near { AfterPut self.old.near self.new.near (did_put result) }
         ensures ups { self.new.near.journal.ups ≡ self.old.near.journal.ups }
     {
-        let did = self.try_put(conn, piece);
+        let did = self.far.try_put(&mut self.near, conn, piece);
         self.near
             .journal
             .tell_put(self.near.alloc, conn, piece, did);
@@ -183,7 +185,7 @@ impl<K: KernelSide> Wire for MemWorld<K> {
         ensures near { AfterWait self.old.near self.new.near result }
         ensures ups { self.new.near.journal.ups ≡ self.old.near.journal.ups }
     {
-        let did = self.try_wait(ms, out);
+        let did = self.far.try_wait(&mut self.near, ms, out);
         let reports = *out;
         self.near
             .journal
@@ -194,32 +196,32 @@ impl<K: KernelSide> Wire for MemWorld<K> {
 
 impl<K: KernelSide> World for MemWorld<K> {}
 
-impl<K: KernelSide> MemWorld<K> {
+impl<K: KernelSide> Far<K> {
     // Whether a connection is taken up.
-    fn try_connect(&mut self, conn: Conn) -> Connected
-        ensures is { result ≡ connected_by (is_to_fail self.old.near.store)
-            (is_refusing self.old.near.refusals) (at_job self.old.far.kernels.items conn.job false
-            (λ k. K.accepts k conn.chan self.old.far.clock)) }
+    fn try_connect(&mut self, near: &mut Near, conn: Conn) -> Connected
+        ensures is { result ≡ connected_by (is_to_fail near.old.store)
+            (is_refusing near.old.refusals) (at_job self.old.kernels.items conn.job false
+            (λ k. K.accepts k conn.chan self.old.clock)) }
         ensures kernels { ServesUnless
-            (is_to_fail self.old.near.store || is_refusing self.old.near.refusals)
-            self.old.far.kernels.items self.new.far.kernels.items conn.job
+            (is_to_fail near.old.store || is_refusing near.old.refusals)
+            self.old.kernels.items self.new.kernels.items conn.job
             (λ before after. StandsAfter (K.stands before) (K.stands after) (Accepted conn.chan
-            self.old.far.clock (K.accepts before conn.chan self.old.far.clock))) }
-        ensures started { self.new.far.started ≡ self.old.far.started }
-        ensures clock { self.new.far.clock ≡ self.old.far.clock }
-        ensures near { AfterConnect self.old.near self.new.near }
-        ensures cause { HasCause self.old.near.net_faults self.new.near.net_faults
+            self.old.clock (K.accepts before conn.chan self.old.clock))) }
+        ensures started { self.new.started ≡ self.old.started }
+        ensures clock { self.new.clock ≡ self.old.clock }
+        ensures near { AfterConnect near.old near.new }
+        ensures cause { HasCause near.old.net_faults near.new.net_faults
             (result ≡ Connected.Failed) }
-        ensures journal { self.new.near.journal ≡ self.old.near.journal }
+        ensures journal { near.new.journal ≡ near.old.journal }
     {
-        let refuses = self.near.refuses();
-        if self.near.fails_net() {
+        let refuses = near.refuses();
+        if near.fails_net() {
             return Connected::Failed;
         }
         if refuses {
             return Connected::Refused;
         }
-        if self.far.accept(conn) {
+        if self.accept(conn) {
             Connected::Begun
         } else {
             Connected::Refused
@@ -227,31 +229,29 @@ impl<K: KernelSide> MemWorld<K> {
     }
 
     // What stands ready on a connection.
-    fn try_read(&mut self, conn: Conn, buf: &mut [u8]) -> Got
+    fn try_read(&mut self, near: &mut Near, conn: Conn, buf: &mut [u8]) -> Got
         requires { 0 < length buf.old }
         ensures some { GotSome result (length buf.old) }
-        ensures is { let room = room_of self.old.near.pieces self.old.near.turn (length buf.old) in
-            ReadAs (is_to_fail self.old.near.store) (at_job self.old.far.kernels.items conn.job Over
-            (λ k. K.gives k conn.chan self.old.far.clock room)) result buf.new }
-        ensures kernels { let room = room_of self.old.near.pieces self.old.near.turn
-            (length buf.old) in
-            ServesUnless (is_to_fail self.old.near.store)
-            self.old.far.kernels.items self.new.far.kernels.items conn.job
+        ensures is { let room = room_of near.old.pieces near.old.turn (length buf.old) in
+            ReadAs (is_to_fail near.old.store) (at_job self.old.kernels.items conn.job Over
+            (λ k. K.gives k conn.chan self.old.clock room)) result buf.new }
+        ensures kernels { let room = room_of near.old.pieces near.old.turn (length buf.old) in
+            ServesUnless (is_to_fail near.old.store)
+            self.old.kernels.items self.new.kernels.items conn.job
             (λ before after. StandsAfter (K.stands before) (K.stands after)
-            (Gave conn.chan self.old.far.clock room
-            (K.gives before conn.chan self.old.far.clock room))) }
-        ensures started { self.new.far.started ≡ self.old.far.started }
-        ensures clock { self.new.far.clock ≡ self.old.far.clock }
-        ensures near { AfterRead self.old.near self.new.near }
-        ensures cause { HasCause self.old.near.net_faults self.new.near.net_faults
-            (result ≡ Got.Failed) }
-        ensures journal { self.new.near.journal ≡ self.old.near.journal }
+            (Gave conn.chan self.old.clock room
+            (K.gives before conn.chan self.old.clock room))) }
+        ensures started { self.new.started ≡ self.old.started }
+        ensures clock { self.new.clock ≡ self.old.clock }
+        ensures near { AfterRead near.old near.new }
+        ensures cause { HasCause near.old.net_faults near.new.net_faults (result ≡ Got.Failed) }
+        ensures journal { near.new.journal ≡ near.old.journal }
     {
-        let room = self.near.room(buf.len());
-        if self.near.fails_net() {
+        let room = near.room(buf.len());
+        if near.fails_net() {
             return Got::Failed;
         }
-        match self.far.give(conn, &mut buf[..room]) {
+        match self.give(conn, &mut buf[..room]) {
             Give::Bytes(n) => Got::Piece(n),
             Give::Nothing => Got::Dry,
             Give::Ended => Got::Ended,
@@ -259,45 +259,44 @@ impl<K: KernelSide> MemWorld<K> {
     }
 
     // Hands a piece to a kernel.
-    fn try_put(&mut self, conn: Conn, piece: &[u8]) -> Did
-        ensures fails { FailsOrStarves (is_to_fail self.old.near.store)
-            self.old.near.store self.new.near.store result }
-        ensures kernels { ServesUnless (is_to_fail self.old.near.store)
-            self.old.far.kernels.items self.new.far.kernels.items conn.job
+    fn try_put(&mut self, near: &mut Near, conn: Conn, piece: &[u8]) -> Did
+        ensures fails { FailsOrStarves (is_to_fail near.old.store)
+            near.old.store near.new.store result }
+        ensures kernels { ServesUnless (is_to_fail near.old.store)
+            self.old.kernels.items self.new.kernels.items conn.job
             (λ before after. TookIf result (StandsAfter (K.stands before) (K.stands after)
-            (Took conn.chan self.old.far.clock piece.now))) }
-        ensures started { self.new.far.started ≡ self.old.far.started }
-        ensures clock { self.new.far.clock ≡ self.old.far.clock }
-        ensures near { AfterPut self.old.near self.new.near result }
-        ensures cause { HasCause self.old.near.net_faults self.new.near.net_faults
-            (result ≡ Did.Failed) }
-        ensures journal { self.new.near.journal ≡ self.old.near.journal }
+            (Took conn.chan self.old.clock piece.now))) }
+        ensures started { self.new.started ≡ self.old.started }
+        ensures clock { self.new.clock ≡ self.old.clock }
+        ensures near { AfterPut near.old near.new result }
+        ensures cause { HasCause near.old.net_faults near.new.net_faults (result ≡ Did.Failed) }
+        ensures journal { near.new.journal ≡ near.old.journal }
     {
-        let did = self.hand(conn, piece);
-        rise_by(&mut self.near.net_faults, did);
+        let did = self.hand(near, conn, piece);
+        rise_by(&mut near.net_faults, did);
         did
     }
 
     // Hands a piece to a kernel, and counts no fault.
-    fn hand(&mut self, conn: Conn, piece: &[u8]) -> Did
-        ensures fails { FailsOrStarves (is_to_fail self.old.near.store)
-            self.old.near.store self.new.near.store result }
-        ensures kernels { ServesUnless (is_to_fail self.old.near.store)
-            self.old.far.kernels.items self.new.far.kernels.items conn.job
+    fn hand(&mut self, near: &mut Near, conn: Conn, piece: &[u8]) -> Did
+        ensures fails { FailsOrStarves (is_to_fail near.old.store)
+            near.old.store near.new.store result }
+        ensures kernels { ServesUnless (is_to_fail near.old.store)
+            self.old.kernels.items self.new.kernels.items conn.job
             (λ before after. TookIf result (StandsAfter (K.stands before) (K.stands after)
-            (Took conn.chan self.old.far.clock piece.now))) }
-        ensures started { self.new.far.started ≡ self.old.far.started }
-        ensures clock { self.new.far.clock ≡ self.old.far.clock }
-        ensures near { self.new.near ≡ record self.old.near {
-          store = record (count_call self.old.near.store) { starved = self.new.near.store.starved };
+            (Took conn.chan self.old.clock piece.now))) }
+        ensures started { self.new.started ≡ self.old.started }
+        ensures clock { self.new.clock ≡ self.old.clock }
+        ensures near { near.new ≡ record near.old {
+          store = record (count_call near.old.store) { starved = near.new.store.starved };
         } }
     {
-        if self.near.store.fails_now() {
+        if near.store.fails_now() {
             return Did::Failed;
         }
-        match self.far.take(self.near.alloc, conn, piece) {
+        match self.take(near.alloc, conn, piece) {
             Ok(()) => Did::Done,
-            Err(_) => self.near.store.starve(),
+            Err(_) => near.store.starve(),
         }
     }
 }

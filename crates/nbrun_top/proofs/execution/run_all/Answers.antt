@@ -13,7 +13,7 @@ pub returns-in-Ok-clause-runs : goal.returns-in-Ok-clause-runs
 returns-in-Ok-clause-runs g c =
     let old = g.W.Journal.counts c.args.w.now in
     let new = g.W.Journal.counts c.run_jobs.new.w in
-    let status = job_status c.say_faults-faults.result old.say new.say c.first_fault.result c.unless_not_said.result c.in-Ok.answers c.as_slice.result.now c.say_faults-faults.ensures
+    let status = job_status c.say_faults-faults.result old.say new.say c.first_fault.result c.unless_not_said.result c.in-Ok.answers c.as_slice.result.now c.say_faults-faults.ensures.is
     c.first_fault.ensures c.as_slice.ensures c.unless_not_said.ensures.answers in
     told_as (told_both (told_both c.in-Ok.ensures.jobs c.in-Ok.ensures.others) (told_both c.in-Ok.ensures.calls c.in-Ok.ensures.children)) (λ x y both quiet clean alone.
     runs_done c.args.asks c.in-Ok.answers old new (Rose old.say new.say) (0 < new.say) c.unless_not_said.result x y both.0.1 (both.1.0 true (λ e. clean)) both.1.1 both.0.0 c.in-Ok.ensures.one_each status quiet alone)
@@ -31,7 +31,7 @@ pub returns-in-Ok-clause-counted : goal.returns-in-Ok-clause-counted
 returns-in-Ok-clause-counted g c =
     let old = g.W.Journal.counts c.args.w.now in
     let new = g.W.Journal.counts c.run_jobs.new.w in
-    let status = job_status c.say_faults-faults.result old.say new.say c.first_fault.result c.unless_not_said.result c.in-Ok.answers c.as_slice.result.now c.say_faults-faults.ensures
+    let status = job_status c.say_faults-faults.result old.say new.say c.first_fault.result c.unless_not_said.result c.in-Ok.answers c.as_slice.result.now c.say_faults-faults.ensures.is
     c.first_fault.ensures c.as_slice.ensures c.unless_not_said.ensures.answers in
     jobs_counted c.args.limits.now.turns c.args.asks c.in-Ok.answers old new c.unless_not_said.result c.in-Ok.ensures.one_each c.in-Ok.ensures.ends c.in-Ok.ensures.spent status
 

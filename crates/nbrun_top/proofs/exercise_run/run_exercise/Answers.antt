@@ -9,7 +9,7 @@ use Rattle.nbrun_top.proofs.exercise_run.run_exercise.Goals as goal
 pub returns-in-Ok-clause-exercised : goal.returns-in-Ok-clause-exercised
 returns-in-Ok-clause-exercised g c =
     let new = (g.W.Journal.counts c.say.new.w).say in
-    let answers = subst (λ k. Answers (Rose k new) c.in-Ok.answer.status c.unless_not_said.result) c.say_faults-faults.ensures c.unless_not_said.ensures.answers in
+    let answers = subst (λ k. Answers (Rose k new) c.in-Ok.answer.status c.unless_not_said.result) c.say_faults-faults.ensures.is c.unless_not_said.ensures.answers in
     told_as c.say.ensures.tells (λ x y says.
     ended c.in-Ok.answer c.unless_not_said.result y c.in-Ok.ensures answers
     (subst (λ t. Says t (0 < new) x y) c.bytes.ensures says))

@@ -16,7 +16,7 @@ returns-clause-causes g c words is =
     told_then (a.ensures.ran words is) c.say.ensures.tells (λ x y z ran says.
     ended_at words a.result.end c.lines.result.now c.code-code.result c.unless_not_said.result c.say_faults-faults.result (g.W.Journal.counts c.args.w.now).say (g.W.Journal.counts c.say.new.w).say
     (said_text (input_of (command_of_words words)) (output_of (command_of_words words)) a.result.end a.result.text c.lines.result.now (a.ensures.text words is) c.lines.ensures.memory c.lines.ensures.text)
-    c.code-code.ensures c.say_faults-faults.ensures c.unless_not_said.ensures.answers x y z ran says)
+    c.code-code.ensures c.say_faults-faults.ensures.is c.unless_not_said.ensures.answers x y z ran says)
 
 pub returns-clause-silent : goal.returns-clause-silent
 returns-clause-silent g c words is some =

@@ -10,7 +10,7 @@ pub loop-rest-init : goal.loop-rest-init
 loop-rest-init g c = record { entries = told_start (λ before. none); cause = grind (arith, common_steps) }
 
 pub returns-then-say_faults-gt0-clause-tells : goal.returns-then-say_faults-gt0-clause-tells
-returns-then-say_faults-gt0-clause-tells g c = told_as c.loop-rest.invariant.entries (λ x y speech. cut (omega (arith, c.if-say_faults-gt0.true, c.say_faults.ensures)) speech)
+returns-then-say_faults-gt0-clause-tells g c = told_as c.loop-rest.invariant.entries (λ x y speech. cut (omega (arith, c.if-say_faults-gt0.true, c.say_faults.ensures.is)) speech)
 
 pub loop-rest-preserved : goal.loop-rest-preserved
 loop-rest-preserved g c =

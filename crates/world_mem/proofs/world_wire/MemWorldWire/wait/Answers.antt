@@ -7,4 +7,4 @@ returns-clause-up g c = told_up _ c.try_wait-did.ensures.journal c.tell.ensures.
 
 pub returns-clause-exact : goal.returns-clause-exact
 returns-clause-exact g c =
-    told_exact _ (is_ready g.K.KernelSide.gives c.try_wait-did.new.self.far.kernels.items c.args.self.now.far.clock) c.try_wait-did.result c.try_wait-did.ensures.journal c.tell.ensures.tells c.try_wait-did.ensures.reports
+    told_exact _ (is_ready g.K.KernelSide.gives c.try_wait-did.new.self.kernels.items c.args.self.now.far.clock) c.try_wait-did.result c.try_wait-did.ensures.journal c.tell.ensures.tells c.try_wait-did.ensures.reports
