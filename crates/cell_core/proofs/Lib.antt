@@ -9,6 +9,7 @@ pub mod RightRunning
 pub mod RightStarting
 pub mod RightClosing
 pub mod Runs
+pub mod LossAgain
 pub mod OverRuns
 pub mod InOrder
 pub mod Looks

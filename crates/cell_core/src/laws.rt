@@ -2,7 +2,7 @@
 ghost use Rattle.std.specs.Prelude.{◌≡◌, ℕ, ◌<◌, ◌≤◌, false, None, List, [], ◌∷◌};
 ghost use Rattle.std.specs.Option.{ForSome};
 ghost use Rattle.cell_core.specs.declared.event.Event.{Event};
-ghost use Rattle.cell_core.specs.declared.event.Event.TheVariants.{Moment};
+ghost use Rattle.cell_core.specs.declared.event.Event.TheVariants.{Lost, Moment};
 ghost use Rattle.cell_core.specs.Events.{time};
 ghost use Rattle.cell_core.specs.declared.why.Why.{Why};
 ghost use Rattle.cell_core.specs.declared.act.Act.TheVariants.{Send, Save, Stop};
@@ -11,7 +11,7 @@ ghost use Rattle.cell_core.specs.Acts.{act_of, heard, has_stopped, awaits_saved,
 ghost use Rattle.cell_core.specs.LastLooks.{TakesTurns};
 ghost use Rattle.cell_core.specs.Laws.{IsOpen, IsSent, IsAskedFor, StopsBy, ComesToStand, GoesOn, AsksInOrder};
 ghost use Rattle.cell_core.specs.Saves.{pending_saves, why};
-ghost use Rattle.cell_core.specs.StandsFor.{StandsFor, task_of};
+ghost use Rattle.cell_core.specs.StandsFor.{StandsFor, awaits_saved_of, task_of};
 
 use crate::Core;
 
@@ -64,6 +64,15 @@ pub fn goes_on(core: &Core)
         → awaits_saved (task_of core.now) events ≡ false
         → has_stopped (task_of core.now) (heard (task_of core.now) events) ≡ false
         → GoesOn (task_of core.now) (heard (task_of core.now) events) }
+{
+    let _ = core;
+}
+
+/// The kernel may be found lost more than once. Where a core awaits no save and was told of a loss,
+/// telling it of another one leaves it as it is.
+pub fn a_loss_again(core: &Core)
+    ensures { (events : List Event) → awaits_saved_of core.now ≡ false
+        → StandsFor core.now (Lost ∷ events) → StandsFor core.now (Lost ∷ Lost ∷ events) }
 {
     let _ = core;
 }
