@@ -67,3 +67,13 @@ second_own_saves = refl
 lines_are : lines (one ∷ two ∷ []) journal None ≡ Saved 0 1 (codes "out") ∷ Saved 0 1 (codes "out2") ∷ Saved 1 1 (codes "out") ∷ Last Done (codes "out") ∷ Saved 1 1 (codes "out2") ∷ Last (BadPeer (record { chan = Control; number = 1; at = 0 })) (codes "out2") ∷ []
 unfolding arrive is_shaken can_ask ask_on is_look can_ping ping_on is_silent is_lost ran_out is_broken is_interrupted bad_stream
 lines_are = refl
+
+-- both jobs are done at 50, and each is left before the other is read
+abbrev both_done : List Entry
+both_done = saved one ++ start one ++ saved two ++ start two ++ both 20 ++ shakes two ++ shakes one ++ both 30 ++ both 40 ++ readies one ++ readies two
+    ++ both 50 ++ printed one 2 21 ++ saved one ++ (closed one Shell ∷ []) ++ printed two 2 22 ++ saved two ++ (closed two Shell ∷ [])
+
+-- the last line of a job stands behind its last save
+done_lines : lines (one ∷ two ∷ []) (reverse both_done) None ≡ Saved 0 1 (codes "out") ∷ Saved 0 1 (codes "out2") ∷ Saved 1 1 (codes "out") ∷ Last Done (codes "out") ∷ Saved 1 1 (codes "out2") ∷ Last Done (codes "out2") ∷ []
+unfolding arrive is_shaken can_ask ask_on is_look can_ping ping_on is_silent is_lost ran_out is_broken is_interrupted bad_stream
+done_lines = refl

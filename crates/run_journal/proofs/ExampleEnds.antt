@@ -1,6 +1,7 @@
 -- The other ends of jobs, and a kernel that answers no ping.
 use Rattle.std.proofs.Common.{◌≡◌, ℕ, List, [], ◌∷◌, ◌++◌, true, Some, None, codes, refl, reverse, length}
-use Rattle.world.specs.declared.chan.Chan.TheVariants.{Shell, Iopub, Heart}
+use Rattle.world.specs.declared.chan.Chan.{Chan}
+use Rattle.world.specs.declared.chan.Chan.TheVariants.{Shell, Control, Iopub, Heart}
 use Rattle.world.specs.declared.did.Did.TheVariants as did
 use Rattle.world.specs.declared.entry.Entry.{Entry}
 use Rattle.world.specs.declared.entry.Entry.TheVariants as made
@@ -13,7 +14,7 @@ use Rattle.run_journal.specs.Requests.{is_broken, is_interrupted}
 use Rattle.run_journal.specs.Why.{bad_stream, why}
 use Rattle.run_journal.specs.Ends.{Done, NotRead, BadSpec, NotSaved, NoNetwork, Spent, status_of, end_of}
 use Rattle.run_journal.specs.Lines.{Saved, Last, Early, lines, line_text}
-use Rattle.run_journal.proofs.Toy.{job, saved, got, put, dry, begun, wait, turn, start, other}
+use Rattle.run_journal.proofs.Toy.{job, saved, got, put, dry, begun, closed, wait, turn, start, other}
 
 -- the job whose kernel has no name, and that whose spec is refused
 abbrev unnamed : Job
@@ -90,6 +91,43 @@ waits_fail = refl
 waits_are_spent : lines (short ∷ short_too ∷ []) (reverse (saved short ++ start short ++ saved short_too ++ start short_too ++ (wait 500 [] ∷ made.Moment 510 ∷ []))) None ≡ Saved 0 2 (codes "out") ∷ Saved 0 2 (codes "out2") ∷ Last Spent (codes "out") ∷ Last Spent (codes "out2") ∷ []
 unfolding arrive is_shaken can_ask ask_on is_look can_ping ping_on is_silent is_lost ran_out is_broken is_interrupted bad_stream
 waits_are_spent = refl
+
+-- ---- a shutdown that can't be written
+
+-- the one wait is made, and all that was queued is put
+abbrev spent : List Entry
+spent = saved short ++ start short ++ turn 20
+    ++ (got short Shell (9 ∷ []) ∷ got short Control (9 ∷ []) ∷ put short Shell (100 ∷ []) ∷ put short Control (100 ∷ []) ∷ [])
+
+-- a write to a channel fails
+abbrev put_failed : Chan → Entry
+put_failed c = made.PutFailed (record { job = 0; chan = c })
+
+-- no wait is left, and only the shutdown was still to be put
+shutdown_fails : status_of short (put_failed Control ∷ reverse spent) ≡ 16
+unfolding arrive is_shaken can_ask ask_on is_look can_ping ping_on is_silent is_lost ran_out is_broken is_interrupted bad_stream
+shutdown_fails = refl
+
+spent_is_said : lines (short ∷ []) (closed short Shell ∷ put_failed Control ∷ reverse spent) None ≡ Saved 0 2 (codes "out") ∷ Last Spent (codes "out") ∷ []
+unfolding arrive is_shaken can_ask ask_on is_look can_ping ping_on is_silent is_lost ran_out is_broken is_interrupted bad_stream
+spent_is_said = refl
+
+-- a write to another channel fails
+shell_fails : status_of short (put_failed Shell ∷ reverse spent) ≡ 14
+unfolding arrive is_shaken can_ask ask_on is_look can_ping ping_on is_silent is_lost ran_out is_broken is_interrupted bad_stream
+shell_fails = refl
+
+-- READY was still to be put on control
+ready_fails : status_of short (put_failed Control ∷ reverse (saved short ++ start short ++ turn 20)) ≡ 14
+unfolding arrive is_shaken can_ask ask_on is_look can_ping ping_on is_silent is_lost ran_out is_broken is_interrupted bad_stream
+ready_fails = refl
+
+-- waits are left
+control_fails : status_of job (put_failed Control ∷ reverse spent) ≡ 14
+unfolding arrive is_shaken can_ask ask_on is_look can_ping ping_on is_silent is_lost ran_out is_broken is_interrupted bad_stream
+control_fails = refl
+
+-- ---- what is said
 
 memory_is_refused : lines (job ∷ []) (reverse (saved job)) (Some (Early (codes "nbrun") (codes "no memory"))) ≡ Saved 0 2 (codes "out") ∷ Early (codes "nbrun") (codes "no memory") ∷ []
 unfolding arrive is_shaken can_ask ask_on is_look can_ping ping_on is_silent is_lost ran_out is_broken is_interrupted bad_stream

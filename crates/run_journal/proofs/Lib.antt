@@ -3,6 +3,7 @@ pub mod Growth
 pub mod Alike
 pub mod AlikeLooks
 pub mod Isolation
+pub mod Queueing
 pub mod Status
 pub mod Reading
 pub mod Safety
@@ -62,3 +63,4 @@ pub mod Finishing
 pub mod ExampleDeadlines
 pub mod Timing
 pub mod ExampleStarts
+pub mod ExampleLeaving

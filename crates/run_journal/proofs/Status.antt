@@ -19,11 +19,12 @@ use Rattle.run_journal.specs.OfJob.{is_own_path, after_read, reads_for, is_onto,
 use Rattle.run_journal.specs.Requests.{or_later, last_request}
 use Rattle.run_journal.specs.Why.{why}
 use Rattle.run_journal.specs.Saves.{Save, last_cell, saves}
-use Rattle.run_journal.specs.Ends.{End, NotStarted, NotSaved, CellError, TimedOut, NoIdle, Ended, index_or_zero, name_of, peer_end, end_if, file_end, input_end, spec_end, fault_at, end_by, stop_of, ended_now, ending_of, end_alone, status_or_spent, status_of}
+use Rattle.run_journal.specs.Ends.{End, NotStarted, NotSaved, CellError, TimedOut, NoIdle, Ended, index_or_zero, name_of, peer_end, end_if, file_end, input_end, spec_end, put_end, fault_at, end_by, stop_of, ended_now, ending_of, end_alone, status_or_spent, status_of}
 use Rattle.run_journal.proofs.Alike.{Alike, own_onto, own_alike, alike_foreign}
 use Rattle.run_journal.proofs.AlikeLooks.{acked_alike}
 use Rattle.run_journal.proofs.Isolation.{requests_alike, bad_stream_alike, why_alike, saves_alike, before_shut_alike}
 use Rattle.run_journal.proofs.Alike.{near}
+use Rattle.run_journal.proofs.Queueing.{put_end_alike}
 use Rattle.run_journal.proofs.Truths.{not_both}
 use Rattle.jtext.proofs.Lists.{option_map_alike}
 
@@ -90,7 +91,7 @@ fault_theirs j (made.DirSynced dir Failed) past e = no_end (is_onto j past) _ e
 fault_theirs j (made.Ports job None) past e = no_end (job == j.number) _ e
 fault_theirs j (made.Connected conn port connected.Failed) past e = no_end (conn.job == j.number) _ e
 fault_theirs j (made.ReadFailed conn) past e = no_end (conn.job == j.number) _ e
-fault_theirs j (made.PutFailed conn) past e = no_end (conn.job == j.number) _ e
+fault_theirs j (made.PutFailed conn) past e = cond-false (conn.job == j.number) (put_end j conn.chan past) None e
 fault_theirs j (made.Waited ms reports Failed) past e = cc
 fault_theirs j (made.Started job argv env dir Failed) past e = no_end (job == j.number) _ e
 fault_theirs j _ past e = refl
@@ -102,6 +103,7 @@ fault_ours j (made.Read path most found) past e =
     (λ r. only_of (bytes_eq j.input path) (list_any (bytes_eq path) j.inputs) (reads_for j past) (reads_for j (of_job j past)) r (reads_own j past))
 fault_ours j (made.Word None) past e = ap (λ b. end_if b NotStarted) (reads_own j past e ∙ sym e)
 fault_ours j (made.DirSynced dir Failed) past e = ap (λ b. end_if b (NotSaved (message DirSync))) (own_onto j past e ∙ sym e)
+fault_ours j (made.PutFailed conn) past e = ap (λ o. cond (conn.job == j.number) o None) (sym (put_end_alike j (own_alike j past) conn.chan))
 fault_ours j (made.Word (Some word)) past e = refl
 fault_ours j (made.Created path Done) past e = refl
 fault_ours j (made.Created path Failed) past e = refl

@@ -1,17 +1,19 @@
 -- How a job ends, and its exit status (papermill and nbclient; the statuses are nbrun's own).
-use Rattle.std.specs.Prelude.{ℕ, ◌==◌, List, [], ◌∷◌, ◌++◌, codes, Bool, Option, Some, None, if◌then◌else◌, length, nat_le, option_map}
+use Rattle.std.specs.Prelude.{ℕ, ◌==◌, List, [], ◌∷◌, ◌++◌, codes, Bool, false, Option, Some, None, if◌then◌else◌, length, nat_le, option_map}
 use Rattle.std.specs.Str.{bytes_eq}
 use Rattle.std.specs.Fmt.{decimal}
 use Rattle.jtext.specs.Print.{quote}
 use Rattle.jcontent.specs.declared.content.Content.{Content}
 use Rattle.jcontent.specs.declared.content.Content.TheVariants as content
 use Rattle.jcontent.specs.declared.reply.ReplyIs.TheVariants as reply_is
+use Rattle.world.specs.declared.chan.Chan.{Chan}
 use Rattle.world.specs.declared.connected.Connected.TheVariants as connected
 use Rattle.world.specs.declared.did.Did.TheVariants as did
 use Rattle.world.specs.declared.entry.Entry.{Entry}
 use Rattle.world.specs.declared.entry.Entry.TheVariants as made
 use Rattle.world.specs.declared.read_file.ReadFile.{ReadFile}
 use Rattle.world.specs.declared.read_file.ReadFile.TheVariants as found
+use Rattle.world.specs.Places.{chan_number}
 use Rattle.world.specs.Waits.{wait_count}
 use Rattle.words.specs.Paths.{temporary_of, connection_of}
 use Rattle.save_disk.specs.declared.save_fault.SaveFault.TheVariants as save_fault
@@ -21,7 +23,8 @@ use Rattle.cell_core.specs.declared.why.Why.{Why}
 use Rattle.cell_core.specs.declared.why.Why.TheVariants as cause
 use Rattle.run_journal.specs.Codec.{Arrival}
 use Rattle.run_journal.specs.Job.{Job, Given, Refuses, Prepares, Runs}
-use Rattle.run_journal.specs.Parts.{saves_of, before_shut}
+use Rattle.run_journal.specs.Parts.{bytes_put, saves_of, before_shut}
+use Rattle.run_journal.specs.Queue.{queue}
 use Rattle.run_journal.specs.OfJob.{is_own_path, after_read, reads_for, is_onto}
 use Rattle.run_journal.specs.Requests.{Request, reply, requests, or_later, last_request}
 use Rattle.run_journal.specs.Why.{BadStream, bad_stream, why}
@@ -83,6 +86,22 @@ read_end j path found before =
     else if after_read j path before then spec_end j path found
     else None
 
+-- no wait is left
+abbrev pub is_spent : Job → List Entry → Bool
+is_spent j past = nat_le j.turns (wait_count past)
+
+-- all that was queued on a channel was put, greeting and READY first
+abbrev pub is_put : Job → Chan → List Entry → Bool
+is_put j c past = nat_le (length (j.codec.opening c ++ queue j c past)) (length (bytes_put j c past))
+
+-- only the last message is still to be put on a channel: no wait is left, the channel is control, and all else was put
+abbrev pub is_parting : Job → Chan → List Entry → Bool
+is_parting j c past = if is_spent j past then (if chan_number c == 1 then is_put j c past else false) else false
+
+-- what a failed write to a channel ends the job by: nothing, where only the last message is still to be put
+abbrev pub put_end : Job → Chan → List Entry → Option End
+put_end j c past = if is_parting j c past then None else Some NoNetwork
+
 -- what an entry ends the job by, where it shows a refusal or a failed call of the job
 abbrev pub fault_at : Job → Entry → List Entry → Option End
 fault_at j (made.Read path most found) past = read_end j path found (reads_for j past)
@@ -95,7 +114,7 @@ fault_at j (made.DirSynced dir did.Failed) past = end_if (is_onto j past) (NotSa
 fault_at j (made.Ports job None) past = end_if (job == j.number) NoNetwork
 fault_at j (made.Connected conn port connected.Failed) past = end_if (conn.job == j.number) NoNetwork
 fault_at j (made.ReadFailed conn) past = end_if (conn.job == j.number) NoNetwork
-fault_at j (made.PutFailed conn) past = end_if (conn.job == j.number) NoNetwork
+fault_at j (made.PutFailed conn) past = if conn.job == j.number then put_end j conn.chan past else None
 fault_at j (made.Waited ms reports did.Failed) past = Some NoNetwork
 fault_at j (made.Started job argv env dir did.Failed) past = end_if (job == j.number) NotStarted
 fault_at j _ past = None
@@ -164,10 +183,6 @@ ending_of j (entry ∷ past) = or_later (ending_of j past) (ended_now (entry ∷
 -- the same without the journal
 abbrev pub end_alone : Job → List Entry → Option End
 end_alone j past = option_map (λ (e : Ended). e.end) (ending_of j past)
-
--- no wait is left
-abbrev pub is_spent : Job → List Entry → Bool
-is_spent j past = nat_le j.turns (wait_count past)
 
 -- how the job has ended: by itself, or since no wait is left
 abbrev pub end_of : Job → List Entry → Option End

@@ -7,6 +7,7 @@ pub mod Looks
 pub mod Requests
 pub mod Why
 pub mod Saves
+pub mod Queue
 pub mod Ends
 pub mod Lines
 pub mod Due
