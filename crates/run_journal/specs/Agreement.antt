@@ -57,7 +57,7 @@ told_on (e ∷ es) told = told_on es (e ∷ told)
 abbrev pub BringsNothing : Job → Entry → List Entry → Type 0
 BringsNothing j entry past = (c : Chan) → bytes_got j c (entry ∷ past) ≡ bytes_got j c past
 
--- the same as a test
+-- an event is of the clock, a look, a loss or a broken stream
 abbrev pub is_other : Event → Bool
 is_other (event.Moment ms) = true
 is_other event.Looked = true
@@ -76,7 +76,7 @@ is_of_looks _ = false
 abbrev pub is_told : Job → List Entry → Bool
 is_told j past = list_all is_other (course j past).held && list_all is_of_looks (course j past).unheard
 
--- so at every moment
+-- at every moment only events of the clock, looks, losses and broken streams wait, and only the first three came after the stop
 abbrev pub Flows : Job → List Entry → Type 0
 Flows j past = all_along (is_told j) past ≡ true
 
@@ -84,7 +84,7 @@ Flows j past = all_along (is_told j) past ≡ true
 abbrev pub is_heard : Job → List Entry → Bool
 is_heard j past = is_empty_list (course j past).unheard
 
--- so at every moment
+-- at every moment nothing has come after the stop
 abbrev pub IsHeard : Job → List Entry → Type 0
 IsHeard j past = all_along (is_heard j) past ≡ true
 
@@ -103,7 +103,7 @@ is_dated event.Broken = false
 abbrev pub hears_looks : Job → List Entry → Bool
 hears_looks j past = not (events.came is_dated (course j past).unheard)
 
--- so at every moment
+-- at every moment no clock entry and no look has come after the stop
 abbrev pub HearsLooks : Job → List Entry → Type 0
 HearsLooks j past = all_along (hears_looks j) past ≡ true
 
@@ -112,7 +112,7 @@ abbrev pub ends_looks : Job → List Entry → Bool
 ends_looks j [] = true
 ends_looks j (entry ∷ past) = not (is_wait entry) || is_empty_list (course j past).late
 
--- so at every moment: each look is over before the next wait
+-- each look is over before the next wait: at no wait an event still waits for the end of a look
 abbrev pub EndsLooks : Job → List Entry → Type 0
 EndsLooks j past = all_along (ends_looks j) past ≡ true
 
@@ -121,7 +121,7 @@ pub record ClocksOn (k : ℕ) (told later : List Event) (r : Request) : Type 0 w
   pub stood : stood_at (record { request = k; later = later }) told ≡ r.clock
   pub replied : (m : Arrival × ℕ) → reply r ≡ Some m → replied_at (record { request = k; later = later }) told ≡ m.1
 
--- so of each request that stands
+-- the core has the clock at which each request came to stand, and that at its reply
 abbrev pub Clocks : Job → List Event → List Entry → Type 0
 Clocks j told past = (k : ℕ) (r : Request) → slice_get (requests j past) k ≡ Some r → IsSomeAnd (core.after j.task k told) (λ later. ClocksOn k told later r)
 
@@ -141,7 +141,7 @@ keeps_time j (entry ∷ past) =
     (not (is_acknowledging j (entry ∷ past) && stands_anew j entry past) || events.time (course j past).told == time past)
     && (not (brings j entry past) || events.time (told_on (course j past).held (course j past).told) == time past)
 
--- so at every moment
+-- at every moment the clock that was told last is the journal's, wherever it counts for a request
 abbrev pub KeepsTime : Job → List Entry → Type 0
 KeepsTime j past = all_along (keeps_time j) past ≡ true
 
@@ -152,7 +152,7 @@ is_at_once cause.CellError = true
 is_at_once cause.BadPeer = true
 is_at_once _ = false
 
--- such a cause, where there is one
+-- the cause, where it is one that needs neither the clock nor a look
 abbrev pub at_once : Option Why → Option Why
 at_once None = None
 at_once (Some why) = if is_at_once why then Some why else None
@@ -161,7 +161,7 @@ at_once (Some why) = if is_at_once why then Some why else None
 abbrev pub hears : Job → List Entry → Bool
 hears j past = hears_looks j past || is_some (at_once (why j past))
 
--- so at every moment
+-- at every moment no clock entry and no look has come after the stop, or the stop needs neither
 abbrev pub Hears : Job → List Entry → Type 0
 Hears j past = all_along (hears j) past ≡ true
 
@@ -194,7 +194,7 @@ abbrev pub draws : Job → Entry → Bool
 draws j (made.Ports job ports) = job == j.number
 draws j _ = false
 
--- the clock before they were drawn first
+-- the clock before the job's ports were drawn first
 abbrev pub drawn_clock : Job → List Entry → Option ℕ
 drawn_clock j [] = None
 drawn_clock j (entry ∷ past) = or_later (drawn_clock j past) (if draws j entry then Some (time past) else None)
@@ -247,6 +247,6 @@ tells_rightly j c (made.Waited ms reports did ∷ past) = not (is_reported (plac
 tells_rightly j c (made.Refused conn by ∷ past) = not (is_at (place j c) conn) || is_nothing (bytes_got j c past)
 tells_rightly j c _ = true
 
--- so of each connection of the job, at every moment
+-- at every moment, waits report a connection of the job only while it is up, and it is refused only before a byte was got on it
 abbrev pub TellsRightly : Job → List Entry → Type 0
 TellsRightly j past = (c : Chan) → all_along (tells_rightly j c) past ≡ true

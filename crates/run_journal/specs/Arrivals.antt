@@ -20,7 +20,7 @@ use Rattle.run_journal.specs.Parts.{bytes_got, bytes_put}
 abbrev pub heard : Job → Chan → List Entry → List Arrival
 heard j c past = j.codec.messages c (bytes_got j c past)
 
--- those whose last byte an entry holds, by what came before it
+-- the messages whose last byte an entry brings, by what came before it
 unfoldable pub arrive : Job → Chan → Entry → List Entry → List Arrival
 arrive j c entry past = drop (length (heard j c past)) (heard j c (entry ∷ past))
 

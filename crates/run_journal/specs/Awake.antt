@@ -23,21 +23,21 @@ use Rattle.run_journal.specs.Due.{dues, all_along}
 
 -- ---- deadlines that are not answered
 
--- that of readiness, which readiness answers
+-- the deadline of readiness, from the child's start: none once the kernel is ready
 abbrev pub start_deadline : Job → List Entry → List ℕ
 start_deadline j past = if is_ready j past then [] else option_to_list (option_map (λ ms. ms + j.task.times.start_ms) (child_clock j past))
 
--- that of a reply: the queued interrupt answers the first one, and then the second one counts
+-- the deadline of a request's reply: its first one, or the one that its interrupt sets, once that is queued
 abbrev pub reply_deadline : Job → List Entry → Request → Option ℕ → List ℕ
 reply_deadline j past r None = []
 reply_deadline j past r (Some at) = if r.interrupted then option_to_list (option_map (λ ms. ms + interrupt_ms) (first_clock at past)) else at ∷ []
 
--- that of an idle after the reply, or of the reply
+-- the deadline of a request: of its idle once its reply has come, and of its reply before that
 abbrev pub wait_deadline : Job → List Entry → Request → Option ℕ → List ℕ
 wait_deadline j past r (Some clock) = if is_over r then [] else (clock + idle_ms) ∷ []
 wait_deadline j past r None = reply_deadline j past r (deadline j r)
 
--- that of the last request
+-- the deadline of the last request, where one stands
 abbrev pub request_deadline : Job → List Entry → Option (ℕ × Request) → List ℕ
 request_deadline j past None = []
 request_deadline j past (Some r) = wait_deadline j past r.1 (option_map (λ m. m.1) (reply r.1))

@@ -53,7 +53,7 @@ abbrev pub clock_event : Option ℕ → List Event
 clock_event None = []
 clock_event (Some ms) = event.Moment ms ∷ []
 
--- this event, where that is so
+-- one event where a condition holds, and else none
 abbrev pub when_so : Bool → Event → List Event
 when_so holds event = if holds then event ∷ [] else []
 

@@ -67,7 +67,7 @@ spec_end j path found.Failed = Some (NotRead path)
 spec_end j path found.NoMemory = None
 spec_end j path _ = option_map BadSpec j.spec_fault
 
--- this end, where that is so
+-- an end, where its condition holds
 abbrev pub end_if : Bool → End → Option End
 end_if holds end = if holds then Some end else None
 
@@ -180,7 +180,7 @@ abbrev pub ending_of : Job → List Entry → Option Ended
 ending_of j [] = ended_now [] (stop_of j [])
 ending_of j (entry ∷ past) = or_later (ending_of j past) (ended_now (entry ∷ past) (or_later (fault_at j entry past) (stop_of j (entry ∷ past))))
 
--- the same without the journal
+-- how the job has ended by itself, if it has
 abbrev pub end_alone : Job → List Entry → Option End
 end_alone j past = option_map (λ (e : Ended). e.end) (ending_of j past)
 

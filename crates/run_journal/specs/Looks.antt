@@ -104,7 +104,7 @@ abbrev pub is_silent_at : Pings → Option ℕ → ℕ → Bool
 is_silent_at ps None taken = false
 is_silent_at ps (Some ms) taken = is_silent_by (pinged_of ps) ms taken
 
--- the same by the journal before a clock entry
+-- at a clock entry after this journal ten pings without a message were taken whole, and 3,000 ms have passed since the tenth
 unfoldable pub is_silent : Job → Option ℕ → List Entry → Bool
 is_silent j clock past = is_silent_at (pings j past) clock (length (bytes_put j Heart past))
 

@@ -28,7 +28,7 @@ abbrev pub renames_onto : Job → Entry → Bool
 renames_onto j (made.Renamed from to did) = bytes_eq j.output to
 renames_onto j _ = false
 
--- the newest entry does
+-- the newest entry renames a file onto the job's output, done or failed
 abbrev pub is_onto : Job → List Entry → Bool
 is_onto j [] = false
 is_onto j (entry ∷ past) = renames_onto j entry

@@ -129,7 +129,7 @@ just_ran_out j deadline past =
 abbrev pub deadline : Job → Request → Option ℕ
 deadline j r = option_map (λ limit. r.clock + limit) j.task.times.limit_ms
 
--- the same of a deadline, where there is one
+-- the last clock entry is the first at or past a deadline, where there is one, and a look at the job followed it
 abbrev pub is_just_out : Job → List Entry → Option ℕ → Bool
 is_just_out j past None = false
 is_just_out j past (Some at) = just_ran_out j at past

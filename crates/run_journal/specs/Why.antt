@@ -27,7 +27,7 @@ plain_count j (Refuses status text) = 0
 plain_count j (Prepares text) = 1
 plain_count j Runs = if j.task.cells == 0 then 1 else 2
 
--- so many saves are acknowledged, and there is one
+-- at least one save is due, and all due saves are acknowledged
 abbrev pub are_acked : ℕ → ℕ → Bool
 are_acked due count = nat_lt 0 due && nat_le due count
 
@@ -56,7 +56,7 @@ bad_by c fault = record { chan = c; number = fault.0; at = fault.1 }
 abbrev pub fault_on : Job → List Entry → Chan → Option BadStream
 fault_on j past c = option_map (bad_by c) (j.codec.fault c (bytes_got j c past))
 
--- the first connection that does, in the order of the channels
+-- the first connection that breaks its grammar, in the order of the channels
 unfoldable pub bad_stream : Job → List Entry → Option BadStream
 bad_stream j past =
     or_later (fault_on j past Shell) (or_later (fault_on j past Control) (or_later (fault_on j past Iopub) (fault_on j past Heart)))
@@ -76,12 +76,12 @@ abbrev pub is_out : Job → ℕ → Option ℕ → List Entry → Bool
 is_out j more None past = false
 is_out j more (Some clock) past = ran_out j (clock + more) past
 
--- no request stands, and it is so long since the child's start
+-- no request stands, and a look is done after the time to start has passed
 abbrev pub is_not_ready : Job → List Request → List Entry → Bool
 is_not_ready j [] past = is_out j j.task.times.start_ms (child_clock j past) past
 is_not_ready j (r ∷ rs) past = false
 
--- the last request has a reply and isn't over, and it is so long since the reply
+-- the last request has a reply and isn't over, and a look is done after the time for its idle has passed
 abbrev pub is_no_idle : Job → Option (ℕ × Request) → List Entry → Bool
 is_no_idle j None past = false
 is_no_idle j (Some r) past = not (is_over r.1) && is_out j idle_ms (option_map (λ m. m.1) (reply r.1)) past
@@ -100,7 +100,7 @@ is_timed_out j (Some r) past = not (is_some (reply r.1)) && is_out j 0 (last_dea
 
 -- ---- the first row that holds
 
--- this cause, where its row holds
+-- a cause, where its condition holds
 abbrev pub cause_if : Bool → Why → Option Why
 cause_if holds why = if holds then Some why else None
 
