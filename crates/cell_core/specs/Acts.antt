@@ -118,6 +118,6 @@ last_asked (prefix ∷ rest) (suc n) before = last_asked rest n prefix
 abbrev pub failing_at : Task → List Event → Option ℕ
 failing_at task events = (last_asked (saves task events) (ack_count events) after_preparation).stopping_cell
 
--- the same over all events, of which those after the stop count for nothing
+-- the stopping cell of the save last asked for, over all events: those after the stop count for nothing
 abbrev pub failing_of : Task → List Event → Option ℕ
 failing_of task events = failing_at task (heard task events)

@@ -73,15 +73,15 @@ deadline task last events =
     if is_some (reply last.later) then (if has_idle (own last.later) then None else Some (replied_at last events + idle_ms))
     else by_limit task last.request (first_deadline task last events) events
 
--- that of readiness, from the child's start
+-- the deadline of readiness, by when the child was started
 abbrev pub start_from : Task → Option ℕ → Option ℕ
 start_from task start = option_map (λ t. t + task.times.start_ms) start
 
--- the deadline of readiness
+-- the deadline of readiness, where the child was started
 abbrev pub start_deadline : Task → List Event → Option ℕ
 start_deadline task events = start_from task (start_time events)
 
--- whether a turn's clock entry at or past it was read, and whether a look was done after that
+-- a turn's clock entry at or past the deadline was read
 abbrev pub passed_by : Option ℕ → List Event → Bool
 passed_by None events = false
 passed_by (Some deadline) events = ever (is_turn_at deadline) events

@@ -19,7 +19,7 @@ next_in task (Failing k why) = cell_of task k + 1
 next_in task Closing = task.cells
 next_in task (Stopped failing) = task.cells
 
--- the same of a core
+-- a core sends no request of a cell below this index any more
 abbrev pub next_of : Core → ℕ
 next_of core = next_in (task_of core) core.state
 
@@ -33,7 +33,7 @@ saves_in (Starting due) = 0
 saves_in (Running r) = 0
 saves_in (Stopped failing) = 0
 
--- the same of a core
+-- a core asks for at most so many saves, one on the acknowledgement of the other, the awaited one among them
 abbrev pub saves_ahead : Core → ℕ
 saves_ahead core = saves_in core.state
 
