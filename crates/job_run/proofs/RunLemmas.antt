@@ -1,7 +1,8 @@
 -- Calls of a job go on with its course.
 use Rattle.std.specs.Prelude.{IfSome}
-use Rattle.std.proofs.Common.{◌≡◌, ◌≢◌, ℕ, Bool, true, false, List, ◌∷◌, Option, Some, None, Result, Err, is_some, refl, sym, ap, subst, ◌∙◌}
-use Rattle.std.specs.Prelude.{IfErr}
+use Rattle.std.proofs.Common.{◌≡◌, ◌≢◌, ℕ, Bool, true, false, List, ◌∷◌, Option, Some, None, Result, Ok, Err, is_some, refl, sym, ap, subst, ◌∙◌}
+use Rattle.std.proofs.lemmas.Bool.{false≢true}
+use Rattle.std.specs.Prelude.{IfErr, OnOk, OnErr}
 use Rattle.std.specs.Str.{bytes_eq}
 use Rattle.world.specs.Counts.{CountsGrow}
 use Rattle.world.specs.Moments.{Since, start, more as later, Told, Tells}
@@ -35,7 +36,7 @@ use Rattle.job_run.specs.Counted.{IsCounted, IsCountedIn}
 use Rattle.cell_core.specs.Task.{Task}
 use Rattle.job_run.specs.Task.{task_of_job, output_of_job}
 use Rattle.job_run.proofs.TurnLemmas.{running_count, count_passes, ended_count, starved_count}
-use Rattle.job_run.specs.Run.{IsNew, CountsAll, Runs, HasEnded, HasFailed, EndsWith, IsLost, IsSpent, IsRole, HasRole}
+use Rattle.job_run.specs.Run.{IsNew, CountsAll, Runs, HasEnded, HasFailed, HasStarved, EndsWith, EndsOnce, IsLost, IsSpent, IsRole, HasRole}
 
 -- a job that hasn't ended has saved all
 running_open : (is_open : Bool) (outcome : Option Answer) → (is_open ≡ false → HasEnded outcome) → is_some outcome ≡ false → is_open ≡ true
@@ -203,3 +204,8 @@ keeps_on {A} {was} {now} x r task before terms kept output own lost spent = reco
   output = output;
   still = record { lost = λ h. absurd (not_lost (task_of x.core) r own (lost h)); spent = λ h. absurd (not_spent (task_of x.core) r own (spent h)) };
 }
+
+-- a call that was told to a job that ran is answered as it has ended
+pub ends_told : {U E : Type 0} (was now : Option Answer) (r : Result U E) → is_some was ≡ false → OnErr r (HasStarved now) → OnOk r (¬ (HasStarved now)) → EndsOnce was now r
+ends_told was now (Ok u) running starved fed = record { over = λ over. absurd (false≢true (sym running ∙ over)); starved = tt; fed = λ h. absurd (fed h) }
+ends_told was now (Err e) running starved fed = record { over = λ over. absurd (false≢true (sym running ∙ over)); starved = starved; fed = tt }

@@ -26,7 +26,7 @@ pub record StoppingAfter (n : ℕ) (task : Task) (cause : Why) : Type 0 where
   pub stopping : Stopping task cause
   pub count : ack_count (stopping.event ∷ stopping.past) ≡ n
 
--- there are such events
+-- there are events, of which so many are saves, that stop the job for this cause
 abbrev pub StopsAfter : ℕ → Task → Why → Type 0
 StopsAfter n task cause = ∥ StoppingAfter n task cause ∥₁
 
@@ -43,7 +43,7 @@ pub record HasCount (core : Core) (clock : ℕ) (is_named : Bool) (act : Act) (n
   pub heard : ∥ TellsOf core clock is_named n ∥₁
   pub stops : (cause : Why) → act ≡ Stop cause → StopsAfter n (task_of core) cause
 
--- so it is of the core of an execution
+-- the core of an execution was told of so many saves; where this act is to stop the job, events with so many stop it
 abbrev pub IsCounted : Execution → Act → ℕ → Type 0
 IsCounted x act n = HasCount x.core x.clock (is_some x.broken) act n
 
@@ -54,12 +54,12 @@ pub record KeepsTold (old new : Execution) : Type 0 where
   pub broken : new.broken ≡ old.broken
   pub terms : new.terms ≡ old.terms
 
--- after what was done: so it is still, or the job ends after so many
+-- after what was done the core of an execution was told of so many saves, or the job ends after so many
 abbrev pub IsCountedOn : {U : Type 0} → Execution → Result U End → ℕ → Type 0
 IsCountedOn x (Ok u) n = IsCounted x Nothing n
 IsCountedOn x (Err e) n = EndsAfter n (task_of x.core) e
 
--- so it is before the next act, or the job ends
+-- before the next act the core of an execution was told of so many saves, or the job ends after so many
 abbrev pub IsCountedFor : Execution → Result Act End → ℕ → Type 0
 IsCountedFor x (Ok act) n = IsCounted x act n
 IsCountedFor x (Err e) n = EndsAfter n (task_of x.core) e
@@ -72,11 +72,11 @@ saves_of x past = save_count (output_of x.book) past
 abbrev pub IsCountedAt : Execution → Act → Option (List Entry) → Type 0
 IsCountedAt x act journal = IfSome journal (λ past. IsCounted x act (saves_of x past))
 
--- and so it is after a call
+-- after a call the core was told of as many saves as were acknowledged, or the job ends after so many
 abbrev pub CountsOn : {U : Type 0} → Execution → Result U End → Option (List Entry) → Type 0
 CountsOn x result journal = IfSome journal (λ past. IsCountedOn x result (saves_of x past))
 
--- and before the next act
+-- before the next act the core was told of as many saves as were acknowledged, or the job ends after so many
 abbrev pub CountsFor : Execution → Result Act End → Option (List Entry) → Type 0
 CountsFor x result journal = IfSome journal (λ past. IsCountedFor x result (saves_of x past))
 
@@ -93,7 +93,7 @@ StartsAfter n task end.NoConnectionFile = Unit {0}
 StartsAfter n task end.NetFault = Unit {0}
 StartsAfter n task e = EndsAfter n task e
 
--- before what is done is taken for the end of the job
+-- before an end is taken for that of the job: the core was told of so many saves, or the job ends after so many or from outside
 abbrev pub IsCountedBy : {U : Type 0} → Execution → Result U End → ℕ → Type 0
 IsCountedBy x (Ok u) n = IsCounted x Nothing n
 IsCountedBy x (Err e) n = EndsJobAfter n (task_of x.core) e

@@ -26,3 +26,13 @@ pub record HandsOutOn (chan : Chan) (was now : Job) (given : Option (List ℕ)) 
   pub taken : taken_of (line_of now chan) ≡ taken_of (line_of was chan)
   -- its other connections are as they were
   pub others : OthersStay chan was.run.lines now.run.lines
+
+-- so many octets of a channel were taken since its connection was begun, and nothing else of the connections changes
+pub record NotesTaken (chan : Chan) (count : ℕ) (was now : Job) : Type 0 where
+  -- just so many were taken of it
+  pub taken : taken_of (line_of now chan) ≡ count
+  -- its connection stands for the same, in the role that it plays
+  pub stands : (h : History) (out : List ℕ) → StandsFor (line_of was chan) h out → StandsFor (line_of now chan) h out
+  pub role : role_of (line_of now chan) ≡ role_of (line_of was chan)
+  -- its other connections are as they were
+  pub others : OthersStay chan was.run.lines now.run.lines

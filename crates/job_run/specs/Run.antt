@@ -1,5 +1,5 @@
 -- What a job makes of the world while it runs.
-use Rattle.std.specs.Prelude.{◌≡◌, ◌⊎◌, ℕ, List, Bool, true, false, Option, Some, None, IfSome, IfErr, Result, Ok, Err}
+use Rattle.std.specs.Prelude.{◌≡◌, ◌⊎◌, ℕ, List, Bool, true, false, Option, Some, None, IfSome, IfErr, is_some, OnOk, OnErr, Result, Ok, Err}
 use Rattle.std.specs.Str.{bytes_eq}
 use Rattle.world.specs.declared.entry.Entry.{Entry}
 use Rattle.world.specs.Counts.{Counts, CountsGrow, Rose}
@@ -30,7 +30,7 @@ use Rattle.job_run.specs.declared.paths.Paths.{Paths}
 abbrev pub IsUnsaved : ℕ → Type 0
 IsUnsaved status = (status ≡ 10) ⊎ (status ≡ 12)
 
--- the job has ended so
+-- the job has ended with a status that comes where a save has failed
 abbrev pub HasEnded : Option Answer → Type 0
 HasEnded None = ⊥
 HasEnded (Some answer) = IsUnsaved answer.status
@@ -39,7 +39,7 @@ HasEnded (Some answer) = IsUnsaved answer.status
 abbrev pub IsFileStatus : ℕ → Type 0
 IsFileStatus status = (status ≡ 3) ⊎ (status ≡ 10)
 
--- the job has ended by such a status
+-- the job has ended with a status that comes only where a call of the disk failed
 abbrev pub HasFailed : Option Answer → Type 0
 HasFailed None = ⊥
 HasFailed (Some answer) = IsFileStatus answer.status
@@ -54,6 +54,17 @@ abbrev pub IsSpent : Option Answer → Type 0
 IsSpent None = ⊥
 IsSpent (Some answer) = answer.status ≡ 16
 
+-- the job has ended for want of memory
+abbrev pub HasStarved : Option Answer → Type 0
+HasStarved None = ⊥
+HasStarved (Some answer) = answer.status ≡ 12
+
+-- A job is told something, which is answered so: how it has ended stays, and memory is refused exactly where that ends the job.
+pub record EndsOnce {U E : Type 0} (was now : Option Answer) (result : Result U E) : Type 0 where
+  pub over : is_some was ≡ true → now ≡ was
+  pub starved : OnErr result (HasStarved now)
+  pub fed : OnOk result (HasStarved now → HasStarved was)
+
 -- a call ends the job neither by the network nor by the budget of turns
 pub record EndsNot (was now : Job) : Type 0 where
   pub lost : IsLost now.outcome → IsLost was.outcome
@@ -67,7 +78,7 @@ number_of j = j.number
 abbrev pub outcome_of : Job → Option Answer
 outcome_of j = j.outcome
 
--- its journal is told, and no save of its output was acknowledged before its begin
+-- the journal of a job is told, and no save of its output was acknowledged before its begin
 pub record IsNew (o : Origin) : Type 0 where
   pub watched : o.is_watched ≡ true
   pub none : save_count o.output o.before ≡ 0
@@ -159,7 +170,8 @@ pub record IsOfWords (output : List ℕ) (pairs : RandomPairs) (x : Execution) :
   pub output_is : output_of x.book ≡ output
   pub key_is : x.session.key ≡ key_of pairs
 
--- and this is its kernel, by what it has read, and its execution, whose words were drawn last
+-- the job of this number may start this kernel, which is its own by what it has read: it has no child, and the words of its
+-- execution were drawn last
 pub record MayStart (c : Cast) (number : ℕ) (kernel : Kernel) (here : List ℕ) (x : Execution) (journal : Option (List Entry)) : Type 0 where
   pub ask : Ask
   pub cast : IsCastAs c number ask here
@@ -177,7 +189,7 @@ HasPorts number ports journal = IfSome journal (λ past. ports_of number past �
 abbrev pub KeepsPorts : {W : Type 0} → (W → Option (List Entry)) → W → W → Type 0
 KeepsPorts journal old new = (number : ℕ) (ports : List ℕ) → HasPorts number ports (journal old) → HasPorts number ports (journal new)
 
--- the same, where it has asked for its ports since, which are these
+-- the job of this number may start this kernel on these ports, which it has asked for since its words were drawn
 pub record MayConnect (c : Cast) (number : ℕ) (ports : List ℕ) (kernel : Kernel) (here : List ℕ) (x : Execution) (journal : Option (List Entry)) : Type 0 where
   pub ask : Ask
   pub cast : IsCastAs c number ask here
@@ -188,7 +200,7 @@ pub record MayConnect (c : Cast) (number : ℕ) (ports : List ℕ) (kernel : Ker
   pub words : IsOfWords ask.output pairs x
   pub asked : IfSome journal (HasAsked number ask.output pairs ports)
 
--- its connection file is written too, so that it may be started now
+-- the kernel of the job of this number may be started now: its connection file is written
 pub record MayRun (c : Cast) (number : ℕ) (kernel : Kernel) (here : List ℕ) (journal : Option (List Entry)) : Type 0 where
   pub ask : Ask
   pub cast : IsCastAs c number ask here
@@ -212,12 +224,12 @@ abbrev pub LaunchesInRole : {W : Type 0} → (W → Option (List Entry)) → (W 
 LaunchesInRole journal counts old new kernel here was now = (c : Cast) (since : List Entry) (from : Counts) → MayStart c was.number kernel here was.run (journal old)
     → HasNoPorts c was.number (journal old) → HasRole c since from was (journal old) (counts old) → HasRole c since from now (journal new) (counts new)
 
--- the same, where its ports were given
+-- calls of the job, which may start this kernel on the ports that were given
 abbrev pub LaunchesOnPorts : {W : Type 0} → (W → Option (List Entry)) → (W → Counts) → W → W → Kernel → List ℕ → Job → Type 0
 LaunchesOnPorts journal counts old new kernel here j = (c : Cast) (since : List Entry) (from : Counts) → MayConnect c j.number j.ports kernel here j.run (journal old)
     → HasRole c since from j (journal old) (counts old) → HasRole c since from j (journal new) (counts new)
 
--- the same, where its connection file is written
+-- calls of the job, which may start this kernel by the connection file that is written
 abbrev pub RunsInRole : {W : Type 0} → (W → Option (List Entry)) → (W → Counts) → W → W → Kernel → List ℕ → Job → Type 0
 RunsInRole journal counts old new kernel here j = (c : Cast) (since : List Entry) (from : Counts) → MayRun c j.number kernel here (journal old)
     → HasRole c since from j (journal old) (counts old) → HasRole c since from j (journal new) (counts new)
@@ -233,7 +245,7 @@ abbrev pub StartsAs : Origin → Result Job End → Option (List Entry) → Coun
 StartsAs o (Ok j) journal counts = Runs o j journal counts
 StartsAs o (Err e) journal counts = Ends o (keeps_open e) journal counts
 
--- and its calls are those of the jobs of a cast
+-- a start of a job whose calls are those of the jobs of a cast: it runs, or it has ended
 abbrev pub StartsInRole : {E : Type 0} → Cast → List Entry → Counts → Result Job E → Option (List Entry) → Counts → Type 0
 StartsInRole c since from (Ok j) journal counts = HasRole c since from j journal counts
 StartsInRole c since from (Err e) journal counts = HasCalled c since from journal counts

@@ -12,7 +12,7 @@ use Rattle.job_saves.specs.Course.{GoesOn, CallsOwn, stays_open}
 use Rattle.job_saves.specs.Sessions.{IsSaveCall}
 use Rattle.job_run.specs.Counted.{IsCountedAt, CountsOn}
 use Rattle.job_run.specs.Held.{Holds, IsCalm}
-use Rattle.job_run.specs.Run.{KeepsRun, KeepsRole, RunsOn, CallsInRole, EndsNot}
+use Rattle.job_run.specs.Run.{KeepsRun, KeepsRole, RunsOn, CallsInRole, EndsNot, EndsOnce, outcome_of}
 use Rattle.job_run.specs.Task.{task_of_job, output_of_job, pings_kernel}
 use Rattle.job_run.specs.Told.{EndsBy}
 use Rattle.job_run.specs.declared.execution.Execution.{Execution}
@@ -54,18 +54,22 @@ pub record JobKeeps (was now : Job) : Type 0 where
 
 -- what a job is told without a call of the world leaves it as it stands
 pub record JobStays (was now : Job) : Type 0 where
-  -- on its course
+  -- it stays on its course
   pub course : KeepsRun was now
-  -- with no calls but its own
+  -- it has made no calls but its own
   pub calls : KeepsRole was now
   -- what it is to do stays
   pub keeps : JobKeeps was now
+  -- it has ended as it had, or goes on
+  pub outcome : outcome_of now ≡ outcome_of was
 
--- so do the calls that a job makes of the world
-pub record JobGoesOn {W : Type 0} (journal : W → Option (List Entry)) (tally : W → Counts) (old new : W) (was now : Job) : Type 0 where
-  -- on its course
+-- what a job is told with calls of the world, and is answered so, goes on with what stood of it
+pub record JobGoesOn {W U E : Type 0} (journal : W → Option (List Entry)) (tally : W → Counts) (old new : W) (was now : Job) (result : Result U E) : Type 0 where
+  -- its saves go on with its course
   pub course : RunsOn journal tally old new was now
-  -- they are its own
+  -- the calls are its own
   pub calls : CallsInRole journal tally old new was now
   -- what it is to do stays
   pub keeps : JobKeeps was now
+  -- it ends at most once, and where memory is refused it has ended by that
+  pub ends : EndsOnce (outcome_of was) (outcome_of now) result

@@ -23,7 +23,7 @@ pub record Tells (core : Core) (clock : ℕ) (is_named : Bool) : Type 0 where
   pub timed : time (heard (task_of core) events) ≤ clock
   pub named : came is_broken events ≡ true → is_named ≡ true
 
--- the core was told some such events
+-- the core was told some events, which came where they may and in time; no clock entry is after this one, and a broken stream is named
 abbrev pub Hears : Core → ℕ → Bool → Type 0
 Hears core clock is_named = ∥ Tells core clock is_named ∥₁
 
@@ -94,7 +94,7 @@ pub record Ending (output : List ℕ) (task : Task) (a : Answer) : Type 0 where
   pub by : EndsJob task end
   pub answers : Answers output end a
 
--- its answer is that of some such end
+-- the answer of a job on this output is that of some end of its run, or of one from outside
 abbrev pub IsEnding : List ℕ → Task → Answer → Type 0
 IsEnding output task a = ∥ Ending output task a ∥₁
 

@@ -2,11 +2,11 @@
 ghost use Rattle.std.specs.Prelude.{◌≡◌};
 ghost use Rattle.job_run.specs.Due.{earlier_of};
 
+use crate::histories::Histories;
 use crate::request::Request;
 use crate::terms::Terms;
 use cell_core::Core;
 use job_notebook::JobNotebook;
-use jsign::Seen;
 use kernel_lines::Lines;
 use kernel_talk::{Asking, Pings, Session};
 use std::alloc::Global;
@@ -22,7 +22,7 @@ pub(crate) struct Execution {
     pub core: Core,
     pub lines: Lines,
     pub session: Session,
-    pub seen: Seen,
+    pub seen: Histories,
     pub asking: Asking,
     /// The core was told that the kernel is ready.
     pub is_ready: bool,

@@ -1,4 +1,7 @@
 //! What is heard of the kernel.
+ghost use Rattle.std.specs.Prelude.{ℕ, List, IfOk};
+ghost use Rattle.jsign.specs.Signer.{SignsUnder};
+ghost use Rattle.job_run.specs.Heard.{HearsOf};
 
 use crate::execution::Execution;
 use cell_core::{Brief, Event, allowed};
@@ -6,13 +9,15 @@ use jcontent::{Content, ReplyIs, State, read};
 use jmsg::{Decoded, Message, decode_under, signature};
 use job_end::End;
 use job_saves::laws;
+use jsign::{Seen, Signer};
 use jtext::{List, NoMemory, Text};
+use std::alloc::Global;
 use world::{Chan, Disk, Say};
 use zmtp_wire::{Parts, WireFault};
 
 impl Execution {
-    ghost use Rattle.std.specs.Prelude.{◌≡◌, ◌<◌, true, is_some, IfOk, IfSome, OnOk};
-    ghost use Rattle.job_run.specs.Heard.{IsContent, IsFrom};
+    ghost use Rattle.std.specs.Prelude.{◌≡◌, ◌<◌, true, is_some, IfOk, OnOk};
+    ghost use Rattle.job_run.specs.Heard.{IsContent, IsFrom, IsHeard};
     ghost use Rattle.job_run.specs.Held.{Holds, IsCalm, KeepsToDo, AsksOnce};
     ghost use Rattle.job_run.specs.Counted.{KeepsTold};
     ghost use Rattle.jcontent.specs.IsRead.{IsRead};
@@ -96,66 +101,59 @@ impl Execution {
         requires calm { IsCalm self.old }
         ensures { Proceeds W.journal W.counts w.old w.new self.old self.new Nothing result }
     {
-        if chan == Chan::Heart {
-            self.pings.on_echo();
-            return Ok(());
-        }
-        match self.fresh_message(parts)? {
-            Some(message) => self.on_fresh(w, chan, &message, standing),
-            None => Ok(()),
+        match chan {
+            Chan::Shell => self.hear_shell(w, parts, standing),
+            Chan::Iopub => self.hear_iopub(w, parts, standing),
+            // Replies to an interrupt or a shutdown are used for nothing.
+            Chan::Control => Ok(()),
+            Chan::Heart => {
+                self.pings.on_echo();
+                Ok(())
+            }
         }
     }
 
-    fn on_fresh<W: Disk + Say>(
+    fn hear_shell<W: Disk + Say>(
         &mut self,
         w: &mut W,
-        chan: Chan,
-        message: &Message,
+        parts: &Parts,
         standing: u64,
     ) -> Result<(), End>
         requires holds { Holds self.old }
         requires calm { IsCalm self.old }
-        requires signed { IsFrom self.old.session.key message.now }
         ensures { Proceeds W.journal W.counts w.old w.new self.old self.new Nothing result }
     {
-        match chan {
-            Chan::Iopub => self.on_iopub(w, message, standing),
-            Chan::Shell => self.on_shell(w, message, standing),
-            Chan::Control => Ok(()),
-            Chan::Heart => Ok(()),
+        let heard = fresh_message(
+            self.alloc,
+            self.session.signer(),
+            &mut self.seen.shell,
+            parts,
+        )?;
+        match heard {
+            Some(message) => self.on_shell(w, &message, standing),
+            None => Ok(()),
         }
     }
 
-    // The signed message of these parts, where none of its signature was heard before.
-    fn fresh_message(&mut self, parts: &Parts) -> Result<Option<Message>, NoMemory>
+    fn hear_iopub<W: Disk + Say>(
+        &mut self,
+        w: &mut W,
+        parts: &Parts,
+        standing: u64,
+    ) -> Result<(), End>
         requires holds { Holds self.old }
         requires calm { IsCalm self.old }
-        ensures holds { Holds self.new }
-        ensures calm { IsCalm self.new }
-        ensures book { self.new.book ≡ self.old.book }
-        ensures core { self.new.core ≡ self.old.core }
-        ensures told { KeepsTold self.old self.new }
-        ensures signed { IfOk result (λ heard. IfSome heard (IsFrom self.new.session.key)) }
+        ensures { Proceeds W.journal W.counts w.old w.new self.old self.new Nothing result }
     {
-        let Some(message) = self.signed_message(parts)? else {
-            return Ok(None);
-        };
-        let Some(signature) = signature(parts) else {
-            return Ok(None);
-        };
-        if self.seen.fresh(&signature)? {
-            Ok(Some(message))
-        } else {
-            Ok(None)
-        }
-    }
-
-    fn signed_message(&self, parts: &Parts) -> Result<Option<Message>, NoMemory>
-        ensures { IfOk result (λ heard. IfSome heard (IsFrom self.now.session.key)) }
-    {
-        match decode_under(self.alloc, self.session.signer(), parts)? {
-            Decoded::Good(message) => Ok(Some(message)),
-            _ => Ok(None),
+        let heard = fresh_message(
+            self.alloc,
+            self.session.signer(),
+            &mut self.seen.iopub,
+            parts,
+        )?;
+        match heard {
+            Some(message) => self.on_iopub(w, &message, standing),
+            None => Ok(()),
         }
     }
 
@@ -167,7 +165,7 @@ impl Execution {
     ) -> Result<(), End>
         requires holds { Holds self.old }
         requires calm { IsCalm self.old }
-        requires signed { IsFrom self.old.session.key message.now }
+        requires heard { IsHeard self.old.session.key self.old.seen.iopub message.now }
         ensures { Proceeds W.journal W.counts w.old w.new self.old self.new Nothing result }
     {
         self.asking.on_iopub();
@@ -254,7 +252,7 @@ impl Execution {
     ) -> Result<(), End>
         requires holds { Holds self.old }
         requires calm { IsCalm self.old }
-        requires signed { IsFrom self.old.session.key message.now }
+        requires heard { IsHeard self.old.session.key self.old.seen.shell message.now }
         ensures { Proceeds W.journal W.counts w.old w.new self.old self.new Nothing result }
     {
         match read(self.alloc, &message.header.msg_type, &message.content)? {
@@ -387,6 +385,35 @@ impl Execution {
         }
         self.is_ready = true;
         self.step(w, Event::Ready)
+    }
+}
+
+/// The signed message of these parts, unless its signature is among those that were seen of late on
+/// its channel. It is seen from here on.
+fn fresh_message(
+    alloc: Global,
+    signer: &Signer,
+    seen: &mut Seen,
+    parts: &Parts,
+) -> Result<Option<Message>, NoMemory>
+    ensures { (key : List ℕ) → SignsUnder signer.now key →
+        IfOk result (HearsOf key parts.now seen.old seen.new) }
+{
+    jsign::laws::signature_is_long();
+    let decoded = decode_under(alloc, signer, parts)?;
+    let Decoded::Good(message) = decoded else {
+        return Ok(None);
+    };
+    let Some(signature) = signature(parts) else {
+        return Ok(None);
+    };
+    let is_fresh = seen.fresh(&signature)?;
+    if is_fresh {
+        Ok(Some(message))
+    } else {
+        // By a call, as where a job ends.
+        drop(message);
+        Ok(None)
     }
 }
 

@@ -7,6 +7,7 @@
 mod agenda;
 mod execution;
 mod hearing;
+mod histories;
 mod job;
 mod look;
 mod outcome;

@@ -1,5 +1,5 @@
 //! How a job has ended.
-ghost use Rattle.std.specs.Prelude.{◌≡◌, ℕ, List, true, false, is_some, Ok, Err, IfOk, IfErr, IfSome, OnOk};
+ghost use Rattle.std.specs.Prelude.{◌≡◌, ◌==◌, ℕ, List, true, false, is_some, Ok, Err, IfOk, IfErr, IfSome, OnOk};
 ghost use Rattle.cell_core.specs.StandsFor.{task_of};
 ghost use Rattle.cell_core.specs.Task.{Task};
 ghost use Rattle.job_saves.specs.Course.{StaysOn, KeepsPart, stays_open, keeps_open};
@@ -71,10 +71,17 @@ fn farewell(alloc: Global, output: &Text, run: &mut Execution, end: &End) -> Ans
     ensures saves { output_of run.new.book ≡ output_of run.old.book }
 {
     let answer = answer_for(alloc, output, end);
-    if answer.status != 12 && run.shut_down().is_err() {
+    if !is_starved(&answer) && run.shut_down().is_err() {
         return memory_answer(alloc);
     }
     answer
+}
+
+/// Whether a job has ended for want of memory.
+pub(crate) fn is_starved(answer: &Answer) -> bool
+    ensures { result ≡ (answer.now.status == 12) }
+{
+    answer.status == 12
 }
 
 fn memory_answer(alloc: Global) -> Answer

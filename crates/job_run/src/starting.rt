@@ -18,12 +18,13 @@ ghost use Rattle.cell_core.specs.StandsFor.{task_of};
 ghost use Rattle.job_run.specs.Told.{StartsBy, IsEndOfLaunch};
 ghost use Rattle.job_run.specs.Held.{Holds, IsCalm, IsFirst};
 ghost use Rattle.job_run.specs.Task.{task_of_job, output_of_job, ports_of_job, pings_kernel};
-ghost use Rattle.job_run.specs.Task.{task_for, task_in, times_of};
+ghost use Rattle.job_run.specs.Task.{task_for, task_in, terms_of_job, AreTermsOf};
 ghost use Rattle.job_run.specs.Run.{Runs, IsRole, HasRole, MayStart, StartsAs, StartsInRole};
 ghost use Rattle.job_run.specs.Run.{BeginsNew, StartsCounted, HasPorts, HasNoPorts, EndCause};
 ghost use Rattle.job_run.specs.Run.{number_of, outcome_of};
 
 use crate::execution::Execution;
+use crate::histories::Histories;
 use crate::look::Look;
 use crate::outcome::{end_of_file, end_of_start};
 use crate::paths::Paths;
@@ -33,7 +34,6 @@ use cell_core::{Act, Core, Times};
 use job_end::End;
 use job_notebook::JobNotebook;
 use job_saves::laws;
-use jsign::Seen;
 use jtext::{NoMemory, Text};
 use kernel_lines::Lines;
 use kernel_start::{Kernel, RandomPairs, connection_path, random_pairs, write_connection};
@@ -58,7 +58,7 @@ impl Job {
     ghost use Rattle.job_run.specs.Run.{EndsLaunch, OnlyReads};
     ghost use Rattle.job_run.specs.Run.{HasPorts, KeepsPorts, outcome_of};
     ghost use Rattle.job_run.specs.Task.{task_of_job, output_of_job, ports_of_job, task_for};
-    ghost use Rattle.job_run.specs.Task.{pings_kernel};
+    ghost use Rattle.job_run.specs.Task.{pings_kernel, terms_of_job, AreTermsOf};
     ghost use Rattle.job_run.specs.Told.{StartsBy};
 
     /// Saves the notebook with no cell settled and starts the kernel that was found for it. Where
@@ -95,13 +95,14 @@ impl Job {
         // calls rose, and never by a budget of turns.
         ensures cause { IfErr result (EndCause (W.counts w.old) (W.counts w.new)) }
         // It ends by that start or as a run does; where it runs its core is to execute the cells of
-        // the agenda in the times that were asked for, its last line names its output, and its kernel
-        // is pinged where that was asked for.
+        // the agenda in the times that were asked for, its last line names its output, and its errors
+        // stop it and its kernel is pinged where that was asked for.
         ensures own { IfErr result (StartsBy (task_for ask agenda.notebook)) }
         ensures task { IfOk result (λ j. task_of_job j ≡ task_for ask agenda.notebook) }
         ensures output { IfOk result (λ j. output_of_job j ≡ ask.output) }
         ensures fresh { IfOk result (λ j. outcome_of j ≡ None) }
         ensures pings { IfOk result (λ j. pings_kernel j ≡ ask.heartbeat) }
+        ensures terms { IfOk result (λ j. AreTermsOf ask (terms_of_job j)) }
         ensures ports { IfOk result (λ j. HasPorts number (ports_of_job j) (W.journal w.new)) }
         // Where events brought its end, as many of them are saves as were acknowledged.
         ensures counted { (o : Origin) → IsFor ask.output ask.merge agenda.notebook o →
@@ -148,6 +149,7 @@ impl Job {
         ensures output { IfOk result (λ j. output_of_job j ≡ ask.output) }
         ensures fresh { IfOk result (λ j. outcome_of j ≡ None) }
         ensures pings { IfOk result (λ j. pings_kernel j ≡ ask.heartbeat) }
+        ensures terms { IfOk result (λ j. AreTermsOf ask (terms_of_job j)) }
         ensures ports { IfOk result (λ j. HasPorts number (ports_of_job j) (W.journal w.new)) }
     {
         match parts_of(alloc, ask, agenda, pairs) {
@@ -165,6 +167,7 @@ impl Job {
         ensures outcome { outcome_of self.new ≡ outcome_of self.old }
         ensures task { task_of_job self.new ≡ task_of_job self.old }
         ensures pings { pings_kernel self.new ≡ pings_kernel self.old }
+        ensures terms { terms_of_job self.new ≡ terms_of_job self.old }
         ensures output { output_of_job self.new ≡ output_of_job self.old }
         ensures ports { IfOk result (λ _.
             HasPorts (number_of self.new) (ports_of_job self.new) (W.journal w.new)) }
@@ -278,6 +281,7 @@ fn start_saved<W: World>(
     ensures output { IfOk result (λ j. output_of_job j ≡ paths.output) }
     ensures fresh { IfOk result (λ j. outcome_of j ≡ None) }
     ensures pings { IfOk result (λ j. pings_kernel j ≡ run.terms.heartbeat) }
+    ensures terms { IfOk result (λ j. terms_of_job j ≡ run.terms) }
     ensures ports { IfOk result (λ j. HasPorts number (ports_of_job j) (W.journal w.new)) }
 {
     laws::jobs_begin_and_end();
@@ -330,6 +334,7 @@ fn with_kernel<W: World>(job: Job, w: &mut W, kernel: &Kernel, here: &Text) -> R
     ensures output { IfOk result (λ j. output_of_job j ≡ output_of_job job) }
     ensures fresh { IfOk result (λ j. outcome_of j ≡ None) }
     ensures pings { IfOk result (λ j. pings_kernel j ≡ pings_kernel job) }
+    ensures terms { IfOk result (λ j. terms_of_job j ≡ terms_of_job job) }
     ensures ports { IfOk result (λ j.
         HasPorts (number_of job) (ports_of_job j) (W.journal w.new)) }
 {
@@ -378,7 +383,7 @@ fn parts_of(
     ensures connection { IfOk result (λ p. p.0.connection ≡ connection_of ask.output) }
     ensures folder { IfOk result (λ p. p.0.cwd ≡ ask.cwd) }
     ensures task { IfOk result (λ p. task_of p.1.core ≡ task_for ask agenda.notebook) }
-    ensures pings { IfOk result (λ p. p.1.terms.heartbeat ≡ ask.heartbeat) }
+    ensures terms { IfOk result (λ p. AreTermsOf ask p.1.terms) }
     ensures key { IfOk result (λ p. p.1.session.key ≡ key_of pairs) }
     ensures paths { IfOk result (λ p. p.0.output ≡ ask.output) }
 {
@@ -404,9 +409,7 @@ fn paths_of(alloc: Global, ask: &Ask) -> Result<Paths, NoMemory>
 
 fn terms_of(ask: Ask) -> Terms
     requires { IsRunnable ask }
-    ensures merge { result.merge ≡ ask.merge }
-    ensures pings { result.heartbeat ≡ ask.heartbeat }
-    ensures times { result.times ≡ times_of ask }
+    ensures { AreTermsOf ask result }
 {
     let Ask {
         all_errors,
@@ -479,10 +482,10 @@ fn execution_of(
 }
 
 /// What an execution speaks with its kernel by, under the key of these random words.
-fn talk_of(alloc: Global, pairs: RandomPairs) -> Result<(Lines, Session, Seen), NoMemory>
+fn talk_of(alloc: Global, pairs: RandomPairs) -> Result<(Lines, Session, Histories), NoMemory>
     ensures { IfOk result (λ t. t.1.key ≡ key_of pairs) }
 {
-    let seen = Seen::new(alloc)?;
+    let seen = Histories::new(alloc)?;
     let session = Session::new(alloc, pairs.name, pairs.key)?;
     let lines = Lines::new(alloc)?;
     Ok((lines, session, seen))

@@ -2,14 +2,14 @@
 
 use crate::Job;
 use crate::look::Look;
-use crate::outcome::outcome_of;
+use crate::outcome::{is_starved, outcome_of};
 use job_end::{Answer, End};
 use job_saves::laws;
 use jtext::{Bytes, NoMemory};
 use world::{Chan, Disk, Kids, Say};
 
 impl Job {
-    ghost use Rattle.std.specs.Prelude.{◌≡◌, ◌<◌, ◌^◌, List, true, false, Some, is_some};
+    ghost use Rattle.std.specs.Prelude.{◌≡◌, ◌<◌, ◌^◌, List, true, false, Some, is_some, OnOk, OnErr};
     ghost use Rattle.world.specs.declared.entry.Entry.{Entry};
     ghost use Rattle.world.specs.Counts.{Counts, CountsGrow};
     ghost use Rattle.job_saves.specs.Calls.{Cast};
@@ -19,12 +19,13 @@ impl Job {
     ghost use Rattle.job_run.specs.Task.{pings_kernel};
     ghost use Rattle.job_end.specs.declared.end.End.TheVariants as ending;
     ghost use Rattle.job_run.specs.Told.{IsOutside, IsEnding};
-    ghost use Rattle.job_run.specs.Run.{Runs, RunsOn, KeepsRun, EndsWith, IsLost, IsSpent};
+    ghost use Rattle.job_run.specs.Run.{Runs, RunsOn, KeepsRun, EndsWith, EndsOnce};
+    ghost use Rattle.job_run.specs.Run.{IsLost, IsSpent, HasStarved};
     ghost use Rattle.job_run.specs.Run.{HasRole, CallsInRole, KeepsRole};
     ghost use Rattle.job_run.specs.Run.{number_of, outcome_of as outcome};
-    ghost use Rattle.job_run.specs.Steps.{JobStays, JobGoesOn};
+    ghost use Rattle.job_run.specs.Steps.{JobKeeps, JobStays, JobGoesOn};
     ghost use Rattle.job_run.specs.Due.{IsDue, WantsLook};
-    ghost use Rattle.job_run.specs.Queues.{HandsOutOn};
+    ghost use Rattle.job_run.specs.Queues.{HandsOutOn, NotesTaken};
 
     /// Its number among the jobs of the run.
     pub fn number(&self) -> u8
@@ -70,7 +71,11 @@ impl Job {
 
     /// So many octets of this channel were taken since its connection was begun.
     pub fn on_taken(&mut self, chan: Chan, taken: u64)
-        ensures { JobStays self.old self.new }
+        ensures course { KeepsRun self.old self.new }
+        ensures calls { KeepsRole self.old self.new }
+        ensures keeps { JobKeeps self.old self.new }
+        ensures outcome { outcome self.new ≡ outcome self.old }
+        ensures notes { NotesTaken chan taken self.old self.new }
     {
         self.run.lines.on_taken(chan, taken);
     }
@@ -99,7 +104,7 @@ impl Job {
         chan: Chan,
         piece: &[u8],
     ) -> Result<(), NoMemory>
-        ensures { JobGoesOn W.journal W.counts w.old w.new self.old self.new }
+        ensures { JobGoesOn W.journal W.counts w.old w.new self.old self.new result }
     {
         if self.is_over() {
             return Ok(());
@@ -125,7 +130,7 @@ impl Job {
     /// The clock of a turn was read; the child is looked at.
     pub fn on_moment<W: Disk + Kids + Say>(&mut self, w: &mut W, ms: u64) -> Result<(), NoMemory>
         requires { ms < 2 ^ 47 }
-        ensures { JobGoesOn W.journal W.counts w.old w.new self.old self.new }
+        ensures { JobGoesOn W.journal W.counts w.old w.new self.old self.new result }
     {
         if self.is_over() {
             return Ok(());
@@ -146,7 +151,7 @@ impl Job {
 
     /// The reads of a last look are done.
     pub fn on_looked<W: Disk + Say>(&mut self, w: &mut W) -> Result<(), NoMemory>
-        ensures { JobGoesOn W.journal W.counts w.old w.new self.old self.new }
+        ensures { JobGoesOn W.journal W.counts w.old w.new self.old self.new result }
     {
         let late = self.is_late();
         self.look = Look::Still;
@@ -174,6 +179,7 @@ impl Job {
         ensures pings { pings_kernel self.new ≡ pings_kernel self.old }
         ensures output { output_of_job self.new ≡ output_of_job self.old }
         ensures still { IsSpent (outcome self.new) → IsSpent (outcome self.old) }
+        ensures ends { EndsOnce (outcome self.old) (outcome self.new) result }
     {
         if self.is_over() {
             return Ok(());
@@ -189,6 +195,7 @@ impl Job {
         ensures pings { pings_kernel self.new ≡ pings_kernel self.old }
         ensures output { output_of_job self.new ≡ output_of_job self.old }
         ensures still { IsLost (outcome self.new) → IsLost (outcome self.old) }
+        ensures ends { EndsOnce (outcome self.old) (outcome self.new) result }
     {
         if self.is_over() {
             return Ok(());
@@ -253,16 +260,20 @@ impl Job {
         ensures output { output_of_job self.new ≡ output_of_job self.old }
         ensures lost { IsLost (outcome self.new) → end ≡ ending.NetFault }
         ensures spent { IsSpent (outcome self.new) → end ≡ ending.Spent }
+        ensures ends { EndsOnce (outcome self.old) (outcome self.new) result }
     {
         self.outcome = outcome_of(self.alloc, &self.paths.output, &mut self.run, Err(end));
         self.unless_starved()
     }
 
     // Whether memory was wanted, so that the job has ended.
-    fn unless_starved(&self) -> Result<(), NoMemory> {
+    fn unless_starved(&self) -> Result<(), NoMemory>
+        ensures starved { OnErr result (HasStarved (outcome self.now)) }
+        ensures fed { OnOk result (¬ (HasStarved (outcome self.now))) }
+    {
         match &self.outcome {
             Some(answer) => {
-                if answer.status == 12 {
+                if is_starved(answer) {
                     Err(NoMemory)
                 } else {
                     Ok(())

@@ -1,7 +1,6 @@
-use Rattle.std.proofs.Common.{◌≡◌, ap, subst, ◌∙◌}
+use Rattle.std.proofs.Common.{◌≡◌, sym, subst}
 use Rattle.cell_core.specs.StandsFor.{task_of}
-use Rattle.job_run.specs.Task.{task_in}
-use Rattle.job_run.specs.declared.terms.Terms.{Terms}
+use Rattle.job_run.specs.Task.{task_in, AreTermsOf}
 use Rattle.job_run.proofs.starting.parts_of.Goals as goal
 
 pub returns-clause-task : goal.returns-clause-task
@@ -13,5 +12,5 @@ returns-clause-key c = c.in_ok-run.ensures.key
 pub returns-clause-paths : goal.returns-clause-paths
 returns-clause-paths c = c.in_ok-paths.ensures.output
 
-pub returns-clause-pings : goal.returns-clause-pings
-returns-clause-pings c = ap (λ (t : Terms). t.heartbeat) c.in_ok-run.ensures.terms ∙ c.terms_of.ensures.pings
+pub returns-clause-terms : goal.returns-clause-terms
+returns-clause-terms c = subst (AreTermsOf c.args.ask) (sym c.in_ok-run.ensures.terms) c.terms_of.ensures

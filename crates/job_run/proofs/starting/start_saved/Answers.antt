@@ -6,7 +6,7 @@ use Rattle.job_run.proofs.RunLemmas.{begun, begun_role}
 use Rattle.job_run.proofs.LaunchLemmas.{ends_then, may_later, may_run}
 use Rattle.job_saves.specs.Children.{HasEnd}
 use Rattle.job_run.specs.Run.{HasNoPorts, HasPorts}
-use Rattle.job_run.specs.Task.{ports_of_job, pings_kernel}
+use Rattle.job_run.specs.Task.{ports_of_job, pings_kernel, terms_of_job}
 use Rattle.job_run.specs.declared.execution.Execution.{Execution}
 use Rattle.job_run.specs.declared.terms.Terms.{Terms}
 use Rattle.std.specs.Prelude.{IfOk}
@@ -92,3 +92,8 @@ pub returns-in-Ok-clause-pings : goal.returns-in-Ok-clause-pings
 returns-in-Ok-clause-pings g c =
     subst (λ b. IfOk c.with_kernel.result (λ j. pings_kernel j ≡ b))
     (ap (λ (x : Execution). x.terms.heartbeat) c.job_of.ensures.run ∙ ap (λ (t : Terms). t.heartbeat) c.save_first.ensures.goes.terms) c.with_kernel.ensures.pings
+
+pub returns-in-Ok-clause-terms : goal.returns-in-Ok-clause-terms
+returns-in-Ok-clause-terms g c =
+    subst (λ t. IfOk c.with_kernel.result (λ j. terms_of_job j ≡ t))
+    (ap (λ (x : Execution). x.terms) c.job_of.ensures.run ∙ c.save_first.ensures.goes.terms) c.with_kernel.ensures.terms

@@ -3,7 +3,7 @@ use Rattle.job_saves.specs.Course.{stays_open}
 use Rattle.cell_core.specs.StandsFor.{task_of}
 use Rattle.job_run.proofs.StopLemmas.{job_ends}
 use Rattle.job_run.proofs.TurnLemmas.{turn_counts}
-use Rattle.job_run.proofs.RunLemmas.{keeps_on, turns, plays_on}
+use Rattle.job_run.proofs.RunLemmas.{ends_told, keeps_on, turns, plays_on}
 use Rattle.job_run.proofs.job.Job.on_looked.Goals as goal
 
 pub outcome_of-requires-clause-own : goal.outcome_of-requires-clause-own
@@ -21,4 +21,5 @@ returns g c =
       calls = λ cast since from r.
           plays_on cast since from c.args.self.now _ t.new.self.book _ _ _ _ (t.ensures.calls cast since from) e.calls refl refl r;
       keeps = keeps_on t.new.self t.result e.task t.ensures.task e.terms t.ensures.terms refl t.ensures.own e.lost e.spent;
+      ends = ends_told c.args.self.now.outcome c.outcome_of.result c.unless_starved.result (sym c.is_over.ensures ∙ c.if-is_over.false) c.unless_starved.ensures.starved c.unless_starved.ensures.fed;
     }

@@ -4,7 +4,7 @@ use Rattle.job_saves.specs.Course.{stays_open}
 use Rattle.cell_core.specs.StandsFor.{task_of}
 use Rattle.job_run.proofs.StopLemmas.{job_ends}
 use Rattle.job_run.proofs.TurnLemmas.{turn_counts}
-use Rattle.job_run.proofs.RunLemmas.{keeps_on, turns, plays_on, told_spares, entry_called}
+use Rattle.job_run.proofs.RunLemmas.{ends_told, keeps_on, turns, plays_on, told_spares, entry_called}
 use Rattle.cell_core.specs.declared.act.Act.TheVariants.{Nothing}
 use Rattle.job_saves.proofs.CourseLemmas.{others_pass}
 use Rattle.job_run.proofs.CountLemmas.{counts_passed}
@@ -29,4 +29,5 @@ returns g c =
           plays_on cast since from c.args.self.now _ t.new.self.book _ _ _ _
           (λ s. t.ensures.calls cast since from (entry_called cast since from _ _ _ _ _ _ (λ past. record { number = c.args.self.now.number; ask = r.role.ask; has = r.role.has; is = refl }) kids_quiet (λ past. tt) c.look.ensures.tells (same_works c.look.ensures.same) s)) e.calls refl refl r;
       keeps = keeps_on t.new.self t.result e.task t.ensures.task e.terms t.ensures.terms refl t.ensures.own e.lost e.spent;
+      ends = ends_told c.args.self.now.outcome c.outcome_of.result c.unless_starved.result (sym c.is_over.ensures ∙ c.if-is_over.false) c.unless_starved.ensures.starved c.unless_starved.ensures.fed;
     }

@@ -1,8 +1,8 @@
-use Rattle.std.proofs.Common.{◌≡◌, subst}
-use Rattle.std.proofs.lemmas.Result.{IfOk-at_ok}
+use Rattle.std.proofs.Common.{◌≡◌, sym, subst}
+use Rattle.std.proofs.lemmas.Result.{IfOk-at_ok, IfOk-weaker}
 use Rattle.job_run.proofs.BeginLemmas.{stands_first, part_first, cells_first, apart_first, ends_unsaved}
 use Rattle.std.specs.Prelude.{IfOk, IfErr}
-use Rattle.job_run.specs.Task.{task_of_job, output_of_job, pings_kernel, task_for}
+use Rattle.job_run.specs.Task.{task_of_job, output_of_job, pings_kernel, task_for, AreTermsOf}
 use Rattle.job_end.specs.declared.end.End.TheVariants as end
 use Rattle.job_run.specs.Run.{StartsCounted}
 use Rattle.job_run.specs.Told.{StartsBy}
@@ -78,4 +78,8 @@ pub returns-in-Err-clause-counted : goal.returns-in-Err-clause-counted
 returns-in-Err-clause-counted g c o for b fresh = launch_counted o (task_for c.args.ask c.args.agenda.notebook) (g.W.Journal.journal c.args.w.now) end.NoMemory tt
 
 pub returns-in-Ok-clause-pings : goal.returns-in-Ok-clause-pings
-returns-in-Ok-clause-pings g c = subst (λ b. IfOk c.start_saved.result (λ j. pings_kernel j ≡ b)) (IfOk-at_ok _ c.in-Ok.is c.parts_of.ensures.pings) c.start_saved.ensures.pings
+returns-in-Ok-clause-pings g c = subst (λ b. IfOk c.start_saved.result (λ j. pings_kernel j ≡ b)) (IfOk-at_ok _ c.in-Ok.is c.parts_of.ensures.terms).pings c.start_saved.ensures.pings
+
+pub returns-in-Ok-clause-terms : goal.returns-in-Ok-clause-terms
+returns-in-Ok-clause-terms g c =
+    IfOk-weaker c.start_saved.result _ _ (λ j is. subst (AreTermsOf c.args.ask) (sym is) (IfOk-at_ok _ c.in-Ok.is c.parts_of.ensures.terms)) c.start_saved.ensures.terms
