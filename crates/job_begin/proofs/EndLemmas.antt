@@ -36,7 +36,7 @@ use Rattle.job_saves.specs.Speaking.{IsAnswer}
 use Rattle.job_run.specs.Told.{EndsJob, StartsBy, IsEnding, IsCaused, cause_of}
 use Rattle.job_run.proofs.StopLemmas.{why_in, start_caused}
 use Rattle.job_saves.specs.Reads.{first_of}
-use Rattle.job_begin.specs.Begun.{AnswersAs, IsCausedIn, IsUncaused, IsEndOfSaving, StartsWith, BeginsWith, FindsKernel, GivesNone, not_read, too_large, refused, no_memory, not_asked, IsUnread, status_by, LooksInVain, KernelEnds, HasKernel}
+use Rattle.job_begin.specs.Begun.{AnswersAs, IsCausedIn, IsUncaused, IsEndOfSaving, StartsWith, BeginsWith, FindsKernel, GivesNone, not_read, too_large, refused, no_memory, not_asked, IsUnread, end_for, LooksInVain, KernelEnds, HasKernel}
 
 -- ---- an end that names no cause
 
@@ -197,17 +197,17 @@ starting_ends a first j k task (Err e) own = other_ends a first j k e (start_oth
 
 -- what a look for a kernel gave
 pub looked_ends : (a : Ask) (first : Notebook) (result : Result Kernel KernelFault) (j k : Option (List Entry)) (e : End)
-    → ((f : KernelFault) × (result ≡ Err f) × (status_of e ≡ status_by f)) → Told j k (FindsBy a first result) → KernelEnds a first j k e
+    → ((f : KernelFault) × (result ≡ Err f) × (e ≡ end_for f)) → Told j k (FindsBy a first result) → KernelEnds a first j k e
 looked_ends a first result j k e by told = record {
   kernel = λ is. told_as told (λ x y finds. record {
     fault = by.0;
     finds = subst (λ r. FindsBy a first r x y) by.1 finds;
-    status_is = sym is ∙ by.2;
+    end_is = by.2;
   });
-  loaded = λ is. fault_other by.0 (sym by.2 ∙ is);
+  loaded = λ is. fault_other by.0 (ap status_of (sym by.2) ∙ is);
 }
   where
-    fault_other : (f : KernelFault) → status_by f ≡ 4 → ⊥
+    fault_other : (f : KernelFault) → status_of (end_for f) ≡ 4 → ⊥
     fault_other kernel_fault.NoName e = absurd (cc)
     fault_other kernel_fault.BadName e = absurd (cc)
     fault_other (kernel_fault.NotRead path) e = absurd (cc)
@@ -215,7 +215,7 @@ looked_ends a first result j k e by told = record {
     fault_other kernel_fault.NoMemory e = absurd (cc)
 
 pub looked_by : (a : Ask) (first : Notebook) (result : Result Kernel KernelFault) (j k : Option (List Entry)) (r : Result Kernel End)
-    → IfErr r (λ e. (f : KernelFault) × (result ≡ Err f) × (status_of e ≡ status_by f)) → Told j k (FindsBy a first result) → IfErr r (KernelEnds a first j k)
+    → IfErr r (λ e. (f : KernelFault) × (result ≡ Err f) × (e ≡ end_for f)) → Told j k (FindsBy a first result) → IfErr r (KernelEnds a first j k)
 looked_by a first result j k (Ok kernel) by told = tt
 looked_by a first result j k (Err e) by told = looked_ends a first result j k e by told
 
@@ -256,7 +256,7 @@ pub answered_kernel : (a : Ask) (first : Notebook) (output : List ℕ) (begun : 
     → IfErr begun (KernelEnds a first (Some x) (Some y)) → FindsKernel a first result x y
 answered_kernel a first output (Ok j) (Ok k) x y same h = tt
 answered_kernel a first output (Err e) (Err _) x y said h = record {
-  kernel = λ is. record { at = x; looked = y; looks = subst (λ n. LooksInVain a first n x y) (sym is) (h.kernel is).so; since = start; later = start };
+  kernel = λ is. record { at = x; looked = y; end = e; looks = (h.kernel is).so; status_is = refl; since = start; later = start };
   loaded = h.loaded;
 }
 answered_kernel a first output (Err e) (Err _) x y starved h = record { kernel = λ is. absurd (cc); loaded = λ is. absurd (cc) }
@@ -324,7 +324,15 @@ unread_pass a status w x y z before after u = record {
 -- so does what is said of its kernel
 pub kernel_pass : (a : Ask) (first : Notebook) (status : ℕ) (x y z : List Entry) → Since (Spares a.output) y z → HasKernel a first status x y → HasKernel a first status x z
 kernel_pass a first status x y z after h = record {
-  kernel = λ is. let k = h.kernel is in record { at = k.at; looked = k.looked; looks = k.looks; since = k.since; later = since_then k.later after };
+  kernel = λ is. let k = h.kernel is in record {
+    at = k.at;
+    looked = k.looked;
+    end = k.end;
+    looks = k.looks;
+    status_is = k.status_is;
+    since = k.since;
+    later = since_then k.later after;
+  };
   loaded = h.loaded;
 }
 

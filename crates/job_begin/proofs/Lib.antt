@@ -3,3 +3,4 @@ pub mod CauseLemmas
 mod CellCounts
 mod CountLemmas
 pub mod EndLemmas
+pub mod RefusalLemmas

@@ -30,7 +30,7 @@ use Rattle.job_run.specs.Run.{BeginsAs}
 use Rattle.job_run.specs.Task.{task_for, task_of_job}
 use Rattle.job_run.specs.Told.{StopsFor, cause_of}
 
--- the saves of that job begin so
+-- the saves of a job with this notebook begin so
 abbrev pub origin_of : Ask → Notebook → List Entry → Counts → Origin
 origin_of a n before counts = record { is_watched = true; output = a.output; merge = a.merge; first = first_of a n; before = before; counts = counts }
 
@@ -58,7 +58,7 @@ abbrev pub StartsWith : Ask → Notebook → Result Job End → Type 0
 StartsWith a first (Ok j) = task_of_job j ≡ task_for a first
 StartsWith a first (Err e) = IsCausedIn a first (status_of e)
 
--- its begin answers so
+-- the begin of a job whose notebook is first saved so: it runs with its cells as its task, or answers with such a status
 abbrev pub BeginsWith : Ask → Notebook → Result Job Answer → Type 0
 BeginsWith a first (Ok j) = task_of_job j ≡ task_for a first
 BeginsWith a first (Err answer) = IsCausedIn a first answer.status
@@ -71,7 +71,8 @@ pub data GivesNone (a : Ask) (before : List Entry) : End → List Entry → Type
   no_memory : (answer : ReadFile) → GivesNone a before end.NoMemory (Read a.input 33554432 answer ∷ before)
   not_asked : GivesNone a before end.NoMemory before
 
--- it ended by that: its status is that of the end, or memory was refused, and nothing touched its output before that or since
+-- a job ended because its input gave no notebook: its status is that of the end, or memory was refused, and nothing touched its
+-- output before that or since
 pub record IsUnread (a : Ask) (status : ℕ) (before after : List Entry) : Type 0 where
   pub end : End
   pub at : List Entry
@@ -81,30 +82,32 @@ pub record IsUnread (a : Ask) (status : ℕ) (before after : List Entry) : Type 
   pub since : Since (Spares a.output) before at
   pub later : Since (Spares a.output) read after
 
--- the status of a job for which no kernel was found by that fault
-abbrev pub status_by : KernelFault → ℕ
-status_by kernel_fault.NoName = 5
-status_by kernel_fault.BadName = 5
-status_by (kernel_fault.NotRead path) = 3
-status_by (kernel_fault.BadSpec f) = 5
-status_by kernel_fault.NoMemory = 12
+-- how a job ends for which no kernel was found by that fault
+abbrev pub end_for : KernelFault → End
+end_for kernel_fault.NoName = end.NoKernelName
+end_for kernel_fault.BadName = end.BadKernelName
+end_for (kernel_fault.NotRead path) = end.NotRead path
+end_for (kernel_fault.BadSpec f) = end.BadSpec f
+end_for kernel_fault.NoMemory = end.NoMemory
 
--- the look for a kernel gave a fault with this status, with all that was asked of the disk for it
-pub record LooksInVain (a : Ask) (first : Notebook) (status : ℕ) (before after : List Entry) : Type 0 where
+-- the look for a kernel gave a fault by which the job ends so, with all that was asked of the disk for it
+pub record LooksInVain (a : Ask) (first : Notebook) (e : End) (before after : List Entry) : Type 0 where
   pub fault : KernelFault
   pub finds : FindsBy a first (Err fault) before after
-  pub status_is : status ≡ status_by fault
+  pub end_is : e ≡ end_for fault
 
--- calls that end a job so end it with 5 only by such a look, and with 4 never
+-- calls that end a job so end it with 5 only by the fault that its look for a kernel gave, and with 4 never
 pub record KernelEnds (a : Ask) (first : Notebook) (old new : Option (List Entry)) (e : End) : Type 0 where
-  pub kernel : status_of e ≡ 5 → Told old new (LooksInVain a first 5)
+  pub kernel : status_of e ≡ 5 → Told old new (LooksInVain a first e)
   pub loaded : status_of e ≡ 4 → ⊥
 
 -- no kernel was found for a job that ended with this status; nothing touched its output before that or since
 pub record LacksKernel (a : Ask) (first : Notebook) (status : ℕ) (before after : List Entry) : Type 0 where
   pub at : List Entry
   pub looked : List Entry
-  pub looks : LooksInVain a first status at looked
+  pub end : End
+  pub looks : LooksInVain a first end at looked
+  pub status_is : status ≡ status_of end
   pub since : Since (Spares a.output) before at
   pub later : Since (Spares a.output) looked after
 
@@ -113,7 +116,28 @@ pub record HasKernel (a : Ask) (first : Notebook) (status : ℕ) (before after :
   pub kernel : status ≡ 5 → LacksKernel a first status before after
   pub loaded : status ≡ 4 → ⊥
 
--- its begin answers so
+-- the input of a job gave no notebook, for a reason that its answer names
+pub record RefusesInput (a : Ask) (answer : Answer) (before after : List Entry) : Type 0 where
+  pub end : End
+  pub gives : GivesNone a before end after
+  pub answers : Answers a.output end answer
+
+-- the input of a job gave its notebook, and then its look for a kernel gave a fault, which its answer names
+pub record RefusesKernel (a : Ask) (answer : Answer) (before after : List Entry) : Type 0 where
+  pub bytes : List ℕ
+  pub notebook : Notebook
+  pub accepted : Accepts a bytes notebook
+  pub fault : KernelFault
+  pub finds : FindsBy a (first_of a notebook) (Err fault) (Read a.input 33554432 (found.Whole bytes) ∷ before) after
+  pub answers : Answers a.output (end_for fault) answer
+
+-- the answer of a job says by which refusal its begin has ended: with 4 its input was refused; with 5 that too, or the name or the
+-- spec of its kernel
+pub record NamesRefusal (a : Ask) (answer : Answer) (before after : List Entry) : Type 0 where
+  pub input : answer.status ≡ 4 → RefusesInput a answer before after
+  pub kernel : answer.status ≡ 5 → RefusesInput a answer before after ⊎ RefusesKernel a answer before after
+
+-- the begin of a job finds a kernel, or has ended the job so
 abbrev pub FindsKernel : Ask → Notebook → Result Job Answer → List Entry → List Entry → Type 0
 FindsKernel a first (Ok j) before after = Unit {0}
 FindsKernel a first (Err answer) before after = HasKernel a first answer.status before after

@@ -32,7 +32,8 @@ StartsFor journal counts old new a first result = (o : Origin) → IsFor a.outpu
 abbrev pub EndsCounted : Origin → Option Task → Option (List Entry) → End → Type 0
 EndsCounted o task journal e = (t : Task) → task ≡ Some t → IsNew o → IfSome journal (λ past. IsCausedAfter (save_count o.output past) t (status_of e))
 
--- the same of calls of a job of which nothing was saved before, where they end it
+-- calls of a job of which nothing was saved before, where they end it: of the events that brought the end as many are saves as were
+-- acknowledged
 abbrev pub CountsEnd : {W : Type 0} → (W → Option (List Entry)) → (W → Counts) → W → W → Ask → Notebook → Result Job End → Type 0
 CountsEnd journal counts old new a first result = (o : Origin) → IsFor a.output a.merge first o → Begins o (journal old) (counts old)
     → BeginsNew o (journal old) → IfErr result (EndsCounted o (counted_task a first) (journal new))
@@ -56,8 +57,8 @@ abbrev pub EndsInRole : {W : Type 0} → (W → Option (List Entry)) → (W → 
 EndsInRole journal counts old new a first = (c : Cast) (number : ℕ) (since : List Entry) (from : Counts) → c.job number ≡ Some a
     → OnlyReads c a first (journal old) → HasCalled c since from (journal old) (counts old) → HasCalled c since from (journal new) (counts new)
 
--- the same of a job that runs or has ended, in this working folder; where the jobs began clean, no child of its number is
--- there, it has asked for no ports, and no save of it was acknowledged
+-- calls of a job that runs or has ended are those of the job that is asked for, in this working folder; where the jobs began
+-- clean, no child of its number is there, it has asked for no ports, and no save of it was acknowledged
 abbrev pub BeginsInRole : {W E : Type 0} → (W → Option (List Entry)) → (W → Counts) → W → W → ℕ → Ask → List ℕ → Result Job E → Type 0
 BeginsInRole journal counts old new number a here result = (c : Cast) (since : List Entry) (from : Counts) → IsCastAs c number a here
     → HasNoChild c number (journal old) → HasNoPorts c number (journal old) → HasNoSave c a (journal old) → HasCalled c since from (journal old) (counts old) → StartsInRole c since from result (journal new) (counts new)

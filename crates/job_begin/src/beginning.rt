@@ -5,7 +5,7 @@ ghost use Rattle.std.specs.Prelude.{IfSome, IfOk, IfErr, OnOk};
 ghost use Rattle.std.specs.Str.{bytes_eq};
 ghost use Rattle.job_begin.specs.Begun.{Begun, HasRead, IsGivenBy, AnswersAs, IsOpen};
 ghost use Rattle.job_begin.specs.Begun.{StartsWith, IsUncaused, IsEndOfSaving};
-ghost use Rattle.job_begin.specs.Begun.{GivesNone, KernelEnds, status_by};
+ghost use Rattle.job_begin.specs.Begun.{GivesNone, KernelEnds, NamesRefusal, end_for};
 ghost use Rattle.job_end.specs.declared.end.End.TheVariants as ending;
 ghost use Rattle.kernel_start.specs.declared.kernel_fault.KernelFault as faults;
 ghost use Rattle.job_end.specs.Statuses.{status_of};
@@ -76,6 +76,10 @@ pub fn begin<W: World>(
     ensures cause { IfErr result (λ answer.
         HasCause (W.counts w.old) (W.counts w.new) answer.status) }
     ensures spent { IfErr result (λ answer. answer.status ≡ 16 → ⊥) }
+    // Statuses 4 and 5 come with the line of the refusal: that of its notebook, or that of its kernel's
+    // name or spec.
+    ensures refused { IfErr result (λ answer.
+        Told (W.journal w.old) (W.journal w.new) (NamesRefusal ask answer)) }
     // The status and the line are those of an end; where it runs, its last line names its output.
     ensures answer { IfErr result (IsAnswer ask.output) }
     ensures output { IfOk result (λ j. output_of_job j ≡ ask.output) }
@@ -378,7 +382,7 @@ fn kernel_of<W: Disk>(
 fn found_or_end(found: Result<Kernel, KernelFault>) -> Result<Kernel, End>
     ensures found { IfOk result (λ kernel. found ≡ Ok kernel) }
     ensures fault { IfErr result (λ end.
-        (f : faults.KernelFault) × (found ≡ Err f) × (status_of end ≡ status_by f)) }
+        (f : faults.KernelFault) × (found ≡ Err f) × (end ≡ end_for f)) }
     ensures cause { (old new : Counts) → (IsNotRead found → Rose old.disk new.disk) →
         IfErr result (EndCause old new) }
     ensures unsaved { IfErr result IsOpen }

@@ -11,7 +11,9 @@ use Rattle.job_run.proofs.LaunchLemmas.{ends_then}
 use Rattle.job_begin.proofs.CauseLemmas.{unsaved_caused, all_caused, answer_unspent, starved_unspent, all_unspent}
 use Rattle.job_begin.proofs.EndLemmas.{unread_starved, unread_answer, answered_kernel, at_moments, answered_with, answered_end, starved_end, answered_ok, counted}
 use Rattle.std.specs.Prelude.{IfErr}
+use Rattle.job_end.specs.Answers.{Answers}
 use Rattle.job_saves.specs.Speaking.{IsAnswer}
+use Rattle.job_begin.proofs.RefusalLemmas.{starved_refuses, input_refuses, begun_refuses}
 use Rattle.job_begin.proofs.beginning.begin.Goals as goal
 
 pub returns-in_default-clause-begun : goal.returns-in_default-clause-begun
@@ -67,6 +69,26 @@ returns-in-Ok-input_of-clause-cause g c =
     let e = c.in-Ok-input_of.ensures in
     let begun = c.begin_with-begun.result in
     all_caused _ _ c.in-Ok.output _ begun c.answer_of.result c.answer_of.ensures e.work.grow c.begin_with-begun.ensures.cause (save_rose a n begun _ _ _ _ _ e.read c.begin_with-begun.ensures.course)
+
+-- ---- the refusal that it names
+
+pub returns-in_default-clause-refused : goal.returns-in_default-clause-refused
+returns-in_default-clause-refused g c = told_start (λ past. starved_refuses c.args.ask c.starved.result past past c.starved.ensures)
+
+pub returns-in-Err-clause-refused : goal.returns-in-Err-clause-refused
+returns-in-Err-clause-refused g c =
+    let answers : Answers c.args.ask.output c.in-Err.end c.answer.result = subst (λ q. Answers q c.in-Err.end c.answer.result) c.in-Ok.ensures c.answer.ensures in
+    told_as c.in-Err.ensures.none (λ x y gives. input_refuses c.args.ask c.in-Err.end c.answer.result x y answers gives)
+
+pub returns-in-Ok-input_of-clause-refused : goal.returns-in-Ok-input_of-clause-refused
+returns-in-Ok-input_of-clause-refused g c =
+    let a = c.args.ask in
+    let n = c.in-Ok-input_of.notebook in
+    let e = c.in-Ok-input_of.ensures in
+    let begun = c.begin_with-begun.result in
+    let answers : AnswersAs a.output begun c.answer_of.result = subst (λ q. AnswersAs q begun c.answer_of.result) c.in-Ok.ensures c.answer_of.ensures in
+    begun_refuses a n begun c.answer_of.result _ _ _ answers (λ x y f g_. at_moments a (first_of a n) begun _ _ x y f g_ c.begin_with-begun.ensures.kernel) e.read
+    (told_appends a c.args.number c.args.here.now begun _ _ _ _ (c.begin_with-begun.ensures.calls (input_read a n _ _ e.read)))
 
 -- ---- its answer, its output and its counts
 
