@@ -1,4 +1,5 @@
 pub mod Answers
 pub mod Files
 pub mod Moments
+pub mod Names
 pub mod Ports

@@ -1,10 +1,14 @@
 //! Child programs.
 ghost use Rattle.std.specs.Prelude.{◌<◌, length};
 
-use crate::RealWorld;
 use crate::answers::did_of;
+use crate::complaint::note;
+use crate::link::Link;
+use crate::port_block::is_taken;
+use crate::{Departure, RealWorld};
 use jtext::{Fields, Text, Texts};
 use std::alloc::{AllocError, Global};
+use std::fs::File;
 use std::io;
 use std::net::Net;
 use std::os::unix::process::ExitStatusExt;
@@ -22,7 +26,7 @@ const LOOKS: u32 = 10;
 
 const APART: u64 = 5;
 
-impl<R: Files + Net + Processes + Clock + Print + Drop> Kids for RealWorld<R> {
+impl<R: Files<File = File> + Net + Processes + Clock + Print + Drop> Kids for RealWorld<R> {
     fn child_faults(&self) -> u64 {
         self.child_faults
     }
@@ -37,14 +41,29 @@ impl<R: Files + Net + Processes + Clock + Print + Drop> Kids for RealWorld<R> {
         };
         let started = mother.spawn(argv.as_slice(), env, dir.as_str());
         let started = keep(started, &mut self.children, at);
+        note(
+            &mut self.complaint,
+            self.alloc,
+            argv.as_slice()[0].as_str(),
+            &started,
+        );
         did_of(started, &mut self.child_faults)
     }
 
     fn look(&mut self, job: u8) -> Option<i32> {
-        match self.children.get_mut(job as usize) {
+        let at = job as usize;
+        let status = match self.children.get_mut(at) {
             Some(Some(child)) => status_of(child),
             _ => None,
+        };
+        if let Some(status) = status {
+            self.departure = Some(Departure {
+                status,
+                was_heard: has_heard(self.links.as_slice(), at),
+                taken_port: taken_port(&self.rt, self.job_ports.as_slice(), at),
+            });
         }
+        status
     }
 
     fn end(&mut self, job: u8) {
@@ -111,6 +130,20 @@ fn keep<P: OpenProcess + Drop>(
 fn status_of<P: OpenProcess>(child: &mut Child<P>) -> Option<i32> {
     match child.try_wait() {
         Ok(Some(status)) => Some(number_of(status)),
+        _ => None,
+    }
+}
+
+// Whether a byte has passed on a connection of this job.
+fn has_heard(links: &[Option<Link>], job: usize) -> bool {
+    links.iter().enumerate().any(|(at, link)| at / 4 == job
+        && link.as_ref().is_some_and(|link| link.is_used()))
+}
+
+// The first port of this job on which another program listens.
+fn taken_port<R: Net>(net: &R, ports: &[Option<[u16; 5]>], job: usize) -> Option<u16> {
+    match ports.get(job) {
+        Some(Some(five)) => five.iter().copied().find(|port| is_taken(net, *port)),
         _ => None,
     }
 }

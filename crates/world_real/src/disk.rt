@@ -1,67 +1,69 @@
 //! Files.
-ghost use Rattle.std.specs.Prelude.{◌≡◌, ◌<◌, ◌≤◌, length, codes, nat_eq, IfOk, IfSome};
-ghost use Rattle.std.specs.List.{ends_with};
+ghost use Rattle.std.specs.Prelude.{◌≡◌, ◌<◌, ◌≤◌, length, IfOk, IfSome};
 ghost use Rattle.world_real.specs.Files.{found_within};
 
 use crate::RealWorld;
 use crate::answers::{did_of, found_of, wrote_of};
-use jtext::{Bytes, Text};
+use crate::complaint::note;
+use crate::held_files::HeldFiles;
+use jtext::{Bytes, NoMemory, Text};
 use std::alloc::Global;
-use std::fs::{OpenFile, OpenOptions, Permissions};
-use std::io::{Read, Write};
+use std::fs::{File, OpenFile};
+use std::io::{ErrorKind, Read};
 use std::net::Net;
-use std::os::unix::fs::{OpenOptionsExt, PermissionsExt};
 use std::process::Processes;
 use std::rt::{Clock, Files};
 use std::{fs, io};
 use world::{Did, Disk, ReadFile, Wrote};
 
-/// The end of the name of a connection file: the key in it lets whoever reads it run code.
-const CONNECTION_FILE: &str = ".nbrun-kernel.json";
-
-/// A file that its owner alone reads and writes.
-const OWNER_ALONE: u32 = 0o600;
-
 /// The most bytes that one write takes.
 const MOST: usize = 1 << 30;
 
-impl<R: Files + Net + Processes + Clock + Print + Drop> Disk for RealWorld<R> {
+/// What is written, synced, renamed and removed are files that this world has made itself.
+impl<R: Files<File = File> + Net + Processes + Clock + Print + Drop> Disk for RealWorld<R> {
     fn disk_faults(&self) -> u64 {
         self.disk_faults
     }
 
     fn read_file(&mut self, alloc: Global, path: &Text, most: u64) -> ReadFile {
         let found = read_at(&self.rt, alloc, path.as_str(), most);
+        note(&mut self.complaint, self.alloc, path.as_str(), &found);
         found_of(found, &mut self.disk_faults)
     }
 
     fn create(&mut self, path: &Text) -> Did {
-        let created = create_at(&self.rt, path.as_str());
+        let created = create_at(&self.rt, self.alloc, &mut self.held, path);
+        note(&mut self.complaint, self.alloc, path.as_str(), &created);
         did_of(created, &mut self.disk_faults)
     }
 
     fn write(&mut self, path: &Text, piece: &[u8]) -> Wrote {
-        let taken = append_at(&self.rt, path.as_str(), cap(piece));
+        let taken = self.held.write(path.as_str(), cap(piece));
+        note(&mut self.complaint, self.alloc, path.as_str(), &taken);
         wrote_of(taken, &mut self.disk_faults)
     }
 
     fn sync(&mut self, path: &Text) -> Did {
-        let synced = sync_at(&self.rt, path.as_str());
+        let synced = self.held.sync(path.as_str());
+        note(&mut self.complaint, self.alloc, path.as_str(), &synced);
         did_of(synced, &mut self.disk_faults)
     }
 
     fn rename(&mut self, from: &Text, to: &Text) -> Did {
-        let renamed = fs::rename(&self.rt, from.as_str(), to.as_str());
+        let renamed = self.held.rename(&self.rt, from.as_str(), to.as_str());
+        note(&mut self.complaint, self.alloc, to.as_str(), &renamed);
         did_of(renamed, &mut self.disk_faults)
     }
 
     fn sync_dir(&mut self, dir: &Text) -> Did {
-        let synced = sync_at(&self.rt, dir.as_str());
+        let synced = sync_folder(&self.rt, dir.as_str());
+        note(&mut self.complaint, self.alloc, dir.as_str(), &synced);
         did_of(synced, &mut self.disk_faults)
     }
 
+    // What a job leaves behind is no reason why it ended: nothing is noted here.
     fn remove(&mut self, path: &Text) -> Did {
-        let removed = fs::remove_file(&self.rt, path.as_str());
+        let removed = self.held.remove(&self.rt, path.as_str());
         did_of(removed, &mut self.disk_faults)
     }
 }
@@ -88,44 +90,21 @@ fn read_within<F: Read + Drop>(alloc: Global, file: F, most: u64) -> io::Result<
     Ok(Some(Bytes::of_vec(bytes)))
 }
 
-// Makes the file, or empties the one that is there.
-fn create_at<R: Files>(files: &R, path: &str) -> io::Result<()> {
-    if is_connection_file(path) {
-        return create_alone(files, path);
+// Makes a new file in the place of what stands there.
+fn create_at<R: Files<File = File>>(
+    files: &R,
+    alloc: Global,
+    held: &mut HeldFiles,
+    path: &Text,
+) -> io::Result<()> {
+    match path.copy(alloc) {
+        Ok(path) => held.create(files, path),
+        Err(NoMemory) => Err(io::Error::from(ErrorKind::OutOfMemory)),
     }
-    fs::create(files, path)?;
-    Ok(())
-}
-
-// Whether the path is that of a connection file.
-fn is_connection_file(path: &str) -> bool
-    ensures { result ≡ ends_with nat_eq path.now (codes ".nbrun-kernel.json") }
-{
-    path.as_bytes().ends_with(CONNECTION_FILE.as_bytes())
-}
-
-// A file that is there loses the rights of others.
-fn create_alone<R: Files>(files: &R, path: &str) -> io::Result<()> {
-    let mut options = OpenOptions::new();
-    options
-        .write(true)
-        .create(true)
-        .truncate(true)
-        .mode(OWNER_ALONE);
-    let file = options.open(files, path)?;
-    file.set_permissions(Permissions::from_mode(OWNER_ALONE))
-}
-
-// How many bytes of the piece were put at the end of the file.
-fn append_at<R: Files>(files: &R, path: &str, piece: &[u8]) -> io::Result<usize>
-    ensures { IfOk result (λ n. n ≤ length piece.now) }
-{
-    let mut file = OpenOptions::new().append(true).open(files, path)?;
-    file.write(piece)
 }
 
 // A folder is opened for reading as a file is.
-fn sync_at<R: Files>(files: &R, path: &str) -> io::Result<()> {
+fn sync_folder<R: Files>(files: &R, path: &str) -> io::Result<()> {
     fs::open(files, path)?.sync_all()
 }
 

@@ -1,60 +1,73 @@
 //! The drawing of free ports.
-ghost use Rattle.std.specs.Prelude.{◌≡◌, IfOk};
-ghost use Rattle.world_real.specs.Ports.{AreFresh};
+ghost use Rattle.std.specs.Prelude.{◌≡◌, IfOk, OnOk, ◌++◌};
+ghost use Rattle.world_real.specs.Ports.{AreFresh, AreOfOneBlock};
 
 use crate::given_ports::GivenPorts;
+use crate::port_block::{PortBlock, lock_block};
 use std::alloc::Global;
 use std::io;
 use std::io::ErrorKind;
-use std::net::{Ipv4Addr, Net, OpenListener, SocketAddr};
+use std::net::Net;
 
-/// How often five ports are drawn. All that were drawn stay bound, so each time at least one that
-/// was given before is used up, and of 16 jobs there are 80.
-const DRAWS: u32 = 80;
+/// How many blocks are tried: in a block that holds ports of other programs five may not be left.
+const BLOCKS: u32 = 16;
 
-/// The lowest port that is drawn, and how many there are: Linux gives out those from 32768 on.
-const LOWEST: u16 = 10_000;
+/// The ports that a run draws, and those that it has given to its jobs.
+#[derive(Drop)]
+pub(crate) struct PortDrawer<R: Net> {
+    // The blocks that are locked; the last one is drawn from.
+    blocks: Vec<PortBlock<R::Listener>>,
+    given: GivenPorts,
+    // Where the search for a block begins, so that two runs seldom try the same one.
+    from: u32,
+}
 
-const COUNT: u16 = 22_000;
+impl<R: Net> PortDrawer<R> {
+    /// No port was given yet.
+    pub(crate) fn new(alloc: Global, from: u32) -> PortDrawer<R> {
+        PortDrawer {
+            blocks: Vec::new(alloc),
+            given: GivenPorts::new(alloc),
+            from,
+        }
+    }
 
-/// Five ports that may be given after those.
-pub(crate) fn draw_ports<R: Net>(
+    /// Five free ports of a block that this run has locked, none of which was given before.
+    pub(crate) fn draw(&mut self, net: &R) -> io::Result<[u16; 5]>
+        ensures fresh { IfOk result (AreFresh self.old.given.ports.items) }
+        ensures block { IfOk result AreOfOneBlock }
+        ensures kept { IfOk result (λ five.
+            self.new.given.ports.items ≡ self.old.given.ports.items ++ five) }
+    {
+        for _ in 0..BLOCKS {
+            if let Some(block) = self.blocks.last_mut() {
+                if let Ok(five) = five_of(net, block, &self.given) {
+                    self.given.keep(five)?;
+                    return Ok(five);
+                }
+            }
+            self.blocks.push(lock_block(net, self.from)?)?;
+        }
+        Err(io::Error::from(ErrorKind::AddrInUse))
+    }
+}
+
+// Five free ports of the block that may be given after those.
+fn five_of<R: Net>(
     net: &R,
-    alloc: Global,
+    block: &mut PortBlock<R::Listener>,
     before: &GivenPorts,
 ) -> io::Result<[u16; 5]>
-    ensures { IfOk result (AreFresh before.now.ports.items) }
+    ensures fresh { IfOk result (AreFresh before.now.ports.items) }
+    ensures block { IfOk result AreOfOneBlock }
 {
-    let mut held = Vec::new(alloc);
-    for _ in 0..DRAWS {
-        let a = bound_port(net, &mut held)?;
-        let b = bound_port(net, &mut held)?;
-        let c = bound_port(net, &mut held)?;
-        let d = bound_port(net, &mut held)?;
-        let e = bound_port(net, &mut held)?;
-        if let Some(five) = before.five_of(a, b, c, d, e) {
-            return Ok(five);
-        }
+    let a = block.free_port(net)?;
+    let b = block.free_port(net)?;
+    let c = block.free_port(net)?;
+    let d = block.free_port(net)?;
+    let e = block.free_port(net)?;
+    match before.five_of(a, b, c, d, e) {
+        Some(five) => Ok(five),
+        None => Err(io::Error::from(ErrorKind::AddrInUse)),
     }
-    Err(io::Error::from(ErrorKind::AddrInUse))
-}
-
-// A free port of this machine, which stays bound. It lies below those that the system gives out by
-// itself, where one is free there: no connection to one kernel then takes a port of another.
-fn bound_port<R: Net>(net: &R, held: &mut Vec<R::Listener>) -> io::Result<u16> {
-    let given = listener_at(net, 0)?;
-    let port = given.local_addr()?.port();
-    held.push(given)?;
-    let low = LOWEST + port % COUNT;
-    match listener_at(net, low) {
-        Ok(listener) => {
-            held.push(listener)?;
-            Ok(low)
-        }
-        Err(_) => Ok(port),
-    }
-}
-
-fn listener_at<R: Net>(net: &R, port: u16) -> io::Result<R::Listener> {
-    net.bind(SocketAddr::from((Ipv4Addr::LOCALHOST, port)))
 }

@@ -22,7 +22,8 @@ impl GivenPorts {
 
     /// These five, where they may be given.
     pub(crate) fn five_of(&self, a: u16, b: u16, c: u16, d: u16, e: u16) -> Option<[u16; 5]>
-        ensures { IfSome result (AreFresh self.now.ports.items) }
+        ensures fresh { IfSome result (AreFresh self.now.ports.items) }
+        ensures are { IfSome result (λ five. five ≡ a ∷ b ∷ c ∷ d ∷ e ∷ []) }
     {
         if a == b || a == c || a == d || a == e || b == c || b == d || b == e {
             return None;

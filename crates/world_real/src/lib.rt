@@ -6,14 +6,28 @@
 
 mod answers;
 mod children;
+mod complaint;
+mod departure;
 mod disk;
 mod drawing;
+mod epoch;
+mod file_id;
 mod given_ports;
+mod held_file;
+mod held_files;
 mod link;
+mod locking;
+mod making;
 mod moment;
+mod port_block;
 mod real_world;
 mod sources;
+mod standing;
 mod trouble;
 mod wire;
 
+pub use complaint::Complaint;
+pub use departure::Departure;
+pub use file_id::FileId;
+pub use moment::Moment;
 pub use real_world::RealWorld;

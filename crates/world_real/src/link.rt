@@ -30,6 +30,13 @@ impl Link {
         }
     }
 
+    /// Whether a byte was got or taken.
+    pub(crate) fn is_used(&self) -> bool
+        ensures { result ≡ self.now.used }
+    {
+        self.used
+    }
+
     /// Whether it may be reported.
     pub(crate) fn is_up(&self) -> bool {
         !self.ended

@@ -1,43 +1,63 @@
-//! The clock's last moment.
-ghost use Rattle.std.specs.Prelude.{◌≡◌, ◌<◌, ◌≤◌, ◌^◌};
+//! `Moment`, the clock of a world.
+ghost use Rattle.std.specs.Prelude.{◌≡◌, ◌<◌, ◌≤◌, ◌^◌, Some, IfSome};
 ghost use Rattle.world_real.specs.Moments.{moment_after};
 
+use crate::epoch::Epoch;
 use std::io;
-use std::time::Duration;
+use std::rt::Clock;
+use std::time::Instant;
 
 /// The latest moment of a world.
 const LATEST: u128 = (1 << 47) - 1;
 
-/// A moment in milliseconds since 1970-01-01 UTC, below 2^47.
+/// The last moment of a clock, in milliseconds since 1970-01-01 UTC, below 2^47. It goes by the
+/// system's clock as it was first read and the time since: to set that clock changes nothing.
 #[derive(Clone, Copy)]
-pub(crate) struct Moment {
+pub struct Moment {
     ms: u64,
+    // Where the clocks were read.
+    epoch: Option<Epoch>,
     ghost bound: { ms < 2 ^ 47 },
 }
 
 impl Moment {
     /// The moment before the clock was read.
-    pub(crate) fn start() -> Moment
+    pub fn start() -> Moment
         ensures { result.ms ≡ 0 }
     {
-        Moment { ms: 0 }
+        Moment { ms: 0, epoch: None }
     }
 
     /// Its milliseconds.
-    pub(crate) fn ms(&self) -> u64
+    pub fn ms(&self) -> u64
         ensures is { result ≡ self.now.ms }
         ensures bound { result < 2 ^ 47 }
     {
         self.ms
     }
 
-    /// Goes on to what the clock was read to be, and never back.
-    pub(crate) fn advance(&mut self, reading: io::Result<Duration>)
-        ensures is { self.new.ms ≡ moment_after reading self.old.ms }
+    /// Looks at the clock. A clock that can't be read leaves the moment as it is.
+    pub fn look<R: Clock>(&mut self, clock: &R)
         ensures later { self.old.ms ≤ self.new.ms }
+        // What the clock that can be set said is asked for once, and never again.
+        ensures once { IfSome self.old.epoch (λ epoch. self.new.epoch ≡ Some epoch) }
     {
-        if let Ok(time) = reading {
-            let ms = time.as_millis().min(LATEST) as u64;
+        if self.epoch.is_none() {
+            self.epoch = Epoch::read(clock).ok();
+        }
+        if let Some(epoch) = self.epoch {
+            self.advance(epoch, Instant::now(clock));
+        }
+    }
+
+    /// Goes on to what the monotonic clock was read to be, counted from there, and never back.
+    fn advance(&mut self, epoch: Epoch, reading: io::Result<Instant>)
+        ensures is { self.new.ms ≡ moment_after epoch reading self.old.ms }
+        ensures later { self.old.ms ≤ self.new.ms }
+        ensures same { self.new.epoch ≡ self.old.epoch }
+    {
+        if let Ok(now) = reading {
+            let ms = (epoch.nanos_at(now) / 1_000_000).min(LATEST) as u64;
             self.ms = self.ms.max(ms);
         }
     }

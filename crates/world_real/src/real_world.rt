@@ -2,12 +2,15 @@
 ghost use Rattle.std.specs.Prelude.{◌≡◌, None, IfOk};
 ghost use Rattle.world.specs.Counts.{Counts};
 
-use crate::given_ports::GivenPorts;
+use crate::drawing::PortDrawer;
+use crate::held_files::HeldFiles;
 use crate::link::Link;
 use crate::moment::Moment;
+use crate::{Complaint, Departure};
 use jtext::NoMemory;
 use mio::{Events, Poll};
 use std::alloc::{AllocError, Global};
+use std::fs::File;
 use std::net::Net;
 use std::process::{Child, Processes};
 use std::rt::{Clock, Files};
@@ -25,7 +28,7 @@ const JOBS: usize = 16;
 /// Files, connections, child programs, the clock, random words and the standard output, by the
 /// runtime's calls.
 #[derive(Drop)]
-pub struct RealWorld<R: Files + Net + Processes + Clock + Print + Drop> {
+pub struct RealWorld<R: Files<File = File> + Net + Processes + Clock + Print + Drop> {
     pub(crate) rt: R,
     pub(crate) alloc: Global,
     // The number of this process, which each child is told.
@@ -34,7 +37,10 @@ pub struct RealWorld<R: Files + Net + Processes + Clock + Print + Drop> {
     pub(crate) poll: Option<Poll>,
     pub(crate) events: Events,
     pub(crate) links: Vec<Option<Link>>,
-    pub(crate) ports: GivenPorts,
+    pub(crate) ports: PortDrawer<R>,
+    // Those of each job.
+    pub(crate) job_ports: Vec<Option<[u16; 5]>>,
+    pub(crate) held: HeldFiles,
     pub(crate) children: Vec<Option<Child<R::Started>>>,
     pub(crate) moment: Moment,
     pub(crate) waits: u64,
@@ -43,9 +49,13 @@ pub struct RealWorld<R: Files + Net + Processes + Clock + Print + Drop> {
     pub(crate) child_faults: u64,
     pub(crate) rand_faults: u64,
     pub(crate) say_faults: u64,
+    pub(crate) complaint: Option<Complaint>,
+    pub(crate) departure: Option<Departure>,
+    // A kernel has ended a connection.
+    pub(crate) parted: bool,
 }
 
-impl<R: Files + Net + Processes + Clock + Print + Drop> RealWorld<R> {
+impl<R: Files<File = File> + Net + Processes + Clock + Print + Drop> RealWorld<R> {
     /// The world of this runtime, with no call yet. `process` is the number of this process, as
     /// `std::process::id` gives it.
     pub fn new(rt: R, alloc: Global, process: u32) -> Result<RealWorld<R>, NoMemory>
@@ -62,7 +72,9 @@ impl<R: Files + Net + Processes + Clock + Print + Drop> RealWorld<R> {
             poll: None,
             events: Events::with_capacity(alloc, REPORTS)?,
             links: free_slots(alloc, PLACES)?,
-            ports: GivenPorts::new(alloc),
+            ports: PortDrawer::new(alloc, process),
+            job_ports: free_slots(alloc, JOBS)?,
+            held: HeldFiles::new(alloc),
             children: free_slots(alloc, JOBS)?,
             moment: Moment::start(),
             waits: 0,
@@ -71,7 +83,25 @@ impl<R: Files + Net + Processes + Clock + Print + Drop> RealWorld<R> {
             child_faults: 0,
             rand_faults: 0,
             say_faults: 0,
+            complaint: None,
+            departure: None,
+            parted: false,
         })
+    }
+
+    /// What the system said of the last call that failed.
+    pub fn complaint(&self) -> Option<&Complaint> {
+        self.complaint.as_ref()
+    }
+
+    /// How the last child ended that was seen to end by itself.
+    pub fn departure(&self) -> Option<Departure> {
+        self.departure
+    }
+
+    /// Whether a kernel has ended a connection.
+    pub fn has_parted(&self) -> bool {
+        self.parted
     }
 }
 
@@ -84,7 +114,7 @@ fn free_slots<T: Drop>(alloc: Global, count: usize) -> Result<Vec<Option<T>>, Al
     Ok(slots)
 }
 
-impl<R: Files + Net + Processes + Clock + Print + Drop> Journal for RealWorld<R> {
+impl<R: Files<File = File> + Net + Processes + Clock + Print + Drop> Journal for RealWorld<R> {
     ghost journal = { λ _. None };
 
     ghost counts = { λ w. record {
@@ -98,4 +128,4 @@ impl<R: Files + Net + Processes + Clock + Print + Drop> Journal for RealWorld<R>
     } };
 }
 
-impl<R: Files + Net + Processes + Clock + Print + Drop> World for RealWorld<R> {}
+impl<R: Files<File = File> + Net + Processes + Clock + Print + Drop> World for RealWorld<R> {}

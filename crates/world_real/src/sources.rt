@@ -2,6 +2,7 @@
 use crate::RealWorld;
 use crate::answers::{value_of, wrote_of};
 use crate::disk::cap;
+use std::fs::File;
 use std::io::Read;
 use std::net::Net;
 use std::process::Processes;
@@ -12,9 +13,9 @@ use world::{Clock, Rand, Say, Wrote};
 /// The system's random bytes (random(4)).
 const RANDOM: &str = "/dev/urandom";
 
-impl<R: Files + Net + Processes + SystemClock + Print + Drop> Clock for RealWorld<R> {
+impl<R: Files<File = File> + Net + Processes + SystemClock + Print + Drop> Clock for RealWorld<R> {
     fn now(&mut self) -> u64 {
-        self.moment.advance(self.rt.since_1970());
+        self.moment.look(&self.rt);
         self.moment.ms()
     }
 
@@ -23,7 +24,7 @@ impl<R: Files + Net + Processes + SystemClock + Print + Drop> Clock for RealWorl
     }
 }
 
-impl<R: Files + Net + Processes + SystemClock + Print + Drop> Rand for RealWorld<R> {
+impl<R: Files<File = File> + Net + Processes + SystemClock + Print + Drop> Rand for RealWorld<R> {
     fn rand_faults(&self) -> u64 {
         self.rand_faults
     }
@@ -41,7 +42,7 @@ fn random_word<R: Files>(files: &R) -> io::Result<u64> {
     Ok(u64::from_be_bytes(bytes))
 }
 
-impl<R: Files + Net + Processes + SystemClock + Print + Drop> Say for RealWorld<R> {
+impl<R: Files<File = File> + Net + Processes + SystemClock + Print + Drop> Say for RealWorld<R> {
     fn say_faults(&self) -> u64 {
         self.say_faults
     }

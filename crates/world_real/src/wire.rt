@@ -1,16 +1,14 @@
 //! Connections to the kernels.
-ghost use Rattle.std.specs.Prelude.{◌≡◌, ◌+◌, ◌*◌, ◌<◌, IfOk, OnOk, ◌++◌};
+ghost use Rattle.std.specs.Prelude.{◌≡◌, ◌+◌, ◌*◌};
 ghost use Rattle.world.specs.Places.{place_of};
-ghost use Rattle.world_real.specs.Ports.{AreFresh};
 
 use crate::RealWorld;
 use crate::answers::{connected_of, count, did_of, value_of};
-use crate::drawing::draw_ports;
-use crate::given_ports::GivenPorts;
+use crate::complaint::note_unnamed;
 use crate::link::Link;
 use mio::net::TcpStream;
 use mio::{Events, Interest, Poll, Token};
-use std::alloc::Global;
+use std::fs::File;
 use std::io;
 use std::io::ErrorKind;
 use std::net::{Ipv4Addr, Net, SocketAddr};
@@ -19,7 +17,7 @@ use std::rt::{Clock, Files};
 use std::time::Duration;
 use world::{Chan, Conn, Connected, Did, Got, Put, Reports, Wire};
 
-impl<R: Files + Net + Processes + Clock + Print + Drop> Wire for RealWorld<R> {
+impl<R: Files<File = File> + Net + Processes + Clock + Print + Drop> Wire for RealWorld<R> {
     fn net_faults(&self) -> u64 {
         self.net_faults
     }
@@ -28,8 +26,12 @@ impl<R: Files + Net + Processes + Clock + Print + Drop> Wire for RealWorld<R> {
         self.waits
     }
 
-    fn free_ports(&mut self, _job: u8) -> Option<[u16; 5]> {
-        let drawn = give_ports(&self.rt, self.alloc, &mut self.ports);
+    fn free_ports(&mut self, job: u8) -> Option<[u16; 5]> {
+        let drawn = self.ports.draw(&self.rt);
+        note_unnamed(&mut self.complaint, &drawn);
+        if let Some(slot) = self.job_ports.get_mut(job as usize) {
+            *slot = drawn.ok();
+        }
         value_of(drawn, &mut self.net_faults)
     }
 
@@ -37,7 +39,11 @@ impl<R: Files + Net + Processes + Clock + Print + Drop> Wire for RealWorld<R> {
         let at = place(conn);
         shut(&mut self.links, at);
         let begun = begin(&self.rt, &mut self.poll, &mut self.links, at, port);
-        connected_of(begun, &mut self.net_faults)
+        let connected = connected_of(begun, &mut self.net_faults);
+        if connected == Connected::Failed {
+            note_unnamed(&mut self.complaint, &begun);
+        }
+        connected
     }
 
     fn read(&mut self, conn: Conn, buf: &mut [u8]) -> Got {
@@ -49,6 +55,7 @@ impl<R: Files + Net + Processes + Clock + Print + Drop> Wire for RealWorld<R> {
         match got {
             Got::Failed => count(&mut self.net_faults),
             Got::Refused => shut(&mut self.links, at),
+            Got::Ended => self.parted = true,
             _ => {}
         }
         got
@@ -100,16 +107,6 @@ fn place(conn: Conn) -> usize
         Chan::Heart => 3,
     };
     4 * conn.job as usize + chan
-}
-
-// Five ports that were given to no job before.
-fn give_ports<R: Net>(net: &R, alloc: Global, ports: &mut GivenPorts) -> io::Result<[u16; 5]>
-    ensures fresh { IfOk result (AreFresh ports.old.ports.items) }
-    ensures kept { IfOk result (λ five. ports.new.ports.items ≡ ports.old.ports.items ++ five) }
-{
-    let five = draw_ports(net, alloc, ports)?;
-    ports.keep(five)?;
-    Ok(five)
 }
 
 // Begins a connection at a place.
