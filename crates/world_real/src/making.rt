@@ -46,13 +46,14 @@ fn is_connection_file(path: &str) -> bool
     path.as_bytes().ends_with(CONNECTION_FILE.as_bytes())
 }
 
-// Removes what stands there. A file is locked before: who holds its lock goes on undisturbed.
+// Removes what stands there. A file is locked before: who holds its lock goes on undisturbed. It is
+// opened for writing, since a disk of the network may lock no other.
 fn clear<R: Files<File = File>>(files: &R, path: &str) -> io::Result<()> {
     match standing_at(files, path)? {
         Standing::Nothing => Ok(()),
         Standing::Other => fs::remove_file(files, path),
         Standing::Regular(_) => {
-            let there = fs::open(files, path)?;
+            let there = OpenOptions::new().read(true).write(true).open(files, path)?;
             lock_at(files, path, &there)?;
             fs::remove_file(files, path)
         }
