@@ -1,1 +1,3 @@
+pub mod Hints
 pub mod Printed
+pub mod SameFiles

@@ -1,4 +1,4 @@
-//! What `--help` and `--version` print.
+//! What `--help`, `-h`, `--version` and a command without words print.
 ghost use Rattle.std.specs.Prelude.{◌≡◌, map, option_map, string_bytes};
 ghost use Rattle.nbrun_main.specs.Printed as spec;
 
@@ -12,7 +12,7 @@ nbrun executes Jupyter notebooks with nobody at the screen.
   nbrun IN OUT [options]          reads the notebook IN and writes OUT
   nbrun --jobs FILE [options]     runs the jobs of a file, at most 16
   nbrun --exercise N              runs N generated cells, at most 200, in memory
-  nbrun --help | --version        prints this, or the version
+  nbrun --help | -h | --version   prints this, or the version
 
   -p, --parameters NAME VALUE     a parameter: a number of JSON, True, False,
                                   None, or else a text
@@ -28,7 +28,8 @@ nbrun executes Jupyter notebooks with nobody at the screen.
   --merge-streams                 joins neighbouring outputs of one stream
   --allow-errors                  goes on after a cell that raises an error
   --allow-error-name NAME         goes on after an error of this name
-  --interrupt                     interrupts a cell at its limit
+  --interrupt                     interrupts a cell at its limit; needs a kernel
+                                  spec with \"interrupt_mode\": \"message\"
   --no-heartbeat                  doesn't ping the kernel
 
 After -- each word is a path. Switches are off by default. A job of a file has
@@ -37,7 +38,7 @@ don't go with --jobs. --exercise goes with no other word.
 
 Examples:
   nbrun report.ipynb out.ipynb -p year 2026 -r day 007
-  nbrun report.ipynb out.ipynb -k python3 --execution-timeout 600 --interrupt
+  nbrun report.ipynb out.ipynb -k python3 --execution-timeout 600
   nbrun --jobs jobs.json --kernel-path /usr/share/jupyter/kernels
   nbrun --exercise 8
 
@@ -52,12 +53,14 @@ not read, 4 no notebook, 5 kernel spec refused or no translator for parameters,
 20 arguments or folder not read.
 ";
 
-/// What is printed in place of a run, where `--help` or `--version` is the only word.
+/// What is printed in place of a run: where `--help`, `-h` or `--version` is the only word, and
+/// where there is none.
 pub(crate) fn text_to_print(words: &[String]) -> Option<&'static str>
     ensures { option_map (λ text. text.now) result ≡
         spec.text_to_print (map string_bytes words.now) }
 {
     match words {
+        [] => Some(HELP),
         [word] => text_for(word.as_str()),
         _ => None,
     }
@@ -68,7 +71,7 @@ fn text_for(word: &str) -> Option<&'static str>
     ensures { option_map (λ text. text.now) result ≡ spec.text_for word.now }
 {
     match word {
-        "--help" => Some(HELP),
+        "--help" | "-h" => Some(HELP),
         "--version" => Some(VERSION),
         _ => None,
     }

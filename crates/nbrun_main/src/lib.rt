@@ -3,8 +3,12 @@
 #![tactic(auto)]
 
 mod help;
+mod hints;
+mod named;
 mod printing;
 mod program;
+mod same_files;
 mod toys;
+mod used_file;
 
-pub use program::{run_words, start};
+pub use program::{answer, run_words, start};

@@ -1,5 +1,5 @@
 //! The start of the program, and what it does with its words.
-ghost use Rattle.std.specs.Prelude.{◌≡◌, ◌⊎◌, ◌^◌, None, Some, List as Plain, ℕ};
+ghost use Rattle.std.specs.Prelude.{◌≡◌, ◌<◌, ◌⊎◌, ◌^◌, None, Some, List as Plain, ℕ, length};
 ghost use Rattle.words.specs.declared.ask.Ask as asks;
 ghost use Rattle.words.specs.declared.usage.Usage as usages;
 ghost use Rattle.words.specs.Refusals.{refusal};
@@ -19,7 +19,9 @@ ghost use Rattle.toy_exercise.specs.Reported.{IsOutcome};
 ghost use Rattle.nbrun_main.specs.Printed.{Prints, IsRun, text_to_print as text_for_words};
 
 use crate::help::text_to_print;
-use crate::printing::print;
+use crate::hints::give_hint;
+use crate::printing::{print, refuse};
+use crate::same_files::refusal;
 use crate::toys::Toys;
 use batch_run::Limits;
 use jtext::{NoMemory, Text};
@@ -27,9 +29,16 @@ use nbrun_top::run;
 use std::alloc::Global;
 use std::io::ErrorKind;
 use std::process::ExitCode;
+use std::rt::Files;
 use std::{env, io, process};
 use world::World;
 use world_real::RealWorld;
+
+/// The words are refused.
+const REFUSED: u8 = 2;
+
+/// What was asked for can't be said.
+const NOT_SAID: u8 = 11;
 
 /// Memory was refused before the run began.
 const NO_MEMORY: u8 = 12;
@@ -41,13 +50,40 @@ const NOT_GIVEN: u8 = 20;
 /// is 20 where the arguments or the working folder can't be read as text, and 12 where memory is
 /// refused before the run begins; then nothing is said.
 pub fn start(rt: HostRuntime) -> ExitCode {
-    let (words, here) = match given(&rt) {
-        Ok(both) => both,
-        Err(e) => return ExitCode::from(not_given(e.kind())),
-    };
-    match RealWorld::new(rt, rt.alloc(), process::id(rt.process())) {
-        Ok(mut w) => ExitCode::from(run_words(rt.alloc(), words.as_slice(), here, &mut w)),
-        Err(NoMemory) => ExitCode::from(NO_MEMORY),
+    match given(&rt) {
+        Ok((words, here)) => ExitCode::from(answer(rt, words.as_slice(), here)),
+        Err(e) => ExitCode::from(not_given(e.kind())),
+    }
+}
+
+/// Does what these words ask for over the real world in this working folder, and answers the exit
+/// status. After one other than 0 a line on the standard error stream may help.
+pub fn answer(rt: HostRuntime, words: &[String], here: Text) -> u8 {
+    let alloc = rt.alloc();
+    match RealWorld::new(rt, alloc, process::id(rt.process())) {
+        Ok(mut w) => {
+            let status = run_apart(&rt, alloc, words, here, &mut w);
+            if status != 0 {
+                give_hint(&rt, alloc, words, status, &w);
+            }
+            status
+        }
+        Err(NoMemory) => NO_MEMORY,
+    }
+}
+
+// Does what the words ask for, unless an output is the same file as an input or another output.
+fn run_apart<R: Files, W: World>(
+    files: &R,
+    alloc: Global,
+    words: &[String],
+    here: Text,
+    w: &mut W,
+) -> u8 {
+    match refusal(files, alloc, words, w) {
+        Ok(Some(usage)) => refuse(alloc, &usage, w),
+        Ok(None) => run_words(alloc, words, here, w),
+        Err(NoMemory) => NO_MEMORY,
     }
 }
 
@@ -73,14 +109,22 @@ fn not_given(kind: ErrorKind) -> u8
 }
 
 /// Does what these words ask for over a world, and answers the exit status. The words are the
-/// arguments without the program's name, and `here` is the working folder; `--help` and `--version`
-/// say their text where they stand alone, and all other words are those of a run.
+/// arguments without the program's name, and `here` is the working folder. `--help`, `-h` and
+/// `--version` say their text where they stand alone, no words say the help, and all other words are
+/// those of a run.
+#[tactic(auto, using(crate::proofs::NoWords::no_words_are_refused))]
 pub fn run_words<W: World>(alloc: Global, words: &[String], here: Text, w: &mut W) -> u8
     // The text is said whole with status 0, or else a say has failed and the status is 11.
     ensures printed { (text : Plain ℕ) → text_for_words (texts words.now) ≡ Some text →
-        Between W.journal w.old w.new (λ before. Prints text before result) }
+        0 < length words.now →
+        Between W.journal w.old w.new (λ before. Prints text 0 11 before result) }
     ensures printed_status { (text : Plain ℕ) → text_for_words (texts words.now) ≡ Some text →
-        (result ≡ 0) ⊎ (result ≡ 11) }
+        0 < length words.now → (result ≡ 0) ⊎ (result ≡ 11) }
+    // Without words the status is 2, whatever could be said of the text.
+    ensures helped { (text : Plain ℕ) → text_for_words (texts words.now) ≡ Some text →
+        length words.now ≡ 0 →
+        Between W.journal w.old w.new (λ before. Prints text 2 2 before result) }
+    ensures helped_status { length words.now ≡ 0 → result ≡ 2 }
 
     // Words that execute nothing: each status has its cause, with all that was asked of the world
     // and all that was said.
@@ -159,7 +203,8 @@ pub fn run_words<W: World>(alloc: Global, words: &[String], here: Text, w: &mut 
     ensures heard { IsRun (texts words.now) → result ≡ 0 → SayRose W.counts w.old w.new → ⊥ }
 {
     match text_to_print(words) {
-        Some(text) => print(w, text.as_bytes()),
+        Some(text) if words.is_empty() => print(w, text.as_bytes(), REFUSED, REFUSED),
+        Some(text) => print(w, text.as_bytes(), 0, NOT_SAID),
         None => run(alloc, words, &Limits::usual(here), &Toys, w),
     }
 }

@@ -1,0 +1,188 @@
+//! The refusal of words by which a run would write over a file that it uses otherwise too, whatever
+//! the paths of both are.
+ghost use Rattle.std.specs.Prelude.{◌≡◌, [], option_map, IfOk};
+ghost use Rattle.nbrun_main.specs.SameFiles.{first_clash, refusal_of};
+
+use crate::named::Named;
+use crate::used_file::{UsedFile, first_clash};
+use jtext::{NoMemory, Text};
+use std::alloc::Global;
+use std::fs;
+use std::rt::Files;
+use words::{Ask, Asks, Command, Usage, jobs, read};
+use world::{Disk, ReadFile, folder};
+use world_real::FileId;
+
+/// The most bytes of a jobs file.
+const MOST: u64 = 1_048_576;
+
+/// The endings of the files that a run writes beside an output.
+const BESIDE: [&str; 2] = [".nbrun-tmp", ".nbrun-kernel.json"];
+
+/// The refusal of these words, where an output is the same file as an input or another output. A
+/// jobs file is read for it where it is a regular file: another one could be read only once.
+pub(crate) fn refusal<R: Files, W: Disk>(
+    files: &R,
+    alloc: Global,
+    words: &[String],
+    w: &mut W,
+) -> Result<Option<Usage>, NoMemory> {
+    match read(alloc, words) {
+        Ok(Command::One(ask)) => refusal_of_one(files, alloc, words, &ask),
+        Ok(Command::Many { file, common }) => refusal_of_many(files, alloc, &file, &common, w),
+        Ok(Command::Exercise(_)) => Ok(None),
+        Err(_) => Ok(None),
+    }
+}
+
+// The refusal of the one job of these words.
+fn refusal_of_one<R: Files>(
+    files: &R,
+    alloc: Global,
+    words: &[String],
+    ask: &Ask,
+) -> Result<Option<Usage>, NoMemory> {
+    let mut used = Vec::new(alloc);
+    if let Some(i) = output_word(alloc, words, ask)? {
+        let word = Named::Word(i);
+        used.push(used_file(files, alloc, &ask.input, false, word)?)?;
+        add_output(files, alloc, &mut used, &ask.output, word)?;
+    }
+    refusal_among(alloc, used.as_slice())
+}
+
+// The refusal of a jobs file with these jobs in common.
+fn refusal_of_many<R: Files, W: Disk>(
+    files: &R,
+    alloc: Global,
+    file: &Text,
+    common: &Ask,
+    w: &mut W,
+) -> Result<Option<Usage>, NoMemory> {
+    let mut used = Vec::new(alloc);
+    if let Some(asks) = asks_in(files, alloc, file, common, w) {
+        used.push(used_file(files, alloc, file, false, Named::JobsFile)?)?;
+        for (i, ask) in asks.as_slice().iter().enumerate() {
+            used.push(used_file(files, alloc, &ask.input, false, Named::Input(i))?)?;
+            add_output(files, alloc, &mut used, &ask.output, Named::Output(i))?;
+        }
+    }
+    refusal_among(alloc, used.as_slice())
+}
+
+// The refusal of the first path whose file is the same as an earlier one.
+fn refusal_among(alloc: Global, used: &[UsedFile]) -> Result<Option<Usage>, NoMemory>
+    ensures { IfOk result (λ usage. usage ≡ option_map refusal_of (first_clash [] used.now)) }
+{
+    match first_clash(used) {
+        Some(named) => Ok(Some(named.refusal(alloc)?)),
+        None => Ok(None),
+    }
+}
+
+// The jobs of a file that can be read again, where they are taken.
+fn asks_in<R: Files, W: Disk>(
+    files: &R,
+    alloc: Global,
+    file: &Text,
+    common: &Ask,
+    w: &mut W,
+) -> Option<Asks> {
+    match fs::metadata(files, file.as_str()) {
+        Ok(there) if there.is_file() => {}
+        _ => return None,
+    }
+    match w.read_file(alloc, file, MOST) {
+        ReadFile::Whole(bytes) => jobs(alloc, bytes.bytes(), file, common).ok(),
+        _ => None,
+    }
+}
+
+// Adds an output, and the files that are written beside it. These are made anew under their names:
+// what stood there before doesn't matter.
+fn add_output<R: Files>(
+    files: &R,
+    alloc: Global,
+    used: &mut Vec<UsedFile>,
+    path: &Text,
+    named: Named,
+) -> Result<(), NoMemory> {
+    used.push(used_file(files, alloc, path, true, named)?)?;
+    for ending in BESIDE {
+        let name = name_in(path.as_str());
+        let name = Text::of_string(format!(in alloc; "{name}{ending}")?);
+        used.push(UsedFile {
+            file: None,
+            folder: file_at(files, folder(path.as_str())),
+            name,
+            is_written: true,
+            named,
+        })?;
+    }
+    Ok(())
+}
+
+fn used_file<R: Files>(
+    files: &R,
+    alloc: Global,
+    path: &Text,
+    is_written: bool,
+    named: Named,
+) -> Result<UsedFile, NoMemory> {
+    Ok(UsedFile {
+        file: file_at(files, path.as_str()),
+        folder: file_at(files, folder(path.as_str())),
+        name: Text::of(alloc, name_in(path.as_str()))?,
+        is_written,
+        named,
+    })
+}
+
+// The file that the path leads to, where there is one.
+fn file_at<R: Files>(files: &R, path: &str) -> Option<FileId> {
+    match fs::metadata(files, path) {
+        Ok(said) => Some(FileId::of(&said)),
+        Err(_) => None,
+    }
+}
+
+// The last name of the path.
+fn name_in(path: &str) -> &str {
+    match path.rfind('/') {
+        Some(at) => &path[at + 1..],
+        None => path,
+    }
+}
+
+/// The index of the word that gives the output of this job: with the input in its place the grammar
+/// refuses just this word.
+pub(crate) fn output_word(
+    alloc: Global,
+    words: &[String],
+    ask: &Ask,
+) -> Result<Option<u32>, NoMemory> {
+    for (at, word) in words.iter().enumerate() {
+        if word.as_str() == ask.output.as_str() {
+            let changed = with_word(alloc, words, at, ask.input.as_str())?;
+            if let Err(Usage::SamePath { i }) = read(alloc, changed.as_slice()) {
+                return Ok(Some(i));
+            }
+        }
+    }
+    Ok(None)
+}
+
+// The words, with this one in that place.
+fn with_word(
+    alloc: Global,
+    words: &[String],
+    at: usize,
+    new: &str,
+) -> Result<Vec<String>, NoMemory> {
+    let mut changed = Vec::new(alloc);
+    for (i, word) in words.iter().enumerate() {
+        let text = if i == at { new } else { word.as_str() };
+        changed.push(String::from_str(alloc, text)?)?;
+    }
+    Ok(changed)
+}
