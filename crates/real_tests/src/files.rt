@@ -1,9 +1,9 @@
 //! Files: each call does what it says, and one that the system refuses is a counted failure.
 use crate::worlds::{Real, real_world, start_script, status, text};
-use std::fs;
 use std::os::unix::fs::{MetadataExt, PermissionsExt};
 use std::process::Abort;
 use std::test::Fail;
+use std::{env, fs};
 use world::{Did, Disk, Kids, ReadFile, Wrote};
 
 /// What the world reads there, at most so many bytes.
@@ -108,9 +108,10 @@ fn a_rename_moves_the_first_name_onto_the_second(rt: HostRuntime) -> Result<(), 
 }
 
 fn rename_onto(rt: &HostRuntime, stop: &impl Abort, w: &mut Real) -> Result<(), Fail> {
-    fs::write(rt, "moved-from", "new")?;
     fs::write(rt, "moved-to", "old")?;
     let (from, to) = (text(rt, "moved-from")?, text(rt, "moved-to")?);
+    assert_eq!(stop; w.create(&from), Did::Done);
+    assert_eq!(stop; Disk::write(w, &from, b"new"), Wrote::Took(3));
     assert_eq!(stop; w.rename(&from, &to), Did::Done);
     assert!(stop; fs::read(rt, "moved-from").is_err());
     assert!(stop; holds(rt, "moved-to", b"new")?);
@@ -145,12 +146,41 @@ fn call_in_vain(rt: &HostRuntime, stop: &impl Abort, w: &mut Real) -> Result<(),
     Ok(())
 }
 
+/// As a program of its own, with a word behind its test's name: writes a file until the system takes
+/// no more. As a test it does nothing.
 #[test]
-fn a_full_device_takes_nothing(rt: HostRuntime) -> Result<(), Fail> {
+fn writes_until_refused(rt: HostRuntime) -> Result<(), Fail> {
+    let mut args = env::args(&rt)?;
+    args.next();
+    args.next();
+    let Some(path) = args.next() else {
+        return Ok(());
+    };
     let mut w = real_world(&rt)?;
-    let full = text(&rt, "/dev/full")?;
-    assert_eq!(rt; Disk::write(&mut w, &full, b"x"), Wrote::Failed);
-    assert_eq!(rt; w.disk_faults(), 1);
+    let path = text(&rt, path.as_str())?;
+    assert_eq!(rt; w.create(&path), Did::Done);
+    for _ in 0..100u32 {
+        if Disk::write(&mut w, &path, [7; 512].as_slice()) == Wrote::Failed {
+            assert_eq!(rt; w.disk_faults(), 1);
+            return Ok(());
+        }
+    }
+    Err("all was taken".into())
+}
+
+#[test]
+fn a_file_that_may_not_grow_takes_nothing(rt: HostRuntime) -> Result<(), Fail> {
+    let mut w = real_world(&rt)?;
+    let program = env::args(&rt)?.next().ok_or("no name")?;
+    let program = program.as_str();
+    let script = format!(in rt.alloc();
+        "trap '' XFSZ; ulimit -f 4; exec {program} files::writes_until_refused limited"
+    )?;
+    assert!(rt; start_script(&rt, &mut w, 0, script.as_str())?);
+    assert_eq!(rt; status(&mut w, 0), Some(0));
+    w.end(0);
+    assert!(rt; fs::metadata(&rt, "limited")?.len() < 8192);
+    fs::remove_file(&rt, "limited")?;
     Ok(())
 }
 

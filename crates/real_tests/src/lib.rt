@@ -5,9 +5,21 @@
 #[cfg(test)]
 mod children;
 #[cfg(test)]
+mod clocks;
+#[cfg(test)]
 mod files;
 #[cfg(test)]
+mod held_files;
+#[cfg(test)]
+mod hints;
+#[cfg(test)]
+mod ports;
+#[cfg(test)]
+mod programs;
+#[cfg(test)]
 mod runs;
+#[cfg(test)]
+mod slips;
 #[cfg(test)]
 mod sockets;
 #[cfg(test)]

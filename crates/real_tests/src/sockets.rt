@@ -357,14 +357,14 @@ fn no_descriptor_is_left_over(rt: HostRuntime) -> Result<(), Fail> {
         let ours = open_descriptors(&rt)?;
         assert_eq!(rt;
             ours,
-            before.saturating_add(2),
-            "the poll and one connection"
+            before.saturating_add(3),
+            "the poll, the lock of the ports and one connection"
         );
         w.close(SHELL);
         assert_eq!(rt;
             open_descriptors(&rt)?,
-            before.saturating_add(1),
-            "the poll"
+            before.saturating_add(2),
+            "the poll and the lock of the ports"
         );
     }
     assert_eq!(rt; open_descriptors(&rt)?, before);
