@@ -1,7 +1,7 @@
 -- What a first connect and a close do to a loop.
 use Rattle.std.proofs.Common.{◌≡◌, ◌≢◌, inl, inr, ◌<◌, ◌||◌, ◌⊎◌, ℕ, Bool, true, false, List, [], ◌∷◌, length, set, Some, None, Result, Ok, Err, IfErr, slice_get, arith, refl, sym, ◌∙◌, ap, subst}
 use Rattle.world.specs.declared.chan.Chan.{Chan}
-use Rattle.std.proofs.lemmas.Bool.{cases_eq, false≢true, or_parts, or_right}
+use Rattle.std.proofs.lemmas.Bool.{cases_eq, eq-eqb, false≢true, or_parts, or_right}
 use Rattle.std.proofs.Math.ListN.{length-set}
 use Rattle.std.proofs.lemmas.Option.{same_Some, slice_get_within}
 use Rattle.world.specs.declared.chan.Chan.TheVariants.{Shell, Control, Iopub, Heart}
@@ -19,16 +19,16 @@ use Rattle.ready_loop.specs.declared.readiness.Loop.{Loop}
 use Rattle.ready_loop.specs.declared.stage.Stage.{Stage}
 use Rattle.ready_loop.specs.declared.stage.Stage.TheVariants.{Fresh, Begun, Closed}
 use Rattle.ready_loop.specs.Link.{MayRead, MayWrite, connect_link, begun_link, closed_link, is_begun, is_known}
-use Rattle.ready_loop.specs.Begins.{BeginMoment, Begins, BeginsOne, IsBegun, port_of, CloseMoment, CloseCame, ClosesOne, closing, begun_in, failed_closed, is_of_job}
+use Rattle.ready_loop.specs.Begins.{BeginMoment, Begins, BeginsOne, IsBegun, port_of, CloseMoment, CloseCame, ClosesOne, closing, unless_closed, is_of_job, Closes}
 use Rattle.ready_loop.specs.Queues.{held_in, rest_at}
 use Rattle.ready_loop.specs.Begins as begins
 use Rattle.ready_loop.specs.History.{History, no_change, with_begun, with_all_begun, conn_on, chans, after_begin}
 use Rattle.ready_loop.specs.Standing.{write_ended, StandsAt, Stand, StandsFor, Goes}
-use Rattle.ready_loop.specs.States.{OnlyAt, IsOffered, IsSound, Each, SameKnown, HoldsForKnown, failed_at, failed_in, failed_connect, known_in, known_at}
-use Rattle.ready_loop.proofs.ConnectLemmas.{stands_begun, stands_closed, stands_unbegun, known_closed}
+use Rattle.ready_loop.specs.States.{OnlyAt, IsOffered, IsSound, Each, HoldsForKnown, failed_at, failed_in, failed_connect, known_in, known_at, begun_in, begun_at}
+use Rattle.ready_loop.proofs.ConnectLemmas.{stands_begun, stands_closed, stands_unbegun, begun_closed, known_closed}
 use Rattle.ready_loop.proofs.OfferLemmas.{ended_connect}
 use Rattle.ready_loop.proofs.StandLemmas.{stand_at, stands_as, same_but, begun_but, not_at, or_own}
-use Rattle.ready_loop.proofs.StateLemmas.{each_set, failed_set, kept_set, known_by, connect_failed, failed_connect_other, connect_stage, sound_at}
+use Rattle.ready_loop.proofs.StateLemmas.{each_set, failed_set, kept_set, connect_failed, failed_connect_other, connect_stage, sound_at}
 use Rattle.jtext.proofs.Lists.{some_at, slice_get-set_same, slice_get-set_other}
 
 -- ---- a first connect
@@ -221,10 +221,10 @@ closed_goes false conn l links link past found b is = unbegun_goes conn l links 
 
 pub closed_fails : (conn : Conn) (links now : List Link) (link : Link) → slice_get links (place_of conn) ≡ Some link
     → now ≡ set links (place_of conn) (closed_link link)
-    → (p : ℕ) → failed_in (slice_get now p) ≡ failed_closed (is_at p conn) (failed_in (slice_get links p))
+    → (p : ℕ) → failed_in (slice_get now p) ≡ unless_closed (is_at p conn) (failed_in (slice_get links p))
 closed_fails conn links now link found is p =
-    failed_set (λ i b. failed_closed (is_at i conn) b) links now (place_of conn) (closed_link link) link found is
-    (ap (λ x. failed_closed x link.failed) (sym (at_own conn))) (λ i b ne. ap (λ x. failed_closed x b) (not_at i conn ne)) p
+    failed_set (λ i b. unless_closed (is_at i conn) b) links now (place_of conn) (closed_link link) link found is
+    (ap (λ x. unless_closed x link.failed) (sym (at_own conn))) (λ i b ne. ap (λ x. unless_closed x b) (not_at i conn ne)) p
 
 pub closed_offered : (l : Loop) (q : ℕ) (links : List Link) (link : Link) → slice_get l.links q ≡ Some link
     → links ≡ set l.links q (closed_link link) → IsOffered l → IsOffered (record l { links = links })
@@ -236,14 +236,14 @@ closed_offered l q links link found is o = record {
 pub closed_reads : (link : Link) → MayRead (closed_link link) → MayRead link
 closed_reads link m = absurd (false≢true m.awake)
 
-either : (x y w : Bool) → failed_closed x (failed_closed y w) ≡ failed_closed (x || y) w
+either : (x y w : Bool) → unless_closed x (unless_closed y w) ≡ unless_closed (x || y) w
 either true y w = refl
 either false y w = refl
 
 -- the four of a job
 pub closed_four : (s c i h w : Bool)
-    → failed_closed h (failed_closed i (failed_closed c (failed_closed s w))) ≡ failed_closed (h || (i || (c || s))) w
-closed_four s c i h w = ap (λ v. failed_closed h (failed_closed i v)) (either c s w) ∙ ap (λ v. failed_closed h v) (either i (c || s) w) ∙ either h (i || (c || s)) w
+    → unless_closed h (unless_closed i (unless_closed c (unless_closed s w))) ≡ unless_closed (h || (i || (c || s))) w
+closed_four s c i h w = ap (λ v. unless_closed h (unless_closed i v)) (either c s w) ∙ ap (λ v. unless_closed h v) (either i (c || s) w) ∙ either h (i || (c || s)) w
 
 -- one of another channel is as before
 pub begun_other : (conn q : Conn) (l new : Loop) → place_of conn ≢ place_of q → OnlyAt (place_of q) l new
@@ -287,18 +287,44 @@ module _ (job : ℕ) (low : job < 16) (a b c d e : Loop) (shell : OnlyAt (place_
         ∙ ap (λ j. closing (status (place_of (conn_on job Control)) v).begun (conn_on job Control) j) (one ∙ ap (λ t. closing t (conn_on job Shell) v) s1)));
   }
 
-pub closed_known : (l new : Loop) (q : ℕ) (link : Link) → slice_get l.links q ≡ Some link
-    → new.links ≡ set l.links q (closed_link link) → new.queues ≡ l.queues → SameKnown l new
-closed_known l new q link found is queues = known_by l new (kept_set known_in l.links new.links q (closed_link link) link found is (known_closed link.stage))
-    (λ p e. ap (λ qs. rest_at qs p) queues ∙ e)
+pub closed_known : (conn : Conn) (l new : Loop) (q : ℕ) (link : Link) → q ≡ place_of conn → slice_get l.links q ≡ Some link
+    → new.links ≡ set l.links q (closed_link link) → new.queues ≡ l.queues → Closes (λ p. is_at p conn) l new
+closed_known conn l new q link place found is queues =
+    let known = kept_set known_in l.links new.links q (closed_link link) link found is (known_closed link.stage) in
+    record {
+      known = known;
+      begun = λ p. elim (cases_eq p q) [
+        | inl e ↦
+            let own = ap (λ ls. begun_in (slice_get ls q)) is ∙ ap begun_in (slice_get-set_same l.links q (closed_link link) (slice_get_within l.links q _ found)) ∙ begun_closed link.stage
+            ∙ sym (ap (λ b. unless_closed b (begun_at l q)) (eq-eqb q (place_of conn) place)) in
+            subst (λ i. begun_at new i ≡ unless_closed (is_at i conn) (begun_at l i)) (sym e) own
+        | inr ne ↦
+            ap (λ ls. begun_in (slice_get ls p)) is ∙ ap begun_in (slice_get-set_other l.links q p (closed_link link) ne)
+            ∙ sym (ap (λ b. unless_closed b (begun_at l p)) (not_at p conn (λ e. ne (e ∙ sym place))))
+      ];
+      holds = λ h. record { each = λ p fresh. ap (λ qs. rest_at qs p) queues ∙ h.each p (sym (known p) ∙ fresh) };
+    }
+
+-- four closes, one after another
+pub closes_four : (job : ℕ) (a b c d e : Loop) → Closes (λ p. is_at p (conn_on job Shell)) a b → Closes (λ p. is_at p (conn_on job Control)) b c
+    → Closes (λ p. is_at p (conn_on job Iopub)) c d → Closes (λ p. is_at p (conn_on job Heart)) d e → Closes (λ p. is_of_job job p) a e
+closes_four job a b c d e shell control iopub heart = record {
+  known = λ p. heart.known p ∙ iopub.known p ∙ control.known p ∙ shell.known p;
+  begun = λ p.
+      heart.begun p ∙ ap (λ b. unless_closed (is_at p (conn_on job Heart)) b) (iopub.begun p
+      ∙ ap (λ b. unless_closed (is_at p (conn_on job Iopub)) b) (control.begun p
+      ∙ ap (λ b. unless_closed (is_at p (conn_on job Control)) b) (shell.begun p)))
+      ∙ closed_four (is_at p (conn_on job Shell)) (is_at p (conn_on job Control)) (is_at p (conn_on job Iopub)) (is_at p (conn_on job Heart)) (begun_at a p);
+  holds = λ h. heart.holds (iopub.holds (control.holds (shell.holds h)));
+}
 
 -- and none has failed after it that had not before
-pub closed_sound : (b w : Bool) → w ≡ false → failed_closed b w ≡ false
+pub closed_sound : (b w : Bool) → w ≡ false → unless_closed b w ≡ false
 closed_sound true w e = refl
 closed_sound false w e = e
 
 -- a place of a connection of a job is of that job
-own_job : (job p : ℕ) (chan : Chan) → is_at p (conn_on job chan) ≡ true → is_of_job job p ≡ true
+pub own_job : (job p : ℕ) (chan : Chan) → is_at p (conn_on job chan) ≡ true → is_of_job job p ≡ true
 own_job job p Heart e = ap (λ b. b || (is_at p (conn_on job Iopub) || (is_at p (conn_on job Control) || is_at p (conn_on job Shell)))) e
 own_job job p Iopub e = or_right (is_at p (conn_on job Heart)) _ (ap (λ b. b || (is_at p (conn_on job Control) || is_at p (conn_on job Shell))) e)
 own_job job p Control e = or_right (is_at p (conn_on job Heart)) _ (or_right (is_at p (conn_on job Iopub)) _ (ap (λ b. b || is_at p (conn_on job Shell)) e))
@@ -306,7 +332,7 @@ own_job job p Shell e = or_right (is_at p (conn_on job Heart)) _ (or_right (is_a
 
 -- the one that failed is of the job that was closed
 closed_whole : (conn : Conn) (p : ℕ) (b : Bool) → is_of_job conn.job p ≡ b → (was : Bool) → was ≡ false
-    → failed_closed b (is_at p conn || was) ≡ false
+    → unless_closed b (is_at p conn || was) ≡ false
 closed_whole conn p true of was e = refl
 closed_whole conn p false of was e = elim (at (is_at p conn) refl) [
   | inl own ↦ absurd (false≢true (sym of ∙ own_job conn.job p conn.chan own))
@@ -320,9 +346,9 @@ closed_whole conn p false of was e = elim (at (is_at p conn) refl) [
 -- one fault, and a close of its job
 pub mended : (conn : Conn) (old mid new : Loop) → IsSound old
     → ((p : ℕ) → failed_at mid p ≡ is_at p conn || failed_at old p)
-    → ((p : ℕ) → failed_at new p ≡ failed_closed (is_of_job conn.job p) (failed_at mid p)) → IsSound new
+    → ((p : ℕ) → failed_at new p ≡ unless_closed (is_of_job conn.job p) (failed_at mid p)) → IsSound new
 mended conn old mid new sound fails closes = record {
   each = λ p link low found.
-      sym (ap failed_in found) ∙ closes p ∙ ap (λ b. failed_closed (is_of_job conn.job p) b) (fails p)
+      sym (ap failed_in found) ∙ closes p ∙ ap (λ b. unless_closed (is_of_job conn.job p) b) (fails p)
       ∙ closed_whole conn p (is_of_job conn.job p) refl (failed_at old p) (sound_at old sound p low);
 }

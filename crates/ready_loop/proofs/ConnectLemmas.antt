@@ -88,7 +88,7 @@ known_closed Fresh = refl
 known_closed Begun = refl
 known_closed Closed = refl
 
-begun_closed : (stage : Stage) → is_begun (closed_stage stage) ≡ false
+pub begun_closed : (stage : Stage) → is_begun (closed_stage stage) ≡ false
 begun_closed Fresh = refl
 begun_closed Begun = refl
 begun_closed Closed = refl

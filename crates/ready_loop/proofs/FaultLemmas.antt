@@ -21,9 +21,24 @@ on_ok (Err e) p = tt
 pub handed_on : {T E : Type 0} {r : Result T E} {e : E} → IsErrAnd r (λ k. k ≡ e) → r ≡ Err e
 handed_on {r = r} is = let found = err_from_is_err_and r is in found.1 ∙ ap Err found.2
 
+-- an error is the same in an answer of another type
+pub err_same : {T U E : Type 0} {e f : E} → ◌≡◌ {A = Result T E} (Err e) (Err f) → ◌≡◌ {A = Result U E} (Err e) (Err f)
+err_same {e = e} {f} is = let same : e ≡ f = cc in ap (λ k. Err k) same
+
 -- a fault that names this connection names one
 pub of_conn : {fault : LoopFault} {conn : Conn} → fault ≡ NetFault (Some conn) → IsOfConn fault
 of_conn e = subst IsOfConn (sym e) tt
+
+-- nor is it of another job
+pub fault_job : {T : Type 0} {fault : LoopFault} {conn c : Conn} → fault ≡ NetFault (Some conn) → ◌≡◌ {A = Result T LoopFault} (Err fault) (Err (NetFault (Some c))) → c.job ≡ conn.job
+fault_job {fault = fault} {conn} {c} is e =
+    let there : fault ≡ NetFault (Some c) = cc in
+    let same : c ≡ conn = cc in
+    ap (λ (k : Conn). k.job) same
+
+pub fault_own : {T : Type 0} (r : Result T LoopFault) (conn c : Conn) → IfErr r (λ fault. fault ≡ NetFault (Some conn)) → r ≡ Err (NetFault (Some c)) → c.job ≡ conn.job
+fault_own (Ok x) conn c is e = absurd (cc)
+fault_own {T} (Err fault) conn c is e = fault_job {T = T} is e
 
 -- so it is of an answer that may be one
 pub of_conn_if : {T : Type 0} (r : Result T LoopFault) (conn : Conn)

@@ -3,6 +3,7 @@ pub mod BegunLemmas
 pub mod CallLemmas
 pub mod ConnectLemmas
 pub mod FaultLemmas
+pub mod JobLemmas
 pub mod KeyLemmas
 pub mod LookLemmas
 pub mod MapLemmas

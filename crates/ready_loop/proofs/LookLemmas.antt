@@ -86,7 +86,7 @@ below_more {n = n} {jobs} {l} {mid} {x = x} {z = z} untouched b m k q = record {
       ];
 }
 
-job_at : (conn : Conn) (place : ℕ) → place_of conn ≡ place → place / 4 ≡ conn.job
+pub job_at : (conn : Conn) (place : ℕ) → place_of conn ≡ place → place / 4 ≡ conn.job
 job_at conn place e = let low = chan_below conn.chan in omega arith
 
 -- what is offered at a place of one of these jobs

@@ -4,8 +4,8 @@ use Rattle.std.proofs.lemmas.Bool.{cases_eq, cases_lt}
 use Rattle.std.proofs.Math.ListN.{length-set}
 use Rattle.std.proofs.lemmas.Option.{same_Some, slice_get_within, slice_get_past}
 use Rattle.ready_loop.specs.declared.link.Link.{Link}
-use Rattle.ready_loop.specs.States.{MapsTo, MapsBelow, failed_in, known_in}
-use Rattle.ready_loop.specs.Link.{is_known}
+use Rattle.ready_loop.specs.States.{MapsTo, MapsBelow, begun_in, failed_in, known_in}
+use Rattle.ready_loop.specs.Link.{is_begun, is_known}
 use Rattle.jtext.proofs.Lists.{slice_get-set_same, slice_get-set_other, none_beyond, some_and, some_was}
 
 pub and_as : {P Q : Link → Type 0} (o : Option Link) → ((x : Link) → P x → Q x) → IsSomeAnd o P → IsSomeAnd o Q
@@ -76,3 +76,8 @@ pub maps_known : (n : ℕ) (f : ℕ → Link → Link) (old new : List Link)
     → ((p : ℕ) (link : Link) → (f p link).stage ≡ link.stage) → MapsBelow n f old new
     → (p : ℕ) → known_in (slice_get new p) ≡ known_in (slice_get old p)
 maps_known n f old new same r = maps_kept known_in n f old new (λ p link. ap is_known (same p link)) r
+
+pub maps_begun : (n : ℕ) (f : ℕ → Link → Link) (old new : List Link)
+    → ((p : ℕ) (link : Link) → (f p link).stage ≡ link.stage) → MapsBelow n f old new
+    → (p : ℕ) → begun_in (slice_get new p) ≡ begun_in (slice_get old p)
+maps_begun n f old new same r = maps_kept begun_in n f old new (λ p link. ap is_begun (same p link)) r

@@ -15,7 +15,7 @@ use Rattle.ready_loop.specs.Queues.{held_in, rest_at}
 use Rattle.ready_loop.specs.Standing.{StandsAt, StandsFor, Goes, write_ended}
 use Rattle.ready_loop.specs.States.{NamesAll, IsDrained, IsOffered, IsCalm, AllOfferedBelow, SameKnown, failed_at, found_in, found_at}
 use Rattle.ready_loop.proofs.TurnLemmas.{stands_named}
-use Rattle.ready_loop.proofs.MapLemmas.{maps_at, maps_failed, maps_known}
+use Rattle.ready_loop.proofs.MapLemmas.{maps_at, maps_begun, maps_failed, maps_known}
 use Rattle.ready_loop.proofs.StandLemmas.{stands_as}
 use Rattle.ready_loop.proofs.StateLemmas.{known_by}
 use Rattle.jtext.proofs.Lists.{some_at, slice_get-set_same, slice_get-set_other}
@@ -89,4 +89,4 @@ module _ (l new : Loop) (all : NamesAll l.links new.links) (queues : new.queues 
   named_failed p = maps_failed 64 (λ q. named_link) l.links new.links (λ q link. refl) all p
 
   pub named_known : SameKnown l new
-  named_known = known_by l new (maps_known 64 (λ q. named_link) l.links new.links (λ q link. refl) all) (λ p e. ap (λ qs. rest_at qs p) queues ∙ e)
+  named_known = known_by l new (maps_known 64 (λ q. named_link) l.links new.links (λ q link. refl) all) (maps_begun 64 (λ q. named_link) l.links new.links (λ q link. refl) all) (λ p e. ap (λ qs. rest_at qs p) queues ∙ e)

@@ -12,7 +12,7 @@ use Rattle.ready_loop.specs.Link.{fresh_link}
 use Rattle.ready_loop.specs.History.{History, no_history, with_queued, after_queue}
 use Rattle.ready_loop.specs.Queues.{Held, held_in, rest_at, taken_at}
 use Rattle.ready_loop.specs.Standing.{StandsAt, Stand, StandsFor, IsShut, AllShut, put_at, write_ended}
-use Rattle.ready_loop.specs.States.{MayWait, HoldsForKnown, SameKnown, known_in, known_at}
+use Rattle.ready_loop.specs.States.{MayWait, HoldsForKnown, OnlyAt, SameKnown, known_in, known_at}
 use Rattle.ready_loop.proofs.TurnLemmas.{stands_queued}
 use Rattle.ready_loop.proofs.StandLemmas.{stands_as, queued_but}
 use Rattle.jtext.proofs.Lists.{some_at, slice_get-set_same, slice_get-set_other}
@@ -142,6 +142,7 @@ pub queue_known : {U E : Type 0} (r : Result U E) (q : ℕ) (more : List ℕ) (l
     → OnErr r (queues ≡ l.queues) → SameKnown l (record l { queues = queues })
 queue_known (Ok u) q more l queues known ok err = record {
   each = λ p. refl;
+  begun = λ p. refl;
   holds = λ h. record {
     each = λ p fresh. elim (cases_eq p q) [
       | inl e ↦ absurd (false≢true (sym fresh ∙ subst (λ i. known_at l i ≡ true) (sym e) known))
@@ -152,8 +153,20 @@ queue_known (Ok u) q more l queues known ok err = record {
 }
 queue_known (Err e) q more l queues known ok err = record {
   each = λ p. refl;
+  begun = λ p. refl;
   holds = λ h. record { each = λ p fresh. ap (λ qs. rest_at qs p) err ∙ h.each p fresh };
 }
+
+-- and nothing changes elsewhere
+pub queue_only : {U E : Type 0} (r : Result U E) (q : ℕ) (more : List ℕ) (l : Loop) (queues : List Held)
+    → OnOk r (queues ≡ set l.queues q (record { rest = rest_at l.queues q ++ more; taken = taken_at l.queues q }))
+    → OnErr r (queues ≡ l.queues) → OnlyAt q l (record l { queues = queues })
+queue_only (Ok u) q more l queues ok err = record {
+  links = λ p ne. refl;
+  held = λ p ne. ap (λ qs. held_in (slice_get qs p)) ok ∙ ap held_in (slice_get-set_other l.queues q p (record { rest = rest_at l.queues q ++ more; taken = taken_at l.queues q }) ne);
+  left = refl;
+}
+queue_only (Err e) q more l queues ok err = record { links = λ p ne. refl; held = λ p ne. ap (λ qs. held_in (slice_get qs p)) err; left = refl }
 
 -- ---- what was taken
 

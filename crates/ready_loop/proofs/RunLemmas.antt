@@ -16,7 +16,7 @@ use Rattle.ready_loop.specs.declared.fault.LoopFault.TheVariants.{NetFault, Spen
 use Rattle.ready_loop.specs.declared.readiness.Loop.{Loop}
 use Rattle.ready_loop.specs.Begins.{BeginMoment, CloseMoment}
 use Rattle.ready_loop.specs.History.{History}
-use Rattle.ready_loop.specs.Offers.{Offers, again, writes, OfferMoment, LookMoment}
+use Rattle.ready_loop.specs.Offers.{Offers, again, writes, JobMoment, OfferMoment, LookMoment}
 use Rattle.ready_loop.specs.Reads.{ReadMoment}
 use Rattle.ready_loop.specs.Runs as runs
 use Rattle.ready_loop.specs.Runs.{Calls, Runs, IsFair, IsFairWait, FairMoment}
@@ -90,6 +90,10 @@ fair_offers forced h past conn entry (writes answer piece r) = runs.write conn a
 fair_offer : (now : List Entry) (h : History) → OfferMoment false h now → FairMoment now
 fair_offer [] h m = m
 fair_offer (entry ∷ past) h m = fair_offers false h past m.0 entry m.1
+
+fair_job : (job : ℕ) (now : List Entry) (h : History) → JobMoment job h now → FairMoment now
+fair_job job [] h m = m
+fair_job job (entry ∷ past) h m = fair_offers false h past m.0 entry m.2
 
 fair_look : (jobs : List Bool) (now : List Entry) (h : History) → LookMoment jobs h now → FairMoment now
 fair_look jobs [] h m = m
@@ -168,6 +172,7 @@ call_holds : (old new : Loop) (h k : History) (before after : List Entry) → Ca
 call_holds old _ h _ before _ (runs.begins job heart result new after goes) stand = let r = goes.so h stand in (r.0, since_as (λ now m. fair_begin now h m) r.1)
 call_holds old _ h _ before _ (runs.queues conn bytes result new goes) stand = (goes stand, start)
 call_holds old _ h _ before _ (runs.offers result new after goes) stand = let r = goes.so h stand in (r.0, since_as (λ now m. fair_offer now h m) r.1)
+call_holds old _ h _ before _ (runs.offers_job job new after goes) stand = let r = goes.so h stand in (r.0, since_as (λ now m. fair_job job now h m) r.1)
 call_holds old _ h _ before _ (runs.turns due result last new after calm goes) stand = let r = goes.so h stand in (r.0, turn_fair due result h before after (goes.calm h stand calm) r.1)
 call_holds old _ h _ before _ (runs.looks jobs result last new after calm goes) stand = let r = goes.so h stand in (r.0, look_fair jobs (IsCalm last old) result h before after calm r.1)
 call_holds old _ h _ before _ (runs.reads result new after goes) stand = let r = goes.so h stand in (r.0, since_as (λ now m. fair_read now h m) r.1)

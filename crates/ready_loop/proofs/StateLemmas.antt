@@ -1,5 +1,5 @@
 -- What one call does to what is to be done before the next wait.
-use Rattle.std.proofs.Common.{◌≡◌, ◌≢◌, inl, inr, ◌+◌, ◌-◌, ◌<◌, ◌||◌, ◌∷◌, drop, length-drop, sum_by, get_or, ℕ, Bool, true, false, List, [], length, set, Option, Some, None, IsSomeAnd, Result, Ok, Err, OnOk, slice_get, arith, refl, sym, ◌∙◌, ap, subst}
+use Rattle.std.proofs.Common.{◌≡◌, ◌≢◌, inl, inr, ◌+◌, ◌-◌, ◌<◌, ◌≤◌, ◌||◌, ◌∷◌, drop, length-drop, sum_by, get_or, ℕ, Bool, true, false, List, [], length, set, Option, Some, None, IsSomeAnd, Result, Ok, Err, OnOk, slice_get, arith, refl, sym, ◌∙◌, ap, subst}
 use Rattle.std.proofs.lemmas.List.Sums.{sum_by-set}
 use Rattle.std.proofs.lemmas.Option.{get_or_from_slice_get, same_Some, slice_get_within}
 use Rattle.std.proofs.lemmas.Bool.{cases_eq, cases_lt, eq-eqb, ne_eqb, false≢true}
@@ -14,12 +14,12 @@ use Rattle.world.specs.Places.{place_of}
 use Rattle.world.specs.Told.{PutSome}
 use Rattle.ready_loop.specs.declared.link.Link.{Link}
 use Rattle.ready_loop.specs.declared.readiness.Loop.{Loop}
-use Rattle.ready_loop.specs.Link.{MayRead, MayWrite, IsToBegin, read_link, connect_link, write_link, is_known}
+use Rattle.ready_loop.specs.Link.{MayRead, MayWrite, IsToBegin, read_link, connect_link, write_link, closed_link, is_known, is_begun, IsSteady}
 use Rattle.ready_loop.specs.Queues.{Held, held_in, rest_at, put_count}
 use Rattle.ready_loop.specs.Reads.{failed_got}
-use Rattle.ready_loop.specs.States.{EachBelow, Each, IsDrained, IsOffered, IsSound, NotRead, failed_in, failed_at, failed_connect, failed_put, IsCalmAt, IsOfferedAt, AllOfferedBelow, OnlyAt, FailsOnly, SameKnown, known_in, known_at, flag, writable_in, load, IsCalm, reads_where, link_reads}
+use Rattle.ready_loop.specs.States.{EachBelow, Each, IsDrained, IsOffered, IsSound, NotRead, failed_in, failed_at, failed_connect, failed_put, IsCalmAt, IsOfferedAt, AllOfferedBelow, OnlyAt, FailsOnly, SameKnown, known_in, known_at, begun_in, begun_at, IsWell, flag, writable_in, load, IsCalm, reads_where, link_reads}
 use Rattle.ready_loop.specs.declared.fault.LoopFault.{LoopFault}
-use Rattle.ready_loop.proofs.BegunLemmas.{clock_last}
+use Rattle.ready_loop.proofs.BegunLemmas.{calm_sound, clock_last, well_read, well_write}
 use Rattle.ready_loop.proofs.CallLemmas.{held_write}
 use Rattle.ready_loop.proofs.OfferLemmas.{held_set}
 use Rattle.jtext.proofs.Lists.{slice_get-set_same, slice_get-set_other}
@@ -78,10 +78,11 @@ kept_set g links now q new link found is same p = elim (cases_eq p q) [
 ]
 
 -- where bytes are added at no place that has none, and none is begun
-pub known_by : (l new : Loop) → ((p : ℕ) → known_at new p ≡ known_at l p)
+pub known_by : (l new : Loop) → ((p : ℕ) → known_at new p ≡ known_at l p) → ((p : ℕ) → begun_at new p ≡ begun_at l p)
     → ((p : ℕ) → rest_at l.queues p ≡ [] → rest_at new.queues p ≡ []) → SameKnown l new
-known_by l new same empty = record {
+known_by l new same begun empty = record {
   each = same;
+  begun = begun;
   holds = λ h. record { each = λ p fresh. empty p (h.each p (sym (same p) ∙ fresh)) };
 }
 
@@ -89,13 +90,13 @@ known_by l new same empty = record {
 pub known_set : (l new : Loop) (q : ℕ) (then link : Link) → slice_get l.links q ≡ Some link
     → new.links ≡ set l.links q then → then.stage ≡ link.stage
     → ((p : ℕ) → rest_at l.queues p ≡ [] → rest_at new.queues p ≡ []) → SameKnown l new
-known_set l new q then link found is same empty = known_by l new (kept_set known_in l.links new.links q then link found is (ap is_known same)) empty
+known_set l new q then link found is same empty = known_by l new (kept_set known_in l.links new.links q then link found is (ap is_known same)) (kept_set begun_in l.links new.links q then link found is (ap is_begun same)) empty
 
 pub known_start : (l : Loop) → SameKnown l l
-known_start l = record { each = λ p. refl; holds = λ h. h }
+known_start l = record { each = λ p. refl; begun = λ p. refl; holds = λ h. h }
 
 pub known_then : {a b c : Loop} → SameKnown a b → SameKnown b c → SameKnown a c
-known_then m n = record { each = λ p. n.each p ∙ m.each p; holds = λ h. n.holds (m.holds h) }
+known_then m n = record { each = λ p. n.each p ∙ m.each p; begun = λ p. n.begun p ∙ m.begun p; holds = λ h. n.holds (m.holds h) }
 
 -- where one queue was replaced that held bytes, one that holds none is as it was
 pub empty_set : (queues now : List Held) (q : ℕ) (held : Held) → 0 < length (rest_at queues q) → now ≡ set queues q held
@@ -203,6 +204,64 @@ read_lowers answer last q links now link found is may =
     let same : sum_by link_reads now ≡ sum_by link_reads (set links q (read_link answer last link)) = ap (sum_by link_reads) is in
     let falls = link_read answer last link may in
     omega (arith, sums, here, same, falls)
+
+-- where one link was replaced of which no more may be read
+pub reads_set : (links now : List Link) (q : ℕ) (new link : Link) → slice_get links q ≡ Some link → now ≡ set links q new
+    → link_reads new ≤ link_reads link → sum_by link_reads now ≤ sum_by link_reads links
+reads_set links now q new link found is less =
+    let sums = sum_by-set link_reads links q new link (slice_get_within links q _ found) in
+    let here : link_reads (get_or links q link) ≡ link_reads link = ap link_reads (get_or_from_slice_get links q link link found) in
+    let same : sum_by link_reads now ≡ sum_by link_reads (set links q new) = ap (sum_by link_reads) is in
+    omega (arith, sums, here, same, less)
+
+none_failed : (awake : Bool) (reads most : ℕ) → reads_where awake true reads ≤ most
+none_failed true reads most = omega arith
+none_failed false reads most = omega arith
+
+pub connect_lowers : (how : Connected) (last : ℕ) (link : Link) → link_reads (connect_link how last link) ≤ link_reads link
+connect_lowers connected.Begun last link = omega arith
+connect_lowers connected.Refused last link = omega arith
+connect_lowers connected.Failed last link = none_failed link.awake link.reads (link_reads link)
+
+pub write_lowers : (answer : Put) (last : ℕ) (link : Link) → link_reads (write_link answer last link) ≤ link_reads link
+write_lowers (put.Took n) last link = omega arith
+write_lowers put.Stuck last link = omega arith
+write_lowers put.Ended last link = omega arith
+write_lowers put.Refused last link = omega arith
+write_lowers put.Failed last link = none_failed link.awake link.reads (link_reads link)
+
+pub closed_lowers : (link : Link) → link_reads (closed_link link) ≤ link_reads link
+closed_lowers link = omega arith
+
+-- ---- connections of which a call may be made
+
+well_by : (l : Loop) (conn : Conn) (q : ℕ) (link : Link) → place_of conn ≡ q → conn.job < 16 → slice_get l.links q ≡ Some link
+    → is_begun link.stage ≡ true → link.failed ≡ false → IsWell l conn
+well_by l conn q link place low found begun sound = record {
+  job = low;
+  begun = ap (λ i. begun_in (slice_get l.links i)) place ∙ ap begun_in found ∙ begun;
+  sound = ap (λ i. failed_in (slice_get l.links i)) place ∙ ap failed_in found ∙ sound;
+}
+
+pub well_connect : (l : Loop) (conn : Conn) (q : ℕ) (link : Link) → place_of conn ≡ q → conn.job < 16 → slice_get l.links q ≡ Some link
+    → IsSteady link → {forced : Bool} {last : ℕ} → IsToBegin forced last link → IsWell l conn
+well_connect l conn q link place low found s to = well_by l conn q link place low found (s.begun to.at to.refused) (calm_sound link s to.at to.refused)
+
+pub well_written : (l : Loop) (conn : Conn) (q : ℕ) (link : Link) → place_of conn ≡ q → conn.job < 16 → slice_get l.links q ≡ Some link
+    → IsSteady link → MayWrite link → IsWell l conn
+well_written l conn q link place low found s may = well_by l conn q link place low found (well_write link s may) may.sound
+
+pub well_got : (l : Loop) (conn : Conn) (q : ℕ) (link : Link) → place_of conn ≡ q → conn.job < 16 → slice_get l.links q ≡ Some link
+    → IsSteady link → MayRead link → IsWell l conn
+well_got l conn q link place low found s may = well_by l conn q link place low found (well_read link s may) may.sound
+
+-- one that is so after calls that failed of none was so before them
+pub well_before : {a b : Loop} {conn : Conn} → SameKnown a b → ((p : ℕ) → failed_at b p ≡ failed_at a p) → IsWell b conn → IsWell a conn
+well_before {a} {b} {conn} known failed w = record {
+  job = w.job;
+  begun = sym (known.begun (place_of conn)) ∙ w.begun;
+  sound = sym (failed (place_of conn)) ∙ w.sound;
+}
 
 -- a connection that is to be read is left
 pub not_drained : {l now : Loop} {q : ℕ} {link : Link} → q < 64 → now ≡ l

@@ -1,5 +1,5 @@
 -- What beginning and closing a job's connections adds to a journal, its newest entry first.
-use Rattle.std.specs.Prelude.{◌≡◌, ◌||◌, ℕ, List, [], ◌∷◌, Bool, true, false, Option, Some, None, Result, Ok, Err, slice_get, slice_index}
+use Rattle.std.specs.Prelude.{◌≡◌, ◌||◌, ◌+◌, ◌*◌, ◌<◌, ◌≤◌, ℕ, List, [], ◌∷◌, Bool, true, false, Option, Some, None, Result, Ok, Err, slice_get, slice_index}
 use Rattle.std.proofs.Common.{◌≢◌}
 use Rattle.world.specs.declared.chan.Chan.{Chan}
 use Rattle.world.specs.declared.chan.Chan.TheVariants.{Shell, Control, Iopub, Heart}
@@ -11,12 +11,11 @@ use Rattle.world.specs.declared.entry.Entry.TheVariants as made
 use Rattle.world.specs.Places.{place_of, is_at, status}
 use Rattle.ready_loop.specs.declared.fault.LoopFault.{LoopFault}
 use Rattle.ready_loop.specs.declared.fault.LoopFault.TheVariants.{NetFault, Spent}
-use Rattle.ready_loop.specs.declared.link.Link.{Link}
 use Rattle.ready_loop.specs.declared.readiness.Loop.{Loop}
 use Rattle.ready_loop.specs.History.{History, conn_on, chans}
-use Rattle.ready_loop.specs.Link.{is_begun}
 use Rattle.ready_loop.specs.Standing.{StandsFor}
-use Rattle.ready_loop.specs.States.{known_at}
+use Rattle.ready_loop.specs.Queues.{held_in}
+use Rattle.ready_loop.specs.States.{known_at, begun_at, begun_in, HoldsForKnown, IsOfferedAt}
 
 -- the port of a channel, of those for shell, iopub, stdin, control and heartbeat
 abbrev pub port_of : List ℕ → Chan → ℕ
@@ -76,11 +75,6 @@ abbrev pub closings : ℕ → (Chan → Bool) → List Chan → List Entry → L
 closings job begun [] past = past
 closings job begun (chan ∷ rest) past = closings job begun rest (closing (begun chan) (conn_on job chan) past)
 
--- a connect was called for the connection at a place, and no close has followed
-abbrev pub begun_in : Option Link → Bool
-begun_in None = false
-begun_in (Some link) = is_begun link.stage
-
 -- the entries of the close of one connection
 abbrev pub ClosesOne : Conn → Loop → List Entry → List Entry → Type 0
 ClosesOne conn old before after = after ≡ closing (begun_in (slice_get old.links (place_of conn))) conn before
@@ -94,7 +88,23 @@ pub record CloseCame (job : ℕ) (old : Loop) (before after : List Entry) : Type
 abbrev pub is_of_job : ℕ → ℕ → Bool
 is_of_job job p = is_at p (conn_on job Heart) || (is_at p (conn_on job Iopub) || (is_at p (conn_on job Control) || is_at p (conn_on job Shell)))
 
--- whether a connection has failed, after one was closed
-abbrev pub failed_closed : Bool → Bool → Bool
-failed_closed true was = false
-failed_closed false was = was
+-- what holds only of a connection that was begun and not closed, after some were closed, by whether it is one of them
+abbrev pub unless_closed : Bool → Bool → Bool
+unless_closed true was = false
+unless_closed false was = was
+
+-- a close of the connections at these places closes no other, begins none, and queues nothing on one that was not begun
+pub record Closes (at : ℕ → Bool) (old new : Loop) : Type 0 where
+  pub known : (p : ℕ) → known_at new p ≡ known_at old p
+  pub begun : (p : ℕ) → begun_at new p ≡ unless_closed (at p) (begun_at old p)
+  pub holds : HoldsForKnown old → HoldsForKnown new
+
+-- only what is kept of the connections of a job may have changed
+pub record OnlyOfJob (job : ℕ) (old new : Loop) : Type 0 where
+  pub links : (p : ℕ) → is_of_job job p ≡ false → slice_get new.links p ≡ slice_get old.links p
+  pub held : (p : ℕ) → is_of_job job p ≡ false → held_in (slice_get new.queues p) ≡ held_in (slice_get old.queues p)
+  pub left : new.left ≡ old.left
+
+-- nothing is to be done before a wait at any place of a job
+pub record IsJobOffered (job last : ℕ) (l : Loop) : Type 0 where
+  pub each : (p : ℕ) → 4 * job ≤ p → p < 4 * job + 4 → IsOfferedAt p last l

@@ -1,5 +1,5 @@
 -- What a call of the world makes of what the loop keeps of its connection.
-use Rattle.std.specs.Prelude.{◌≡◌, ◌⊎◌, ◌<◌, ◌≤◌, ◌+◌, ◌||◌, ℕ, Bool, true, false, Option, Some, None}
+use Rattle.std.specs.Prelude.{◌≡◌, ◌⊎◌, ◌<◌, ◌≤◌, ◌+◌, ◌||◌, ◌&&◌, not, ℕ, Bool, true, false, Option, Some, None, is_some}
 use Rattle.world.specs.declared.got.Got.{Got}
 use Rattle.world.specs.declared.got.Got.TheVariants as got
 use Rattle.world.specs.declared.put.Put.{Put}
@@ -72,9 +72,15 @@ refused_clock Fresh last = None
 refused_clock Begun last = Some last
 refused_clock Closed last = None
 
--- one that is to be begun again was begun, and not closed since
-pub record IsBegunWhereRefused (link : Link) : Type 0 where
+-- it is awake, takes bytes, or a call of it has failed
+abbrev pub is_used : Link → Bool
+is_used link = link.awake || (link.writable || link.failed)
+
+-- only one that was begun, and not closed since, is used or to be begun again, and none is both
+pub record IsSteady (link : Link) : Type 0 where
+  pub used : is_used link ≡ true → is_begun link.stage ≡ true
   pub begun : (at : ℕ) → link.refused ≡ Some at → is_begun link.stage ≡ true
+  pub calm : (at : ℕ) → link.refused ≡ Some at → is_used link ≡ false
 
 -- after a read, by the last moment
 abbrev pub read_link : Got → ℕ → Link → Link
@@ -110,10 +116,14 @@ write_link put.Ended last link = record link { awake = false; writable = false; 
 write_link put.Refused last link = record link { awake = false; writable = false; refused = refused_clock link.stage last }
 write_link put.Failed last link = record link { writable = false; failed = true }
 
+-- a report counts for it: it was begun, not closed since, and is not to be begun again
+abbrev pub may_wake : Link → Bool
+may_wake link = is_begun link.stage && not (is_some link.refused)
+
 -- after a wait, which reported it or did not
 abbrev pub wait_link : Did → Bool → Link → Link
 wait_link did.Done ready link =
-    record link { awake = ready || link.awake; writable = ready || link.writable; reads = 0 }
+    record link { awake = ready && may_wake link || link.awake; writable = ready && may_wake link || link.writable; reads = 0 }
 wait_link did.Failed ready link = record link { reads = 0 }
 
 -- a stage after a close

@@ -57,6 +57,11 @@ abbrev pub LookMoment : List Bool → History → List Entry → Type 0
 LookMoment jobs h [] = ⊥
 LookMoment jobs h (entry ∷ past) = (conn : Conn) × (is_looked jobs conn.job ≡ true) × Offers true h past conn entry
 
+-- for a connection of this job, at its time
+abbrev pub JobMoment : ℕ → History → List Entry → Type 0
+JobMoment job h [] = ⊥
+JobMoment job h (entry ∷ past) = (conn : Conn) × (conn.job ≡ job) × Offers false h past conn entry
+
 -- a journal with more entries
 abbrev pub Extends : List Entry → List Entry → Type 0
 Extends before after = Since (λ now. Unit {0}) before after

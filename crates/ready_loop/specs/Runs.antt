@@ -18,7 +18,7 @@ use Rattle.ready_loop.specs.declared.readiness.Loop.{Loop}
 use Rattle.ready_loop.specs.Begins.{BeginMoment, CloseMoment}
 use Rattle.ready_loop.specs.Between.{ReadsAll}
 use Rattle.ready_loop.specs.History.{History, no_change, after_begin, after_queue, after_next, after_names}
-use Rattle.ready_loop.specs.Offers.{IsBegunAgain, OfferMoment}
+use Rattle.ready_loop.specs.Offers.{IsBegunAgain, JobMoment, OfferMoment}
 use Rattle.ready_loop.specs.Reads.{IsReadOf, ReadMoment}
 use Rattle.ready_loop.specs.Standing.{StandsFor, Goes, IsElsewhere, MadeElsewhere}
 use Rattle.ready_loop.specs.States.{IsCalm}
@@ -32,6 +32,8 @@ pub data Calls (old : Loop) (h : History) (before : List Entry) : Loop → Histo
   queues : (conn : Conn) (bytes : List ℕ) (result : Result (Unit {0}) NoMemory) (new : Loop)
       → (StandsFor old h before → StandsFor new (after_queue conn bytes result h) before)
       → Calls old h before new (after_queue conn bytes result h) before
+  offers_job : (job : ℕ) (new : Loop) (after : List Entry) → Goes (JobMoment job) no_change old new before after
+      → Calls old h before new h after
   offers : (result : Result (List Bool) LoopFault) (new : Loop) (after : List Entry)
       → Goes (OfferMoment false) (after_names result) old new before after
       → Calls old h before new (after_names result h) after

@@ -27,12 +27,12 @@ use Rattle.world.specs.declared.connected.Connected.{Connected}
 use Rattle.world.specs.declared.connected.Connected.TheVariants as connected
 use Rattle.world.specs.declared.put.Put.{Put}
 use Rattle.world.specs.declared.put.Put.TheVariants as put
-use Rattle.world.specs.Places.{is_at}
+use Rattle.world.specs.Places.{is_at, place_of}
 use Rattle.ready_loop.specs.declared.fault.LoopFault.{LoopFault}
 use Rattle.ready_loop.specs.declared.fault.LoopFault.TheVariants.{NetFault, Spent}
 use Rattle.ready_loop.specs.declared.link.Link.{Link}
 use Rattle.ready_loop.specs.declared.readiness.Loop.{Loop}
-use Rattle.ready_loop.specs.Link.{MayRead, MayWrite, named_link, is_found, is_known}
+use Rattle.ready_loop.specs.Link.{MayRead, MayWrite, named_link, is_found, is_known, is_begun}
 use Rattle.ready_loop.specs.Queues.{held_in, rest_at}
 
 -- so it is of the connections at all places below this one
@@ -93,13 +93,23 @@ known_in (Some link) = is_known link.stage
 abbrev pub known_at : Loop → ℕ → Bool
 known_at l p = known_in (slice_get l.links p)
 
+-- whether a connect was called for it that no close has followed, where something is kept of it
+abbrev pub begun_in : Option Link → Bool
+begun_in None = false
+begun_in (Some link) = is_begun link.stage
+
+-- whether the connection at a place was begun, and not closed since
+abbrev pub begun_at : Loop → ℕ → Bool
+begun_at l p = begun_in (slice_get l.links p)
+
 -- bytes are held only for connections for which a connect was called
 pub record HoldsForKnown (l : Loop) : Type 0 where
   pub each : (p : ℕ) → known_at l p ≡ false → rest_at l.queues p ≡ []
 
--- a call begins no connection for the first time, and queues nothing on one that was not begun
+-- a call begins no connection for the first time, closes none, and queues nothing on one that was not begun
 pub record SameKnown (old new : Loop) : Type 0 where
   pub each : (p : ℕ) → known_at new p ≡ known_at old p
+  pub begun : (p : ℕ) → begun_at new p ≡ begun_at old p
   pub holds : HoldsForKnown old → HoldsForKnown new
 
 -- whether the connection at a place is awake
@@ -124,6 +134,12 @@ failed_in (Some link) = link.failed
 -- whether a call of the connection at a place has failed, and it was not closed since
 abbrev pub failed_at : Loop → ℕ → Bool
 failed_at l p = failed_in (slice_get l.links p)
+
+-- a connection of one of the 16 jobs that was begun and not closed since, and of which no call has failed
+pub record IsWell (l : Loop) (conn : Conn) : Type 0 where
+  pub job : conn.job < 16
+  pub begun : begun_at l (place_of conn) ≡ true
+  pub sound : failed_at l (place_of conn) ≡ false
 
 -- whether a connection has failed after an answer, by whether it had before
 abbrev pub failed_after : {T : Type 0} → Result T LoopFault → ℕ → Bool → Bool
@@ -174,6 +190,14 @@ pub record OnlyAt (place : ℕ) (old new : Loop) : Type 0 where
 abbrev pub flag : Bool → ℕ
 flag true = 1
 flag false = 0
+
+-- whether a connection was begun, and not closed since, as a number
+abbrev pub link_open : Link → ℕ
+link_open link = flag (is_begun link.stage)
+
+-- how many connections were begun, and not closed since
+abbrev pub open_left : Loop → ℕ
+open_left l = sum_by link_open l.links
 
 -- whether a connection takes bytes, as a number
 abbrev pub writable_in : Option Link → ℕ

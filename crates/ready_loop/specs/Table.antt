@@ -2,7 +2,7 @@
 use Rattle.std.specs.Prelude.{◌≡◌, ◌<◌, ℕ, List, map, Option, Some, None, IsSome, slice_get}
 use Rattle.slab.specs.Slab.{Slab, get}
 use Rattle.ready_loop.specs.declared.link.Link.{Link}
-use Rattle.ready_loop.specs.Link.{fresh_link, IsBegunWhereRefused}
+use Rattle.ready_loop.specs.Link.{fresh_link, IsSteady}
 
 -- what is kept of a connection, where something is
 abbrev pub link_or : Option Link → Link
@@ -26,5 +26,5 @@ abbrev pub AllApart : ℕ → List ℕ → Type 0
 AllApart n keys = (p q key : ℕ) → p < n → q < n → slice_get keys p ≡ Some key → slice_get keys q ≡ Some key → p ≡ q
 
 -- each connection that is to be begun again was begun
-abbrev pub AllBegunWhereRefused : List Link → Type 0
-AllBegunWhereRefused links = (p : ℕ) (link : Link) → slice_get links p ≡ Some link → IsBegunWhereRefused link
+abbrev pub AllSteady : List Link → Type 0
+AllSteady links = (p : ℕ) (link : Link) → slice_get links p ≡ Some link → IsSteady link

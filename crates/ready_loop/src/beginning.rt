@@ -1,17 +1,17 @@
 //! Beginning and closing the connections of a job.
-ghost use Rattle.std.specs.Prelude.{◌≡◌, ◌<◌, ◌||◌, ℕ, IsErr, IfErr, OnOk, Some, false, slice_get};
+ghost use Rattle.std.specs.Prelude.{◌≡◌, ◌<◌, ◌≤◌, ◌||◌, ℕ, IsErr, IfErr, OnOk, Err, Some, false, slice_get};
 ghost use Rattle.world.specs.Counts.{CountsBy, NetCause};
 ghost use Rattle.world.specs.Places.{place_of, is_at};
 ghost use Rattle.world.specs.Told.{Adds, Between};
 ghost use Rattle.world.specs.declared.entry.Entry.{Entry};
 ghost use Rattle.ready_loop.specs.Begins.{BeginMoment, Begins, BeginsOne, IsFresh, IsBegun};
 ghost use Rattle.ready_loop.specs.Begins.{CloseMoment, CloseCame, ClosesOne, closing, is_of_job};
-ghost use Rattle.ready_loop.specs.Begins.{failed_closed};
+ghost use Rattle.ready_loop.specs.Begins.{Closes, OnlyOfJob, unless_closed};
 ghost use Rattle.ready_loop.specs.History.{no_change, with_begun, after_begin, chans};
 ghost use Rattle.ready_loop.specs.Offers.{IsOfConn};
 ghost use Rattle.ready_loop.specs.Standing.{Goes, CallsOfLoop};
 ghost use Rattle.ready_loop.specs.States.{IsDrained, IsOffered, IsSound, FailsOnly, OnlyAt};
-ghost use Rattle.ready_loop.specs.States.{HoldsForKnown, SameKnown, failed_at, failed_connect, known_at, waits_left};
+ghost use Rattle.ready_loop.specs.States.{HoldsForKnown, failed_at, failed_connect, known_at, reads_left, waits_left};
 ghost use Rattle.ready_loop.specs.Wires.{AddsPort, ConnectsOn, HasPorts, ports_in};
 
 use crate::conn_place::place_at;
@@ -35,6 +35,8 @@ impl Loop {
         ensures goes { Between W.journal w.old w.new
             (Goes BeginMoment (after_begin job heart result) self.old self.new) }
         ensures fault { IfErr result IsOfConn }
+        ensures own { (c : Conn) → result ≡ Err (LoopFault.NetFault (Some c)) →
+            c.job ≡ job }
 
         ensures begun { OnOk result (IsBegun job heart self.new) }
         ensures others { (p : ℕ) → is_of_job job p ≡ false →
@@ -153,9 +155,12 @@ impl Loop {
         ensures drained { IsDrained self.old → IsDrained self.new }
         ensures offered { IsOffered self.old → IsOffered self.new }
         ensures failed { (p : ℕ) → failed_at self.new p
-            ≡ failed_closed (is_of_job job p) (failed_at self.old p) }
+            ≡ unless_closed (is_of_job job p) (failed_at self.old p) }
         ensures sound { IsSound self.old → IsSound self.new }
-        ensures known { SameKnown self.old self.new }
+        // Just the connections of this job are closed; nothing is changed of those of others.
+        ensures only { OnlyOfJob job self.old self.new }
+        ensures closes { Closes (λ p. is_of_job job p) self.old self.new }
+        ensures reads { reads_left self.new ≤ reads_left self.old }
         ensures left { waits_left self.new ≡ waits_left self.old }
         ensures wires { ConnectsOn W.journal w.old w.new (ports_in self.new) }
         ensures ports { ports_in self.new ≡ ports_in self.old }
@@ -182,8 +187,9 @@ impl Loop {
         ensures drained { IsDrained self.old → IsDrained self.new }
         ensures offered { IsOffered self.old → IsOffered self.new }
         ensures failed { (p : ℕ) → failed_at self.new p
-            ≡ failed_closed (is_at p conn) (failed_at self.old p) }
-        ensures known { SameKnown self.old self.new }
+            ≡ unless_closed (is_at p conn) (failed_at self.old p) }
+        ensures closes { Closes (λ p. is_at p conn) self.old self.new }
+        ensures reads { reads_left self.new ≤ reads_left self.old }
         ensures same { self.new ≡ record self.old { links = self.new.links } }
         ensures wires { ConnectsOn W.journal w.old w.new (ports_in self.new) }
         ensures ports { ports_in self.new ≡ ports_in self.old }

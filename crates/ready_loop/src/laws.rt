@@ -5,7 +5,7 @@ ghost use Rattle.world.specs.Moments.{Since};
 ghost use Rattle.world.specs.Places.{is_at, is_reported, place_of, status, time};
 ghost use Rattle.world.specs.declared.conn.Conn.{Conn};
 ghost use Rattle.ready_loop.specs.declared.readiness.Loop.{Loop};
-ghost use Rattle.ready_loop.specs.Begins.{failed_closed, is_of_job};
+ghost use Rattle.ready_loop.specs.Begins.{unless_closed, is_of_job};
 ghost use Rattle.ready_loop.specs.Between.{ReadsAll};
 ghost use Rattle.ready_loop.specs.History.{History, with_all_named};
 ghost use Rattle.ready_loop.specs.Offers.{LookMoment, is_looked, is_to_name};
@@ -83,6 +83,6 @@ pub fn a_close_mends_a_fault()
     ensures { (conn : Conn) (old failed closed : Loop) → IsSound old →
         ((p : ℕ) → failed_at failed p ≡ is_at p conn || failed_at old p) →
         ((p : ℕ) → failed_at closed p
-        ≡ failed_closed (is_of_job conn.job p) (failed_at failed p)) →
+        ≡ unless_closed (is_of_job conn.job p) (failed_at failed p)) →
         IsSound closed }
 {}

@@ -2,7 +2,7 @@
 ghost use Rattle.std.specs.Prelude.{◌≡◌, ◌≢◌, ◌↔◌, ◌<◌, ◌+◌, Some, true, false, IsTrue};
 ghost use Rattle.ready_loop.specs.Link.{MayRead, MayWrite, fresh_link, read_link, wait_link};
 ghost use Rattle.ready_loop.specs.Link.{begun_link, connect_link, write_link, closed_link};
-ghost use Rattle.ready_loop.specs.Link.{IsToBegin, named_link, is_begun, is_found};
+ghost use Rattle.ready_loop.specs.Link.{IsToBegin, named_link, is_begun, is_found, may_wake};
 
 use crate::end::End;
 use crate::stage::Stage;
@@ -88,6 +88,13 @@ impl Link {
         ensures { result ≡ is_found self.now.end }
     {
         matches!(self.end, End::Found)
+    }
+
+    /// Whether a report counts for it: it was begun, not closed since, and is not to be begun again.
+    pub fn may_wake(&self) -> bool
+        ensures { result ≡ may_wake self.now }
+    {
+        self.is_begun() && self.refused.is_none()
     }
 
     /// Before its first connect, to this port.
@@ -191,10 +198,11 @@ impl Link {
     pub fn after_wait(self, ready: bool, did: Did) -> Link
         ensures { result ≡ wait_link did ready self }
     {
+        let wakes = ready && self.may_wake();
         match did {
             Did::Done => Link {
-                awake: ready || self.awake,
-                writable: ready || self.writable,
+                awake: wakes || self.awake,
+                writable: wakes || self.writable,
                 reads: 0,
                 ..self
             },

@@ -1,7 +1,7 @@
 //! The table of the connections, over a slab.
 ghost use Rattle.std.specs.Prelude.{◌≡◌, ◌<◌, Some, IfOk, slice_get, slice_set, replicate};
 ghost use Rattle.slab.specs.Slab.{ContainsKey, Updates};
-ghost use Rattle.ready_loop.specs.Link.{fresh_link, IsBegunWhereRefused};
+ghost use Rattle.ready_loop.specs.Link.{fresh_link, IsSteady};
 
 use crate::link::Link;
 use jtext::NoMemory;
@@ -20,14 +20,14 @@ pub struct Links {
 impl Model for Links {
     ghost use Rattle.std.specs.Prelude.{◌≡◌, List, length};
     ghost use Rattle.ready_loop.specs.declared.link.Link.{Link};
-    ghost use Rattle.ready_loop.specs.Table.{links_of, AllHeld, AllApart, AllBegunWhereRefused};
+    ghost use Rattle.ready_loop.specs.Table.{links_of, AllHeld, AllApart, AllSteady};
 
     ghost Value = { List Link };
 
     ghost view = { λ a. links_of a.slab a.keys };
 
     ghost invariant = { λ a. AllHeld 64 a.slab a.keys × AllApart 64 a.keys
-        × (length a.keys ≡ 64) × AllBegunWhereRefused (links_of a.slab a.keys) };
+        × (length a.keys ≡ 64) × AllSteady (links_of a.slab a.keys) };
 }
 
 impl Links {
@@ -47,7 +47,7 @@ impl Links {
     pub fn at(&self, place: usize) -> Link
         requires { place < 64 }
         ensures found { slice_get self.now place ≡ Some result }
-        ensures begun { IsBegunWhereRefused result }
+        ensures begun { IsSteady result }
     {
         self.slab[self.keys[place]]
     }
@@ -55,7 +55,7 @@ impl Links {
     /// Keeps this of the connection at a place.
     pub fn put(&mut self, place: usize, link: Link)
         requires within { place < 64 }
-        requires begun { IsBegunWhereRefused link }
+        requires begun { IsSteady link }
         ensures { self.new ≡ slice_set self.old place link }
     {
         let key = self.keys[place];

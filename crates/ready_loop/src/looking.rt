@@ -6,7 +6,7 @@ ghost use Rattle.ready_loop.specs.History.{no_change};
 ghost use Rattle.ready_loop.specs.Offers.{LookMoment, FaultCame, BeginsBelow, IsOfConn, Names};
 ghost use Rattle.ready_loop.specs.Standing.{Goes, CallsOfLoop};
 ghost use Rattle.world.specs.Told.{Between};
-ghost use Rattle.ready_loop.specs.States.{IsDrained, IsOffered, IsSound, MayWait, FailsOnly, SameKnown, IsCalm, waits_left};
+ghost use Rattle.ready_loop.specs.States.{IsDrained, IsOffered, IsSound, MayWait, FailsOnly, SameKnown, IsCalm, IsWell, waits_left};
 ghost use Rattle.ready_loop.specs.Waits.{Looked, LookCounts, left_after};
 ghost use Rattle.ready_loop.specs.Wires.{ConnectsOn, ports_in};
 
@@ -33,6 +33,9 @@ impl Loop {
         ensures drained { (conn : Conn) → result ≡ Err (LoopFault.NetFault (Some conn)) →
             IsDrained self.new }
         ensures failed { FailsOnly result self.old self.new }
+        // A fault names a connection that was begun and not closed, and had not failed before.
+        ensures anew { (c : Conn) → result ≡ Err (LoopFault.NetFault (Some c)) →
+            IsWell self.old c }
         ensures sound { OnOk result (IsSound self.new) }
         ensures known { SameKnown self.old self.new }
         ensures wires { ConnectsOn W.journal w.old w.new (ports_in self.new) }
@@ -68,6 +71,8 @@ impl Loop {
         ensures failed { FailsOnly result self.old self.new }
         ensures known { SameKnown self.old self.new }
         ensures fault { IfErr result IsOfConn }
+        ensures anew { (c : Conn) → result ≡ Err (LoopFault.NetFault (Some c)) →
+            IsWell self.old c }
         ensures left { self.new.left ≡ self.old.left }
         ensures wires { ConnectsOn W.journal w.old w.new (ports_in self.new) }
         ensures ports { ports_in self.new ≡ ports_in self.old }

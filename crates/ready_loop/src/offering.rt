@@ -1,18 +1,19 @@
 //! Beginning refused connections again, and offering what is queued.
-ghost use Rattle.std.specs.Prelude.{◌≡◌, ◌<◌, ◌≤◌, ◌≢◌, ◌↔◌, ℕ, [], false, length, slice_get, IfErr, IsErr, IsTrue, IsSomeAnd, OnOk, Ok, Some, true};
+ghost use Rattle.std.specs.Prelude.{◌≡◌, ◌<◌, ◌≤◌, ◌≢◌, ◌↔◌, ℕ, [], false, length, slice_get, IfErr, IsErr, IsTrue, IsSomeAnd, OnOk, Ok, Err, Some, true};
 ghost use Rattle.world.specs.Counts.{CountsBy, NetCause};
 ghost use Rattle.world.specs.Places.{place_of};
 ghost use Rattle.world.specs.declared.entry.Entry.{Entry};
 ghost use Rattle.ready_loop.specs.declared.link.Link.{Link};
 ghost use Rattle.ready_loop.specs.Link.{MayWrite, IsToBegin};
 ghost use Rattle.ready_loop.specs.History.{no_change, after_names};
-ghost use Rattle.ready_loop.specs.Offers.{OfferMoment, OfferAt, FaultCame, ConnectCame, PutCame};
+ghost use Rattle.ready_loop.specs.Begins.{IsJobOffered, OnlyOfJob};
+ghost use Rattle.ready_loop.specs.Offers.{JobMoment, OfferMoment, OfferAt, FaultCame, ConnectCame, PutCame};
 ghost use Rattle.ready_loop.specs.Offers.{Names, BeginsAt, Connects, IsOfConn};
 ghost use Rattle.ready_loop.specs.Queues.{rest_at};
 ghost use Rattle.ready_loop.specs.Standing.{Goes, CallsOfLoop};
 ghost use Rattle.world.specs.Told.{Between};
 ghost use Rattle.ready_loop.specs.States.{IsDrained, IsOffered, IsCalm, IsCalmAt, FailsOnly};
-ghost use Rattle.ready_loop.specs.States.{IsOfferedAt, AllOfferedBelow, OnlyAt, load, failed_at};
+ghost use Rattle.ready_loop.specs.States.{IsWell, reads_left, IsOfferedAt, AllOfferedBelow, OnlyAt, load, failed_at};
 ghost use Rattle.ready_loop.specs.States.{failed_connect, failed_put, found_at, NamesAll, IsSound, SameKnown, waits_left};
 ghost use Rattle.ready_loop.specs.Wires.{ConnectsOn, ports_in};
 
@@ -30,12 +31,16 @@ impl Loop {
             (Goes (OfferMoment false) (after_names result) self.old self.new) }
         ensures came { Between W.journal w.old w.new (λ _ after. FaultCame result after) }
         ensures fault { IfErr result IsOfConn }
+        // A fault names a connection that was begun and not closed, and had not failed before.
+        ensures anew { (c : Conn) → result ≡ Err (LoopFault.NetFault (Some c)) →
+            IsWell self.old c }
         ensures names { Between W.journal w.old w.new (Names result self.old) }
 
         // Then nothing is left to be done.
         ensures offered { OnOk result (IsOffered self.new) }
         ensures calm { OnOk result (IsCalm (W.counts w.new).last self.new) }
 
+        ensures reads { reads_left self.new ≤ reads_left self.old }
         ensures drained { IsDrained self.old → IsDrained self.new }
         ensures failed { FailsOnly result self.old self.new }
         ensures sound { OnOk result (IsSound self.old → IsSound self.new) }
@@ -52,12 +57,50 @@ impl Loop {
         }
     }
 
+    /// Begins the refused connections of one job again that are due, and offers what is queued on
+    /// its connections, as `offer` does for all. It names no end. A fault names the connection of the
+    /// failed call.
+    pub fn offer_job<W: World>(&mut self, w: &mut W, job: u8) -> Result<(), LoopFault>
+        requires { job < 16 }
+        // Each new entry is of a connection of this job.
+        ensures goes { Between W.journal w.old w.new
+            (Goes (JobMoment job) no_change self.old self.new) }
+        ensures came { Between W.journal w.old w.new (λ _ after. FaultCame result after) }
+        ensures fault { IfErr result IsOfConn }
+        ensures own { (c : Conn) → result ≡ Err (LoopFault.NetFault (Some c)) →
+            c.job ≡ job }
+        ensures anew { (c : Conn) → result ≡ Err (LoopFault.NetFault (Some c)) →
+            IsWell self.old c }
+        // What is kept and queued of the connections of all other jobs stays.
+        ensures only { OnlyOfJob job self.old self.new }
+        // Then nothing is left to be done for this job.
+        ensures offered { OnOk result (IsJobOffered job (W.counts w.new).last self.new) }
+        ensures reads { reads_left self.new ≤ reads_left self.old }
+        ensures drained { IsDrained self.old → IsDrained self.new }
+        ensures failed { FailsOnly result self.old self.new }
+        ensures known { SameKnown self.old self.new }
+        ensures left { waits_left self.new ≡ waits_left self.old }
+        ensures wires { ConnectsOn W.journal w.old w.new (ports_in self.new) }
+        ensures ports { ports_in self.new ≡ ports_in self.old }
+        ensures calls { CallsOfLoop W.journal w.old w.new }
+        ensures cause { CountsBy NetCause W.counts w.old w.new (IsErr result) }
+    {
+        let first = 4 * usize::from(job);
+        for place in first..first + 4 {
+            self.offer_at(w, place, false)?;
+        }
+        Ok(())
+    }
+
     /// Begins again what is due and offers what is queued, at each place.
     fn offer_all<W: World>(&mut self, w: &mut W) -> Result<(), LoopFault>
         ensures goes { Between W.journal w.old w.new
             (Goes (OfferMoment false) no_change self.old self.new) }
         ensures came { Between W.journal w.old w.new (λ _ after. FaultCame result after) }
         ensures fault { IfErr result IsOfConn }
+        ensures anew { (c : Conn) → result ≡ Err (LoopFault.NetFault (Some c)) →
+            IsWell self.old c }
+        ensures reads { reads_left self.new ≤ reads_left self.old }
         ensures offered { OnOk result (AllOfferedBelow 64 (W.counts w.new).last self.new) }
         ensures drained { IsDrained self.old → IsDrained self.new }
         ensures failed { FailsOnly result self.old self.new }
@@ -86,6 +129,9 @@ impl Loop {
             (Goes (OfferAt forced place) no_change self.old self.new) }
         ensures came { Between W.journal w.old w.new (λ _ after. FaultCame result after) }
         ensures fault { IfErr result IsOfConn }
+        ensures anew { (c : Conn) → result ≡ Err (LoopFault.NetFault (Some c)) →
+            (place_of c ≡ place) × IsWell self.old c }
+        ensures reads { reads_left self.new ≤ reads_left self.old }
         ensures begins { Between W.journal w.old w.new (BeginsAt forced place self.old) }
         ensures only { OnlyAt place self.old self.new }
         ensures offered { OnOk result (IsOfferedAt place (W.counts w.new).last self.new) }
@@ -117,6 +163,9 @@ impl Loop {
             (Goes (OfferAt forced place) no_change self.old self.new) }
         ensures came { Between W.journal w.old w.new (λ _ after. FaultCame result after) }
         ensures fault { IfErr result IsOfConn }
+        ensures anew { (c : Conn) → result ≡ Err (LoopFault.NetFault (Some c)) →
+            (place_of c ≡ place) × IsWell self.old c }
+        ensures reads { reads_left self.new ≤ reads_left self.old }
         ensures begins { Between W.journal w.old w.new (BeginsAt forced place self.old) }
         ensures only { OnlyAt place self.old self.new }
         ensures calm { OnOk result (IsCalmAt place (W.counts w.new).last self.new) }
@@ -155,6 +204,8 @@ impl Loop {
             (Goes (OfferAt forced place) no_change self.old self.new) }
         ensures came { Between W.journal w.old w.new (λ _ after. ConnectCame conn result after) }
         ensures connects { Between W.journal w.old w.new (Connects place) }
+        ensures well { IsWell self.old conn }
+        ensures reads { reads_left self.new ≤ reads_left self.old }
         ensures only { OnlyAt place self.old self.new }
         ensures calm { IsCalmAt place (W.counts w.new).last self.new }
         ensures drained { IsDrained self.old → IsDrained self.new }
@@ -183,6 +234,9 @@ impl Loop {
             (Goes (OfferAt false place) no_change self.old self.new) }
         ensures came { Between W.journal w.old w.new (λ _ after. FaultCame result after) }
         ensures fault { IfErr result IsOfConn }
+        ensures anew { (c : Conn) → result ≡ Err (LoopFault.NetFault (Some c)) →
+            (place_of c ≡ place) × IsWell self.old c }
+        ensures reads { reads_left self.new ≤ reads_left self.old }
         ensures only { OnlyAt place self.old self.new }
         ensures offered { OnOk result (IsOfferedAt place (W.counts w.new).last self.new) }
         ensures drained { IsDrained self.old → IsDrained self.new }
@@ -223,6 +277,8 @@ impl Loop {
         ensures came { Between W.journal w.old w.new (λ _ after. PutCame conn result after) }
         ensures only { OnlyAt place self.old self.new }
         ensures less { load place self.new < load place self.old }
+        ensures well { IsWell self.old conn }
+        ensures reads { reads_left self.new ≤ reads_left self.old }
         ensures calm { IsCalmAt place (W.counts w.old).last self.old
             → IsCalmAt place (W.counts w.new).last self.new }
         ensures drained { IsDrained self.old → IsDrained self.new }
@@ -246,6 +302,7 @@ impl Loop {
     pub(crate) fn name_ends(&mut self) -> [bool; 64]
         ensures named { (p : ℕ) → p < 64 → slice_get result p ≡ Some (found_at self.old p) }
         ensures all { NamesAll self.old.links self.new.links }
+        ensures reads { reads_left self.new ≤ reads_left self.old }
         ensures ports { ports_in self.new ≡ ports_in self.old }
         ensures same { self.new ≡ record self.old { links = self.new.links } }
     {

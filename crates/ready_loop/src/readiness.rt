@@ -5,8 +5,8 @@ ghost use Rattle.world.specs.Places.{place_of};
 ghost use Rattle.world.specs.Waits.{wait_count};
 ghost use Rattle.ready_loop.specs.History.{History, no_history, after_queue};
 ghost use Rattle.ready_loop.specs.Standing.{StandsFor, AllShut, put_at};
-ghost use Rattle.ready_loop.specs.States.{HoldsForKnown, IsDrained, IsSound, MayWait, SameKnown};
-ghost use Rattle.ready_loop.specs.States.{failed_at, known_at, waits_left};
+ghost use Rattle.ready_loop.specs.States.{HoldsForKnown, IsDrained, IsSound, MayWait, OnlyAt, SameKnown};
+ghost use Rattle.ready_loop.specs.States.{failed_at, known_at, reads_left, waits_left};
 ghost use Rattle.ready_loop.specs.Wires.{ports_in};
 
 use crate::conn_place::place_at;
@@ -58,6 +58,9 @@ impl Loop {
         ensures failed { (p : ℕ) → failed_at self.new p ≡ failed_at self.old p }
         ensures sound { IsSound self.old → IsSound self.new }
         ensures known { SameKnown self.old self.new }
+        ensures reads { reads_left self.new ≡ reads_left self.old }
+        // What is queued elsewhere stays.
+        ensures only { OnlyAt (place_of conn) self.old self.new }
         ensures left { waits_left self.new ≡ waits_left self.old }
         ensures ports { ports_in self.new ≡ ports_in self.old }
     {

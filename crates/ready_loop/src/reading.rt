@@ -1,5 +1,5 @@
 //! Reading what a wait reported.
-ghost use Rattle.std.specs.Prelude.{◌≡◌, ◌<◌, ◌≤◌, ◌+◌, ℕ, length, slice_get, IfErr, IsErr, IsSomeAnd, OnOk, Ok};
+ghost use Rattle.std.specs.Prelude.{◌≡◌, ◌<◌, ◌≤◌, ◌+◌, ℕ, length, slice_get, IfErr, IsErr, IsSomeAnd, OnOk, Ok, Err, Some};
 ghost use Rattle.world.specs.Counts.{CountsBy, NetCause};
 ghost use Rattle.world.specs.Places.{place_of};
 ghost use Rattle.world.specs.Told.{Adds, GotSome, read_entry, Between};
@@ -9,7 +9,7 @@ ghost use Rattle.ready_loop.specs.Reads.{ReadMoment, NextCame, after_got, failed
 ghost use Rattle.ready_loop.specs.Offers.{IsOfConn};
 ghost use Rattle.ready_loop.specs.Standing.{Goes, CallsOfLoop};
 ghost use Rattle.ready_loop.specs.States.{IsDrained, IsOffered, FailsOnly, EachBelow};
-ghost use Rattle.ready_loop.specs.States.{NotRead, IsSound, SameKnown, failed_at, reads_left, waits_left};
+ghost use Rattle.ready_loop.specs.States.{IsWell, NotRead, IsSound, SameKnown, failed_at, reads_left, waits_left};
 ghost use Rattle.ready_loop.specs.Wires.{ConnectsOn, ports_in};
 
 use crate::conn_place::conn_at;
@@ -26,6 +26,9 @@ impl Loop {
             (Goes ReadMoment (after_next result) self.old self.new) }
         ensures came { Between W.journal w.old w.new (NextCame result (length buf.old) buf.new) }
         ensures fault { IfErr result IsOfConn }
+        // A fault names a connection that was begun and not closed, and had not failed before.
+        ensures anew { (c : Conn) → result ≡ Err (LoopFault.NetFault (Some c)) →
+            IsWell self.old c }
 
         // `Quiet` exactly where no connection is to be read.
         ensures quiet { result ≡ Ok Next.Quiet → IsDrained self.new }
@@ -73,6 +76,7 @@ impl Loop {
             (read_entry conn (length buf.old) result buf.new) }
         ensures goes { Between W.journal w.old w.new
             (Goes ReadMoment (after_got result conn) self.old self.new) }
+        ensures well { IsWell self.old conn }
         ensures below { result ≡ Got.Dry → EachBelow place self.old.links NotRead
             → EachBelow (place + 1) self.new.links NotRead }
         ensures reads { reads_left self.new < reads_left self.old }

@@ -1,6 +1,6 @@
 use Rattle.std.proofs.Common.{arith, ◌≡◌, ℕ, subst, List, sym}
 use Rattle.ready_loop.proofs.KeyLemmas.{AllFresh, fresh_links, fresh_held}
-use Rattle.ready_loop.specs.Table.{AllApart, AllBegunWhereRefused}
+use Rattle.ready_loop.specs.Table.{AllApart, AllSteady}
 use Rattle.ready_loop.specs.declared.link.Link.{Link}
 use Rattle.ready_loop.proofs.BegunLemmas.{all_fresh}
 use Rattle.ready_loop.proofs.links.Links.new.Goals as goal
@@ -17,5 +17,5 @@ invariant_of-result c =
       fresh_held c.loop-place.slab c.loop-place.keys fresh,
       subst (λ (n : ℕ). AllApart n c.loop-place.keys) n c.loop-place.invariant.apart,
       c.loop-place.invariant.size,
-      subst (λ (ls : List Link). AllBegunWhereRefused ls) (sym (fresh_links c.loop-place.slab c.loop-place.keys c.loop-place.invariant.size fresh)) (all_fresh 64),
+      subst (λ (ls : List Link). AllSteady ls) (sym (fresh_links c.loop-place.slab c.loop-place.keys c.loop-place.invariant.size fresh)) (all_fresh 64),
     )

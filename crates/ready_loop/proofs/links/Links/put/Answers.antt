@@ -2,7 +2,7 @@ use Rattle.std.proofs.Common.{arith, ◌<◌, ◌∙◌, ap, set, List, get_or, 
 use Rattle.std.proofs.lemmas.Option.{slice_get-get_or}
 use Rattle.ready_loop.specs.declared.link.Link.{Link}
 use Rattle.ready_loop.proofs.KeyLemmas.{put_key, held_after}
-use Rattle.ready_loop.specs.Table.{links_of, AllBegunWhereRefused}
+use Rattle.ready_loop.specs.Table.{links_of, AllSteady}
 use Rattle.ready_loop.proofs.BegunLemmas.{all_set}
 use Rattle.ready_loop.proofs.links.Links.put.Goals as goal
 
@@ -16,7 +16,7 @@ invariant_of-self c =
       held_after c.self.inside.slab c.put_under.new.slab c.self.inside.keys key c.args.link c.put_under.ensures c.self.invariant.0,
       c.self.invariant.1,
       c.self.invariant.2,
-      subst (λ (ls : List Link). AllBegunWhereRefused ls) (sym now) (all_set (links_of c.self.inside.slab c.self.inside.keys) c.args.place c.args.link c.self.invariant.3 c.requires.begun),
+      subst (λ (ls : List Link). AllSteady ls) (sym now) (all_set (links_of c.self.inside.slab c.self.inside.keys) c.args.place c.args.link c.self.invariant.3 c.requires.begun),
     )
 
 pub returns : goal.returns

@@ -10,7 +10,7 @@ use Rattle.ready_loop.proofs.StateLemmas.{sound_as, sound_ok}
 use Rattle.ready_loop.proofs.StandLemmas.{goes_then, goes_step}
 use Rattle.ready_loop.proofs.BeginLemmas.{fresh_other, begins_then, begins_failed, begins_last, begun_three, begun_four, after_last}
 use Rattle.ready_loop.proofs.PartLemmas.{calls_then}
-use Rattle.ready_loop.proofs.FaultLemmas.{on_ok, of_conn, of_conn_if, fails_then, cause_last}
+use Rattle.ready_loop.proofs.FaultLemmas.{on_ok, of_conn, of_conn_if, fault_job, fault_own, fails_then, cause_last}
 use Rattle.ready_loop.proofs.WireLemmas.{grows_more, wired_then, has_none, has_more, others_kept, others_known}
 use Rattle.ready_loop.proofs.readiness.Loop.begin.Goals as goal
 
@@ -374,3 +374,18 @@ returns-then-not-heart-clause-cause g c = cause_last (cause_last c.in-Ok.ensures
 
 pub returns-clause-cause : goal.returns-clause-cause
 returns-clause-cause g c = cause_last (cause_last (cause_last c.in-Ok.ensures.cause c.in-Ok-begin_on.ensures.cause) c.in-Ok-begin_on-2.ensures.cause) c.begin_on-4.ensures.cause
+
+pub returns-in-Err-clause-own : goal.returns-in-Err-clause-own
+returns-in-Err-clause-own g c = λ conn e. fault_job c.in-Err.ensures.fault e
+
+pub returns-in-Err-begin_on-clause-own : goal.returns-in-Err-begin_on-clause-own
+returns-in-Err-begin_on-clause-own g c = λ conn e. fault_job c.in-Err-begin_on.ensures.fault e
+
+pub returns-in-Err-begin_on-2-clause-own : goal.returns-in-Err-begin_on-2-clause-own
+returns-in-Err-begin_on-2-clause-own g c = λ conn e. fault_job c.in-Err-begin_on-2.ensures.fault e
+
+pub returns-then-not-heart-clause-own : goal.returns-then-not-heart-clause-own
+returns-then-not-heart-clause-own g c = λ conn e. absurd (cc)
+
+pub returns-clause-own : goal.returns-clause-own
+returns-clause-own g c = λ conn e. fault_own c.begin_on-4.result _ conn c.begin_on-4.ensures.fault e

@@ -3,9 +3,11 @@ use Rattle.ready_loop.proofs.StandLemmas.{goes_start}
 use Rattle.ready_loop.proofs.LookLemmas.{begins_none, begins_one}
 use Rattle.ready_loop.proofs.PartLemmas.{calls_start}
 use Rattle.ready_loop.proofs.WireLemmas.{wired_start}
-use Rattle.std.proofs.Common.{ℕ, refl, subst}
+use Rattle.std.proofs.Common.{◌≡◌, ℕ, refl, subst}
 use Rattle.std.proofs.lemmas.Bool.{false≢true}
-use Rattle.ready_loop.specs.States.{IsCalmAt}
+use Rattle.world.specs.declared.conn.Conn.{Conn}
+use Rattle.world.specs.Places.{place_of}
+use Rattle.ready_loop.specs.States.{IsCalmAt, IsWell}
 use Rattle.ready_loop.proofs.StateLemmas.{only_start, calm_none, known_start}
 use Rattle.ready_loop.proofs.FaultLemmas.{cause_as, cause_start}
 use Rattle.ready_loop.proofs.readiness.Loop.begin_again.Goals as goal
@@ -166,3 +168,17 @@ returns-in-Failed-clause-calls g c = c.in-Failed.ensures.calls
 
 pub returns-in-Failed-clause-cause : goal.returns-in-Failed-clause-cause
 returns-in-Failed-clause-cause g c = cause_as (λ e. refl) c.in-Failed.ensures.cause
+
+pub returns-then-not-is_to_begin-clause-anew : goal.returns-then-not-is_to_begin-clause-anew
+returns-then-not-is_to_begin-clause-anew g c = λ conn e. absurd (cc)
+
+pub returns-in-Begun-clause-anew : goal.returns-in-Begun-clause-anew
+returns-in-Begun-clause-anew g c = λ conn e. absurd (cc)
+
+pub returns-in-Refused-clause-anew : goal.returns-in-Refused-clause-anew
+returns-in-Refused-clause-anew g c = λ conn e. absurd (cc)
+
+pub returns-in-Failed-clause-anew : goal.returns-in-Failed-clause-anew
+returns-in-Failed-clause-anew g c = λ conn e.
+    let same : c.args.conn ≡ conn = cc in
+    subst (λ (x : Conn). (place_of x ≡ c.args.place) × IsWell c.args.self.now x) same (c.requires.place, c.in-Failed.ensures.well)

@@ -1,15 +1,15 @@
 use Rattle.std.proofs.Common.{◌≡◌, List, set, ap, ◌∙◌, refl, sym, subst, Some, slice_get, ℕ, inl}
 use Rattle.world.specs.declared.entry.Entry.{Entry}
 use Rattle.world.specs.Places.{time, place_of}
-use Rattle.ready_loop.specs.Link.{connect_link, begun_link}
+use Rattle.ready_loop.specs.Link.{connect_link, begun_link, is_begun}
 use Rattle.ready_loop.specs.States.{known_in}
 use Rattle.ready_loop.proofs.TableLemmas.{tells_now}
 use Rattle.ready_loop.proofs.StateLemmas.{only_set, drained_set, connect_reads}
 use Rattle.ready_loop.proofs.BeginLemmas.{begin_goes, begin_reads, begin_fails, begin_known, begin_holds, begin_offered, fresh_of}
 use Rattle.ready_loop.proofs.PartLemmas.{calls_one}
-use Rattle.ready_loop.proofs.BegunLemmas.{begun_connect}
+use Rattle.ready_loop.proofs.BegunLemmas.{begun_connect, fresh_unused}
 use Rattle.ready_loop.proofs.WireLemmas.{wired_one, adds_port}
-use Rattle.ready_loop.specs.Link.{IsBegunWhereRefused}
+use Rattle.ready_loop.specs.Link.{IsSteady}
 use Rattle.ready_loop.specs.declared.link.Link.{Link}
 use Rattle.ready_loop.proofs.readiness.Loop.begin_at.Goals as goal
 
@@ -56,8 +56,10 @@ pub returns-clause-calls : goal.returns-clause-calls
 returns-clause-calls g c = calls_one c.connect-how.ensures.tells (inl refl)
 
 pub put-requires-clause-begun : goal.put-requires-clause-begun
-put-requires-clause-begun g c = subst (λ (link : Link). IsBegunWhereRefused link) (sym (c.after_connect.ensures ∙ ap (connect_link c.connect-how.result c.last-last.result) c.begun_on.ensures))
-    (begun_connect c.connect-how.result c.last-last.result (begun_link c.args.port c.at-link.result) refl)
+put-requires-clause-begun g c = subst (λ (link : Link). IsSteady link) (sym (c.after_connect.ensures ∙ ap (connect_link c.connect-how.result c.last-last.result) c.begun_on.ensures))
+    (begun_connect c.connect-how.result c.last-last.result (begun_link c.args.port c.at-link.result) refl
+    (fresh_unused c.at-link.result c.at-link.ensures.begun (ap is_begun
+    (fresh_of c.at-link.result.stage (sym (ap known_in (subst (λ (i : ℕ). slice_get c.args.self.now.links i ≡ Some c.at-link.result) c.place_at-place.ensures.place c.at-link.ensures.found)) ∙ c.requires.fresh)))))
 
 pub returns-clause-ports : goal.returns-clause-ports
 returns-clause-ports g c =

@@ -2,15 +2,16 @@ use Rattle.std.proofs.Common.{◌≡◌, List, set, ap, ◌∙◌, refl, sym, su
 use Rattle.world.specs.declared.entry.Entry.{Entry}
 use Rattle.world.specs.Places.{place_of}
 use Rattle.world.proofs.MomentsLemmas.{told_as}
-use Rattle.ready_loop.specs.Begins.{CloseMoment, closing, begun_in}
+use Rattle.ready_loop.specs.Begins.{CloseMoment, closing}
+use Rattle.ready_loop.specs.States.{begun_in}
 use Rattle.ready_loop.specs.History.{no_change}
 use Rattle.ready_loop.specs.Link.{closed_link}
 use Rattle.ready_loop.specs.Standing.{Goes}
-use Rattle.ready_loop.proofs.StateLemmas.{only_set, drained_set}
+use Rattle.ready_loop.proofs.StateLemmas.{closed_lowers, only_set, drained_set, reads_set}
 use Rattle.ready_loop.proofs.BeginLemmas.{closed_goes, closed_fails, closed_offered, closed_reads, closed_known}
 use Rattle.ready_loop.proofs.BegunLemmas.{begun_closed}
 use Rattle.ready_loop.proofs.WireLemmas.{closing_wired, ports_kept, closed_port}
-use Rattle.ready_loop.specs.Link.{IsBegunWhereRefused}
+use Rattle.ready_loop.specs.Link.{IsSteady}
 use Rattle.ready_loop.specs.declared.link.Link.{Link}
 use Rattle.ready_loop.specs.Wires.{port_kept, IsWired}
 use Rattle.world.specs.Moments.{Since}
@@ -47,12 +48,16 @@ returns-clause-failed g c =
     closed_fails c.args.conn c.args.self.now.links c.put.new.self c.at-link.result found
     (c.put.ensures ∙ ap (λ (i : ℕ). set c.args.self.now.links i c.after_close.result) c.place_at-place.ensures.place ∙ ap (set c.args.self.now.links (place_of c.args.conn)) c.after_close.ensures)
 
-pub returns-clause-known : goal.returns-clause-known
-returns-clause-known g c = closed_known c.args.self.now (record c.args.self.now { links = c.put.new.self }) c.place_at-place.result c.at-link.result c.at-link.ensures.found
+pub returns-clause-closes : goal.returns-clause-closes
+returns-clause-closes g c = closed_known c.args.conn c.args.self.now (record c.args.self.now { links = c.put.new.self }) c.place_at-place.result c.at-link.result c.place_at-place.ensures.place c.at-link.ensures.found
     (c.put.ensures ∙ ap (set c.args.self.now.links c.place_at-place.result) c.after_close.ensures) refl
 
+pub returns-clause-reads : goal.returns-clause-reads
+returns-clause-reads g c = reads_set c.args.self.now.links c.put.new.self c.place_at-place.result (closed_link c.at-link.result) c.at-link.result c.at-link.ensures.found
+    (c.put.ensures ∙ ap (set c.args.self.now.links c.place_at-place.result) c.after_close.ensures) (closed_lowers c.at-link.result)
+
 pub put-requires-clause-begun : goal.put-requires-clause-begun
-put-requires-clause-begun g c = subst (λ (link : Link). IsBegunWhereRefused link) (sym c.after_close.ensures) (begun_closed c.at-link.result)
+put-requires-clause-begun g c = subst (λ (link : Link). IsSteady link) (sym c.after_close.ensures) (begun_closed c.at-link.result)
 
 pub returns-clause-ports : goal.returns-clause-ports
 returns-clause-ports g c = ports_kept c.args.self.now.links c.put.new.self c.place_at-place.result (closed_link c.at-link.result) c.at-link.result c.at-link.ensures.found

@@ -6,12 +6,12 @@ use Rattle.world.specs.Moments.{start}
 use Rattle.world.proofs.MomentsLemmas.{tells_as}
 use Rattle.ready_loop.specs.Offers.{connects}
 use Rattle.ready_loop.proofs.TableLemmas.{tells_now}
-use Rattle.ready_loop.proofs.StateLemmas.{may_here, only_set, calm_connected, drained_set, connect_reads, connect_fails, known_set, connect_stage}
+use Rattle.ready_loop.proofs.StateLemmas.{may_here, only_set, calm_connected, drained_set, connect_reads, connect_fails, known_set, connect_stage, connect_lowers, reads_set, well_connect}
 use Rattle.ready_loop.proofs.OfferLemmas.{again_goes}
 use Rattle.ready_loop.proofs.PartLemmas.{calls_one}
 use Rattle.ready_loop.proofs.BegunLemmas.{begun_connect, known_begun}
 use Rattle.ready_loop.proofs.WireLemmas.{wired_one, ports_kept, connect_port, known_port, port_here}
-use Rattle.ready_loop.specs.Link.{IsBegunWhereRefused}
+use Rattle.ready_loop.specs.Link.{IsSteady}
 use Rattle.ready_loop.specs.declared.link.Link.{Link}
 use Rattle.ready_loop.specs.Wires.{port_kept}
 use Rattle.ready_loop.proofs.readiness.Loop.connect_at.Goals as goal
@@ -55,7 +55,7 @@ returns-clause-calls g c = calls_one c.connect-how.ensures.tells (inl refl)
 pub put-requires-clause-begun : goal.put-requires-clause-begun
 put-requires-clause-begun g c =
     let may = may_here (IsToBegin c.args.forced (g.W.Journal.counts c.args.w.now).last) c.args.self.now.links c.args.place c.at-link.result c.at-link.ensures.found c.requires.may in
-    subst (λ (link : Link). IsBegunWhereRefused link) (sym c.after_connect.ensures) (begun_connect c.connect-how.result c.last-last.result c.at-link.result (c.at-link.ensures.begun.begun may.at may.refused))
+    subst (λ (link : Link). IsSteady link) (sym c.after_connect.ensures) (begun_connect c.connect-how.result c.last-last.result c.at-link.result (c.at-link.ensures.begun.begun may.at may.refused) (c.at-link.ensures.begun.calm may.at may.refused))
 
 pub returns-clause-ports : goal.returns-clause-ports
 returns-clause-ports g c = ports_kept c.args.self.now.links c.put.new.self c.args.place (connect_link c.connect-how.result c.last-last.result c.at-link.result) c.at-link.result c.at-link.ensures.found
@@ -67,3 +67,11 @@ returns-clause-wires g c =
     let here : slice_get (map port_kept c.args.self.now.links) c.args.place ≡ Some (Some c.at-link.result.port)
     = port_here c.args.self.now.links c.args.place c.at-link.result c.at-link.ensures.found ∙ ap Some (known_port c.at-link.result (known_begun c.at-link.result.stage (c.at-link.ensures.begun.begun may.at may.refused))) in
     wired_one c.connect-how.ensures.tells (λ past. ap (slice_get (map port_kept c.put.new.self)) c.requires.place ∙ ap (λ (ports : List (Option ℕ)). slice_get ports c.args.place) (returns-clause-ports g c) ∙ here)
+
+pub returns-clause-well : goal.returns-clause-well
+returns-clause-well g c = well_connect c.args.self.now c.args.conn c.args.place c.at-link.result c.requires.place c.requires.job c.at-link.ensures.found c.at-link.ensures.begun
+    (may_here (IsToBegin c.args.forced (g.W.Journal.counts c.args.w.now).last) c.args.self.now.links c.args.place c.at-link.result c.at-link.ensures.found c.requires.may)
+
+pub returns-clause-reads : goal.returns-clause-reads
+returns-clause-reads g c = reads_set c.args.self.now.links c.put.new.self c.args.place (connect_link c.connect-how.result c.last-last.result c.at-link.result) c.at-link.result c.at-link.ensures.found
+    (c.put.ensures ∙ ap (set c.args.self.now.links c.args.place) c.after_connect.ensures) (connect_lowers c.connect-how.result c.last-last.result c.at-link.result)

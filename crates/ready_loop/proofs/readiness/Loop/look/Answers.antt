@@ -9,7 +9,7 @@ use Rattle.ready_loop.proofs.StateLemmas.{sound_as, known_then, known_start}
 use Rattle.ready_loop.proofs.LookLemmas.{looked_until, looked_failed, looked_done, looked_names, may_then, left_of, counts_of, looked_spent}
 use Rattle.ready_loop.proofs.PartLemmas.{calls_start, calls_then}
 use Rattle.ready_loop.proofs.WireLemmas.{grows_same, wired_start, wired_then, wired_on}
-use Rattle.ready_loop.proofs.FaultLemmas.{not_spent, wait_as, wait_last}
+use Rattle.ready_loop.proofs.FaultLemmas.{err_same, not_spent, wait_as, wait_last}
 use Rattle.ready_loop.proofs.readiness.Loop.look.Goals as goal
 
 pub returns-in-Err-clause-looked : goal.returns-in-Err-clause-looked
@@ -184,3 +184,15 @@ returns-in-Done-clause-drained g c = λ conn e. let no : ⊥ = cc in absurd no
 
 pub returns-in-Done-clause-cause : goal.returns-in-Done-clause-cause
 returns-in-Done-clause-cause g c = wait_as (λ none. absurd none) (wait_last c.in-Ok.ensures.cause c.in-Done.ensures.cause)
+
+pub returns-then-self-eq0-clause-anew : goal.returns-then-self-eq0-clause-anew
+returns-then-self-eq0-clause-anew g c = λ conn e. let no : ⊥ = cc in absurd no
+
+pub returns-in-Err-clause-anew : goal.returns-in-Err-clause-anew
+returns-in-Err-clause-anew g c = λ conn e. c.in-Err.ensures.anew conn (err_same e)
+
+pub returns-in-Failed-clause-anew : goal.returns-in-Failed-clause-anew
+returns-in-Failed-clause-anew g c = λ conn e. let no : ⊥ = cc in absurd no
+
+pub returns-in-Done-clause-anew : goal.returns-in-Done-clause-anew
+returns-in-Done-clause-anew g c = λ conn e. let no : ⊥ = cc in absurd no

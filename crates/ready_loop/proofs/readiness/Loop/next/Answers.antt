@@ -4,13 +4,14 @@ use Rattle.world.specs.Moments.{start, more}
 use Rattle.world.proofs.MomentsLemmas.{told_start, told_one, told_then}
 use Rattle.ready_loop.specs.declared.readiness.Loop.{Loop}
 use Rattle.ready_loop.proofs.StandLemmas.{goes_start, goes_then}
-use Rattle.ready_loop.proofs.StateLemmas.{sound_as, known_start, known_then, each_next, and_here, not_drained}
+use Rattle.ready_loop.proofs.StateLemmas.{sound_as, known_start, known_then, each_next, and_here, not_drained, well_before}
 use Rattle.ready_loop.proofs.PartLemmas.{calls_start, calls_then}
 use Rattle.ready_loop.proofs.WireLemmas.{grows_same, wired_start, wired_then}
 use Rattle.std.proofs.lemmas.Bool.{false≢true}
+use Rattle.world.specs.declared.conn.Conn.{Conn}
 use Rattle.world.specs.Places.{is_at}
 use Rattle.ready_loop.specs.Link.{MayRead}
-use Rattle.ready_loop.specs.States.{NotRead}
+use Rattle.ready_loop.specs.States.{IsWell, NotRead}
 use Rattle.ready_loop.proofs.FaultLemmas.{cause_as, cause_last}
 use Rattle.ready_loop.proofs.readiness.Loop.next.Goals as goal
 
@@ -331,3 +332,20 @@ read_at-requires-clause-buf g c = c.loop-place.invariant.some
 
 pub read_at-requires-clause-may : goal.read_at-requires-clause-may
 read_at-requires-clause-may g c = and_here MayRead c.loop-place.self.links c.loop-place.place c.at.result c.at.ensures.found (c.if-not-may_read.ensures.0 refl)
+
+pub returns-in-Piece-clause-anew : goal.returns-in-Piece-clause-anew
+returns-in-Piece-clause-anew g c = λ conn e. let no : ⊥ = cc in absurd no
+
+pub returns-in-Ended-clause-anew : goal.returns-in-Ended-clause-anew
+returns-in-Ended-clause-anew g c = λ conn e. let no : ⊥ = cc in absurd no
+
+pub returns-in-Refused-clause-anew : goal.returns-in-Refused-clause-anew
+returns-in-Refused-clause-anew g c = λ conn e. let no : ⊥ = cc in absurd no
+
+pub returns-in-Failed-clause-anew : goal.returns-in-Failed-clause-anew
+returns-in-Failed-clause-anew g c = λ conn e.
+    let same : c.conn_at-conn.result ≡ conn = cc in
+    subst (λ (x : Conn). IsWell c.args.self.now x) same (well_before c.loop-place.invariant.known c.loop-place.invariant.failed c.in-Failed.ensures.well)
+
+pub returns-clause-anew : goal.returns-clause-anew
+returns-clause-anew g c = λ conn e. let no : ⊥ = cc in absurd no

@@ -1,7 +1,8 @@
-use Rattle.std.proofs.Common.{ap, ◌∙◌}
+use Rattle.std.proofs.Common.{arith, ap, ◌∙◌}
 use Rattle.world.proofs.MomentsLemmas.{told_as}
 use Rattle.ready_loop.proofs.NameLemmas.{named_goes, named_names, named_drained, named_offered, named_calm, named_failed, named_known}
 use Rattle.ready_loop.proofs.StateLemmas.{sound_as, known_then}
+use Rattle.ready_loop.proofs.FaultLemmas.{err_same}
 use Rattle.ready_loop.proofs.WireLemmas.{wired_on}
 use Rattle.ready_loop.proofs.readiness.Loop.offer.Goals as goal
 
@@ -99,3 +100,15 @@ returns-in-Ok-clause-calls g c = c.in-Ok.ensures.calls
 
 pub returns-in-Ok-clause-cause : goal.returns-in-Ok-clause-cause
 returns-in-Ok-clause-cause g c = c.in-Ok.ensures.cause
+
+pub returns-in-Ok-clause-reads : goal.returns-in-Ok-clause-reads
+returns-in-Ok-clause-reads g c = omega (arith, c.in-Ok.ensures.reads, c.name_ends.ensures.reads)
+
+pub returns-in-Ok-clause-anew : goal.returns-in-Ok-clause-anew
+returns-in-Ok-clause-anew g c = λ conn e. absurd (cc)
+
+pub returns-in-Err-clause-reads : goal.returns-in-Err-clause-reads
+returns-in-Err-clause-reads g c = c.in-Err.ensures.reads
+
+pub returns-in-Err-clause-anew : goal.returns-in-Err-clause-anew
+returns-in-Err-clause-anew g c = λ conn e. c.in-Err.ensures.anew conn (err_same e)

@@ -1,7 +1,7 @@
 use Rattle.std.proofs.Common.{rules, arith, false, ◌∙◌, ap, refl, ◌≡◌, ℕ, subst, sym, Result, IfErr}
 use Rattle.world.proofs.MomentsLemmas.{told_start, told_then, told_as}
 use Rattle.ready_loop.proofs.StandLemmas.{goes_start, goes_then, cause_then}
-use Rattle.ready_loop.proofs.StateLemmas.{offered_more, known_start, known_then}
+use Rattle.ready_loop.proofs.StateLemmas.{offered_more, known_start, known_then, well_before}
 use Rattle.ready_loop.proofs.OfferLemmas.{offer_moment}
 use Rattle.ready_loop.proofs.PartLemmas.{calls_start, calls_then}
 use Rattle.ready_loop.proofs.WireLemmas.{grows_same, wired_start, wired_then}
@@ -22,6 +22,7 @@ loop-place-init g c = record {
   offered = record { each = λ p low. absurd (omega arith) };
   drained = λ d. d;
   known = known_start c.args.self.now;
+  reads = omega arith;
   failed = λ p. refl;
   left = search rules;
   cause = search rules;
@@ -44,6 +45,7 @@ loop-place-preserved g c =
           (ap (λ k. k.last) at.cause.others) at.only at.offered inv.offered;
       drained = λ d. at.drained (inv.drained d);
       known = known_then inv.known at.known;
+      reads = omega (arith, inv.reads, at.reads);
       failed = λ p. at.failed.each p ∙ inv.failed p;
       left = at.only.left ∙ inv.left;
       cause = cause_then inv.cause at.cause (λ b. b) (λ e. cc);
@@ -120,3 +122,16 @@ returns-clause-calls g c = c.loop-place.invariant.calls
 
 pub returns-clause-cause : goal.returns-clause-cause
 returns-clause-cause g c = cause_as false≢true c.loop-place.invariant.cause
+
+pub returns-in_err-offer_at-clause-anew : goal.returns-in_err-offer_at-clause-anew
+returns-in_err-offer_at-clause-anew g c = λ conn e.
+    well_before c.loop-place.invariant.known c.loop-place.invariant.failed (c.in_err-offer_at.ensures.anew conn (sym (handed_on c.from_residual.ensures.1) ∙ e)).1
+
+pub returns-in_err-offer_at-clause-reads : goal.returns-in_err-offer_at-clause-reads
+returns-in_err-offer_at-clause-reads g c = omega (arith, c.loop-place.invariant.reads, c.in_err-offer_at.ensures.reads)
+
+pub returns-clause-anew : goal.returns-clause-anew
+returns-clause-anew g c = λ conn e. absurd (cc)
+
+pub returns-clause-reads : goal.returns-clause-reads
+returns-clause-reads g c = c.loop-place.invariant.reads

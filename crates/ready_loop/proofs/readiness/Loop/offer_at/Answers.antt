@@ -3,9 +3,9 @@ use Rattle.ready_loop.proofs.StandLemmas.{goes_then}
 use Rattle.ready_loop.proofs.LookLemmas.{begins_then}
 use Rattle.ready_loop.proofs.OfferLemmas.{forced_at}
 use Rattle.ready_loop.proofs.PartLemmas.{calls_then}
-use Rattle.std.proofs.Common.{◌∙◌, subst, sym, refl, Result, IfErr}
+use Rattle.std.proofs.Common.{arith, ◌∙◌, subst, sym, refl, Result, IfErr}
 use Rattle.ready_loop.proofs.WireLemmas.{grows_same, wired_then}
-use Rattle.ready_loop.proofs.StateLemmas.{only_then, known_then}
+use Rattle.ready_loop.proofs.StateLemmas.{only_then, known_then, well_before}
 use Rattle.ready_loop.proofs.FaultLemmas.{fails_then, cause_last, handed_on, cause_as}
 use Rattle.std.proofs.lemmas.Result.{IfOk-from_err}
 use Rattle.ready_loop.specs.declared.fault.LoopFault.{LoopFault}
@@ -92,3 +92,17 @@ returns-clause-known g c = known_then c.in_ok-begin_again.ensures.known c.write_
 
 pub returns-clause-cause : goal.returns-clause-cause
 returns-clause-cause g c = cause_last c.in_ok-begin_again.ensures.cause c.write_all.ensures.cause
+
+pub returns-in_err-begin_again-clause-anew : goal.returns-in_err-begin_again-clause-anew
+returns-in_err-begin_again-clause-anew g c = λ conn e. c.in_err-begin_again.ensures.anew conn (sym (handed_on c.from_residual.ensures.1) ∙ e)
+
+pub returns-in_err-begin_again-clause-reads : goal.returns-in_err-begin_again-clause-reads
+returns-in_err-begin_again-clause-reads g c = c.in_err-begin_again.ensures.reads
+
+pub returns-clause-anew : goal.returns-clause-anew
+returns-clause-anew g c = λ conn e.
+    let r = c.write_all.ensures.anew conn e in
+    (r.0, well_before c.in_ok-begin_again.ensures.known c.in_ok-begin_again.ensures.failed.each r.1)
+
+pub returns-clause-reads : goal.returns-clause-reads
+returns-clause-reads g c = omega (arith, c.in_ok-begin_again.ensures.reads, c.write_all.ensures.reads)

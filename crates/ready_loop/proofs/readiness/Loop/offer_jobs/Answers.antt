@@ -3,7 +3,7 @@ use Rattle.std.proofs.lemmas.Option.{unwrap_or-slice_get}
 use Rattle.world.proofs.MomentsLemmas.{told_start, told_then, told_both, told_as}
 use Rattle.ready_loop.specs.Offers.{is_looked, BeginsBelow}
 use Rattle.ready_loop.proofs.StandLemmas.{goes_start, goes_then, cause_then}
-use Rattle.ready_loop.proofs.StateLemmas.{known_start, known_then, calm_joins}
+use Rattle.ready_loop.proofs.StateLemmas.{known_start, known_then, calm_joins, well_before}
 use Rattle.ready_loop.proofs.LookLemmas.{below_none, below_skip, below_more, look_moment, offered_at}
 use Rattle.ready_loop.proofs.PartLemmas.{calls_start, calls_then}
 use Rattle.ready_loop.proofs.WireLemmas.{grows_same, wired_start, wired_then}
@@ -160,3 +160,9 @@ returns-clause-calls g c = c.loop-place.invariant.calls
 
 pub returns-clause-cause : goal.returns-clause-cause
 returns-clause-cause g c = cause_as false≢true c.loop-place.invariant.cause
+
+pub returns-in-Err-clause-anew : goal.returns-in-Err-clause-anew
+returns-in-Err-clause-anew g c = λ conn e. well_before c.loop-place.invariant.known c.loop-place.invariant.failed (c.in-Err.ensures.anew conn e).1
+
+pub returns-clause-anew : goal.returns-clause-anew
+returns-clause-anew g c = λ conn e. absurd (cc)

@@ -1,7 +1,7 @@
 use Rattle.std.proofs.Common.{arith, refl, ◌≡◌, ◌<◌, ◌++◌, ℕ, length, set, subst, OnOk}
 use Rattle.world.specs.Places.{place_of}
 use Rattle.ready_loop.specs.Queues.{rest_at, taken_at}
-use Rattle.ready_loop.proofs.NewLemmas.{queue_stands, queue_known}
+use Rattle.ready_loop.proofs.NewLemmas.{queue_stands, queue_known, queue_only}
 use Rattle.ready_loop.proofs.readiness.Loop.queue.Goals as goal
 
 pub returns-clause-stands : goal.returns-clause-stands
@@ -21,3 +21,8 @@ returns-clause-failed c = λ p. refl
 
 pub returns-clause-ports : goal.returns-clause-ports
 returns-clause-ports c = refl
+
+pub returns-clause-only : goal.returns-clause-only
+returns-clause-only c = queue_only c.push.result (place_of c.args.conn) c.args.bytes c.args.self.now c.push.new.self
+    (subst (λ (q : ℕ). OnOk c.push.result (c.push.new.self ≡ set c.args.self.now.queues q (record { rest = rest_at c.args.self.now.queues q ++ c.args.bytes; taken = taken_at c.args.self.now.queues q })))
+    c.place_at.ensures.place c.push.ensures.ok) c.push.ensures.err

@@ -3,12 +3,12 @@ use Rattle.world.specs.declared.entry.Entry.{Entry}
 use Rattle.world.specs.Places.{time}
 use Rattle.ready_loop.specs.Link.{MayRead, read_link}
 use Rattle.ready_loop.proofs.TableLemmas.{tells_with}
-use Rattle.ready_loop.proofs.StateLemmas.{may_here, read_offered, read_fails, read_below, read_lowers, known_set, read_stage}
+use Rattle.ready_loop.proofs.StateLemmas.{may_here, read_offered, read_fails, read_below, read_lowers, known_set, read_stage, well_got}
 use Rattle.ready_loop.proofs.ReadLemmas.{read_goes, untimed}
 use Rattle.ready_loop.proofs.PartLemmas.{calls_one, read_of_loop}
 use Rattle.ready_loop.proofs.BegunLemmas.{begun_read}
 use Rattle.ready_loop.proofs.WireLemmas.{wired_one, read_wired, ports_kept, read_port}
-use Rattle.ready_loop.specs.Link.{IsBegunWhereRefused}
+use Rattle.ready_loop.specs.Link.{IsSteady}
 use Rattle.ready_loop.specs.declared.link.Link.{Link}
 use Rattle.ready_loop.specs.Wires.{port_kept}
 use Rattle.ready_loop.proofs.readiness.Loop.read_at.Goals as goal
@@ -49,7 +49,7 @@ returns-clause-reads g c = read_lowers c.read-got.result c.last-last.result c.ar
     (may_here MayRead c.args.self.now.links c.args.place c.at-link.result c.at-link.ensures.found c.requires.may)
 
 pub put-requires-clause-begun : goal.put-requires-clause-begun
-put-requires-clause-begun g c = subst (λ (link : Link). IsBegunWhereRefused link) (sym c.after_read.ensures) (begun_read c.read-got.result c.last-last.result c.at-link.result c.at-link.ensures.begun)
+put-requires-clause-begun g c = subst (λ (link : Link). IsSteady link) (sym c.after_read.ensures) (begun_read c.read-got.result c.last-last.result c.at-link.result (may_here MayRead c.args.self.now.links c.args.place c.at-link.result c.at-link.ensures.found c.requires.may) c.at-link.ensures.begun)
 
 pub returns-clause-ports : goal.returns-clause-ports
 returns-clause-ports g c = ports_kept c.args.self.now.links c.put.new.self c.args.place (read_link c.read-got.result c.last-last.result c.at-link.result) c.at-link.result c.at-link.ensures.found
@@ -57,3 +57,7 @@ returns-clause-ports g c = ports_kept c.args.self.now.links c.put.new.self c.arg
 
 pub returns-clause-wires : goal.returns-clause-wires
 returns-clause-wires g c = wired_one c.read-got.ensures.tells (λ past. read_wired (map port_kept c.put.new.self) c.args.conn (length c.args.buf.now) c.read-got.result c.read-got.new.buf past)
+
+pub returns-clause-well : goal.returns-clause-well
+returns-clause-well g c = well_got c.args.self.now c.args.conn c.args.place c.at-link.result c.requires.place c.requires.job c.at-link.ensures.found c.at-link.ensures.begun
+    (may_here MayRead c.args.self.now.links c.args.place c.at-link.result c.at-link.ensures.found c.requires.may)

@@ -7,7 +7,7 @@ use Rattle.ready_loop.specs.States.{MapsBelow}
 use Rattle.ready_loop.proofs.MapLemmas.{maps_none, maps_more}
 use Rattle.ready_loop.proofs.BegunLemmas.{begun_wait}
 use Rattle.ready_loop.proofs.WireLemmas.{ports_kept, wait_port}
-use Rattle.ready_loop.specs.Link.{IsBegunWhereRefused}
+use Rattle.ready_loop.specs.Link.{IsSteady}
 use Rattle.ready_loop.specs.Wires.{port_kept}
 use Rattle.ready_loop.proofs.readiness.Loop.report.Goals as goal
 
@@ -37,7 +37,7 @@ returns-clause-reported c =
     subst (λ (n : ℕ). MapsBelow n (λ p. wait_link c.args.did (is_reported p c.args.reports.now.ready)) c.args.self.now.links c.loop-place.self.links) n c.loop-place.invariant.all
 
 pub put-requires-clause-begun : goal.put-requires-clause-begun
-put-requires-clause-begun c = subst (λ (link : Link). IsBegunWhereRefused link) (sym c.after_wait.ensures) (begun_wait c.args.did _ c.at-link.result c.at-link.ensures.begun)
+put-requires-clause-begun c = subst (λ (link : Link). IsSteady link) (sym c.after_wait.ensures) (begun_wait c.args.did _ c.at-link.result c.at-link.ensures.begun)
 
 pub returns-clause-ports : goal.returns-clause-ports
 returns-clause-ports c = c.loop-place.invariant.ports

@@ -5,7 +5,7 @@ use Rattle.ready_loop.specs.Link.{wait_link}
 use Rattle.ready_loop.specs.Queues.{rest_at}
 use Rattle.ready_loop.proofs.StateLemmas.{known_by}
 use Rattle.ready_loop.proofs.TableLemmas.{tells_both}
-use Rattle.ready_loop.proofs.MapLemmas.{maps_failed, maps_known}
+use Rattle.ready_loop.proofs.MapLemmas.{maps_begun, maps_failed, maps_known}
 use Rattle.ready_loop.proofs.WaitLemmas.{wait_stands, wait_failed, wait_stage}
 use Rattle.ready_loop.proofs.PartLemmas.{calls_one}
 use Rattle.ready_loop.proofs.WireLemmas.{wired_one}
@@ -28,6 +28,8 @@ returns-clause-failed g c = maps_failed 64 (λ p. wait_link c.wait-did.result (i
 pub returns-clause-known : goal.returns-clause-known
 returns-clause-known g c = known_by c.args.self.now (record c.report.new.self { left = c.report.new.self.left - 1 })
     (maps_known 64 (λ p. wait_link c.wait-did.result (is_reported p c.wait-did.new.out.ready)) c.args.self.now.links c.report.new.self.links
+    (λ p link. wait_stage c.wait-did.result (is_reported p c.wait-did.new.out.ready) link) c.report.ensures.reported)
+    (maps_begun 64 (λ p. wait_link c.wait-did.result (is_reported p c.wait-did.new.out.ready)) c.args.self.now.links c.report.new.self.links
     (λ p link. wait_stage c.wait-did.result (is_reported p c.wait-did.new.out.ready) link) c.report.ensures.reported)
     (λ p e. ap (λ (l : Loop). rest_at l.queues p) c.report.ensures.same ∙ e)
 

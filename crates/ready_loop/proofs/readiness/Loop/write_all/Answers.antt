@@ -1,12 +1,13 @@
-use Rattle.std.proofs.Common.{rules, ◌∙◌, refl, Bool, ap, ◌||◌}
+use Rattle.std.proofs.Common.{rules, arith, ◌≡◌, ◌∙◌, refl, Bool, ap, subst, ◌||◌}
 use Rattle.world.proofs.MomentsLemmas.{told_start, told_then, told_as}
 use Rattle.ready_loop.proofs.StandLemmas.{goes_start, goes_then, cause_then}
-use Rattle.ready_loop.proofs.StateLemmas.{only_start, only_then, not_failed, known_start, known_then, offered_then}
-use Rattle.ready_loop.specs.States.{failed_at}
+use Rattle.ready_loop.proofs.StateLemmas.{only_start, only_then, not_failed, known_start, known_then, offered_then, well_before}
+use Rattle.world.specs.declared.conn.Conn.{Conn}
+use Rattle.ready_loop.specs.States.{IsWell, failed_at}
 use Rattle.ready_loop.proofs.PartLemmas.{calls_start, calls_then}
 use Rattle.ready_loop.proofs.WireLemmas.{grows_same, wired_start, wired_then}
 use Rattle.std.proofs.lemmas.Bool.{false≢true}
-use Rattle.world.specs.Places.{is_at}
+use Rattle.world.specs.Places.{is_at, place_of}
 use Rattle.ready_loop.proofs.FaultLemmas.{cause_as, cause_last}
 use Rattle.ready_loop.proofs.readiness.Loop.write_all.Goals as goal
 
@@ -20,6 +21,7 @@ loop-conn-init g c = record {
   calm = c.requires.calm;
   drained = λ d. d;
   known = known_start c.args.self.now;
+  reads = omega arith;
   failed = λ p. refl;
   cause = search rules;
 }
@@ -39,6 +41,7 @@ loop-conn-preserved g c =
       calm = c.write_at.ensures.calm inv.calm;
       drained = λ d. c.write_at.ensures.drained (inv.drained d);
       known = known_then inv.known c.write_at.ensures.known;
+      reads = omega (arith, inv.reads, c.write_at.ensures.reads);
       failed = λ p. c.write_at.ensures.failed p ∙ not_failed c.write_at.result c.args.conn p (failed_at c.loop-conn.self p) c.in_default.not-Failed ∙ inv.failed p;
       cause = cause_then inv.cause c.write_at.ensures.cause (λ b. b) c.in_default.not-Failed;
     }
@@ -120,3 +123,18 @@ write_at-requires-clause-some g c = (c.loop-conn-test.ensures.0 refl).1
 
 pub loop-conn-smaller : goal.loop-conn-smaller
 loop-conn-smaller g c = c.write_at.ensures.less
+
+pub returns-in-Failed-clause-reads : goal.returns-in-Failed-clause-reads
+returns-in-Failed-clause-reads g c = omega (arith, c.loop-conn.invariant.reads, c.in-Failed.ensures.reads)
+
+pub returns-in-Failed-clause-anew : goal.returns-in-Failed-clause-anew
+returns-in-Failed-clause-anew g c = λ conn e.
+    let same : c.args.conn ≡ conn = cc in
+    subst (λ (x : Conn). (place_of x ≡ c.args.place) × IsWell c.args.self.now x) same
+    (c.requires.place, well_before c.loop-conn.invariant.known c.loop-conn.invariant.failed c.in-Failed.ensures.well)
+
+pub returns-clause-reads : goal.returns-clause-reads
+returns-clause-reads g c = c.loop-conn.invariant.reads
+
+pub returns-clause-anew : goal.returns-clause-anew
+returns-clause-anew g c = λ conn e. absurd (cc)

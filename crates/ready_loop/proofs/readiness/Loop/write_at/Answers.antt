@@ -4,12 +4,12 @@ use Rattle.world.specs.Places.{time}
 use Rattle.world.specs.Told.{PutSome}
 use Rattle.ready_loop.specs.Link.{MayWrite, write_link}
 use Rattle.ready_loop.proofs.TableLemmas.{tells_with}
-use Rattle.ready_loop.proofs.StateLemmas.{may_here, only_written, calm_written, drained_set, write_reads, write_fails, load_less, known_set, empty_set, write_stage}
+use Rattle.ready_loop.proofs.StateLemmas.{may_here, only_written, calm_written, drained_set, write_reads, write_fails, load_less, known_set, empty_set, write_stage, write_lowers, reads_set, well_written}
 use Rattle.ready_loop.proofs.OfferLemmas.{write_goes, untimed_write}
 use Rattle.ready_loop.proofs.PartLemmas.{calls_one, write_of_loop}
 use Rattle.ready_loop.proofs.BegunLemmas.{begun_write}
 use Rattle.ready_loop.proofs.WireLemmas.{wired_one, write_wired, ports_kept, write_port}
-use Rattle.ready_loop.specs.Link.{IsBegunWhereRefused}
+use Rattle.ready_loop.specs.Link.{IsSteady}
 use Rattle.ready_loop.specs.declared.link.Link.{Link}
 use Rattle.ready_loop.specs.Wires.{port_kept}
 use Rattle.ready_loop.proofs.readiness.Loop.write_at.Goals as goal
@@ -56,7 +56,7 @@ pub returns-clause-calls : goal.returns-clause-calls
 returns-clause-calls g c = calls_one c.write-put.ensures.tells (write_of_loop c.args.conn c.write-put.result c.rest.result.now)
 
 pub put-requires-clause-begun : goal.put-requires-clause-begun
-put-requires-clause-begun g c = subst (λ (link : Link). IsBegunWhereRefused link) (sym c.after_write.ensures) (begun_write c.write-put.result c.last-last.result c.at-link.result c.at-link.ensures.begun)
+put-requires-clause-begun g c = subst (λ (link : Link). IsSteady link) (sym c.after_write.ensures) (begun_write c.write-put.result c.last-last.result c.at-link.result (may_here MayWrite c.args.self.now.links c.args.place c.at-link.result c.at-link.ensures.found c.requires.may) c.at-link.ensures.begun)
 
 pub returns-clause-ports : goal.returns-clause-ports
 returns-clause-ports g c = ports_kept c.args.self.now.links c.put.new.self c.args.place (write_link c.write-put.result c.last-last.result c.at-link.result) c.at-link.result c.at-link.ensures.found
@@ -64,3 +64,11 @@ returns-clause-ports g c = ports_kept c.args.self.now.links c.put.new.self c.arg
 
 pub returns-clause-wires : goal.returns-clause-wires
 returns-clause-wires g c = wired_one c.write-put.ensures.tells (λ past. write_wired (map port_kept c.put.new.self) c.args.conn c.write-put.result c.rest.result.now past)
+
+pub returns-clause-well : goal.returns-clause-well
+returns-clause-well g c = well_written c.args.self.now c.args.conn c.args.place c.at-link.result c.requires.place c.requires.job c.at-link.ensures.found c.at-link.ensures.begun
+    (may_here MayWrite c.args.self.now.links c.args.place c.at-link.result c.at-link.ensures.found c.requires.may)
+
+pub returns-clause-reads : goal.returns-clause-reads
+returns-clause-reads g c = reads_set c.args.self.now.links c.put.new.self c.args.place (write_link c.write-put.result c.last-last.result c.at-link.result) c.at-link.result c.at-link.ensures.found
+    (c.put.ensures ∙ ap (set c.args.self.now.links c.args.place) c.after_write.ensures) (write_lowers c.write-put.result c.last-last.result c.at-link.result)
