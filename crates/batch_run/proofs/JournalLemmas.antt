@@ -1,5 +1,6 @@
 -- What is told of journals and paths.
-use Rattle.std.proofs.Common.{◌≡◌, ◌↔◌, ◌^◌, ◌-◌, min, ℕ, ◌+◌, ◌≤◌, ◌++◌, Bool, List, [], ◌∷◌, Option, Some, None, Result, Ok, Err, arith, refl, sym, ◌∙◌, ap, subst}
+use Rattle.std.proofs.Common.{◌≡◌, ◌↔◌, ◌^◌, ◌-◌, min, inl, inr, ℕ, ◌+◌, ◌<◌, ◌≤◌, ◌++◌, Bool, List, [], ◌∷◌, Option, Some, None, Result, Ok, Err, arith, refl, sym, ◌∙◌, ap, subst}
+use Rattle.std.proofs.lemmas.Bool.{cases_lt}
 use Rattle.std.proofs.lemmas.Option.{same_Some}
 use Rattle.save_course.proofs.CourseLemmas.{spared_other}
 use Rattle.world.specs.declared.entry.Entry.{Entry}
@@ -132,3 +133,10 @@ pub turn_fails : (fault : LoopFault) (old new : Counts) → TurnCounts (Err faul
 turn_fails (NetFault None) old new h other = h.net.cause tt
 turn_fails (NetFault (Some conn)) old new h other = absurd h
 turn_fails Spent old new h other = absurd (other refl)
+
+-- a wait uses one up, where it wasn't answered that none is left
+pub left_less : (left : ℕ) {rest : ℕ} {T : Type 0} {x : T} → (left ≡ 0 → ◌≡◌ {A = Result T LoopFault} (Ok x) (Err Spent)) → rest ≡ left - 1 → rest < left
+left_less left spent is = elim (cases_lt 0 left) [
+  | inl some ↦ omega (arith, is, some)
+  | inr none ↦ let no = spent (omega (arith, none)) in absurd (cc)
+]

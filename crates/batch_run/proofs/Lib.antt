@@ -3,6 +3,7 @@ pub mod CauseLemmas
 pub mod DueLemmas
 pub mod EndLemmas
 pub mod JournalLemmas
+pub mod KeptLemmas
 pub mod LineLemmas
 pub mod SlotLemmas
 pub mod StandLemmas

@@ -1,23 +1,19 @@
 -- What each call of the loop leaves of what is kept beside it.
 use Rattle.std.proofs.Common.{◌≡◌, ◌≢◌, inl, inr, ◌+◌, ◌*◌, ◌<◌, ◌≤◌, ◌||◌, ◌/◌, ℕ, Bool, true, false, List, length, replicate, set, suc, zero, Option, Some, None, Result, Ok, Err, slice_get, arith, refl, sym, ◌∙◌, ap, subst}
 use Rattle.std.specs.Prelude.{IsErr}
-use Rattle.std.proofs.Math.Nat.{mul-div-le, lt-div-mul-add}
 use Rattle.std.proofs.lemmas.Bool.{cases_eq, cases_lt, eq-eqb, ne_eqb, false≢true, or_from, or_left, or_right}
 use Rattle.std.proofs.lemmas.List.{length-set}
 use Rattle.std.proofs.lemmas.Option.{slice_get_within, same_Some}
 use Rattle.world.specs.declared.chan.Chan.TheVariants.{Shell, Control, Iopub, Heart}
 use Rattle.world.specs.Places.{chan_number, place_of, is_at}
 use Rattle.world.proofs.StatusLemmas.{chan_below}
-use Rattle.ready_loop.specs.declared.fault.LoopFault.{LoopFault}
-use Rattle.ready_loop.specs.declared.fault.LoopFault.TheVariants.{NetFault, Spent}
-use Rattle.ready_loop.specs.declared.link.Link.{Link}
 use Rattle.ready_loop.specs.declared.next.Next.{Next}
 use Rattle.ready_loop.specs.declared.next.Next.TheVariants as next
 use Rattle.ready_loop.specs.declared.readiness.Loop.{Loop}
-use Rattle.ready_loop.specs.Begins.{IsFresh, IsBegun, is_of_job, failed_closed}
+use Rattle.ready_loop.specs.Begins.{IsFresh, IsBegun, is_of_job}
 use Rattle.ready_loop.specs.History.{conn_on}
-use Rattle.ready_loop.specs.States.{FailsOnly, IsSound, MayWait, SameKnown, failed_at, failed_in, known_at}
-use Rattle.batch_run.specs.Kept.{AreBegun, AreLost, IsFreshFrom, Loses, NoneLost, NoneLostBelow, NoPlaces, Notes, mark_job}
+use Rattle.ready_loop.specs.States.{known_at}
+use Rattle.batch_run.specs.Kept.{AreBegun, IsFreshFrom, NoPlaces, mark_job}
 use Rattle.jtext.proofs.Lists.{slice_get-set_same, slice_get-set_other, or_other}
 
 -- ---- places
@@ -74,8 +70,12 @@ set_is xs q a b e low = same_Some _ _ (sym (slice_get-set_same xs q a low) ∙ e
 
 -- ---- the connections that were begun
 
-pub begun_same : {begun : List Bool} {old new : Loop} → SameKnown old new → AreBegun begun old → AreBegun begun new
-begun_same m are = record { each = λ p e. m.each p ∙ are.each p e }
+pub begun_same : {begun : List Bool} {old new : Loop} → ((p : ℕ) → known_at new p ≡ known_at old p) → AreBegun begun old → AreBegun begun new
+begun_same known are = record { each = λ p e. known p ∙ are.each p e }
+
+-- where connects were called for no other connection
+pub fresh_kept : {n : ℕ} {old new : Loop} → ((p : ℕ) → known_at new p ≡ known_at old p) → IsFreshFrom n old → IsFreshFrom n new
+fresh_kept known f = record { each = λ p low. known p ∙ f.each p low }
 
 pub fresh_job : {job : ℕ} {l : Loop} → IsFreshFrom job l → IsFresh job l
 fresh_job {job} f = record { each = λ chan. f.each (place_of (conn_on job chan)) (omega arith) }
@@ -133,71 +133,6 @@ begun_begun {job} {heart} {begun} {old} {new} room is others are = record {
       ];
 }
 
--- ---- the jobs that are lost
-
-pub lost_fault : {T : Type 0} (f : LoopFault) {old new : Loop} {lost then : List Bool} → FailsOnly {T = T} (Err f) old new
-    → Notes f lost then → AreLost lost old → AreLost then new
-lost_fault (NetFault (Some conn)) {old = old} {then = then} fails notes are = record {
-  each = λ p job low from to bad. elim (cases_eq p (place_of conn)) [
-    | inl e ↦
-        let less : chan_number conn.chan < 4 = chan_below conn.chan in
-        let same : conn.job ≡ job = omega (arith, e, less, from, to) in
-        let few : conn.job < 16 = omega (arith, e, low) in
-        subst (λ j. slice_get then j ≡ Some true) same (notes.marks conn refl few)
-    | inr ne ↦ notes.keeps job (are.each p job low from to (or_other (is_at p conn) (failed_at old p) (ne_eqb p (place_of conn) ne) (sym (fails.each p) ∙ bad)))
-  ];
-}
-lost_fault (NetFault None) fails notes are = record {
-  each = λ p job low from to bad. notes.keeps job (are.each p job low from to (sym (fails.each p) ∙ bad));
-}
-lost_fault Spent fails notes are = record {
-  each = λ p job low from to bad. notes.keeps job (are.each p job low from to (sym (fails.each p) ∙ bad));
-}
-
-pub lost_ok : {T : Type 0} {x : T} {old new : Loop} {lost : List Bool} → FailsOnly (Ok x) old new → AreLost lost old → AreLost lost new
-lost_ok fails are = record { each = λ p job low from to bad. are.each p job low from to (sym (fails.each p) ∙ bad) }
-
-pub lost_same : {old new : Loop} {lost : List Bool} → ((p : ℕ) → failed_at new p ≡ failed_at old p) → AreLost lost old → AreLost lost new
-lost_same same are = record { each = λ p job low from to bad. are.each p job low from to (sym (same p) ∙ bad) }
-
-not_closed : (b was : Bool) → failed_closed b was ≡ true → (b ≡ false) × (was ≡ true)
-not_closed true was e = absurd (false≢true e)
-not_closed false was e = (refl, e)
-
--- the connections of a job were closed
-pub lost_closed : (job : ℕ) (old new : Loop) (lost : List Bool)
-    → ((p : ℕ) → failed_at new p ≡ failed_closed (is_of_job job p) (failed_at old p)) → AreLost lost old → AreLost (set lost job false) new
-lost_closed job old new lost closed are = record {
-  each = λ p j low from to bad.
-      let both = not_closed (is_of_job job p) (failed_at old p) (sym (closed p) ∙ bad) in
-      elim (cases_eq j job) [
-        | inl e ↦
-            let from' : 4 * job ≤ p = omega (arith, e, from) in
-            let to' : p < 4 * job + 4 = omega (arith, e, to) in
-            absurd (false≢true (sym both.0 ∙ of_job job p from' to'))
-        | inr ne ↦ slice_get-set_other lost job j false ne ∙ are.each p j low from to both.1
-      ];
-}
-
--- where none is lost, no call of a connection has failed
-pub sound_none : {l : Loop} {lost : List Bool} → AreLost lost l → NoneLost lost → IsSound l
-sound_none {l} {lost} are none = record {
-  each = λ p link low is. fails p link low is link.failed refl;
-}
-  where
-    fails : (p : ℕ) (link : Link) → p < 64 → slice_get l.links p ≡ Some link → (b : Bool) → link.failed ≡ b → link.failed ≡ false
-    fails p link low is false e = e
-    fails p link low is true e =
-        let from : 4 * (p / 4) ≤ p = mul-div-le p 4 in
-        let to : p < 4 * (p / 4) + 4 = omega (arith, lt-div-mul-add {a = p} {b = 4} (omega arith)) in
-        let few : p / 4 < 16 = omega (arith, from, low) in
-        let bad = ap failed_in is ∙ e in
-        absurd (false≢true (same_Some _ _ (sym (none.each (p / 4) few) ∙ are.each p (p / 4) low from to bad)))
-
--- where all are lost, the one that a fault names is
-pub all_noted : (f : LoopFault) {lost then : List Bool} → ((job : ℕ) → Loses job lost then) → Notes f lost then
-all_noted f all = record { keeps = λ j e. (all 0).keeps j e; marks = λ conn e low. (all conn.job).marks low }
-
 -- ---- the begin
 
 pub none_of : (n p : ℕ) → p < n → slice_get (replicate n false) p ≡ Some false
@@ -228,9 +163,6 @@ err_not r bad is = absurd (false≢true (subst IsErr is bad))
 pub err_other : {A E : Type 0} (e : E) (x : A) → ◌≡◌ {A = Result A E} (Err e) (Ok x) → ⊥
 err_other e x is = absurd (cc)
 
-pub some_not : {A E B : Type 0} (x : A) → ◌≡◌ {A = Result (Option A) E} (Ok (Some x)) (Ok None) → B
-some_not x is = let no : Some x ≡ None = ap (ok_or None) is in absurd (cc)
-
 abbrev pub is_quiet : Next → Bool
 is_quiet (next.Piece conn n) = false
 is_quiet (next.Ended conn) = false
@@ -239,27 +171,3 @@ is_quiet next.Quiet = true
 
 pub not_quiet : {E : Type 0} (x y : Next) → x ≡ y → is_quiet y ≡ false → ◌≡◌ {A = Result Next E} (Ok x) (Ok next.Quiet) → ⊥
 not_quiet x y same other is = false≢true (sym other ∙ ap is_quiet (sym same ∙ ap (ok_or x) is))
-
--- ---- the jobs that were looked at
-
-pub none_more : {n : ℕ} {lost : List Bool} → NoneLostBelow n lost → slice_get lost n ≡ Some false → NoneLostBelow (n + 1) lost
-none_more {n} {lost} none here = record {
-  each = λ job low. elim (cases_eq job n) [
-    | inl e ↦ subst (λ j. slice_get lost j ≡ Some false) (sym e) here
-    | inr ne ↦ none.each job (omega (arith, low, ne))
-  ];
-}
-
-pub none_set : {n : ℕ} {lost then : List Bool} → n < length lost → then ≡ set lost n false → NoneLostBelow n lost → NoneLostBelow (n + 1) then
-none_set {n} {lost} room is none = none_more (record {
-  each = λ job low.
-      let ne : job ≢ n = λ e. omega (arith, e, low) in
-      ap (λ ls. slice_get ls job) is ∙ slice_get-set_other lost n job false ne ∙ none.each job low;
-}) (ap (λ ls. slice_get ls n) is ∙ slice_get-set_same lost n false room)
-
-pub none_lost : {l : Loop} {lost : List Bool} → MayWait l → AreLost lost l
-none_lost {l} may = record { each = λ p job low from to bad. absurd (false≢true (sym (fine (slice_get l.links p) p low refl) ∙ bad)) }
-  where
-    fine : (o : Option Link) (p : ℕ) → p < 64 → slice_get l.links p ≡ o → failed_in (slice_get l.links p) ≡ false
-    fine None p low e = ap failed_in e
-    fine (Some link) p low e = ap failed_in e ∙ may.sound.each p link low e

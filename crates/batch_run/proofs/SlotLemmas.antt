@@ -1,17 +1,19 @@
 -- Lists of jobs, one after another.
-use Rattle.std.proofs.Common.{◌≡◌, ◌≢◌, inl, inr, ℕ, ◌+◌, ◌<◌, ◌≤◌, ◌++◌, List, [], ◌∷◌, length, set, Some, Bool, true, Result, Ok, arith, refl, sym, ◌∙◌, ap, subst, suc, zero, Option, None, Err}
+use Rattle.std.proofs.Common.{◌≡◌, ◌≢◌, inl, inr, ℕ, ◌+◌, ◌<◌, ◌≤◌, ◌++◌, List, [], ◌∷◌, length, set, Some, Bool, true, false, Result, Ok, arith, refl, sym, ◌∙◌, ap, subst, suc, zero, Option, None, Err}
 use Rattle.std.specs.Prelude.{slice_get, IfOk, IfSome}
-use Rattle.std.proofs.lemmas.Bool.{cases_eq}
-use Rattle.std.proofs.lemmas.Option.{slice_get_within, same_Some}
+use Rattle.std.proofs.lemmas.Bool.{cases_eq, cases_lt, false≢true}
+use Rattle.std.proofs.lemmas.List.{length-set}
+use Rattle.std.proofs.lemmas.Option.{slice_get_past, slice_get_within, same_Some}
 use Rattle.job_end.specs.declared.answer.Answer.{Answer}
 use Rattle.job_run.specs.declared.job.Job.{Job}
 use Rattle.batch_run.specs.declared.slot.Slot.{Slot}
 use Rattle.batch_run.specs.declared.slot.Slot.TheVariants.{Waiting, Running, Ended}
-use Rattle.batch_run.specs.Stands.{WaitingFrom, EndedBelow, AllEnded, HasEnded, AreAnswers, answer_of, answers_of}
-use Rattle.batch_run.specs.declared.fault.Fault.{Fault}
-use Rattle.batch_run.specs.declared.fault.Fault.TheVariants as fault
-use Rattle.batch_run.specs.Kept.{goes_on}
-use Rattle.jtext.proofs.Lists.{some_at, slice_get-set_other}
+use Rattle.batch_run.specs.Stands.{WaitingFrom, EndedBelow, AllEnded, HasEnded, AreAnswers, ChangesAt, EndsSaying, KeepsOthers, NoneOver, NoneOverBelow, answer_of, answers_of, is_slot_running}
+use Rattle.world.specs.declared.entry.Entry.{Entry}
+use Rattle.world.specs.Moments.{Told}
+use Rattle.said_lines.specs.Speech.{Says}
+use Rattle.batch_run.specs.Due.{is_slot_over}
+use Rattle.jtext.proofs.Lists.{some_at, slice_get-set_same, slice_get-set_other}
 
 -- what holds of each holds of each with one more
 each_push : (P : Slot → Type 0) (xs : List Slot) (x : Slot) → ((i : ℕ) (slot : Slot) → slice_get xs i ≡ Some slot → P slot) → P x
@@ -105,16 +107,101 @@ each_of (Ended answer ∷ xs) all (suc i) = each_of xs (λ j s e. all (suc j) s 
 pub are_answers : {xs : List Slot} → AllEnded xs → AreAnswers xs (answers_of xs)
 are_answers {xs} a = record { size = size_of xs a.each; each = λ i. each_of xs a.each i }
 
--- ---- faults
+-- ---- jobs that are over
 
--- jobs go on only where a fault is that of one job
-pub one_of : (f : Fault) → goes_on f ≡ true → (job : ℕ) × (f ≡ fault.OfJob job)
-one_of (fault.OfJob job) e = (job, refl)
-one_of fault.OfAll e = absurd (cc)
-one_of fault.Spent e = absurd (cc)
+over_ended : (s : Slot) → HasEnded s → is_slot_over (Some s) ≡ false
+over_ended Waiting e = absurd e
+over_ended (Running j) e = absurd e
+over_ended (Ended answer) e = refl
 
-pub goes_on_by : {E : Type 0} (r : Result Bool E) (f : Fault) (b : Bool) → r ≡ Ok b → b ≡ true → IfOk r (λ x. x ≡ goes_on f) → goes_on f ≡ true
-goes_on_by r f b is on h = sym (subst (λ q. IfOk q (λ x. x ≡ goes_on f)) is h) ∙ on
+pub over_set : (xs : List Slot) (n : ℕ) (s : Slot) → n < length xs → HasEnded s → is_slot_over (slice_get (set xs n s) n) ≡ false
+over_set xs n s low e = ap is_slot_over (slice_get-set_same xs n s low) ∙ over_ended s e
+
+pub over_past : (xs : List Slot) (n : ℕ) → length xs ≤ n → is_slot_over (slice_get xs n) ≡ false
+over_past xs n past = ap is_slot_over (slice_get_past xs n past)
+
+running_over : (o : Option Slot) → is_slot_over o ≡ true → is_slot_running o ≡ true
+running_over (Some (Running j)) e = refl
+running_over (Some Waiting) e = absurd (false≢true e)
+running_over (Some (Ended answer)) e = absurd (false≢true e)
+running_over None e = absurd (false≢true e)
+
+pub runs_over : (xs : List Slot) (n : ℕ) → is_slot_over (slice_get xs n) ≡ true → is_slot_running (slice_get xs n) ≡ true
+runs_over xs n e = running_over (slice_get xs n) e
+
+-- one that runs is there
+pub over_within : (xs : List Slot) (n : ℕ) → is_slot_over (slice_get xs n) ≡ true → n < length xs
+over_within xs n e = elim (cases_lt n (length xs)) [ inl low ↦ low | inr past ↦ absurd (false≢true (sym (over_past xs n past) ∙ e)) ]
+
+pub running_within : (xs : List Slot) (n : ℕ) → is_slot_running (slice_get xs n) ≡ true → n < length xs
+running_within xs n e = elim (cases_lt n (length xs)) [ inl low ↦ low | inr past ↦ absurd (false≢true (sym (ap is_slot_running (slice_get_past xs n past)) ∙ e)) ]
+
+pub none_below : (xs : List Slot) → NoneOverBelow 0 xs
+none_below xs = record { each = λ i low. absurd (omega (arith, low)) }
+
+-- one more
+pub over_more : {n : ℕ} {xs ys : List Slot} → KeepsOthers n xs ys → is_slot_over (slice_get ys n) ≡ false → NoneOverBelow n xs → NoneOverBelow (n + 1) ys
+over_more {n} {xs} {ys} others here b = record {
+  each = λ i low. elim (cases_eq i n) [
+    | inl e ↦ subst (λ j. is_slot_over (slice_get ys j) ≡ false) (sym e) here
+    | inr ne ↦ ap is_slot_over (others i ne) ∙ b.each i (omega (arith, low, ne))
+  ];
+}
+
+pub none_all : {n : ℕ} {xs : List Slot} → length xs ≤ n → NoneOverBelow n xs → NoneOver xs
+none_all {n} {xs} few b = record { each = λ i. elim (cases_lt i n) [ inl low ↦ b.each i low | inr past ↦ over_past xs i (omega (arith, few, past)) ] }
+
+-- one is over no more
+pub none_one : {n : ℕ} {xs ys : List Slot} → KeepsOthers n xs ys → is_slot_over (slice_get ys n) ≡ false → NoneOver xs → NoneOver ys
+none_one {n} {xs} {ys} others here none = record {
+  each = λ i. elim (cases_eq i n) [
+    | inl e ↦ subst (λ j. is_slot_over (slice_get ys j) ≡ false) (sym e) here
+    | inr ne ↦ ap is_slot_over (others i ne) ∙ none.each i
+  ];
+}
+
+pub none_ended : {xs : List Slot} → AllEnded xs → NoneOver xs
+none_ended {xs} all = record { each = λ i. at (slice_get xs i) i refl }
+  where
+    at : (o : Option Slot) (i : ℕ) → slice_get xs i ≡ o → is_slot_over (slice_get xs i) ≡ false
+    at None i e = ap is_slot_over e
+    at (Some s) i e = ap is_slot_over e ∙ over_ended s (all.each i s e)
+
+-- ---- jobs of which one changes
+
+pub changes_start : (n : ℕ) (xs : List Slot) → ChangesAt n xs xs
+changes_start n xs = record { size = refl; others = λ k ne. refl; runs = refl }
+
+pub changes_then : {n : ℕ} {xs ys zs : List Slot} → ChangesAt n xs ys → ChangesAt n ys zs → ChangesAt n xs zs
+changes_then f g = record { size = g.size ∙ f.size; others = λ k ne. g.others k ne ∙ f.others k ne; runs = g.runs ∙ f.runs }
+
+pub changes_set : (xs : List Slot) (n : ℕ) (was now : Slot) → slice_get xs n ≡ Some was → is_slot_running (Some now) ≡ is_slot_running (Some was) → ChangesAt n xs (set xs n now)
+changes_set xs n was now found same = record {
+  size = length-set xs n now;
+  others = λ k ne. slice_get-set_other xs n k now ne;
+  runs = ap is_slot_running (slice_get-set_same xs n now (slice_get_within xs n was found)) ∙ same ∙ sym (ap is_slot_running found);
+}
+
+pub ended_others : {n : ℕ} {xs ys : List Slot} → KeepsOthers n xs ys → EndedBelow n xs → EndedBelow n ys
+ended_others {n} others b = record {
+  each = λ i slot low e. let ne : i ≢ n = λ same. omega (arith, same, low) in b.each i slot low (sym (others i ne) ∙ e);
+}
+
+pub waiting_others : {n : ℕ} {xs ys : List Slot} → KeepsOthers n xs ys → WaitingFrom (n + 1) xs → WaitingFrom (n + 1) ys
+waiting_others {n} others w = record {
+  each = λ i slot low e. let ne : i ≢ n = λ same. omega (arith, same, low) in w.each i slot low (sym (others i ne) ∙ e);
+}
+
+-- what holds of a slot once it was replaced
+pub at_set : (P : Option Slot → Type 0) (xs : List Slot) (n : ℕ) (s : Slot) → n < length xs → P (Some s) → P (slice_get (set xs n s) n)
+at_set P xs n s low p = subst P (sym (slice_get-set_same xs n s low)) p
+
+-- ---- what was said
+
+pub told_saying : {line : List ℕ} {F : Type 0} (p q : Option (List Entry)) → Told p q (Says line F) → IfSome q (EndsSaying line F)
+told_saying p None told = tt
+told_saying None (Some y) told = absurd told.so
+told_saying (Some x) (Some y) told = record { begin = x; says = told.so }
 
 -- where nothing is wanted
 pub none_wanted : {A E : Type 0} (r : Result (Option A) E) (P : A → Type 0) → IfOk r (λ o. o ≡ None) → IfOk r (λ o. IfSome o P)

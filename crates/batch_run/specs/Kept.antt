@@ -1,11 +1,12 @@
 -- What is kept of the connections of the jobs of a run.
-use Rattle.std.specs.Prelude.{◌≡◌, ◌<◌, ◌≤◌, ◌+◌, ◌*◌, ℕ, List, Bool, true, false, Some, Result, Ok, Err, slice_get, slice_set}
+use Rattle.std.specs.Prelude.{◌≡◌, ◌<◌, ◌≤◌, ◌+◌, ◌*◌, ℕ, List, Bool, true, false, Some, slice_get, slice_set}
 use Rattle.world.specs.declared.conn.Conn.{Conn}
 use Rattle.world.specs.Counts.{Counts, Rose}
-use Rattle.ready_loop.specs.declared.fault.LoopFault.{LoopFault}
-use Rattle.ready_loop.specs.declared.fault.LoopFault.TheVariants.{NetFault}
+use Rattle.world.specs.Places.{place_of}
 use Rattle.ready_loop.specs.declared.readiness.Loop.{Loop}
-use Rattle.ready_loop.specs.States.{known_at, failed_at}
+use Rattle.ready_loop.specs.Begins.{OnlyOfJob, is_of_job}
+use Rattle.ready_loop.specs.States.{IsDrained, IsSound, begun_at, failed_at, known_at, open_left, reads_left, waits_left}
+use Rattle.ready_loop.specs.Wires.{ports_in}
 use Rattle.batch_run.specs.declared.fault.Fault.{Fault}
 use Rattle.batch_run.specs.declared.fault.Fault.TheVariants as fault
 
@@ -21,27 +22,42 @@ pub record AreBegun (begun : List Bool) (l : Loop) : Type 0 where
 pub record NoPlaces (places : List Bool) : Type 0 where
   pub each : (p : ℕ) → p < 64 → slice_get places p ≡ Some false
 
--- each connection of which a call has failed is of one of these jobs
-pub record AreLost (lost : List Bool) (l : Loop) : Type 0 where
-  pub each : (p job : ℕ) → p < 64 → 4 * job ≤ p → p < 4 * job + 4 → failed_at l p ≡ true → slice_get lost job ≡ Some true
+-- no call of a connection of another job than this one has failed
+pub record IsSoundBut (job : ℕ) (l : Loop) : Type 0 where
+  pub each : (p : ℕ) → p < 64 → is_of_job job p ≡ false → failed_at l p ≡ false
 
--- none is
-pub record NoneLost (lost : List Bool) : Type 0 where
-  pub each : (job : ℕ) → job < 16 → slice_get lost job ≡ Some false
+-- a connection of this job is begun, and no call of one of another job has failed
+pub record IsBroken (job : ℕ) (l : Loop) : Type 0 where
+  pub few : job < 16
+  pub conn : Conn
+  pub own : conn.job ≡ job
+  pub begun : begun_at l (place_of conn) ≡ true
+  pub but : IsSoundBut job l
 
--- nor is one below this number
-pub record NoneLostBelow (n : ℕ) (lost : List Bool) : Type 0 where
-  pub each : (job : ℕ) → job < n → slice_get lost job ≡ Some false
+-- calls leave as many waits and the same ports, begin no connection, and leave no more of them open or to be read
+pub record IsKept (old new : Loop) : Type 0 where
+  pub waits : waits_left new ≡ waits_left old
+  pub ports : ports_in new ≡ ports_in old
+  pub known : (p : ℕ) → known_at new p ≡ known_at old p
+  pub linked : open_left new ≤ open_left old
+  pub reads : reads_left new ≤ reads_left old
+  pub drained : IsDrained old → IsDrained new
+  pub sound : IsSound old → IsSound new
 
--- those that were lost are, and this one is
-pub record Loses (job : ℕ) (old new : List Bool) : Type 0 where
-  pub keeps : (j : ℕ) → slice_get old j ≡ Some true → slice_get new j ≡ Some true
-  pub marks : job < 16 → slice_get new job ≡ Some true
+-- so do calls that are for a job alone: nothing is changed of the connections of another
+pub record IsLeft (job : ℕ) (old new : Loop) : Type 0 where
+  pub only : OnlyOfJob job old new
+  pub kept : IsKept old new
 
--- those that were lost are, and the one that a fault names
-pub record Notes (fault : LoopFault) (old new : List Bool) : Type 0 where
-  pub keeps : (j : ℕ) → slice_get old j ≡ Some true → slice_get new j ≡ Some true
-  pub marks : (conn : Conn) → fault ≡ NetFault (Some conn) → conn.job < 16 → slice_get new conn.job ≡ Some true
+-- each connection that was begun and not closed is so still, and no other
+abbrev pub StaysBegun : Loop → Loop → Type 0
+StaysBegun old new = (p : ℕ) → begun_at new p ≡ begun_at old p
+
+-- what a fault leaves of the connections: one of the job that it names has failed, or none
+abbrev pub LeftBy : Fault → Loop → Type 0
+LeftBy (fault.OfJob job) l = IsBroken job l
+LeftBy fault.OfAll l = IsSound l
+LeftBy fault.Spent l = IsSound l
 
 -- the jobs that a fault doesn't name go on
 abbrev pub goes_on : Fault → Bool
@@ -54,21 +70,6 @@ abbrev pub FaultCause : Counts → Counts → Type 0 → Fault → Type 0
 FaultCause old new none_left (fault.OfJob job) = Rose old.net new.net
 FaultCause old new none_left fault.OfAll = Rose old.net new.net
 FaultCause old new none_left fault.Spent = none_left
-
--- whether a call has used up some of them, where jobs go on: a fault
-abbrev pub is_fault : {T : Type 0} → Result T Fault → Bool
-is_fault (Ok x) = false
-is_fault (Err f) = goes_on f
-
--- and a wait
-abbrev pub is_wait : {T : Type 0} → Result T Fault → Bool
-is_wait (Ok x) = true
-is_wait (Err f) = goes_on f
-
--- a number falls, where something is used up
-pub record Falls (used : Bool) (old new : ℕ) : Type 0 where
-  pub most : new ≤ old
-  pub below : used ≡ true → new < old
 
 -- the places of the connections that were begun, after those of a job were
 abbrev pub mark_job : ℕ → Bool → List Bool → List Bool

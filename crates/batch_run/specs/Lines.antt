@@ -1,6 +1,6 @@
 -- How many calls of the connections may still be made that end a turn.
 use Rattle.std.specs.Prelude.{ℕ, ◌+◌}
-use Rattle.ready_loop.specs.States.{reads_left, waits_left}
+use Rattle.ready_loop.specs.States.{open_left, reads_left, waits_left}
 use Rattle.batch_run.specs.declared.lines.Lines.{Lines}
 
 -- how many waits may still come
@@ -11,6 +11,10 @@ waits_of l = waits_left l.connections
 abbrev pub reads_of : Lines → ℕ
 reads_of l = reads_left l.connections
 
--- how many waits and faults may still come
+-- how many connections are begun, and not closed yet
+abbrev pub open_of : Lines → ℕ
+open_of l = open_left l.connections
+
+-- how many waits and faults may still come: a fault names a connection that is begun, and closes it
 abbrev pub budget : Lines → ℕ
-budget l = waits_left l.connections + l.losses.left
+budget l = waits_of l + open_of l

@@ -1,5 +1,5 @@
 -- How the jobs of a run stand while it lasts.
-use Rattle.std.specs.Prelude.{◌≡◌, ◌≢◌, ℕ, Bool, true, ◌+◌, ◌-◌, ◌<◌, ◌≤◌, List, [], ◌∷◌, length, Option, Some, None, Result, Ok, Err, slice_get, slice_set, IfSome}
+use Rattle.std.specs.Prelude.{◌≡◌, ◌≢◌, ℕ, Bool, true, false, ◌+◌, ◌-◌, ◌<◌, ◌≤◌, List, [], ◌∷◌, length, Option, Some, None, Result, Ok, Err, slice_get, slice_set, IfSome}
 use Rattle.nb_model.specs.declared.notebook.Notebook.{Notebook}
 use Rattle.nb_load.specs.Loaded.{Accepts}
 use Rattle.words.specs.declared.ask.Ask.{Ask}
@@ -32,7 +32,9 @@ use Rattle.batch_run.specs.declared.slot.Slot.TheVariants.{Waiting, Running, End
 use Rattle.batch_run.specs.declared.fault.Fault.{Fault}
 use Rattle.batch_run.specs.Batch.{IsApart, IsEndOf, HasWaited, CallsOfJobs, HasPort}
 use Rattle.batch_run.specs.declared.lines.Lines.{Lines}
+use Rattle.batch_run.specs.Due.{is_slot_over}
 use Rattle.batch_run.specs.Lines.{waits_of}
+use Rattle.said_lines.specs.Speech.{Says}
 use Rattle.batch_run.specs.Kept.{FaultCause}
 
 -- what a run begins with: its working folder, the counts of its world, and whether it begins clean; and the count of waits by
@@ -163,6 +165,35 @@ KeepsOthers number was now = (k : ℕ) → k ≢ number → slice_get now k ≡ 
 abbrev pub ChangesOne : List Slot → List Slot → Type 0
 ChangesOne was now = (number : ℕ) × KeepsOthers number was now
 
+-- a slot runs a job
+abbrev pub is_slot_running : Option Slot → Bool
+is_slot_running (Some (Running j)) = true
+is_slot_running _ = false
+
+-- at most the slot of this job has changed, which runs where it did
+pub record ChangesAt (number : ℕ) (was now : List Slot) : Type 0 where
+  pub size : length now ≡ length was
+  pub others : KeepsOthers number was now
+  pub runs : is_slot_running (slice_get now number) ≡ is_slot_running (slice_get was number)
+
+-- no slot runs a job of which it stands how it ended
+pub record NoneOver (slots : List Slot) : Type 0 where
+  pub each : (i : ℕ) → is_slot_over (slice_get slots i) ≡ false
+
+-- nor does one below this number
+pub record NoneOverBelow (n : ℕ) (slots : List Slot) : Type 0 where
+  pub each : (i : ℕ) → i < n → is_slot_over (slice_get slots i) ≡ false
+
+-- the newest entries say this line, up to where a say failed
+pub record EndsSaying (line : List ℕ) (failed : Type 0) (after : List Entry) : Type 0 where
+  pub begin : List Entry
+  pub says : Says line failed begin after
+
+-- they say how the job of a slot has ended
+abbrev pub SaysEndOf : Option Slot → Type 0 → List Entry → Type 0
+SaysEndOf (Some (Ended answer)) failed after = EndsSaying answer.line failed after
+SaysEndOf _ failed after = ⊥
+
 -- a job that has begun runs, or has ended
 abbrev pub slot_of : Result Job Answer → Slot
 slot_of (Ok j) = Running j
@@ -176,6 +207,11 @@ KeepsAll journal counts old new was now = (asks : List Ask) (start : Option (Lis
 -- so do calls that may be of the loop, before which it was so, and then so
 abbrev pub KeepsLines : {W : Type 0} → (W → Option (List Entry)) → (W → Counts) → W → W → Loop → Loop → List Slot → List Slot → Type 0
 KeepsLines journal counts old new kept keeps was now = (asks : List Ask) (start : Option (List Entry)) (from : Outset)
+    → AllStand asks start (wired_by kept from) was (journal old) (counts old) → AllStand asks start (wired_by keeps from) now (journal new) (counts new)
+
+-- so do these where there is such a cause since the outset
+abbrev pub KeepsLinesIf : (Outset → Counts → Type 0) → {W : Type 0} → (W → Option (List Entry)) → (W → Counts) → W → W → Loop → Loop → List Slot → List Slot → Type 0
+KeepsLinesIf why journal counts old new kept keeps was now = (asks : List Ask) (start : Option (List Entry)) (from : Outset) → why from (counts old)
     → AllStand asks start (wired_by kept from) was (journal old) (counts old) → AllStand asks start (wired_by keeps from) now (journal new) (counts new)
 
 -- so do calls that wait as often as waits were used up, where those left are all that a run has yet

@@ -1,7 +1,7 @@
 //! `run_jobs`, the jobs of a run.
 ghost use Rattle.std.specs.Prelude.{◌≡◌, ◌<◌, ◌≤◌, ◌+◌, ◌-◌, IfOk, OnOk, List as Plain, Option as Maybe, length};
 ghost use Rattle.std.specs.List.{AllByRecursion};
-ghost use Rattle.ready_loop.specs.States.{IsDrained, waits_left};
+ghost use Rattle.ready_loop.specs.States.{IsDrained, IsSound, waits_left};
 ghost use Rattle.words.specs.Runnable.{IsRunnable};
 ghost use Rattle.world.specs.Told.{Between};
 ghost use Rattle.world.specs.declared.entry.Entry.{Entry};
@@ -72,6 +72,7 @@ fn answers_of<W: World>(
     requires waiting { WaitingFrom 0 running.jobs.slots.items }
     requires fresh { IsFreshFrom 0 running.lines.connections }
     requires drained { IsDrained running.lines.connections }
+    requires sound { IsSound running.lines.connections }
     requires room { 0 < length running.buf.items }
     requires left { waits_of running.lines ≡ limits.now.turns }
     ensures jobs { Between W.journal w.old w.new
@@ -108,6 +109,7 @@ fn carry_out<W: World>(
     requires waiting { WaitingFrom 0 running.old.jobs.slots.items }
     requires fresh { IsFreshFrom 0 running.old.lines.connections }
     requires drained { IsDrained running.old.lines.connections }
+    requires sound { IsSound running.old.lines.connections }
     requires room { 0 < length running.old.buf.items }
     ensures ended { OnOk result (AllEnded running.new.jobs.slots.items) }
     ensures stands { (start : Maybe (Plain Entry)) (from : Outset) →
@@ -137,7 +139,9 @@ fn begin_all<W: World>(
     requires waiting { WaitingFrom 0 running.old.jobs.slots.items }
     requires fresh { IsFreshFrom 0 running.old.lines.connections }
     requires drained { IsDrained running.old.lines.connections }
+    requires sound { IsSound running.old.lines.connections }
     ensures drained { OnOk result (IsDrained running.new.lines.connections) }
+    ensures sound { OnOk result (IsSound running.new.lines.connections) }
     ensures waits { waits_left running.new.lines.connections ≡
         waits_left running.old.lines.connections }
     ensures buf { running.new.buf ≡ running.old.buf }

@@ -22,7 +22,8 @@ pub(crate) struct Jobs {
 }
 
 impl Jobs {
-    ghost use Rattle.std.specs.Prelude.{◌≡◌, ◌<◌, ◌≤◌, ◌+◌, IfOk, IfSome, IsTrue};
+    ghost use Rattle.std.specs.Prelude.{◌≡◌, ◌<◌, ◌≤◌, ◌+◌, IfOk, IfSome, IsTrue, true, false};
+    ghost use Rattle.said_lines.specs.Between.{SayFailed};
     ghost use Rattle.job_run.specs.Run.{HasPorts};
     ghost use Rattle.job_run.specs.Task.{ports_of_job, pings_kernel};
     ghost use Rattle.std.specs.Prelude.{List as Plain, Option as Maybe, Some, None, length, slice_get, slice_set};
@@ -31,7 +32,8 @@ impl Jobs {
     ghost use Rattle.words.specs.declared.ask.Ask.{Ask as Asked};
     ghost use Rattle.world.specs.declared.entry.Entry.{Entry};
     ghost use Rattle.batch_run.specs.Stands.{AllStand, AllEnded, EndedBelow, KeepsAll, Outset};
-    ghost use Rattle.batch_run.specs.Stands.{KeepsSaying, WaitingFrom, answers_of};
+    ghost use Rattle.batch_run.specs.Stands.{KeepsOthers, KeepsSaying, SaysEndOf, WaitingFrom, answers_of};
+    ghost use Rattle.batch_run.specs.Stands.{is_slot_running};
 
     /// So many jobs, of which none has begun.
     pub(crate) fn new(alloc: Global, count: usize) -> Result<Jobs, NoMemory>
@@ -145,12 +147,36 @@ impl Jobs {
     pub(crate) fn finish<W: World>(&mut self, w: &mut W, number: usize)
         ensures ended { EndedBelow number self.old.slots.items →
             EndedBelow (number + 1) self.new.slots.items }
+        ensures over { is_slot_over (slice_get self.new.slots.items number) ≡ false }
+        ensures others { KeepsOthers number self.old.slots.items self.new.slots.items }
+        // Where it ran, its line is the last that was said.
+        ensures said { is_slot_running (slice_get self.old.slots.items number) ≡ true →
+            IfSome (W.journal w.new)
+            (SaysEndOf (slice_get self.new.slots.items number) (SayFailed W.counts w.new)) }
         ensures size { length self.new.slots.items ≡ length self.old.slots.items }
         ensures stands { KeepsAll W.journal W.counts w.old w.new self.old.slots.items
             self.new.slots.items }
     {
         if number < self.slots.len() {
             self.slots[number].finish(self.alloc, w);
+        }
+    }
+
+    /// Ends the child of a job that runs. Where it stands how the job ended, that is said.
+    pub(crate) fn abandon<W: World>(&mut self, w: &mut W, number: usize)
+        ensures ended { EndedBelow number self.old.slots.items →
+            EndedBelow (number + 1) self.new.slots.items }
+        ensures said { is_slot_over (slice_get self.old.slots.items number) ≡ true →
+            IfSome (W.journal w.new)
+            (SaysEndOf (slice_get self.new.slots.items number) (SayFailed W.counts w.new)) }
+        ensures size { length self.new.slots.items ≡ length self.old.slots.items }
+        ensures stands { KeepsAll W.journal W.counts w.old w.new self.old.slots.items
+            self.new.slots.items }
+    {
+        if self.is_over(number) {
+            self.finish(w, number);
+        } else {
+            self.stop(w, number);
         }
     }
 

@@ -7,7 +7,7 @@ mod fault;
 mod jobs;
 mod limits;
 mod lines;
-mod losses;
+mod reading;
 mod running;
 mod slot;
 mod telling;

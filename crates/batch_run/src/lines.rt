@@ -1,36 +1,35 @@
 //! `Lines`, the connections of the jobs of a run.
-ghost use Rattle.std.specs.Prelude.{◌≡◌, ◌<◌, length};
+ghost use Rattle.std.specs.Prelude.{◌≡◌, ◌<◌, Some, length};
+ghost use Rattle.world.specs.declared.conn.Conn.{Conn as Wired};
 ghost use Rattle.world.specs.Places.{place_of};
-ghost use Rattle.batch_run.specs.Kept.{AreBegun, AreLost, NoPlaces, mark_job};
+ghost use Rattle.ready_loop.specs.Offers.{IsOfConn};
+ghost use Rattle.batch_run.specs.Kept.{AreBegun, NoPlaces, mark_job};
 
 use crate::fault::Fault;
-use crate::losses::Losses;
 use crate::wanted::Wanted;
 use jtext::{Bytes, NoMemory};
 use ready_loop::{Loop, LoopFault, Next, place_at};
 use std::alloc::Global;
 use world::{Conn, World};
 
-/// The connections of the jobs, and what is known of them beside the loop.
+/// The connections of the jobs, and what is known of them beside the loop. Where a call of one
+/// failed, its job is named, and is to be left before the next call.
 #[derive(Drop)]
 pub(crate) struct Lines {
     pub connections: Loop,
     /// The places of the connections that were begun.
     pub begun: [bool; 64],
-    pub losses: Losses,
     ghost begun_are: { AreBegun begun connections },
-    ghost lost_are: { AreLost losses.jobs connections },
 }
 
 impl Lines {
     ghost use Rattle.std.specs.Prelude.{◌≡◌, ◌<◌, ◌≤◌, ◌+◌, ◌^◌, Some, Ok, IfOk, IfErr, OnOk, slice_get, true, false, length};
-    ghost use Rattle.ready_loop.specs.declared.next.Next.{Next as Found};
     ghost use Rattle.ready_loop.specs.declared.next.Next.TheVariants.{Quiet};
-    ghost use Rattle.ready_loop.specs.States.{MayWait, IsDrained, IsOffered, waits_left};
-    ghost use Rattle.batch_run.specs.Kept.{Falls, FaultCause, NoneLost, NoneLostBelow, IsFreshFrom};
-    ghost use Rattle.batch_run.specs.Kept.{goes_on, is_fault, is_wait};
+    ghost use Rattle.ready_loop.specs.States.{IsDrained, IsOffered, IsSound, begun_at, waits_left};
+    ghost use Rattle.batch_run.specs.Kept.{FaultCause, IsBroken, IsFreshFrom, IsLeft, IsSoundBut, LeftBy, StaysBegun};
+    ghost use Rattle.batch_run.specs.Kept.{goes_on};
     ghost use Rattle.world.specs.Counts.{Rose};
-    ghost use Rattle.batch_run.specs.Lines.{budget, reads_of, waits_of};
+    ghost use Rattle.batch_run.specs.Lines.{open_of, reads_of, waits_of};
     ghost use Rattle.std.specs.Prelude.{List};
     ghost use Rattle.ready_loop.specs.Wires.{ports_in};
     ghost use Rattle.batch_run.specs.declared.slot.Slot.{Slot};
@@ -39,30 +38,28 @@ impl Lines {
     /// No connection, and so many waits.
     pub(crate) fn new(alloc: Global, turns: u64) -> Result<Lines, NoMemory>
         ensures drained { IfOk result (λ l. IsDrained l.connections) }
+        ensures sound { IfOk result (λ l. IsSound l.connections) }
         ensures fresh { IfOk result (λ l. IsFreshFrom 0 l.connections) }
         ensures left { IfOk result (λ l. waits_of l ≡ turns) }
     {
         Ok(Lines {
             connections: Loop::new(alloc, turns)?,
             begun: no_places(),
-            losses: Losses::new(),
         })
     }
 
-    /// Begins the connections of a job.
-    pub(crate) fn begin<W: World>(
-        &mut self,
-        w: &mut W,
-        job: u8,
-        wanted: Wanted,
-    ) -> Result<(), Fault>
+    /// Begins the connections of a job. Where one fails, the job is named.
+    pub(crate) fn begin<W: World>(&mut self, w: &mut W, job: u8, wanted: Wanted) -> Result<(), u8>
         requires job { job < 16 }
         requires fresh { IsFreshFrom job self.old.connections }
+        requires sound { IsSound self.old.connections }
         ensures stands { (slots : List Slot) → KeepsBegun W.journal W.counts w.old w.new job
             wanted.ports self.old.connections self.new.connections slots slots }
         ensures fresh { IsFreshFrom (job + 1) self.new.connections }
         ensures waits { waits_left self.new.connections ≡ waits_left self.old.connections }
         ensures drained { IsDrained self.old.connections → IsDrained self.new.connections }
+        ensures sound { OnOk result (IsSound self.new.connections) }
+        ensures but { IfErr result (λ _. IsSoundBut job self.new.connections) }
         ensures cause { IfErr result (λ _. Rose (W.counts w.old).net (W.counts w.new).net) }
     {
         match self.connections.begin(w, job, wanted.ports, wanted.heart) {
@@ -70,12 +67,12 @@ impl Lines {
                 mark(&mut self.begun, job, wanted.heart);
                 Ok(())
             }
-            Err(fault) => Err(self.losses.note(fault)),
+            Err(fault) => Err(job_of(fault)),
         }
     }
 
     /// Whether this connection was begun.
-    pub(crate) fn takes(&self, conn: Conn) -> bool
+    pub(crate) fn was_begun(&self, conn: Conn) -> bool
         requires { conn.job < 16 }
         ensures { slice_get self.now.begun (place_of conn) ≡ Some result }
     {
@@ -86,10 +83,8 @@ impl Lines {
     pub(crate) fn queue(&mut self, conn: Conn, bytes: Bytes) -> Result<(), NoMemory>
         requires job { conn.job < 16 }
         requires begun { slice_get self.old.begun (place_of conn) ≡ Some true }
-        ensures drained { IsDrained self.old.connections → IsDrained self.new.connections }
-        ensures budget { budget self.new ≡ budget self.old }
-        ensures left { waits_of self.new ≡ waits_of self.old }
-        ensures ports { ports_in self.new.connections ≡ ports_in self.old.connections }
+        ensures stays { IsLeft conn.job self.old.connections self.new.connections }
+        ensures begun { StaysBegun self.old.connections self.new.connections }
     {
         self.connections.queue(conn, bytes)
     }
@@ -102,18 +97,21 @@ impl Lines {
     }
 
     /// Puts out what is queued, and names the connections that were found ended.
-    pub(crate) fn offer<W: World>(&mut self, w: &mut W) -> Result<[bool; 64], Fault>
+    pub(crate) fn offer<W: World>(&mut self, w: &mut W) -> Result<[bool; 64], u8>
+        requires sound { IsSound self.old.connections }
         ensures stands { KeepsEach W.journal W.counts w.old w.new self.old.connections
             self.new.connections }
         ensures left { waits_of self.new ≡ waits_of self.old }
+        ensures linked { open_of self.new ≡ open_of self.old }
         ensures offered { OnOk result (IsOffered self.new.connections) }
         ensures drained { IsDrained self.old.connections → IsDrained self.new.connections }
-        ensures budget { Falls (is_fault result) (budget self.old) (budget self.new) }
-        ensures cause { IfErr result (FaultCause (W.counts w.old) (W.counts w.new) ⊥) }
+        ensures sound { OnOk result (IsSound self.new.connections) }
+        ensures broken { IfErr result (λ job. IsBroken job self.new.connections) }
+        ensures cause { IfErr result (λ _. Rose (W.counts w.old).net (W.counts w.new).net) }
     {
         match self.connections.offer(w) {
             Ok(ends) => Ok(ends),
-            Err(fault) => Err(self.losses.note(fault)),
+            Err(fault) => Err(job_of(fault)),
         }
     }
 
@@ -125,19 +123,22 @@ impl Lines {
     ) -> Result<[bool; 64], Fault>
         requires drained { IsDrained self.old.connections }
         requires offered { IsOffered self.old.connections }
-        requires none { NoneLost self.old.losses.jobs }
+        requires sound { IsSound self.old.connections }
         ensures stands { KeepsEachWaiting W.journal W.counts w.old w.new self.old self.new }
         ensures left { waits_of self.new ≤ waits_of self.old }
+        ensures falls { OnOk result (waits_of self.new < waits_of self.old) }
+        ensures linked { open_of self.new ≡ open_of self.old }
         ensures drained { IfErr result (λ f. goes_on f ≡ true → IsDrained self.new.connections) }
-        ensures budget { Falls (is_wait result) (budget self.old) (budget self.new) }
+        ensures sound { OnOk result (IsSound self.new.connections) }
+        ensures by { IfErr result (λ f. LeftBy f self.new.connections) }
         ensures cause { IfErr result
             (FaultCause (W.counts w.old) (W.counts w.new) (waits_of self.old ≡ 0)) }
     {
         match self.connections.look(w, looks) {
             Ok(ends) => Ok(ends),
-            Err(LoopFault::NetFault { conn: Some(conn) }) => Err(self.losses.lose(conn.job)),
-            Err(LoopFault::NetFault { conn: None }) => Err(self.losses.lose_all(Fault::OfAll)),
-            Err(LoopFault::Spent) => Err(self.losses.lose_all(Fault::Spent)),
+            Err(LoopFault::NetFault { conn: Some(conn) }) => Err(Fault::OfJob(conn.job)),
+            Err(LoopFault::NetFault { conn: None }) => Err(Fault::OfAll),
+            Err(LoopFault::Spent) => Err(Fault::Spent),
         }
     }
 
@@ -145,54 +146,80 @@ impl Lines {
     pub(crate) fn turn<W: World>(&mut self, w: &mut W, due: Option<u64>) -> Result<u64, Fault>
         requires drained { IsDrained self.old.connections }
         requires offered { IsOffered self.old.connections }
-        requires none { NoneLost self.old.losses.jobs }
+        requires sound { IsSound self.old.connections }
         ensures stands { KeepsEachWaiting W.journal W.counts w.old w.new self.old self.new }
         ensures left { waits_of self.new ≤ waits_of self.old }
+        ensures falls { OnOk result (waits_of self.new < waits_of self.old) }
+        ensures linked { open_of self.new ≡ open_of self.old }
         ensures ends { IfErr result (λ f. goes_on f ≡ false) }
+        ensures sound { IsSound self.new.connections }
         ensures bound { IfOk result (λ ms. ms < 2 ^ 47) }
-        ensures budget { Falls (is_wait result) (budget self.old) (budget self.new) }
         ensures cause { IfErr result
             (FaultCause (W.counts w.old) (W.counts w.new) (waits_of self.old ≡ 0)) }
     {
         match self.connections.turn(w, due) {
             // The moment that the turn gave.
             Ok(_) => Ok(w.last()),
-            Err(LoopFault::NetFault { .. }) => Err(self.losses.lose_all(Fault::OfAll)),
-            Err(LoopFault::Spent) => Err(self.losses.lose_all(Fault::Spent)),
+            Err(LoopFault::NetFault { .. }) => Err(Fault::OfAll),
+            Err(LoopFault::Spent) => Err(Fault::Spent),
         }
     }
 
-    /// Reads one connection of those that were reported.
-    pub(crate) fn next<W: World>(&mut self, w: &mut W, buf: &mut [u8]) -> Result<Next, Fault>
-        requires { 0 < length buf.old }
+    /// Reads one connection of those that were reported. Where that fails, its job is named.
+    pub(crate) fn next<W: World>(&mut self, w: &mut W, buf: &mut [u8]) -> Result<Next, u8>
+        requires room { 0 < length buf.old }
+        requires sound { IsSound self.old.connections }
         ensures stands { KeepsEach W.journal W.counts w.old w.new self.old.connections
             self.new.connections }
         ensures left { waits_of self.new ≡ waits_of self.old }
+        ensures linked { open_of self.new ≡ open_of self.old }
         ensures quiet { result ≡ Ok Quiet → IsDrained self.new.connections }
-        ensures budget { Falls (is_fault result) (budget self.old) (budget self.new) }
         ensures reads { (result ≡ Ok Quiet → ⊥) → reads_of self.new < reads_of self.old }
-        ensures cause { IfErr result (FaultCause (W.counts w.old) (W.counts w.new) ⊥) }
+        ensures sound { OnOk result (IsSound self.new.connections) }
+        ensures broken { IfErr result (λ job. IsBroken job self.new.connections) }
+        ensures cause { IfErr result (λ _. Rose (W.counts w.old).net (W.counts w.new).net) }
     {
         match self.connections.next(w, buf) {
             Ok(next) => Ok(next),
-            Err(fault) => Err(self.losses.note(fault)),
+            Err(fault) => Err(job_of(fault)),
         }
+    }
+
+    /// Offers what is queued on the connections of a job that has ended, and closes them. That not
+    /// all could be written changes nothing any more.
+    pub(crate) fn leave<W: World>(&mut self, w: &mut W, job: u8)
+        requires { job < 16 }
+        ensures stands { KeepsEach W.journal W.counts w.old w.new self.old.connections
+            self.new.connections }
+        ensures left { IsLeft job self.old.connections self.new.connections }
+        ensures sound { IsSoundBut job self.old.connections → IsSound self.new.connections }
+        ensures linked { (conn : Wired) → conn.job ≡ job →
+            begun_at self.old.connections (place_of conn) ≡ true → open_of self.new < open_of self.old }
+    {
+        let _ = self.connections.offer_job(w, job);
+        self.connections.close(w, job);
     }
 
     /// Closes the connections of a job.
     pub(crate) fn close<W: World>(&mut self, w: &mut W, job: u8)
         requires { job < 16 }
-        ensures drained { IsDrained self.old.connections → IsDrained self.new.connections }
-        ensures offered { IsOffered self.old.connections → IsOffered self.new.connections }
         ensures stands { KeepsEach W.journal W.counts w.old w.new self.old.connections
             self.new.connections }
-        ensures left { waits_of self.new ≡ waits_of self.old }
-        ensures none { NoneLostBelow job self.old.losses.jobs →
-            NoneLostBelow (job + 1) self.new.losses.jobs }
-        ensures budget { budget self.new ≡ budget self.old }
+        ensures left { IsLeft job self.old.connections self.new.connections }
     {
         self.connections.close(w, job);
-        self.losses.forgive(job);
+    }
+}
+
+/// The job whose connection a fault names.
+fn job_of(fault: LoopFault) -> u8
+    requires { IsOfConn fault }
+    ensures { (conn : Wired) → fault ≡ LoopFault.NetFault (Some conn) → result ≡ conn.job }
+{
+    match fault {
+        LoopFault::NetFault { conn: Some(conn) } => conn.job,
+        LoopFault::NetFault { conn: None } => unreachable!(),
+        LoopFault::Spent => unreachable!(),
     }
 }
 

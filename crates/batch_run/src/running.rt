@@ -21,14 +21,17 @@ pub(crate) struct Running {
 }
 
 impl Running {
-    ghost use Rattle.std.specs.Prelude.{◌≡◌, ◌<◌, ◌≤◌, ◌+◌, IfOk, OnOk, length};
+    ghost use Rattle.std.specs.Prelude.{◌≡◌, ◌<◌, ◌≤◌, ◌+◌, IfOk, IfSome, OnOk, length, true, false};
     ghost use Rattle.std.specs.Prelude.{List as Plain, Option as Maybe, Some, slice_get};
-    ghost use Rattle.ready_loop.specs.States.{IsDrained, IsOffered, waits_left};
+    ghost use Rattle.said_lines.specs.Between.{SayFailed};
+    ghost use Rattle.ready_loop.specs.States.{IsDrained, IsSound, waits_left};
     ghost use Rattle.words.specs.Runnable.{IsRunnable};
-    ghost use Rattle.batch_run.specs.Kept.{IsFreshFrom, NoneLost, NoneLostBelow};
-    ghost use Rattle.batch_run.specs.Lines.{budget, waits_of};
-    ghost use Rattle.batch_run.specs.Stands.{AllStand, AllEnded, EndedBelow, KeepsBegun, KeepsLines};
-    ghost use Rattle.batch_run.specs.Stands.{Outset, wired_by};
+    ghost use Rattle.batch_run.specs.Due.{is_slot_over};
+    ghost use Rattle.batch_run.specs.Kept.{IsBroken, IsFreshFrom, IsKept, IsLeft, IsSoundBut};
+    ghost use Rattle.batch_run.specs.Lines.{open_of, waits_of};
+    ghost use Rattle.batch_run.specs.Stands.{AllStand, AllEnded, EndedBelow, IsCutOff, KeepsBegun};
+    ghost use Rattle.batch_run.specs.Stands.{KeepsLines, KeepsLinesIf, KeepsOthers, NoneOver};
+    ghost use Rattle.batch_run.specs.Stands.{Outset, SaysEndOf, is_slot_running, wired_by};
     ghost use Rattle.batch_run.specs.Stands.{WaitingFrom, answers_of};
     ghost use Rattle.words.specs.declared.ask.Ask.{Ask as Asked};
     ghost use Rattle.world.specs.declared.entry.Entry.{Entry};
@@ -39,6 +42,7 @@ impl Running {
         ensures count { IfOk result (λ r. length r.jobs.slots.items ≡ count) }
         ensures waiting { IfOk result (λ r. WaitingFrom 0 r.jobs.slots.items) }
         ensures drained { IfOk result (λ r. IsDrained r.lines.connections) }
+        ensures sound { IfOk result (λ r. IsSound r.lines.connections) }
         ensures fresh { IfOk result (λ r. IsFreshFrom 0 r.lines.connections) }
         ensures room { IfOk result (λ r. 0 < length r.buf.items) }
         ensures left { IfOk result (λ r. waits_of r.lines ≡ turns) }
@@ -61,6 +65,7 @@ impl Running {
         requires within { number < length self.old.jobs.slots.items }
         requires ask { IsRunnable ask }
         requires fresh { IsFreshFrom number self.old.lines.connections }
+        requires sound { IsSound self.old.lines.connections }
         requires waiting { WaitingFrom number self.old.jobs.slots.items }
         ensures waiting { OnOk result (WaitingFrom (number + 1) self.new.jobs.slots.items) }
         ensures stands { (asks : Plain Asked) (start : Maybe (Plain Entry)) (from : Outset) →
@@ -71,6 +76,7 @@ impl Running {
             self.new.jobs.slots.items (W.journal w.new) (W.counts w.new) }
         ensures size { length self.new.jobs.slots.items ≡ length self.old.jobs.slots.items }
         ensures fresh { OnOk result (IsFreshFrom (number + 1) self.new.lines.connections) }
+        ensures sound { OnOk result (IsSound self.new.lines.connections) }
         ensures drained { IsDrained self.old.lines.connections →
             IsDrained self.new.lines.connections }
         ensures waits { waits_left self.new.lines.connections ≡
@@ -84,11 +90,12 @@ impl Running {
         }
     }
 
-    /// Begins the connections of a job that runs; where a call fails it is lost.
+    /// Begins the connections of a job that runs; where a call fails it is lost, and left.
     fn join<W: World>(&mut self, w: &mut W, number: usize, wanted: Wanted) -> Result<(), NoMemory>
         requires within { number < length self.old.jobs.slots.items }
         requires few { number < 16 }
         requires fresh { IsFreshFrom number self.old.lines.connections }
+        requires sound { IsSound self.old.lines.connections }
         requires waiting { WaitingFrom (number + 1) self.old.jobs.slots.items }
         ensures waiting { WaitingFrom (number + 1) self.new.jobs.slots.items }
         ensures stands { KeepsBegun W.journal W.counts w.old w.new number wanted.ports
@@ -98,92 +105,119 @@ impl Running {
         ensures fresh { IsFreshFrom (number + 1) self.new.lines.connections }
         ensures drained { IsDrained self.old.lines.connections →
             IsDrained self.new.lines.connections }
+        ensures sound { OnOk result (IsSound self.new.lines.connections) }
         ensures waits { waits_left self.new.lines.connections ≡
             waits_left self.old.lines.connections }
         ensures buf { self.new.buf ≡ self.old.buf }
     {
         match self.lines.begin(w, number as u8, wanted) {
             Ok(()) => Ok(()),
-            Err(_) => self.jobs.lose(number),
+            Err(_) => self.lose_one(w, number as u8),
         }
     }
 
-    /// Closes the connections of each job that has ended, ends its child, and says how it ended.
-    pub(crate) fn retire<W: World>(&mut self, w: &mut W)
-        ensures drained { IsDrained self.old.lines.connections →
-            IsDrained self.new.lines.connections }
-        ensures offered { IsOffered self.old.lines.connections →
-            IsOffered self.new.lines.connections }
-        ensures none { NoneLost self.new.lines.losses.jobs }
-        ensures budget { budget self.new.lines ≡ budget self.old.lines }
+    /// Ends a job by the network, of which a call has failed, and leaves it. It ends no other.
+    pub(crate) fn lose_one<W: World>(&mut self, w: &mut W, job: u8) -> Result<(), NoMemory>
+        requires { job < 16 }
+        ensures stands { KeepsLinesIf IsCutOff W.journal W.counts w.old w.new
+            self.old.lines.connections self.new.lines.connections self.old.jobs.slots.items
+            self.new.jobs.slots.items }
+        ensures left { IsKept self.old.lines.connections self.new.lines.connections }
+        ensures waiting { WaitingFrom (job + 1) self.old.jobs.slots.items →
+            WaitingFrom (job + 1) self.new.jobs.slots.items }
+        ensures others { KeepsOthers job self.old.jobs.slots.items self.new.jobs.slots.items }
+        ensures over { OnOk result
+            (is_slot_over (slice_get self.new.jobs.slots.items job) ≡ false) }
+        ensures size { length self.new.jobs.slots.items ≡ length self.old.jobs.slots.items }
         ensures buf { self.new.buf ≡ self.old.buf }
+        ensures sound { OnOk result (IsSoundBut job self.old.lines.connections →
+            IsSound self.new.lines.connections) }
+        ensures linked { OnOk result (IsBroken job self.old.lines.connections →
+            open_of self.new.lines < open_of self.old.lines) }
+    {
+        self.jobs.lose(job as usize)?;
+        self.leave(w, job)
+    }
+
+    /// Leaves a job of which it stands how it ended, before anything else is read.
+    pub(crate) fn leave_where<W: World>(&mut self, w: &mut W, number: u8) -> Result<(), NoMemory>
         ensures stands { KeepsLines W.journal W.counts w.old w.new self.old.lines.connections
             self.new.lines.connections self.old.jobs.slots.items self.new.jobs.slots.items }
-        ensures left { waits_of self.new.lines ≡ waits_of self.old.lines }
+        ensures left { IsKept self.old.lines.connections self.new.lines.connections }
+        ensures others { KeepsOthers number self.old.jobs.slots.items self.new.jobs.slots.items }
+        ensures over { OnOk result
+            (is_slot_over (slice_get self.new.jobs.slots.items number) ≡ false) }
+        ensures size { length self.new.jobs.slots.items ≡ length self.old.jobs.slots.items }
+        ensures buf { self.new.buf ≡ self.old.buf }
+    {
+        if self.jobs.is_over(number as usize) {
+            self.leave(w, number)
+        } else {
+            Ok(())
+        }
+    }
+
+    /// Leaves each job of which it stands how it ended, in their order.
+    pub(crate) fn leave_over<W: World>(&mut self, w: &mut W) -> Result<(), NoMemory>
+        ensures stands { KeepsLines W.journal W.counts w.old w.new self.old.lines.connections
+            self.new.lines.connections self.old.jobs.slots.items self.new.jobs.slots.items }
+        ensures left { IsKept self.old.lines.connections self.new.lines.connections }
+        ensures over { OnOk result (NoneOver self.new.jobs.slots.items) }
+        ensures buf { self.new.buf ≡ self.old.buf }
     {
         for number in 0..16u8 {
-            self.retire_where(w, number);
+            self.leave_where(w, number)?;
         }
+        Ok(())
     }
 
-    fn retire_where<W: World>(&mut self, w: &mut W, number: u8)
-        requires { number < 16 }
-        ensures drained { IsDrained self.old.lines.connections →
-            IsDrained self.new.lines.connections }
-        ensures offered { IsOffered self.old.lines.connections →
-            IsOffered self.new.lines.connections }
-        ensures none { NoneLostBelow number self.old.lines.losses.jobs →
-            NoneLostBelow (number + 1) self.new.lines.losses.jobs }
-        ensures budget { budget self.new.lines ≡ budget self.old.lines }
-        ensures buf { self.new.buf ≡ self.old.buf }
+    /// Leaves each job, in their order, as none can go on.
+    pub(crate) fn leave_all<W: World>(&mut self, w: &mut W) -> Result<(), NoMemory>
         ensures stands { KeepsLines W.journal W.counts w.old w.new self.old.lines.connections
             self.new.lines.connections self.old.jobs.slots.items self.new.jobs.slots.items }
-        ensures left { waits_of self.new.lines ≡ waits_of self.old.lines }
-    {
-        if self.lines.losses.has(number) {
-            self.retire_one(w, number);
-            return;
-        }
-        if self.jobs.is_over(usize::from(number)) {
-            self.retire_one(w, number);
-        }
-    }
-
-    /// Does so with each job, as no job can go on.
-    pub(crate) fn retire_all<W: World>(&mut self, w: &mut W)
+        ensures left { IsKept self.old.lines.connections self.new.lines.connections }
+        ensures ended { OnOk result (AllEnded self.new.jobs.slots.items) }
         ensures buf { self.new.buf ≡ self.old.buf }
-        ensures stands { KeepsLines W.journal W.counts w.old w.new self.old.lines.connections
-            self.new.lines.connections self.old.jobs.slots.items self.new.jobs.slots.items }
-        ensures left { waits_of self.new.lines ≡ waits_of self.old.lines }
-        ensures ended { AllEnded self.new.jobs.slots.items }
     {
         for number in 0..self.jobs.len() {
-            self.retire_one(w, number as u8);
+            self.leave(w, number as u8)?;
         }
+        Ok(())
     }
 
-    fn retire_one<W: World>(&mut self, w: &mut W, number: u8)
+    /// Takes leave of a job: what it has queued is offered once more, its farewell last, its
+    /// connections are closed, its child is ended, and how it ended is said. Nothing of another job
+    /// changes.
+    fn leave<W: World>(&mut self, w: &mut W, number: u8) -> Result<(), NoMemory>
         requires { number < 16 }
-        ensures drained { IsDrained self.old.lines.connections →
-            IsDrained self.new.lines.connections }
-        ensures offered { IsOffered self.old.lines.connections →
-            IsOffered self.new.lines.connections }
-        ensures none { NoneLostBelow number self.old.lines.losses.jobs →
-            NoneLostBelow (number + 1) self.new.lines.losses.jobs }
-        ensures budget { budget self.new.lines ≡ budget self.old.lines }
-        ensures buf { self.new.buf ≡ self.old.buf }
         ensures stands { KeepsLines W.journal W.counts w.old w.new self.old.lines.connections
             self.new.lines.connections self.old.jobs.slots.items self.new.jobs.slots.items }
-        ensures left { waits_of self.new.lines ≡ waits_of self.old.lines }
+        ensures left { IsLeft number self.old.lines.connections self.new.lines.connections }
+        ensures others { KeepsOthers number self.old.jobs.slots.items self.new.jobs.slots.items }
+        ensures ended { OnOk result (EndedBelow number self.old.jobs.slots.items →
+            EndedBelow (number + 1) self.new.jobs.slots.items) }
+        ensures over { OnOk result
+            (is_slot_over (slice_get self.new.jobs.slots.items number) ≡ false) }
+        // Where it ran, its line is the last that was said.
+        ensures said { OnOk result (
+            is_slot_running (slice_get self.old.jobs.slots.items number) ≡ true →
+            IfSome (W.journal w.new) (SaysEndOf (slice_get self.new.jobs.slots.items number)
+            (SayFailed W.counts w.new))) }
         ensures size { length self.new.jobs.slots.items ≡ length self.old.jobs.slots.items }
-        ensures ended { EndedBelow number self.old.jobs.slots.items →
-            EndedBelow (number + 1) self.new.jobs.slots.items }
+        ensures buf { self.new.buf ≡ self.old.buf }
+        ensures sound { OnOk result (IsSoundBut number self.old.lines.connections →
+            IsSound self.new.lines.connections) }
+        ensures linked { OnOk result (IsBroken number self.old.lines.connections →
+            open_of self.new.lines < open_of self.old.lines) }
     {
-        self.lines.close(w, number);
-        self.jobs.finish(w, usize::from(number));
+        self.queue_job(number)?;
+        self.lines.leave(w, number);
+        self.jobs.finish(w, number as usize);
+        Ok(())
     }
 
-    /// Without memory: closes the connections of each job, and ends the child of each that runs.
+    /// Without memory: closes the connections of each job, and ends the child of each that runs. A
+    /// job that has ended says so.
     pub(crate) fn abandon<W: World>(&mut self, w: &mut W)
         ensures ended { AllEnded self.new.jobs.slots.items }
         ensures left { waits_of self.new.lines ≡ waits_of self.old.lines }
@@ -192,7 +226,7 @@ impl Running {
     {
         for number in 0..self.jobs.len() {
             self.lines.close(w, number as u8);
-            self.jobs.stop(w, number);
+            self.jobs.abandon(w, number);
         }
     }
 

@@ -1,5 +1,7 @@
 //! `Slot`, one job of a run.
-ghost use Rattle.batch_run.specs.Stands.{SlotKeeps, KeepsSaying};
+ghost use Rattle.std.specs.Prelude.{◌≡◌, IfSome, Some, true};
+ghost use Rattle.said_lines.specs.Between.{SayFailed};
+ghost use Rattle.batch_run.specs.Stands.{EndsSaying, SlotKeeps, KeepsSaying, is_slot_running};
 
 use job_end::Answer;
 use job_run::Job;
@@ -18,9 +20,10 @@ pub(crate) enum Slot {
 }
 
 impl Slot {
-    ghost use Rattle.std.specs.Prelude.{◌≡◌, ◌<◌, ◌^◌, Some};
+    ghost use Rattle.std.specs.Prelude.{◌≡◌, ◌<◌, ◌^◌, Some, true, IfSome};
+    ghost use Rattle.said_lines.specs.Between.{SayFailed};
     ghost use Rattle.batch_run.specs.Due.{IsSlotDue, SlotWantsLook, is_slot_over};
-    ghost use Rattle.batch_run.specs.Stands.{HasEnded, SlotKeeps, SlotStays};
+    ghost use Rattle.batch_run.specs.Stands.{HasEnded, SaysEndOf, SlotKeeps, SlotStays, is_slot_running};
     ghost use Rattle.batch_run.specs.Stands.{IsCutOff, IsOutOfWaits, SlotStaysIf};
 
     /// Whether a job runs of which it stands how it ended.
@@ -55,7 +58,8 @@ impl Slot {
 
     /// Hands out what the job has queued on this channel, where there is anything.
     pub(crate) fn hand_out(&mut self, chan: Chan) -> Option<Bytes>
-        ensures { SlotStays self.old self.new }
+        ensures stays { SlotStays self.old self.new }
+        ensures runs { is_slot_running (Some self.new) ≡ is_slot_running (Some self.old) }
     {
         match self {
             Slot::Running(job) => job.hand_out(chan),
@@ -162,6 +166,9 @@ impl Slot {
     /// Ends the child of a job that runs, and says how it ended.
     pub(crate) fn finish<W: World>(&mut self, alloc: Global, w: &mut W)
         ensures ended { HasEnded self.new }
+        // Where one ran, its line is the last that was said.
+        ensures said { is_slot_running (Some self.old) ≡ true →
+            IfSome (W.journal w.new) (SaysEndOf (Some self.new) (SayFailed W.counts w.new)) }
         ensures stands { SlotKeeps W.journal W.counts w.old w.new self.old self.new }
     {
         let slot = mem::replace(self, Slot::Waiting);
@@ -183,7 +190,9 @@ fn end_of<W: World>(alloc: Global, w: &mut W, slot: Slot) -> Answer
 
 /// How a job ended: of one that runs the child is ended, and how it ended is said.
 fn end_and_say<W: World>(alloc: Global, w: &mut W, slot: Slot) -> Answer
-    ensures { SlotKeeps W.journal W.counts w.old w.new slot (Slot.Ended result) }
+    ensures keeps { SlotKeeps W.journal W.counts w.old w.new slot (Slot.Ended result) }
+    ensures said { is_slot_running (Some slot) ≡ true →
+        IfSome (W.journal w.new) (EndsSaying result.line (SayFailed W.counts w.new)) }
 {
     match slot {
         Slot::Running(job) => {
@@ -198,7 +207,9 @@ fn end_and_say<W: World>(alloc: Global, w: &mut W, slot: Slot) -> Answer
 
 /// Says how a job ended.
 pub(crate) fn say_end<W: World>(w: &mut W, answer: &Answer)
-    ensures { KeepsSaying W.journal W.counts w.old w.new answer.now }
+    ensures keeps { KeepsSaying W.journal W.counts w.old w.new answer.now }
+    ensures said { IfSome (W.journal w.new)
+        (EndsSaying answer.now.line (SayFailed W.counts w.new)) }
 {
     say(w, answer.line.bytes());
 }

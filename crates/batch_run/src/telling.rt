@@ -6,12 +6,13 @@ use world::{Chan, World};
 
 impl Jobs {
     ghost use Rattle.std.specs.Prelude.{◌≡◌, ◌<◌, ◌+◌, ◌^◌, length};
-    ghost use Rattle.batch_run.specs.Stands.{EndedBelow, KeepsAll, KeepsOthers, StayAll};
+    ghost use Rattle.batch_run.specs.Stands.{ChangesAt, EndedBelow, KeepsAll, KeepsOthers, StayAll};
     ghost use Rattle.batch_run.specs.Stands.{IsCutOff, IsOutOfWaits, StayAllIf, WaitingFrom};
 
     /// Hands out what a job has queued on this channel, where there is anything.
     pub(crate) fn hand_out(&mut self, number: usize, chan: Chan) -> Option<Bytes>
         ensures stands { StayAll self.old.slots.items self.new.slots.items }
+        ensures at { ChangesAt number self.old.slots.items self.new.slots.items }
     {
         if number >= self.slots.len() {
             return None;
@@ -38,6 +39,7 @@ impl Jobs {
         requires { ms < 2 ^ 47 }
         ensures stands { KeepsAll W.journal W.counts w.old w.new self.old.slots.items
             self.new.slots.items }
+        ensures others { KeepsOthers number self.old.slots.items self.new.slots.items }
     {
         if number >= self.slots.len() {
             return Ok(());
@@ -115,22 +117,8 @@ impl Jobs {
         }
     }
 
-    /// The reads of a last look are done for these jobs.
-    pub(crate) fn on_looked<W: World>(
-        &mut self,
-        w: &mut W,
-        looks: &[bool; 16],
-    ) -> Result<(), NoMemory>
-        ensures stands { KeepsAll W.journal W.counts w.old w.new self.old.slots.items
-            self.new.slots.items }
-    {
-        for number in 0..16usize {
-            self.look_where(w, number, looks[number])?;
-        }
-        Ok(())
-    }
-
-    fn look_where<W: World>(
+    /// The reads of a last look are done for a job, where one was made for it.
+    pub(crate) fn look_where<W: World>(
         &mut self,
         w: &mut W,
         number: usize,
@@ -138,6 +126,7 @@ impl Jobs {
     ) -> Result<(), NoMemory>
         ensures stands { KeepsAll W.journal W.counts w.old w.new self.old.slots.items
             self.new.slots.items }
+        ensures others { KeepsOthers number self.old.slots.items self.new.slots.items }
     {
         if was_made {
             self.finish_look(w, number)
@@ -149,6 +138,7 @@ impl Jobs {
     fn finish_look<W: World>(&mut self, w: &mut W, number: usize) -> Result<(), NoMemory>
         ensures stands { KeepsAll W.journal W.counts w.old w.new self.old.slots.items
             self.new.slots.items }
+        ensures others { KeepsOthers number self.old.slots.items self.new.slots.items }
     {
         if number >= self.slots.len() {
             return Ok(());

@@ -2,6 +2,7 @@
 ghost use Rattle.std.specs.Prelude.{◌≡◌};
 
 use crate::fault::Fault;
+use crate::reading::Reading;
 use crate::running::Running;
 use jtext::NoMemory;
 use ready_loop::Next;
@@ -11,19 +12,21 @@ use world::{Chan, Conn, World};
 const CHANS: [Chan; 4] = [Chan::Shell, Chan::Control, Chan::Iopub, Chan::Heart];
 
 impl Running {
-    ghost use Rattle.std.specs.Prelude.{◌≡◌, ◌<◌, ◌≤◌, ◌^◌, ℕ, Ok, Some, None, true, false, IfOk, OnOk};
-    ghost use Rattle.std.specs.Prelude.{length};
-    ghost use Rattle.ready_loop.specs.States.{IsDrained, IsOffered};
-    ghost use Rattle.batch_run.specs.Kept.{Falls, NoneLost, goes_on};
-    ghost use Rattle.batch_run.specs.Lines.{budget, reads_of, waits_of};
-    ghost use Rattle.batch_run.specs.Stands.{AllEnded, ChangesOne, KeepsAll, KeepsOthers};
-    ghost use Rattle.batch_run.specs.Stands.{IsFaultOf, KeepsLines, KeepsWaiting, StayAll};
-    ghost use Rattle.batch_run.specs.Stands.{StayAllIf, StayLines};
-    ghost use Rattle.batch_run.specs.declared.fault.Fault.TheVariants.{OfJob};
+    ghost use Rattle.std.specs.Prelude.{◌≡◌, ◌<◌, ◌≤◌, ◌^◌, Ok, true, false, OnOk};
+    ghost use Rattle.std.specs.Prelude.{length, slice_get};
+    ghost use Rattle.ready_loop.specs.States.{IsDrained, IsOffered, IsSound};
+    ghost use Rattle.batch_run.specs.Due.{is_slot_over};
+    ghost use Rattle.batch_run.specs.Kept.{IsKept, IsLeft, LeftBy, StaysBegun, goes_on};
+    ghost use Rattle.batch_run.specs.Lines.{budget, open_of, reads_of, waits_of};
+    ghost use Rattle.batch_run.specs.Stands.{AllEnded, ChangesAt, ChangesOne, KeepsOthers, NoneOver};
+    ghost use Rattle.batch_run.specs.Stands.{IsFaultOf, KeepsLines, KeepsLinesIf, KeepsWaiting};
+    ghost use Rattle.batch_run.specs.Stands.{StayAll, StayLines};
+    ghost use Rattle.batch_run.specs.declared.reading.Reading.TheVariants as reading;
 
     /// Turn after turn, until each job has ended.
     pub(crate) fn run<W: World>(&mut self, w: &mut W) -> Result<(), NoMemory>
         requires drained { IsDrained self.old.lines.connections }
+        requires sound { IsSound self.old.lines.connections }
         requires room { 0 < length self.old.buf.items }
         ensures stands { KeepsWaiting W.journal W.counts w.old w.new self.old.lines self.new.lines
             self.old.jobs.slots.items self.new.jobs.slots.items }
@@ -34,47 +37,44 @@ impl Running {
         Ok(())
     }
 
-    /// Puts out what is queued, takes leave of the jobs that have ended, and waits. Whether a job
-    /// goes on.
+    /// Puts out what is queued, and waits. Whether a job goes on.
     fn turn<W: World>(&mut self, w: &mut W) -> Result<bool, NoMemory>
         requires drained { IsDrained self.old.lines.connections }
+        requires sound { IsSound self.old.lines.connections }
         requires room { 0 < length self.old.buf.items }
         ensures drained { result ≡ Ok true → IsDrained self.new.lines.connections }
+        ensures sound { result ≡ Ok true → IsSound self.new.lines.connections }
         ensures room { 0 < length self.new.buf.items }
         ensures budget { result ≡ Ok true → budget self.new.lines < budget self.old.lines }
         ensures stands { KeepsWaiting W.journal W.counts w.old w.new self.old.lines self.new.lines
             self.old.jobs.slots.items self.new.jobs.slots.items }
         ensures left { waits_of self.new.lines ≤ waits_of self.old.lines }
+        // Each job of which it stands how it ended was left.
+        ensures over { result ≡ Ok true → NoneOver self.new.jobs.slots.items }
         ensures ended { result ≡ Ok false → AllEnded self.new.jobs.slots.items }
     {
-        if !self.put_out(w)? {
-            self.retire_all(w);
-            return Ok(false);
-        }
-        self.retire(w);
+        self.put_out(w)?;
         if self.jobs.are_done() {
             return Ok(false);
         }
-        if self.go_on(w)? {
-            return Ok(true);
-        }
-        self.put_out(w)?;
-        self.retire_all(w);
-        Ok(false)
+        self.go_on(w)
     }
 
     /// Waits, and reads what came. Whether a job may go on.
     fn go_on<W: World>(&mut self, w: &mut W) -> Result<bool, NoMemory>
         requires drained { IsDrained self.old.lines.connections }
         requires offered { IsOffered self.old.lines.connections }
-        requires none { NoneLost self.old.lines.losses.jobs }
+        requires sound { IsSound self.old.lines.connections }
         requires room { 0 < length self.old.buf.items }
         ensures drained { result ≡ Ok true → IsDrained self.new.lines.connections }
+        ensures sound { result ≡ Ok true → IsSound self.new.lines.connections }
         ensures room { 0 < length self.new.buf.items }
         ensures budget { result ≡ Ok true → budget self.new.lines < budget self.old.lines }
         ensures stands { KeepsWaiting W.journal W.counts w.old w.new self.old.lines self.new.lines
             self.old.jobs.slots.items self.new.jobs.slots.items }
         ensures left { waits_of self.new.lines ≤ waits_of self.old.lines }
+        ensures over { result ≡ Ok true → NoneOver self.new.jobs.slots.items }
+        ensures ended { result ≡ Ok false → AllEnded self.new.jobs.slots.items }
     {
         let looks = self.looks();
         if looks.contains(&true) {
@@ -84,13 +84,16 @@ impl Running {
         }
     }
 
-    /// Puts out what is queued. Whether a job may go on.
-    fn put_out<W: World>(&mut self, w: &mut W) -> Result<bool, NoMemory>
-        ensures offered { result ≡ Ok true → IsOffered self.new.lines.connections }
+    /// Puts out what is queued, and tells each job what was taken. A job of which a connection fails
+    /// is left.
+    fn put_out<W: World>(&mut self, w: &mut W) -> Result<(), NoMemory>
+        requires sound { IsSound self.old.lines.connections }
+        ensures offered { OnOk result (IsOffered self.new.lines.connections) }
+        ensures sound { OnOk result (IsSound self.new.lines.connections) }
         ensures drained { IsDrained self.old.lines.connections →
             IsDrained self.new.lines.connections }
         ensures buf { self.new.buf ≡ self.old.buf }
-        ensures budget { Falls false (budget self.old.lines) (budget self.new.lines) }
+        ensures linked { open_of self.new.lines ≤ open_of self.old.lines }
         ensures stands { KeepsLines W.journal W.counts w.old w.new self.old.lines.connections
             self.new.lines.connections self.old.jobs.slots.items self.new.jobs.slots.items }
         ensures left { waits_of self.new.lines ≡ waits_of self.old.lines }
@@ -100,25 +103,19 @@ impl Running {
             match self.lines.offer(w) {
                 Ok(ends) => {
                     self.jobs.on_ends(&ends);
-                    return Ok(true);
+                    self.tell_taken();
+                    return Ok(());
                 }
-                Err(fault) => {
-                    if !self.on_fault(fault)? {
-                        return Ok(false);
-                    }
-                }
+                Err(job) => self.lose_one(w, job)?,
             }
         }
     }
 
     fn queue_all(&mut self) -> Result<(), NoMemory>
-        ensures drained { IsDrained self.old.lines.connections →
-            IsDrained self.new.lines.connections }
+        ensures left { IsKept self.old.lines.connections self.new.lines.connections }
         ensures buf { self.new.buf ≡ self.old.buf }
-        ensures budget { budget self.new.lines ≡ budget self.old.lines }
         ensures stands { StayLines self.old.lines.connections self.new.lines.connections
             self.old.jobs.slots.items self.new.jobs.slots.items }
-        ensures left { waits_of self.new.lines ≡ waits_of self.old.lines }
     {
         for number in 0..self.jobs.len() {
             self.queue_job(number as u8)?;
@@ -126,15 +123,15 @@ impl Running {
         Ok(())
     }
 
-    fn queue_job(&mut self, job: u8) -> Result<(), NoMemory>
+    /// Queues what a job hands out.
+    pub(crate) fn queue_job(&mut self, job: u8) -> Result<(), NoMemory>
         requires { job < 16 }
-        ensures drained { IsDrained self.old.lines.connections →
-            IsDrained self.new.lines.connections }
+        ensures left { IsLeft job self.old.lines.connections self.new.lines.connections }
+        ensures linked { StaysBegun self.old.lines.connections self.new.lines.connections }
+        ensures at { ChangesAt job self.old.jobs.slots.items self.new.jobs.slots.items }
         ensures buf { self.new.buf ≡ self.old.buf }
-        ensures budget { budget self.new.lines ≡ budget self.old.lines }
         ensures stands { StayLines self.old.lines.connections self.new.lines.connections
             self.old.jobs.slots.items self.new.jobs.slots.items }
-        ensures left { waits_of self.new.lines ≡ waits_of self.old.lines }
     {
         for chan in CHANS {
             self.queue_on(Conn { job, chan })?;
@@ -144,44 +141,73 @@ impl Running {
 
     fn queue_on(&mut self, conn: Conn) -> Result<(), NoMemory>
         requires { conn.job < 16 }
-        ensures drained { IsDrained self.old.lines.connections →
-            IsDrained self.new.lines.connections }
+        ensures left { IsLeft conn.job self.old.lines.connections self.new.lines.connections }
+        ensures linked { StaysBegun self.old.lines.connections self.new.lines.connections }
+        ensures at { ChangesAt conn.job self.old.jobs.slots.items self.new.jobs.slots.items }
         ensures buf { self.new.buf ≡ self.old.buf }
-        ensures budget { budget self.new.lines ≡ budget self.old.lines }
         ensures stands { StayLines self.old.lines.connections self.new.lines.connections
             self.old.jobs.slots.items self.new.jobs.slots.items }
-        ensures left { waits_of self.new.lines ≡ waits_of self.old.lines }
     {
-        if !self.lines.takes(conn) {
+        if !self.lines.was_begun(conn) {
             return Ok(());
         }
-        match self.jobs.hand_out(usize::from(conn.job), conn.chan) {
+        match self.jobs.hand_out(conn.job as usize, conn.chan) {
             Some(bytes) => self.lines.queue(conn, bytes),
             None => Ok(()),
         }
     }
 
-    // Ends what a fault ends: the fault of one job ends no other. Whether a job may go on.
-    fn on_fault(&mut self, fault: Fault) -> Result<bool, NoMemory>
-        ensures goes { IfOk result (λ b. b ≡ goes_on fault) }
+    // Tells each job how many of its bytes were taken.
+    fn tell_taken(&mut self)
         ensures lines { self.new.lines ≡ self.old.lines }
         ensures buf { self.new.buf ≡ self.old.buf }
-        ensures stands { StayAllIf (IsFaultOf fault) self.old.jobs.slots.items
+        ensures stands { StayAll self.old.jobs.slots.items self.new.jobs.slots.items }
+    {
+        for number in 0..self.jobs.len() {
+            self.tell_taken_of(number as u8);
+        }
+    }
+
+    fn tell_taken_of(&mut self, job: u8)
+        requires { job < 16 }
+        ensures lines { self.new.lines ≡ self.old.lines }
+        ensures buf { self.new.buf ≡ self.old.buf }
+        ensures stands { StayAll self.old.jobs.slots.items self.new.jobs.slots.items }
+    {
+        for chan in CHANS {
+            let taken = self.lines.taken(Conn { job, chan });
+            self.jobs.on_taken(job as usize, chan, taken);
+        }
+    }
+
+    // Ends and leaves what a fault ends: the fault of one job ends no other. Whether a job may go on.
+    fn on_fault<W: World>(&mut self, w: &mut W, fault: Fault) -> Result<bool, NoMemory>
+        requires { LeftBy fault self.old.lines.connections }
+        ensures goes { result ≡ Ok true → goes_on fault ≡ true }
+        ensures left { IsKept self.old.lines.connections self.new.lines.connections }
+        ensures sound { result ≡ Ok true → IsSound self.new.lines.connections }
+        ensures linked { result ≡ Ok true → open_of self.new.lines < open_of self.old.lines }
+        ensures buf { self.new.buf ≡ self.old.buf }
+        ensures stands { KeepsLinesIf (IsFaultOf fault) W.journal W.counts w.old w.new
+            self.old.lines.connections self.new.lines.connections self.old.jobs.slots.items
             self.new.jobs.slots.items }
-        ensures others { (job : ℕ) → fault ≡ OfJob job →
-            KeepsOthers job self.old.jobs.slots.items self.new.jobs.slots.items }
+        ensures over { result ≡ Ok true → NoneOver self.new.jobs.slots.items }
+        ensures ended { result ≡ Ok false → AllEnded self.new.jobs.slots.items }
     {
         match fault {
             Fault::OfJob(job) => {
-                self.jobs.lose(usize::from(job))?;
+                self.lose_one(w, job)?;
+                self.leave_over(w)?;
                 Ok(true)
             }
             Fault::OfAll => {
                 self.jobs.lose_all()?;
+                self.leave_all(w)?;
                 Ok(false)
             }
             Fault::Spent => {
                 self.jobs.spend_all()?;
+                self.leave_all(w)?;
                 Ok(false)
             }
         }
@@ -199,149 +225,161 @@ impl Running {
     fn look<W: World>(&mut self, w: &mut W, looks: [bool; 16]) -> Result<bool, NoMemory>
         requires drained { IsDrained self.old.lines.connections }
         requires offered { IsOffered self.old.lines.connections }
-        requires none { NoneLost self.old.lines.losses.jobs }
+        requires sound { IsSound self.old.lines.connections }
         requires room { 0 < length self.old.buf.items }
         ensures drained { result ≡ Ok true → IsDrained self.new.lines.connections }
+        ensures sound { result ≡ Ok true → IsSound self.new.lines.connections }
         ensures room { 0 < length self.new.buf.items }
         ensures budget { result ≡ Ok true → budget self.new.lines < budget self.old.lines }
         ensures stands { KeepsWaiting W.journal W.counts w.old w.new self.old.lines self.new.lines
             self.old.jobs.slots.items self.new.jobs.slots.items }
         ensures left { waits_of self.new.lines ≤ waits_of self.old.lines }
+        ensures over { result ≡ Ok true → NoneOver self.new.jobs.slots.items }
+        ensures ended { result ≡ Ok false → AllEnded self.new.jobs.slots.items }
     {
         match self.lines.look(w, looks) {
             Ok(ends) => {
                 self.jobs.on_ends(&ends);
                 self.jobs.on_waited(&looks);
-                let goes_on = self.read_all(w)?;
-                self.jobs.on_looked(w, &looks)?;
-                Ok(goes_on)
+                self.read_all(w)?;
+                self.tell_looked(w, &looks)?;
+                Ok(true)
             }
-            Err(fault) => self.on_fault(fault),
+            Err(fault) => self.on_fault(w, fault),
         }
     }
 
     fn wait<W: World>(&mut self, w: &mut W) -> Result<bool, NoMemory>
         requires drained { IsDrained self.old.lines.connections }
         requires offered { IsOffered self.old.lines.connections }
-        requires none { NoneLost self.old.lines.losses.jobs }
+        requires sound { IsSound self.old.lines.connections }
         requires room { 0 < length self.old.buf.items }
         ensures drained { result ≡ Ok true → IsDrained self.new.lines.connections }
+        ensures sound { result ≡ Ok true → IsSound self.new.lines.connections }
         ensures room { 0 < length self.new.buf.items }
         ensures budget { result ≡ Ok true → budget self.new.lines < budget self.old.lines }
         ensures stands { KeepsWaiting W.journal W.counts w.old w.new self.old.lines self.new.lines
             self.old.jobs.slots.items self.new.jobs.slots.items }
         ensures left { waits_of self.new.lines ≤ waits_of self.old.lines }
+        ensures over { result ≡ Ok true → NoneOver self.new.jobs.slots.items }
+        ensures ended { result ≡ Ok false → AllEnded self.new.jobs.slots.items }
     {
         let due = self.jobs.due();
         match self.lines.turn(w, due) {
             Ok(ms) => {
                 self.tell_moments(w, ms)?;
-                self.read_all(w)
+                self.read_all(w)?;
+                Ok(true)
             }
-            Err(fault) => self.on_fault(fault),
+            Err(fault) => self.on_fault(w, fault),
         }
     }
 
+    // Tells each job the clock. One that ends by it is left before the next is told.
     fn tell_moments<W: World>(&mut self, w: &mut W, ms: u64) -> Result<(), NoMemory>
         requires { ms < 2 ^ 47 }
-        ensures lines { self.new.lines ≡ self.old.lines }
+        ensures left { IsKept self.old.lines.connections self.new.lines.connections }
         ensures buf { self.new.buf ≡ self.old.buf }
-        ensures stands { KeepsAll W.journal W.counts w.old w.new self.old.jobs.slots.items
-            self.new.jobs.slots.items }
+        ensures stands { KeepsLines W.journal W.counts w.old w.new self.old.lines.connections
+            self.new.lines.connections self.old.jobs.slots.items self.new.jobs.slots.items }
+        ensures over { OnOk result (NoneOver self.new.jobs.slots.items) }
     {
-        for number in 0..self.jobs.len() {
-            self.tell_taken(number as u8);
-            self.jobs.on_moment(w, number, ms)?;
+        for number in 0..16u8 {
+            self.jobs.on_moment(w, number as usize, ms)?;
+            self.leave_where(w, number)?;
         }
         Ok(())
     }
 
-    fn tell_taken(&mut self, job: u8)
-        requires { job < 16 }
-        ensures lines { self.new.lines ≡ self.old.lines }
+    // Tells each of these jobs that the reads of its last look are done. One that ends by it is left
+    // before the next is told.
+    fn tell_looked<W: World>(&mut self, w: &mut W, looks: &[bool; 16]) -> Result<(), NoMemory>
+        ensures left { IsKept self.old.lines.connections self.new.lines.connections }
         ensures buf { self.new.buf ≡ self.old.buf }
-        ensures stands { StayAll self.old.jobs.slots.items self.new.jobs.slots.items }
+        ensures stands { KeepsLines W.journal W.counts w.old w.new self.old.lines.connections
+            self.new.lines.connections self.old.jobs.slots.items self.new.jobs.slots.items }
+        ensures over { OnOk result (NoneOver self.new.jobs.slots.items) }
     {
-        for chan in CHANS {
-            let taken = self.lines.taken(Conn { job, chan });
-            self.jobs.on_taken(usize::from(job), chan, taken);
+        for number in 0..16u8 {
+            let was_made = looks[number as usize];
+            self.jobs.look_where(w, number as usize, was_made)?;
+            self.leave_where(w, number)?;
         }
+        Ok(())
     }
 
-    // Reads what the wait reported. Whether a job may go on.
-    fn read_all<W: World>(&mut self, w: &mut W) -> Result<bool, NoMemory>
+    // Reads what the wait reported.
+    fn read_all<W: World>(&mut self, w: &mut W) -> Result<(), NoMemory>
         requires room { 0 < length self.old.buf.items }
-        ensures drained { result ≡ Ok true → IsDrained self.new.lines.connections }
+        requires sound { IsSound self.old.lines.connections }
+        ensures drained { OnOk result (IsDrained self.new.lines.connections) }
+        ensures sound { OnOk result (IsSound self.new.lines.connections) }
         ensures room { 0 < length self.new.buf.items }
-        ensures budget { Falls false (budget self.old.lines) (budget self.new.lines) }
+        ensures linked { open_of self.new.lines ≤ open_of self.old.lines }
         ensures stands { KeepsLines W.journal W.counts w.old w.new self.old.lines.connections
             self.new.lines.connections self.old.jobs.slots.items self.new.jobs.slots.items }
         ensures left { waits_of self.new.lines ≡ waits_of self.old.lines }
+        ensures over { OnOk result (NoneOver self.old.jobs.slots.items →
+            NoneOver self.new.jobs.slots.items) }
     {
         loop {
-            match self.read_one(w) {
-                Ok(None) => {}
-                Ok(Some(goes_on)) => return Ok(goes_on),
-                Err(refused) => return Err(refused),
+            match self.read_one(w)? {
+                Reading::GoesOn => {}
+                Reading::Done => return Ok(()),
             }
         }
     }
 
-    // Reads one connection. What its peer does changes its own job alone. Where no more is to be
-    // read: whether a job may go on.
-    fn read_one<W: World>(&mut self, w: &mut W) -> Result<Option<bool>, NoMemory>
+    // Reads one connection. What its peer does changes its own job alone, which is left where it has
+    // ended by it.
+    fn read_one<W: World>(&mut self, w: &mut W) -> Result<Reading, NoMemory>
         requires room { 0 < length self.old.buf.items }
-        ensures drained { result ≡ Ok (Some true) → IsDrained self.new.lines.connections }
+        requires sound { IsSound self.old.lines.connections }
+        ensures drained { result ≡ Ok reading.Done → IsDrained self.new.lines.connections }
+        ensures sound { OnOk result (IsSound self.new.lines.connections) }
         ensures room { 0 < length self.new.buf.items }
-        ensures budget { Falls false (budget self.old.lines) (budget self.new.lines) }
+        ensures linked { open_of self.new.lines ≤ open_of self.old.lines }
         ensures stands { KeepsLines W.journal W.counts w.old w.new self.old.lines.connections
             self.new.lines.connections self.old.jobs.slots.items self.new.jobs.slots.items }
         ensures left { waits_of self.new.lines ≡ waits_of self.old.lines }
-        ensures reads { result ≡ Ok None → reads_of self.new.lines < reads_of self.old.lines }
-        ensures one { result ≡ Ok None →
-            ChangesOne self.old.jobs.slots.items self.new.jobs.slots.items }
+        ensures reads { result ≡ Ok reading.GoesOn → reads_of self.new.lines < reads_of self.old.lines }
+        ensures one { OnOk result
+            (ChangesOne self.old.jobs.slots.items self.new.jobs.slots.items) }
+        ensures over { OnOk result (NoneOver self.old.jobs.slots.items →
+            NoneOver self.new.jobs.slots.items) }
     {
         match self.lines.next(w, self.buf.as_mut_slice()) {
             Ok(Next::Piece { conn, n }) => {
                 self.hear(w, conn, n)?;
-                Ok(None)
+                Ok(Reading::GoesOn)
             }
             Ok(Next::Ended(conn)) => {
-                self.jobs.on_ended(usize::from(conn.job));
-                Ok(None)
+                self.jobs.on_ended(conn.job as usize);
+                self.leave_where(w, conn.job)?;
+                Ok(Reading::GoesOn)
             }
-            Ok(Next::Refused(_)) => Ok(None),
-            Ok(Next::Quiet) => Ok(Some(true)),
-            Err(fault) => self.read_on(fault),
+            Ok(Next::Refused(_)) => Ok(Reading::GoesOn),
+            Ok(Next::Quiet) => Ok(Reading::Done),
+            Err(job) => {
+                self.lose_one(w, job)?;
+                Ok(Reading::GoesOn)
+            }
         }
     }
 
-    // Ends what a fault of a read ends. Where no job may go on, no more is to be read.
-    fn read_on(&mut self, fault: Fault) -> Result<Option<bool>, NoMemory>
-        ensures ends { result ≡ Ok (Some true) → ⊥ }
-        ensures lines { self.new.lines ≡ self.old.lines }
-        ensures buf { self.new.buf ≡ self.old.buf }
-        ensures stands { StayAllIf (IsFaultOf fault) self.old.jobs.slots.items
-            self.new.jobs.slots.items }
-        ensures one { result ≡ Ok None →
-            ChangesOne self.old.jobs.slots.items self.new.jobs.slots.items }
-    {
-        match self.on_fault(fault) {
-            Ok(true) => Ok(None),
-            Ok(false) => Ok(Some(false)),
-            Err(refused) => Err(refused),
-        }
-    }
-
+    // Tells a job what came on a connection of it. Where it has ended by that, it is left.
     fn hear<W: World>(&mut self, w: &mut W, conn: Conn, n: usize) -> Result<(), NoMemory>
-        ensures lines { self.new.lines ≡ self.old.lines }
+        ensures left { IsKept self.old.lines.connections self.new.lines.connections }
         ensures buf { self.new.buf ≡ self.old.buf }
-        ensures stands { KeepsAll W.journal W.counts w.old w.new self.old.jobs.slots.items
-            self.new.jobs.slots.items }
+        ensures stands { KeepsLines W.journal W.counts w.old w.new self.old.lines.connections
+            self.new.lines.connections self.old.jobs.slots.items self.new.jobs.slots.items }
         ensures others { KeepsOthers conn.job self.old.jobs.slots.items self.new.jobs.slots.items }
+        ensures over { OnOk result
+            (is_slot_over (slice_get self.new.jobs.slots.items conn.job) ≡ false) }
     {
         let piece = &self.buf[..n.min(self.buf.len())];
         self.jobs
-            .on_piece(w, usize::from(conn.job), conn.chan, piece)
+            .on_piece(w, conn.job as usize, conn.chan, piece)?;
+        self.leave_where(w, conn.job)
     }
 }

@@ -101,3 +101,74 @@ pub(crate) fn third_rename<K: KernelSide>(w: &MemWorld<K>) -> u64 {
     }
     number
 }
+
+/// The number of the last call that put bytes.
+pub(crate) fn last_put<K: KernelSide>(w: &MemWorld<K>) -> u64 {
+    let mut number: u64 = 0;
+    let mut last: u64 = 0;
+    if let Some(entries) = w.journal() {
+        for entry in entries.iter() {
+            if let Entry::Put { .. } = entry {
+                last = number;
+            }
+            number = number.saturating_add(1);
+        }
+    }
+    last
+}
+
+/// Whether a write has failed.
+pub(crate) fn has_failed_put<K: KernelSide>(w: &MemWorld<K>) -> bool {
+    let mut has = false;
+    if let Some(entries) = w.journal() {
+        for entry in entries.iter() {
+            if let Entry::PutFailed { .. } = entry {
+                has = true;
+            }
+        }
+    }
+    has
+}
+
+/// The limit of the first wait after bytes with this text were put.
+pub(crate) fn limit_after<K: KernelSide>(w: &MemWorld<K>, text: &str) -> Option<u32> {
+    let mut was_put = false;
+    if let Some(entries) = w.journal() {
+        for entry in entries.iter() {
+            match entry {
+                Entry::Put { bytes, .. } => was_put = was_put || holds_text(bytes.bytes(), text),
+                Entry::Waited { ms, .. } => {
+                    if was_put {
+                        return Some(*ms);
+                    }
+                }
+                _ => {}
+            }
+        }
+    }
+    None
+}
+
+/// The last moment before bytes with this text were put.
+pub(crate) fn moment_before<K: KernelSide>(w: &MemWorld<K>, text: &str) -> Option<u64> {
+    let mut last = 0;
+    if let Some(entries) = w.journal() {
+        for entry in entries.iter() {
+            match entry {
+                Entry::Moment { ms } => last = *ms,
+                Entry::Put { bytes, .. } => {
+                    if holds_text(bytes.bytes(), text) {
+                        return Some(last);
+                    }
+                }
+                _ => {}
+            }
+        }
+    }
+    None
+}
+
+// Whether this text stands there.
+fn holds_text(octets: &[u8], text: &str) -> bool {
+    0 < count(octets, text.as_bytes())
+}

@@ -7,6 +7,8 @@ mod checks;
 #[cfg(test)]
 mod jobs;
 #[cfg(test)]
+mod leaves;
+#[cfg(test)]
 mod notebooks;
 #[cfg(test)]
 mod octets;

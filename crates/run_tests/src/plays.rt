@@ -84,6 +84,11 @@ impl Played {
         Ok(self.has_said(DONE) && self.has_outputs(alloc, outputs)?)
     }
 
+    /// How often this text was said.
+    pub(crate) fn says(&self, text: &str) -> usize {
+        count(self.said.bytes(), text)
+    }
+
     /// How often this text stands in the output.
     pub(crate) fn has(&self, text: &str) -> usize {
         count(self.out.bytes(), text)

@@ -92,6 +92,7 @@ impl Queue {
             Mark::Greeting => self.count == 0,
             Mark::Ready => self.count == 1,
             Mark::Messages => 2 <= self.count,
+            Mark::Info => holds(message, "kernel_info_reply"),
             Mark::Replies => holds(message, "execute_reply"),
             Mark::Idles => holds(message, "\"idle\"") && holds(message, "execute_request"),
             Mark::First => holds(message, "execute_request") && holds(message, FIRST),

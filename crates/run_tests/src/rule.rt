@@ -37,6 +37,12 @@ pub(crate) enum Trick {
     Deaf,
     /// It sends nothing on the heartbeat.
     NoEcho,
+    /// After its reply to kernel_info_request it sends the head of a frame of 2^63 octets.
+    BrokenInfo,
+    /// So it does after each reply to a cell.
+    BrokenReply,
+    /// So it does, and sends the stream of the first cell without end.
+    Flood,
 }
 
 /// Which octets of a channel a rule is for.
@@ -46,6 +52,8 @@ pub(crate) enum Mark {
     Ready,
     /// Each message after the handshake.
     Messages,
+    /// The reply to kernel_info_request.
+    Info,
     /// The replies to requests of cells.
     Replies,
     /// The idles of cells.
@@ -109,6 +117,8 @@ pub(crate) fn shell_rule(trick: Trick) -> Rule {
         Trick::BadGreeting => doing(Mark::Greeting, Deed::Break),
         Trick::HugeFrame => doing(Mark::Ready, Deed::AddHuge),
         Trick::SecondReady => doing(Mark::Ready, Deed::Repeat),
+        Trick::BrokenInfo => doing(Mark::Info, Deed::AddHuge),
+        Trick::BrokenReply | Trick::Flood => doing(Mark::Replies, Deed::AddHuge),
         Trick::LateReply => doing(Mark::Replies, Deed::Hold),
         Trick::LateStream => doing(Mark::Replies, Deed::Hold),
         _ => doing(Mark::Messages, Deed::Keep),
@@ -134,7 +144,7 @@ pub(crate) fn iopub_rule(trick: Trick) -> Rule {
         Trick::OtherRequest => doing(Mark::First, Deed::Swap),
         Trick::NextRequest => doing(Mark::FirstStream, Deed::Echo),
         Trick::CutOff => doing(Mark::FirstInput, Deed::Cut),
-        Trick::Endless => doing(Mark::FirstStream, Deed::Endless),
+        Trick::Endless | Trick::Flood => doing(Mark::FirstStream, Deed::Endless),
         _ => doing(Mark::Messages, Deed::Keep),
     }
 }

@@ -170,11 +170,11 @@ fn two_jobs_run_side_by_side(rt: HostRuntime) -> Result<(), Fail> {
     Ok(())
 }
 
-// Whether two jobs are done, each of whose saves comes between those of the other.
+// Whether two jobs are done, which begin side by side, and of which each says so as it ends.
 fn are_done(alloc: Global, w: &mut MemWorld<Scripted>) -> Result<bool, NoMemory> {
     let answers = run_two(alloc, w, "in.ipynb a.ipynb", "in.ipynb b.ipynb")?;
     let said =
-        "saved 0/1 a.ipynb\nsaved 0/1 b.ipynb\nsaved 1/1 a.ipynb\nsaved 1/1 b.ipynb\na.ipynb: done\nb.ipynb: done\n";
+        "saved 0/1 a.ipynb\nsaved 0/1 b.ipynb\nsaved 1/1 a.ipynb\na.ipynb: done\nsaved 1/1 b.ipynb\nb.ipynb: done\n";
     let are_two = answers.len() == 2 && has_status(&answers, 0, 0) && has_status(&answers, 1, 0);
     Ok(are_two && has_said(w, said))
 }

@@ -18,6 +18,7 @@ loop-ask-preserved g c =
       stands = λ start from here s. c.begin.ensures.stands c.args.asks start from own here (c.loop-ask.invariant.stands start from here s);
       fresh = c.in_ok-begin.ensures.fresh;
       drained = c.begin.ensures.drained c.loop-ask.invariant.drained;
+      sound = c.in_ok-begin.ensures.sound;
       buf = c.begin.ensures.buf ∙ c.loop-ask.invariant.buf;
       waits = c.begin.ensures.waits ∙ c.loop-ask.invariant.waits;
     }

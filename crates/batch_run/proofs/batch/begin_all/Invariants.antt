@@ -1,6 +1,6 @@
 use Rattle.std.proofs.Common.{◌≡◌, length, List, Option}
 use Rattle.world.specs.declared.entry.Entry.{Entry}
-use Rattle.ready_loop.specs.States.{IsDrained, waits_left}
+use Rattle.ready_loop.specs.States.{IsDrained, IsSound, waits_left}
 use Rattle.batch_run.specs.Kept.{IsFreshFrom}
 use Rattle.batch_run.specs.Stands.{AllStand, Outset, WaitingFrom, wired_by}
 use Rattle.batch_run.proofs.batch.begin_all.Given as goal
@@ -14,6 +14,7 @@ invariant-loop-ask g l = record {
       → AllStand l.fn.asks start (wired_by l.running.lines.connections from) l.running.jobs.slots.items (g.W.Journal.journal l.w) (g.W.Journal.counts l.w);
   fresh : IsFreshFrom l.number l.running.lines.connections;
   drained : IsDrained l.running.lines.connections;
+  sound : IsSound l.running.lines.connections;
   buf : l.running.buf ≡ l.fn.running.buf;
   waits : waits_left l.running.lines.connections ≡ waits_left l.fn.running.lines.connections;
 }

@@ -1,9 +1,11 @@
 use Rattle.std.proofs.Common.{refl, arith}
 use Rattle.std.proofs.lemmas.Option.{slice_get_read}
+use Rattle.jtext.proofs.Lists.{slice_get-set_other}
 use Rattle.batch_run.proofs.jobs.Jobs.finish_look.Goals as goal
 
 pub returns : goal.returns
 returns g c = record {
+  others = λ k ne. slice_get-set_other c.args.self.now.slots.items c.args.number k _ ne;
   stands = λ asks start from s.
       let items = c.args.self.now.slots.items in
       c.on_looked.ensures asks start from items c.args.number (slice_get_read items _ c.args.number _ refl (omega (arith, c.args.self.now.slots.ok.0)) c.index_mut.ensures.value) s;

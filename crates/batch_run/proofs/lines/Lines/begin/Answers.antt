@@ -1,7 +1,8 @@
 use Rattle.world.specs.Counts.{Counts}
 use Rattle.std.proofs.Common.{◌+◌, ◌*◌, ◌<◌, arith, length, sym, subst, ap, refl}
 use Rattle.batch_run.specs.Kept.{AreBegun}
-use Rattle.batch_run.proofs.LineLemmas.{begun_begun, begun_failed, fresh_job, fresh_next, lost_ok, lost_fault}
+use Rattle.batch_run.proofs.LineLemmas.{begun_begun, begun_failed, fresh_job, fresh_next}
+use Rattle.batch_run.proofs.KeptLemmas.{begun_but}
 use Rattle.world.proofs.CountsLemmas.{net_grows}
 use Rattle.batch_run.proofs.StandLemmas.{loop_begins}
 use Rattle.batch_run.proofs.lines.Lines.begin.Goals as goal
@@ -14,18 +15,16 @@ invariant_of-self g c =
     let b = c.args.self.now in
     let size = c.mark.ensures.size in
     let room : 4 * c.args.job + 3 < length c.args.self.now.begun = omega (arith, size, c.requires.job) in
-    record {
-      begun_are = subst (λ x. AreBegun x c.begin.new.self) (sym c.mark.ensures.begun) (begun_begun room c.in-Ok.ensures.begun c.in-Ok.ensures.others b.begun_are);
-      lost_are = lost_ok c.in-Ok.ensures.failed b.lost_are;
-    }
+    record { begun_are = subst (λ x. AreBegun x c.begin.new.self) (sym c.mark.ensures.begun) (begun_begun room c.in-Ok.ensures.begun c.in-Ok.ensures.others b.begun_are) }
 
-pub invariant_of-self-in-Err : goal.invariant_of-self-in-Err
-invariant_of-self-in-Err g c =
-    let b = c.args.self.now in
-    record {
-      begun_are = begun_failed c.requires.fresh c.in-Err.ensures.others b.begun_are;
-      lost_are = lost_fault c.in-Err.fault c.in-Err.ensures.failed c.note.ensures.notes b.lost_are;
-    }
+pub invariant_of-self-in-Err-1 : goal.invariant_of-self-in-Err-1
+invariant_of-self-in-Err-1 g c = record { begun_are = begun_failed c.requires.fresh c.in-Err.ensures.others c.args.self.now.begun_are }
+
+pub returns-in-Ok-clause-sound : goal.returns-in-Ok-clause-sound
+returns-in-Ok-clause-sound g c = c.in-Ok.ensures.sound c.requires.sound
+
+pub returns-in-Err-clause-but : goal.returns-in-Err-clause-but
+returns-in-Err-clause-but g c = begun_but c.in-Err.fault c.args.job c.in-Err.ensures.own c.in-Err.ensures.failed c.requires.sound
 
 pub returns-in-Ok-clause-fresh : goal.returns-in-Ok-clause-fresh
 returns-in-Ok-clause-fresh g c = fresh_next c.requires.fresh c.in-Ok.ensures.others

@@ -1,10 +1,12 @@
-use Rattle.batch_run.proofs.LineLemmas.{begun_same, lost_same}
+use Rattle.batch_run.proofs.KeptLemmas.{queue_left}
+use Rattle.batch_run.proofs.LineLemmas.{begun_same}
 use Rattle.batch_run.proofs.lines.Lines.queue.Goals as goal
 
 pub invariant_of-self : goal.invariant_of-self
-invariant_of-self c =
-    let b = c.args.self.now in
-    record {
-      begun_are = begun_same c.queue.ensures.known b.begun_are;
-      lost_are = lost_same c.queue.ensures.failed b.lost_are;
-    }
+invariant_of-self c = record { begun_are = begun_same c.queue.ensures.known.each c.args.self.now.begun_are }
+
+pub returns-clause-stays : goal.returns-clause-stays
+returns-clause-stays c = queue_left c.args.conn c.queue.ensures.only c.queue.ensures.known c.queue.ensures.reads c.queue.ensures.ports c.queue.ensures.drained c.queue.ensures.sound
+
+pub returns-clause-begun : goal.returns-clause-begun
+returns-clause-begun c = c.queue.ensures.known.begun

@@ -5,11 +5,11 @@ use Rattle.batch_run.proofs.running.Running.abandon.Goals as goal
 
 pub loop-number-preserved : goal.loop-number-preserved
 loop-number-preserved g c = record {
-  left = c.close.ensures.left ∙ c.loop-number.invariant.left;
+  left = c.close.ensures.left.kept.waits ∙ c.loop-number.invariant.left;
   stands = λ asks start from s.
-      c.stop.ensures.stands asks start (wired_by c.close.new.self.connections from) (c.close.ensures.stands asks start from c.loop-number.self.jobs.slots.items (c.loop-number.invariant.stands asks start from s));
-  ended = c.stop.ensures.ended c.loop-number.invariant.ended;
-  size = c.stop.ensures.size ∙ c.loop-number.invariant.size;
+      c.abandon.ensures.stands asks start (wired_by c.close.new.self.connections from) (c.close.ensures.stands asks start from c.loop-number.self.jobs.slots.items (c.loop-number.invariant.stands asks start from s));
+  ended = c.abandon.ensures.ended c.loop-number.invariant.ended;
+  size = c.abandon.ensures.size ∙ c.loop-number.invariant.size;
 }
 
 pub returns-clause-ended : goal.returns-clause-ended

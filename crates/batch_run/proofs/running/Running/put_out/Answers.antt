@@ -1,44 +1,94 @@
-use Rattle.std.proofs.Common.{rules, ◌∙◌, ap}
-use Rattle.batch_run.specs.Lines.{waits_of}
-use Rattle.batch_run.proofs.CauseLemmas.{net_fault, same_lines}
+use Rattle.std.proofs.Common.{arith, refl, sym, subst, ap, ◌∙◌}
+use Rattle.world.proofs.CountsLemmas.{rose_since}
+use Rattle.ready_loop.specs.States.{IsDrained, IsOffered, IsSound}
+use Rattle.batch_run.specs.declared.lines.Lines.{Lines}
+use Rattle.batch_run.specs.Lines.{open_of, waits_of}
 use Rattle.batch_run.specs.Stands.{wired_by}
+use Rattle.batch_run.proofs.CauseLemmas.{same_lines}
 use Rattle.batch_run.proofs.running.Running.put_out.Goals as goal
+
+pub loop-self-init : goal.loop-self-init
+loop-self-init g c = record {
+  left = refl;
+  linked = omega arith;
+  stands = λ asks start from s. s;
+  drained = λ d. d;
+  sound = c.requires.sound;
+  buf = refl;
+}
+
+pub offer-requires : goal.offer-requires
+offer-requires g c = record { sound = c.queue_all.ensures.left.sound c.loop-self.invariant.sound }
 
 pub returns-in_err-queue_all-clause-stands : goal.returns-in_err-queue_all-clause-stands
 returns-in_err-queue_all-clause-stands g c = λ asks start from s.
     c.queue_all.ensures.stands asks start from (g.W.Journal.journal c.loop-self.w) (g.W.Journal.counts c.loop-self.w) (c.loop-self.invariant.stands asks start from s)
 
+pub returns-in_err-queue_all-clause-left : goal.returns-in_err-queue_all-clause-left
+returns-in_err-queue_all-clause-left g c = c.queue_all.ensures.left.waits ∙ c.loop-self.invariant.left
+
+pub returns-in_err-queue_all-clause-linked : goal.returns-in_err-queue_all-clause-linked
+returns-in_err-queue_all-clause-linked g c = omega (arith, c.queue_all.ensures.left.linked, c.loop-self.invariant.linked)
+
+pub returns-in_err-queue_all-clause-drained : goal.returns-in_err-queue_all-clause-drained
+returns-in_err-queue_all-clause-drained g c = λ d. c.queue_all.ensures.left.drained (c.loop-self.invariant.drained d)
+
 pub returns-in-Ok-clause-stands : goal.returns-in-Ok-clause-stands
 returns-in-Ok-clause-stands g c = λ asks start from s.
-    c.on_ends.ensures.stands asks start (wired_by c.offer.new.self.connections from) (g.W.Journal.journal c.offer.new.w) (g.W.Journal.counts c.offer.new.w) (c.offer.ensures.stands asks start from _
-    (c.queue_all.ensures.stands asks start from (g.W.Journal.journal c.loop-self.w) (g.W.Journal.counts c.loop-self.w) (c.loop-self.invariant.stands asks start from s)))
+    same_lines asks start from c.offer.new.self c.tell_taken.new.self.lines c.tell_taken.ensures.lines
+    (c.tell_taken.ensures.stands asks start (wired_by c.offer.new.self.connections from) (g.W.Journal.journal c.offer.new.w) (g.W.Journal.counts c.offer.new.w)
+    (c.on_ends.ensures.stands asks start (wired_by c.offer.new.self.connections from) (g.W.Journal.journal c.offer.new.w) (g.W.Journal.counts c.offer.new.w) (c.offer.ensures.stands asks start from _
+    (c.queue_all.ensures.stands asks start from (g.W.Journal.journal c.loop-self.w) (g.W.Journal.counts c.loop-self.w) (c.loop-self.invariant.stands asks start from s)))))
 
-pub returns-in_err-on_fault-in-Err-clause-stands : goal.returns-in_err-on_fault-in-Err-clause-stands
-returns-in_err-on_fault-in-Err-clause-stands g c = λ asks start from s.
-    let b = c.loop-self.invariant.stands asks start from s in
-    same_lines asks start from c.offer.new.self c.on_fault.new.self.lines c.on_fault.ensures.lines
-    (c.on_fault.ensures.stands asks start (wired_by c.offer.new.self.connections from) (g.W.Journal.journal c.offer.new.w) (g.W.Journal.counts c.offer.new.w)
-    (net_fault c.in-Err.fault (wired_by c.offer.new.self.connections from) (g.W.Journal.counts c.loop-self.w) (g.W.Journal.counts c.offer.new.w) b.grow c.in-Err.ensures.cause)
-    (c.offer.ensures.stands asks start from _ (c.queue_all.ensures.stands asks start from (g.W.Journal.journal c.loop-self.w) (g.W.Journal.counts c.loop-self.w) b)))
+pub returns-in-Ok-clause-left : goal.returns-in-Ok-clause-left
+returns-in-Ok-clause-left g c = ap waits_of c.tell_taken.ensures.lines ∙ c.offer.ensures.left ∙ c.queue_all.ensures.left.waits ∙ c.loop-self.invariant.left
 
-pub returns-then-not-branch-clause-stands : goal.returns-then-not-branch-clause-stands
-returns-then-not-branch-clause-stands g c = λ asks start from s.
+pub returns-in-Ok-clause-linked : goal.returns-in-Ok-clause-linked
+returns-in-Ok-clause-linked g c = omega (arith, ap open_of c.tell_taken.ensures.lines, c.offer.ensures.linked, c.queue_all.ensures.left.linked, c.loop-self.invariant.linked)
+
+pub returns-in-Ok-clause-offered : goal.returns-in-Ok-clause-offered
+returns-in-Ok-clause-offered g c = subst (λ (l : Lines). IsOffered l.connections) (sym c.tell_taken.ensures.lines) c.in-Ok.ensures.offered
+
+pub returns-in-Ok-clause-sound : goal.returns-in-Ok-clause-sound
+returns-in-Ok-clause-sound g c = subst (λ (l : Lines). IsSound l.connections) (sym c.tell_taken.ensures.lines) c.in-Ok.ensures.sound
+
+pub returns-in-Ok-clause-drained : goal.returns-in-Ok-clause-drained
+returns-in-Ok-clause-drained g c = λ d. subst (λ (l : Lines). IsDrained l.connections) (sym c.tell_taken.ensures.lines) (c.offer.ensures.drained (c.queue_all.ensures.left.drained (c.loop-self.invariant.drained d)))
+
+pub lose_one-requires : goal.lose_one-requires
+lose_one-requires g c = c.in-Err.ensures.broken.few
+
+pub returns-in_err-lose_one-in-Err-clause-stands : goal.returns-in_err-lose_one-in-Err-clause-stands
+returns-in_err-lose_one-in-Err-clause-stands g c = λ asks start from s.
     let b = c.loop-self.invariant.stands asks start from s in
-    same_lines asks start from c.offer.new.self c.on_fault.new.self.lines c.on_fault.ensures.lines
-    (c.on_fault.ensures.stands asks start (wired_by c.offer.new.self.connections from) (g.W.Journal.journal c.offer.new.w) (g.W.Journal.counts c.offer.new.w)
-    (net_fault c.in-Err.fault (wired_by c.offer.new.self.connections from) (g.W.Journal.counts c.loop-self.w) (g.W.Journal.counts c.offer.new.w) b.grow c.in-Err.ensures.cause)
-    (c.offer.ensures.stands asks start from _ (c.queue_all.ensures.stands asks start from (g.W.Journal.journal c.loop-self.w) (g.W.Journal.counts c.loop-self.w) b)))
+    let q = c.queue_all.ensures.stands asks start from (g.W.Journal.journal c.loop-self.w) (g.W.Journal.counts c.loop-self.w) b in
+    c.lose_one.ensures.stands asks start from
+    (rose_since from.counts.net (g.W.Journal.counts c.loop-self.w).net (g.W.Journal.counts c.offer.new.w).net b.grow.net c.in-Err.ensures.cause) (c.offer.ensures.stands asks start from _ q)
+
+pub returns-in_err-lose_one-in-Err-clause-left : goal.returns-in_err-lose_one-in-Err-clause-left
+returns-in_err-lose_one-in-Err-clause-left g c = c.lose_one.ensures.left.waits ∙ c.offer.ensures.left ∙ c.queue_all.ensures.left.waits ∙ c.loop-self.invariant.left
+
+pub returns-in_err-lose_one-in-Err-clause-linked : goal.returns-in_err-lose_one-in-Err-clause-linked
+returns-in_err-lose_one-in-Err-clause-linked g c = omega (arith, c.lose_one.ensures.left.linked, c.offer.ensures.linked, c.queue_all.ensures.left.linked, c.loop-self.invariant.linked)
+
+pub returns-in_err-lose_one-in-Err-clause-drained : goal.returns-in_err-lose_one-in-Err-clause-drained
+returns-in_err-lose_one-in-Err-clause-drained g c = λ d. c.lose_one.ensures.left.drained (c.offer.ensures.drained (c.queue_all.ensures.left.drained (c.loop-self.invariant.drained d)))
 
 pub loop-self-preserved : goal.loop-self-preserved
 loop-self-preserved g c = record {
-  left = ap waits_of c.on_fault.ensures.lines ∙ c.offer.ensures.left ∙ c.queue_all.ensures.left ∙ c.loop-self.invariant.left;
+  left = c.lose_one.ensures.left.waits ∙ c.offer.ensures.left ∙ c.queue_all.ensures.left.waits ∙ c.loop-self.invariant.left;
+  linked = omega (arith, c.lose_one.ensures.left.linked, c.offer.ensures.linked, c.queue_all.ensures.left.linked, c.loop-self.invariant.linked);
   stands = λ asks start from s.
-      let b = c.loop-self.invariant.stands asks start from s in
-      same_lines asks start from c.offer.new.self c.on_fault.new.self.lines c.on_fault.ensures.lines
-      (c.on_fault.ensures.stands asks start (wired_by c.offer.new.self.connections from) (g.W.Journal.journal c.offer.new.w) (g.W.Journal.counts c.offer.new.w)
-      (net_fault c.in-Err.fault (wired_by c.offer.new.self.connections from) (g.W.Journal.counts c.loop-self.w) (g.W.Journal.counts c.offer.new.w) b.grow c.in-Err.ensures.cause)
-      (c.offer.ensures.stands asks start from _ (c.queue_all.ensures.stands asks start from (g.W.Journal.journal c.loop-self.w) (g.W.Journal.counts c.loop-self.w) b)));
-  drained = search rules;
-  buf = search rules;
-  budget = search rules;
+    let b = c.loop-self.invariant.stands asks start from s in
+    let q = c.queue_all.ensures.stands asks start from (g.W.Journal.journal c.loop-self.w) (g.W.Journal.counts c.loop-self.w) b in
+    c.lose_one.ensures.stands asks start from
+    (rose_since from.counts.net (g.W.Journal.counts c.loop-self.w).net (g.W.Journal.counts c.offer.new.w).net b.grow.net c.in-Err.ensures.cause) (c.offer.ensures.stands asks start from _ q);
+  drained = λ d. c.lose_one.ensures.left.drained (c.offer.ensures.drained (c.queue_all.ensures.left.drained (c.loop-self.invariant.drained d)));
+  sound = c.in_ok-lose_one-in-Err.ensures.sound c.in-Err.ensures.broken.but;
+  buf = c.lose_one.ensures.buf ∙ c.queue_all.ensures.buf ∙ c.loop-self.invariant.buf;
 }
+
+pub loop-self-smaller : goal.loop-self-smaller
+loop-self-smaller g c =
+    let less = c.in_ok-lose_one-in-Err.ensures.linked c.in-Err.ensures.broken in
+    omega (arith, less, c.offer.ensures.linked, c.queue_all.ensures.left.linked)

@@ -1,16 +1,43 @@
-use Rattle.std.proofs.Common.{rules, ◌∙◌}
+use Rattle.std.proofs.Common.{arith, refl, ◌∙◌, ap, Ok}
 use Rattle.batch_run.proofs.running.Running.read_all.Goals as goal
 
-pub returns-in-Ok-Some-clause-stands : goal.returns-in-Ok-Some-clause-stands
-returns-in-Ok-Some-clause-stands g c = λ asks start from s. c.read_one.ensures.stands asks start from (c.loop-goes_on.invariant.stands asks start from s)
-
-pub returns-in-Err-clause-stands : goal.returns-in-Err-clause-stands
-returns-in-Err-clause-stands g c = λ asks start from s. c.read_one.ensures.stands asks start from (c.loop-goes_on.invariant.stands asks start from s)
-
-pub loop-goes_on-preserved : goal.loop-goes_on-preserved
-loop-goes_on-preserved g c = record {
-  left = c.read_one.ensures.left ∙ c.loop-goes_on.invariant.left;
-  stands = λ asks start from s. c.read_one.ensures.stands asks start from (c.loop-goes_on.invariant.stands asks start from s);
-  room = c.read_one.ensures.room;
-  budget = search rules;
+pub loop-init : goal.loop-init
+loop-init g c = record {
+  left = refl;
+  linked = omega arith;
+  stands = λ asks start from s. s;
+  room = c.requires.room;
+  sound = c.requires.sound;
+  over = λ n. n;
 }
+
+pub loop-preserved : goal.loop-preserved
+loop-preserved g c = record {
+  left = c.read_one.ensures.left ∙ c.loop.invariant.left;
+  linked = omega (arith, c.read_one.ensures.linked, c.loop.invariant.linked);
+  stands = λ asks start from s. c.read_one.ensures.stands asks start from (c.loop.invariant.stands asks start from s);
+  room = c.read_one.ensures.room;
+  sound = c.in_ok-read_one.ensures.sound;
+  over = λ n. c.in_ok-read_one.ensures.over (c.loop.invariant.over n);
+}
+
+pub returns-in_err-read_one-clause-stands : goal.returns-in_err-read_one-clause-stands
+returns-in_err-read_one-clause-stands g c = λ asks start from s. c.read_one.ensures.stands asks start from (c.loop.invariant.stands asks start from s)
+
+pub returns-in_err-read_one-clause-left : goal.returns-in_err-read_one-clause-left
+returns-in_err-read_one-clause-left g c = c.read_one.ensures.left ∙ c.loop.invariant.left
+
+pub returns-in_err-read_one-clause-linked : goal.returns-in_err-read_one-clause-linked
+returns-in_err-read_one-clause-linked g c = omega (arith, c.read_one.ensures.linked, c.loop.invariant.linked)
+
+pub returns-in-Done-clause-stands : goal.returns-in-Done-clause-stands
+returns-in-Done-clause-stands g c = λ asks start from s. c.read_one.ensures.stands asks start from (c.loop.invariant.stands asks start from s)
+
+pub returns-in-Done-clause-left : goal.returns-in-Done-clause-left
+returns-in-Done-clause-left g c = c.read_one.ensures.left ∙ c.loop.invariant.left
+
+pub returns-in-Done-clause-linked : goal.returns-in-Done-clause-linked
+returns-in-Done-clause-linked g c = omega (arith, c.read_one.ensures.linked, c.loop.invariant.linked)
+
+pub returns-in-Done-clause-over : goal.returns-in-Done-clause-over
+returns-in-Done-clause-over g c = λ n. c.in_ok-read_one.ensures.over (c.loop.invariant.over n)

@@ -1,65 +1,135 @@
-use Rattle.std.proofs.Common.{true, refl, ap, arith}
+use Rattle.std.proofs.Common.{refl, ap, arith, ◌∙◌}
+use Rattle.world.proofs.CountsLemmas.{rose_since}
 use Rattle.ready_loop.specs.declared.next.Next.TheVariants.{Piece, Ended, Refused, Quiet}
-use Rattle.batch_run.proofs.LineLemmas.{err_not, err_other, some_not, not_quiet}
-use Rattle.batch_run.specs.Lines.{reads_of}
-use Rattle.batch_run.proofs.CauseLemmas.{net_fault, same_lines}
 use Rattle.batch_run.specs.Stands.{wired_by}
+use Rattle.batch_run.proofs.LineLemmas.{err_not, err_other, not_quiet}
+use Rattle.batch_run.proofs.SlotLemmas.{none_one}
 use Rattle.batch_run.proofs.running.Running.read_one.Goals as goal
 
+pub lose_one-requires : goal.lose_one-requires
+lose_one-requires g c = c.in-Err.ensures.broken.few
+
 pub returns-in_err-hear-in-Ok-Piece-clause-stands : goal.returns-in_err-hear-in-Ok-Piece-clause-stands
-returns-in_err-hear-in-Ok-Piece-clause-stands g c = λ asks start from s. same_lines asks start from c.next.new.self c.hear.new.self.lines c.hear.ensures.lines
-    (c.hear.ensures.stands asks start (wired_by c.next.new.self.connections from) (c.next.ensures.stands asks start from c.args.self.now.jobs.slots.items s))
+returns-in_err-hear-in-Ok-Piece-clause-stands g c = λ asks start from s. c.hear.ensures.stands asks start from (c.next.ensures.stands asks start from c.args.self.now.jobs.slots.items s)
+
+pub returns-in_err-hear-in-Ok-Piece-clause-left : goal.returns-in_err-hear-in-Ok-Piece-clause-left
+returns-in_err-hear-in-Ok-Piece-clause-left g c = c.hear.ensures.left.waits ∙ c.next.ensures.left
+
+pub returns-in_err-hear-in-Ok-Piece-clause-linked : goal.returns-in_err-hear-in-Ok-Piece-clause-linked
+returns-in_err-hear-in-Ok-Piece-clause-linked g c = omega (arith, c.hear.ensures.left.linked, c.next.ensures.linked)
 
 pub returns-in_ok-hear-in-Ok-Piece-clause-stands : goal.returns-in_ok-hear-in-Ok-Piece-clause-stands
-returns-in_ok-hear-in-Ok-Piece-clause-stands g c = λ asks start from s. same_lines asks start from c.next.new.self c.hear.new.self.lines c.hear.ensures.lines
-    (c.hear.ensures.stands asks start (wired_by c.next.new.self.connections from) (c.next.ensures.stands asks start from c.args.self.now.jobs.slots.items s))
+returns-in_ok-hear-in-Ok-Piece-clause-stands g c = λ asks start from s. c.hear.ensures.stands asks start from (c.next.ensures.stands asks start from c.args.self.now.jobs.slots.items s)
 
-pub returns-in-Ok-Ended-clause-stands : goal.returns-in-Ok-Ended-clause-stands
-returns-in-Ok-Ended-clause-stands g c = λ asks start from s.
-    c.on_ended.ensures.stands asks start (wired_by c.next.new.self.connections from) (g.W.Journal.journal c.next.new.w) (g.W.Journal.counts c.next.new.w) (c.next.ensures.stands asks start from c.args.self.now.jobs.slots.items s)
+pub returns-in_ok-hear-in-Ok-Piece-clause-left : goal.returns-in_ok-hear-in-Ok-Piece-clause-left
+returns-in_ok-hear-in-Ok-Piece-clause-left g c = c.hear.ensures.left.waits ∙ c.next.ensures.left
+
+pub returns-in_ok-hear-in-Ok-Piece-clause-linked : goal.returns-in_ok-hear-in-Ok-Piece-clause-linked
+returns-in_ok-hear-in-Ok-Piece-clause-linked g c = omega (arith, c.hear.ensures.left.linked, c.next.ensures.linked)
+
+pub returns-in_err-leave_where-in-Ok-Ended-clause-stands : goal.returns-in_err-leave_where-in-Ok-Ended-clause-stands
+returns-in_err-leave_where-in-Ok-Ended-clause-stands g c = λ asks start from s. c.leave_where.ensures.stands asks start from (c.on_ended.ensures.stands asks start (wired_by c.next.new.self.connections from) (g.W.Journal.journal c.next.new.w) (g.W.Journal.counts c.next.new.w) (c.next.ensures.stands asks start from c.args.self.now.jobs.slots.items s))
+
+pub returns-in_err-leave_where-in-Ok-Ended-clause-left : goal.returns-in_err-leave_where-in-Ok-Ended-clause-left
+returns-in_err-leave_where-in-Ok-Ended-clause-left g c = c.leave_where.ensures.left.waits ∙ c.next.ensures.left
+
+pub returns-in_err-leave_where-in-Ok-Ended-clause-linked : goal.returns-in_err-leave_where-in-Ok-Ended-clause-linked
+returns-in_err-leave_where-in-Ok-Ended-clause-linked g c = omega (arith, c.leave_where.ensures.left.linked, c.next.ensures.linked)
+
+pub returns-in_ok-leave_where-in-Ok-Ended-clause-stands : goal.returns-in_ok-leave_where-in-Ok-Ended-clause-stands
+returns-in_ok-leave_where-in-Ok-Ended-clause-stands g c = λ asks start from s. c.leave_where.ensures.stands asks start from (c.on_ended.ensures.stands asks start (wired_by c.next.new.self.connections from) (g.W.Journal.journal c.next.new.w) (g.W.Journal.counts c.next.new.w) (c.next.ensures.stands asks start from c.args.self.now.jobs.slots.items s))
+
+pub returns-in_ok-leave_where-in-Ok-Ended-clause-left : goal.returns-in_ok-leave_where-in-Ok-Ended-clause-left
+returns-in_ok-leave_where-in-Ok-Ended-clause-left g c = c.leave_where.ensures.left.waits ∙ c.next.ensures.left
+
+pub returns-in_ok-leave_where-in-Ok-Ended-clause-linked : goal.returns-in_ok-leave_where-in-Ok-Ended-clause-linked
+returns-in_ok-leave_where-in-Ok-Ended-clause-linked g c = omega (arith, c.leave_where.ensures.left.linked, c.next.ensures.linked)
+
+pub returns-in_err-lose_one-in-Err-clause-stands : goal.returns-in_err-lose_one-in-Err-clause-stands
+returns-in_err-lose_one-in-Err-clause-stands g c = λ asks start from s. c.lose_one.ensures.stands asks start from
+    (rose_since from.counts.net (g.W.Journal.counts c.args.w.now).net (g.W.Journal.counts c.next.new.w).net s.grow.net c.in-Err.ensures.cause) (c.next.ensures.stands asks start from c.args.self.now.jobs.slots.items s)
+
+pub returns-in_err-lose_one-in-Err-clause-left : goal.returns-in_err-lose_one-in-Err-clause-left
+returns-in_err-lose_one-in-Err-clause-left g c = c.lose_one.ensures.left.waits ∙ c.next.ensures.left
+
+pub returns-in_err-lose_one-in-Err-clause-linked : goal.returns-in_err-lose_one-in-Err-clause-linked
+returns-in_err-lose_one-in-Err-clause-linked g c = omega (arith, c.lose_one.ensures.left.linked, c.next.ensures.linked)
+
+pub returns-in_ok-lose_one-in-Err-clause-stands : goal.returns-in_ok-lose_one-in-Err-clause-stands
+returns-in_ok-lose_one-in-Err-clause-stands g c = λ asks start from s. c.lose_one.ensures.stands asks start from
+    (rose_since from.counts.net (g.W.Journal.counts c.args.w.now).net (g.W.Journal.counts c.next.new.w).net s.grow.net c.in-Err.ensures.cause) (c.next.ensures.stands asks start from c.args.self.now.jobs.slots.items s)
+
+pub returns-in_ok-lose_one-in-Err-clause-left : goal.returns-in_ok-lose_one-in-Err-clause-left
+returns-in_ok-lose_one-in-Err-clause-left g c = c.lose_one.ensures.left.waits ∙ c.next.ensures.left
+
+pub returns-in_ok-lose_one-in-Err-clause-linked : goal.returns-in_ok-lose_one-in-Err-clause-linked
+returns-in_ok-lose_one-in-Err-clause-linked g c = omega (arith, c.lose_one.ensures.left.linked, c.next.ensures.linked)
 
 pub returns-in-Ok-Refused-clause-stands : goal.returns-in-Ok-Refused-clause-stands
 returns-in-Ok-Refused-clause-stands g c = λ asks start from s. c.next.ensures.stands asks start from c.args.self.now.jobs.slots.items s
 
+pub returns-in-Ok-Refused-clause-linked : goal.returns-in-Ok-Refused-clause-linked
+returns-in-Ok-Refused-clause-linked g c = omega (arith, c.next.ensures.linked)
+
+pub returns-in-Ok-Refused-clause-one : goal.returns-in-Ok-Refused-clause-one
+returns-in-Ok-Refused-clause-one g c = (0, λ k ne. refl)
+
+pub returns-in-Ok-Refused-clause-over : goal.returns-in-Ok-Refused-clause-over
+returns-in-Ok-Refused-clause-over g c = λ n. n
+
 pub returns-in-Ok-Quiet-clause-stands : goal.returns-in-Ok-Quiet-clause-stands
 returns-in-Ok-Quiet-clause-stands g c = λ asks start from s. c.next.ensures.stands asks start from c.args.self.now.jobs.slots.items s
 
-pub returns-in-Err-clause-stands : goal.returns-in-Err-clause-stands
-returns-in-Err-clause-stands g c = λ asks start from s.
-    same_lines asks start from c.next.new.self c.read_on.new.self.lines c.read_on.ensures.lines
-    (c.read_on.ensures.stands asks start (wired_by c.next.new.self.connections from) (g.W.Journal.journal c.next.new.w) (g.W.Journal.counts c.next.new.w)
-    (net_fault c.in-Err.fault (wired_by c.next.new.self.connections from) (g.W.Journal.counts c.args.w.now) (g.W.Journal.counts c.next.new.w) s.grow c.in-Err.ensures.cause) (c.next.ensures.stands asks start from c.args.self.now.jobs.slots.items s))
+pub returns-in-Ok-Quiet-clause-linked : goal.returns-in-Ok-Quiet-clause-linked
+returns-in-Ok-Quiet-clause-linked g c = omega (arith, c.next.ensures.linked)
+
+pub returns-in-Ok-Quiet-clause-one : goal.returns-in-Ok-Quiet-clause-one
+returns-in-Ok-Quiet-clause-one g c = (0, λ k ne. refl)
+
+pub returns-in-Ok-Quiet-clause-over : goal.returns-in-Ok-Quiet-clause-over
+returns-in-Ok-Quiet-clause-over g c = λ n. n
+
+pub returns-in_ok-hear-in-Ok-Piece-clause-sound : goal.returns-in_ok-hear-in-Ok-Piece-clause-sound
+returns-in_ok-hear-in-Ok-Piece-clause-sound g c = c.hear.ensures.left.sound c.in-Ok-Piece.ensures.sound
 
 pub returns-in_ok-hear-in-Ok-Piece-clause-one : goal.returns-in_ok-hear-in-Ok-Piece-clause-one
-returns-in_ok-hear-in-Ok-Piece-clause-one g c = λ e. (_, c.hear.ensures.others)
+returns-in_ok-hear-in-Ok-Piece-clause-one g c = (_, c.hear.ensures.others)
 
-pub returns-in-Ok-Ended-clause-one : goal.returns-in-Ok-Ended-clause-one
-returns-in-Ok-Ended-clause-one g c = λ e. (_, c.on_ended.ensures.others)
-
-pub returns-in-Ok-Refused-clause-one : goal.returns-in-Ok-Refused-clause-one
-returns-in-Ok-Refused-clause-one g c = λ e. (0, λ k ne. refl)
-
-pub returns-in-Err-clause-one : goal.returns-in-Err-clause-one
-returns-in-Err-clause-one g c = c.read_on.ensures.one
-
-pub returns-in_err-hear-in-Ok-Piece-clause-reads : goal.returns-in_err-hear-in-Ok-Piece-clause-reads
-returns-in_err-hear-in-Ok-Piece-clause-reads g c = λ e. err_not c.from_residual.result c.from_residual.ensures.0 e
+pub returns-in_ok-hear-in-Ok-Piece-clause-over : goal.returns-in_ok-hear-in-Ok-Piece-clause-over
+returns-in_ok-hear-in-Ok-Piece-clause-over g c = λ n. none_one c.hear.ensures.others c.in_ok-hear-in-Ok-Piece.ensures.over n
 
 pub returns-in_ok-hear-in-Ok-Piece-clause-reads : goal.returns-in_ok-hear-in-Ok-Piece-clause-reads
 returns-in_ok-hear-in-Ok-Piece-clause-reads g c = λ e.
     let less = c.in-Ok-Piece.ensures.reads (not_quiet c.in-Ok-Piece.field-0 (Piece c.in-Ok-Piece.conn c.in-Ok-Piece.n) c.in-Ok-Piece.field-0-is refl) in
-    omega (arith, less, ap reads_of c.hear.ensures.lines)
+    omega (arith, less, c.hear.ensures.left.reads)
 
-pub returns-in-Ok-Ended-clause-reads : goal.returns-in-Ok-Ended-clause-reads
-returns-in-Ok-Ended-clause-reads g c = λ e. c.in-Ok-Ended.ensures.reads (not_quiet c.in-Ok-Ended.field-0 (Ended c.in-Ok-Ended.conn) c.in-Ok-Ended.field-0-is refl)
+pub returns-in_ok-leave_where-in-Ok-Ended-clause-sound : goal.returns-in_ok-leave_where-in-Ok-Ended-clause-sound
+returns-in_ok-leave_where-in-Ok-Ended-clause-sound g c = c.leave_where.ensures.left.sound c.in-Ok-Ended.ensures.sound
+
+pub returns-in_ok-leave_where-in-Ok-Ended-clause-one : goal.returns-in_ok-leave_where-in-Ok-Ended-clause-one
+returns-in_ok-leave_where-in-Ok-Ended-clause-one g c = (c.in-Ok-Ended.conn.job, λ k ne. c.leave_where.ensures.others k ne ∙ c.on_ended.ensures.others k ne)
+
+pub returns-in_ok-leave_where-in-Ok-Ended-clause-over : goal.returns-in_ok-leave_where-in-Ok-Ended-clause-over
+returns-in_ok-leave_where-in-Ok-Ended-clause-over g c = λ n. none_one {n = c.in-Ok-Ended.conn.job} (λ k ne. c.leave_where.ensures.others k ne ∙ c.on_ended.ensures.others k ne) c.in_ok-leave_where-in-Ok-Ended.ensures.over n
+
+pub returns-in_ok-leave_where-in-Ok-Ended-clause-reads : goal.returns-in_ok-leave_where-in-Ok-Ended-clause-reads
+returns-in_ok-leave_where-in-Ok-Ended-clause-reads g c = λ e.
+    let less = c.in-Ok-Ended.ensures.reads (not_quiet c.in-Ok-Ended.field-0 (Ended c.in-Ok-Ended.conn) c.in-Ok-Ended.field-0-is refl) in
+    omega (arith, less, c.leave_where.ensures.left.reads)
 
 pub returns-in-Ok-Refused-clause-reads : goal.returns-in-Ok-Refused-clause-reads
 returns-in-Ok-Refused-clause-reads g c = λ e. c.in-Ok-Refused.ensures.reads (not_quiet c.in-Ok-Refused.field-0 (Refused _) c.in-Ok-Refused.field-0-is refl)
 
-pub returns-in-Ok-Quiet-clause-reads : goal.returns-in-Ok-Quiet-clause-reads
-returns-in-Ok-Quiet-clause-reads g c = λ e. some_not true e
+pub returns-in_ok-lose_one-in-Err-clause-sound : goal.returns-in_ok-lose_one-in-Err-clause-sound
+returns-in_ok-lose_one-in-Err-clause-sound g c = c.in_ok-lose_one-in-Err.ensures.sound c.in-Err.ensures.broken.but
 
-pub returns-in-Err-clause-reads : goal.returns-in-Err-clause-reads
-returns-in-Err-clause-reads g c = λ e.
-    let less = c.in-Err.ensures.reads (err_other c.in-Err.fault Quiet) in
-    omega (arith, less, ap reads_of c.read_on.ensures.lines)
+pub returns-in_ok-lose_one-in-Err-clause-one : goal.returns-in_ok-lose_one-in-Err-clause-one
+returns-in_ok-lose_one-in-Err-clause-one g c = (_, c.lose_one.ensures.others)
+
+pub returns-in_ok-lose_one-in-Err-clause-over : goal.returns-in_ok-lose_one-in-Err-clause-over
+returns-in_ok-lose_one-in-Err-clause-over g c = λ n. none_one c.lose_one.ensures.others c.in_ok-lose_one-in-Err.ensures.over n
+
+pub returns-in_ok-lose_one-in-Err-clause-reads : goal.returns-in_ok-lose_one-in-Err-clause-reads
+returns-in_ok-lose_one-in-Err-clause-reads g c = λ e.
+    let less = c.in-Err.ensures.reads (err_other c.in-Err.job Quiet) in
+    omega (arith, less, c.lose_one.ensures.left.reads)

@@ -23,6 +23,7 @@ loop-preserved g c = record {
       fits_then asks start (wired_by c.turn.new.self.lines.connections from) (a - b) (b - e) (a - e) (omega (arith, c.loop.invariant.left, c.turn.ensures.left)) (c.turn.ensures.stands asks start (more_waits (a - b) from) (omega (arith, all, c.loop.invariant.left)) (c.loop.invariant.stands asks start from all s));
   left = omega (arith, c.loop.invariant.left, c.turn.ensures.left);
   drained = search rules;
+  sound = search rules;
   room = search rules;
 }
 

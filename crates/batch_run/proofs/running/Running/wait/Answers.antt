@@ -1,42 +1,77 @@
-use Rattle.std.proofs.Common.{◌-◌, ap, arith}
+use Rattle.std.proofs.Common.{◌-◌, arith, sym, ◌∙◌}
+use Rattle.std.proofs.lemmas.Bool.{false≢true}
 use Rattle.batch_run.specs.Lines.{waits_of}
 use Rattle.batch_run.specs.Stands.{AllStand, Outset, more_waits, wired_by}
-use Rattle.batch_run.proofs.CauseLemmas.{fits, same_lines, wait_fault}
+use Rattle.batch_run.proofs.CauseLemmas.{fits, wait_fault}
+use Rattle.batch_run.proofs.KeptLemmas.{left_by}
 use Rattle.batch_run.proofs.running.Running.wait.Goals as goal
 
 pub returns-in_err-tell_moments-in-Ok-clause-stands : goal.returns-in_err-tell_moments-in-Ok-clause-stands
 returns-in_err-tell_moments-in-Ok-clause-stands g c = λ asks start from all s.
     let m = waits_of c.args.self.now.lines - waits_of c.turn.new.self in
     let mid : Outset = more_waits m from in
-    fits asks start (wired_by c.tell_moments.new.self.lines.connections from) m (waits_of c.args.self.now.lines - waits_of c.tell_moments.new.self.lines) (omega (arith, ap waits_of c.tell_moments.ensures.lines))
-    (same_lines asks start mid c.turn.new.self c.tell_moments.new.self.lines c.tell_moments.ensures.lines
-    (c.tell_moments.ensures.stands asks start (wired_by c.turn.new.self.connections mid) (c.turn.ensures.stands asks start from c.args.self.now.jobs.slots.items s)))
+    let told = c.tell_moments.ensures.stands asks start mid (c.turn.ensures.stands asks start from c.args.self.now.jobs.slots.items s) in
+    fits asks start (wired_by c.tell_moments.new.self.lines.connections from) m (waits_of c.args.self.now.lines - waits_of c.tell_moments.new.self.lines) (omega (arith, c.tell_moments.ensures.left.waits)) told
 
 pub returns-in_err-tell_moments-in-Ok-clause-left : goal.returns-in_err-tell_moments-in-Ok-clause-left
-returns-in_err-tell_moments-in-Ok-clause-left g c = omega (arith, c.turn.ensures.left, ap waits_of c.tell_moments.ensures.lines)
+returns-in_err-tell_moments-in-Ok-clause-left g c = omega (arith, c.turn.ensures.left, c.tell_moments.ensures.left.waits)
 
-pub returns-in_ok-tell_moments-in-Ok-clause-stands : goal.returns-in_ok-tell_moments-in-Ok-clause-stands
-returns-in_ok-tell_moments-in-Ok-clause-stands g c = λ asks start from all s.
+pub read_all-requires-clause-sound : goal.read_all-requires-clause-sound
+read_all-requires-clause-sound g c = c.tell_moments.ensures.left.sound c.turn.ensures.sound
+
+pub returns-in_err-read_all-in-Ok-clause-stands : goal.returns-in_err-read_all-in-Ok-clause-stands
+returns-in_err-read_all-in-Ok-clause-stands g c = λ asks start from all s.
     let m = waits_of c.args.self.now.lines - waits_of c.turn.new.self in
     let mid : Outset = more_waits m from in
-    fits asks start (wired_by c.read_all.new.self.lines.connections from) m (waits_of c.args.self.now.lines - waits_of c.read_all.new.self.lines) (omega (arith, ap waits_of c.tell_moments.ensures.lines, c.read_all.ensures.left))
-    (c.read_all.ensures.stands asks start mid (same_lines asks start mid c.turn.new.self c.tell_moments.new.self.lines c.tell_moments.ensures.lines
-    (c.tell_moments.ensures.stands asks start (wired_by c.turn.new.self.connections mid) (c.turn.ensures.stands asks start from c.args.self.now.jobs.slots.items s))))
+    let told = c.tell_moments.ensures.stands asks start mid (c.turn.ensures.stands asks start from c.args.self.now.jobs.slots.items s) in
+    fits asks start (wired_by c.read_all.new.self.lines.connections from) m (waits_of c.args.self.now.lines - waits_of c.read_all.new.self.lines) (omega (arith, c.tell_moments.ensures.left.waits, c.read_all.ensures.left))
+    (c.read_all.ensures.stands asks start mid told)
 
-pub returns-in_ok-tell_moments-in-Ok-clause-left : goal.returns-in_ok-tell_moments-in-Ok-clause-left
-returns-in_ok-tell_moments-in-Ok-clause-left g c = omega (arith, c.turn.ensures.left, ap waits_of c.tell_moments.ensures.lines, c.read_all.ensures.left)
+pub returns-in_err-read_all-in-Ok-clause-left : goal.returns-in_err-read_all-in-Ok-clause-left
+returns-in_err-read_all-in-Ok-clause-left g c = omega (arith, c.turn.ensures.left, c.tell_moments.ensures.left.waits, c.read_all.ensures.left)
+
+pub returns-in_ok-read_all-in-Ok-clause-stands : goal.returns-in_ok-read_all-in-Ok-clause-stands
+returns-in_ok-read_all-in-Ok-clause-stands g c = λ asks start from all s.
+    let m = waits_of c.args.self.now.lines - waits_of c.turn.new.self in
+    let mid : Outset = more_waits m from in
+    let told = c.tell_moments.ensures.stands asks start mid (c.turn.ensures.stands asks start from c.args.self.now.jobs.slots.items s) in
+    fits asks start (wired_by c.read_all.new.self.lines.connections from) m (waits_of c.args.self.now.lines - waits_of c.read_all.new.self.lines) (omega (arith, c.tell_moments.ensures.left.waits, c.read_all.ensures.left))
+    (c.read_all.ensures.stands asks start mid told)
+
+pub returns-in_ok-read_all-in-Ok-clause-left : goal.returns-in_ok-read_all-in-Ok-clause-left
+returns-in_ok-read_all-in-Ok-clause-left g c = omega (arith, c.turn.ensures.left, c.tell_moments.ensures.left.waits, c.read_all.ensures.left)
+
+pub returns-in_ok-read_all-in-Ok-clause-drained : goal.returns-in_ok-read_all-in-Ok-clause-drained
+returns-in_ok-read_all-in-Ok-clause-drained g c = λ e. c.in_ok-read_all-in-Ok.ensures.drained
+
+pub returns-in_ok-read_all-in-Ok-clause-sound : goal.returns-in_ok-read_all-in-Ok-clause-sound
+returns-in_ok-read_all-in-Ok-clause-sound g c = λ e. c.in_ok-read_all-in-Ok.ensures.sound
+
+pub returns-in_ok-read_all-in-Ok-clause-budget : goal.returns-in_ok-read_all-in-Ok-clause-budget
+returns-in_ok-read_all-in-Ok-clause-budget g c = λ e.
+    omega (arith, c.in-Ok.ensures.falls, c.turn.ensures.linked, c.read_all.ensures.left, c.read_all.ensures.linked, c.tell_moments.ensures.left.waits, c.tell_moments.ensures.left.linked)
+
+pub returns-in_ok-read_all-in-Ok-clause-over : goal.returns-in_ok-read_all-in-Ok-clause-over
+returns-in_ok-read_all-in-Ok-clause-over g c = λ e. c.in_ok-read_all-in-Ok.ensures.over c.in_ok-tell_moments-in-Ok.ensures.over
+
+pub on_fault-requires : goal.on_fault-requires
+on_fault-requires g c = left_by c.in-Err.fault c.in-Err.ensures.ends c.turn.ensures.sound
 
 pub returns-in-Err-clause-stands : goal.returns-in-Err-clause-stands
 returns-in-Err-clause-stands g c = λ asks start from all s.
-    let c_ = g.W.Journal.counts c.args.w.now in
-    let d = g.W.Journal.counts c.turn.new.w in
     let left = waits_of c.args.self.now.lines in
     let rest = waits_of c.turn.new.self in
-    let mid : Outset = wired_by c.turn.new.self.connections (more_waits (left - rest) from) in
-    let after : AllStand asks start mid c.args.self.now.jobs.slots.items (g.W.Journal.journal c.turn.new.w) d = c.turn.ensures.stands asks start from c.args.self.now.jobs.slots.items s in
-    fits asks start (wired_by c.on_fault.new.self.lines.connections from) (left - rest) (left - waits_of c.on_fault.new.self.lines) (omega (arith, ap waits_of c.on_fault.ensures.lines))
-    (same_lines asks start (more_waits (left - rest) from) c.turn.new.self c.on_fault.new.self.lines c.on_fault.ensures.lines
-    (c.on_fault.ensures.stands asks start mid (g.W.Journal.journal c.turn.new.w) d (wait_fault c.in-Err.fault from c_ d left rest s.grow all after.waited c.in-Err.ensures.cause) after))
+    let mid : Outset = more_waits (left - rest) from in
+    let after : AllStand asks start (wired_by c.turn.new.self.connections mid) c.args.self.now.jobs.slots.items (g.W.Journal.journal c.turn.new.w) (g.W.Journal.counts c.turn.new.w) = c.turn.ensures.stands asks start from c.args.self.now.jobs.slots.items s in
+    fits asks start (wired_by c.on_fault.new.self.lines.connections from) (left - rest) (left - waits_of c.on_fault.new.self.lines) (omega (arith, c.on_fault.ensures.left.waits))
+    (c.on_fault.ensures.stands asks start mid
+    (wait_fault c.in-Err.fault from (g.W.Journal.counts c.args.w.now) (g.W.Journal.counts c.turn.new.w) left rest s.grow all after.waited c.in-Err.ensures.cause) after)
 
 pub returns-in-Err-clause-left : goal.returns-in-Err-clause-left
-returns-in-Err-clause-left g c = omega (arith, c.turn.ensures.left, ap waits_of c.on_fault.ensures.lines)
+returns-in-Err-clause-left g c = omega (arith, c.turn.ensures.left, c.on_fault.ensures.left.waits)
+
+pub returns-in-Err-clause-drained : goal.returns-in-Err-clause-drained
+returns-in-Err-clause-drained g c = λ e. absurd (false≢true (sym c.in-Err.ensures.ends ∙ c.on_fault.ensures.goes e))
+
+pub returns-in-Err-clause-budget : goal.returns-in-Err-clause-budget
+returns-in-Err-clause-budget g c = λ e. absurd (false≢true (sym c.in-Err.ensures.ends ∙ c.on_fault.ensures.goes e))
