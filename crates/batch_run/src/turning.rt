@@ -378,8 +378,7 @@ impl Running {
             (is_slot_over (slice_get self.new.jobs.slots.items conn.job) ≡ false) }
     {
         let piece = &self.buf[..n.min(self.buf.len())];
-        self.jobs
-            .on_piece(w, conn.job as usize, conn.chan, piece)?;
+        self.jobs.on_piece(w, conn.job as usize, conn.chan, piece)?;
         self.leave_where(w, conn.job)
     }
 }

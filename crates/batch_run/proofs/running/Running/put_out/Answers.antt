@@ -79,10 +79,10 @@ loop-self-preserved g c = record {
   left = c.lose_one.ensures.left.waits ∙ c.offer.ensures.left ∙ c.queue_all.ensures.left.waits ∙ c.loop-self.invariant.left;
   linked = omega (arith, c.lose_one.ensures.left.linked, c.offer.ensures.linked, c.queue_all.ensures.left.linked, c.loop-self.invariant.linked);
   stands = λ asks start from s.
-    let b = c.loop-self.invariant.stands asks start from s in
-    let q = c.queue_all.ensures.stands asks start from (g.W.Journal.journal c.loop-self.w) (g.W.Journal.counts c.loop-self.w) b in
-    c.lose_one.ensures.stands asks start from
-    (rose_since from.counts.net (g.W.Journal.counts c.loop-self.w).net (g.W.Journal.counts c.offer.new.w).net b.grow.net c.in-Err.ensures.cause) (c.offer.ensures.stands asks start from _ q);
+      let b = c.loop-self.invariant.stands asks start from s in
+      let q = c.queue_all.ensures.stands asks start from (g.W.Journal.journal c.loop-self.w) (g.W.Journal.counts c.loop-self.w) b in
+      c.lose_one.ensures.stands asks start from
+      (rose_since from.counts.net (g.W.Journal.counts c.loop-self.w).net (g.W.Journal.counts c.offer.new.w).net b.grow.net c.in-Err.ensures.cause) (c.offer.ensures.stands asks start from _ q);
   drained = λ d. c.lose_one.ensures.left.drained (c.offer.ensures.drained (c.queue_all.ensures.left.drained (c.loop-self.invariant.drained d)));
   sound = c.in_ok-lose_one-in-Err.ensures.sound c.in-Err.ensures.broken.but;
   buf = c.lose_one.ensures.buf ∙ c.queue_all.ensures.buf ∙ c.loop-self.invariant.buf;
