@@ -39,10 +39,14 @@ pub(crate) enum Trick {
     NoEcho,
     /// After its reply to kernel_info_request it sends the head of a frame of 2^63 octets.
     BrokenInfo,
-    /// So it does after each reply to a cell.
+    /// After its reply to each cell it sends the head of a frame of 2^63 octets.
     BrokenReply,
-    /// So it does, and sends the stream of the first cell without end.
+    /// After its reply to each cell it sends that head, and the stream of the first cell without end.
     Flood,
+    /// It sends the idle of each cell on shell too, before it does on IOPub.
+    IdleOnShellFirst,
+    /// It sends the idle of each cell on shell too, after it did on IOPub.
+    IdleOnShellLast,
 }
 
 /// Which octets of a channel a rule is for.
@@ -121,6 +125,7 @@ pub(crate) fn shell_rule(trick: Trick) -> Rule {
         Trick::BrokenReply | Trick::Flood => doing(Mark::Replies, Deed::AddHuge),
         Trick::LateReply => doing(Mark::Replies, Deed::Hold),
         Trick::LateStream => doing(Mark::Replies, Deed::Hold),
+        Trick::IdleOnShellLast => doing(Mark::Idles, Deed::Hold),
         _ => doing(Mark::Messages, Deed::Keep),
     }
 }
@@ -138,6 +143,7 @@ pub(crate) fn iopub_rule(trick: Trick) -> Rule {
     match trick {
         Trick::NoIdle => doing(Mark::FirstIdle, Deed::Drop),
         Trick::LateIdle => doing(Mark::Idles, Deed::Hold),
+        Trick::IdleOnShellFirst => doing(Mark::Idles, Deed::Hold),
         Trick::LateStream => doing(Mark::FirstStream, Deed::Late),
         Trick::BadSignature => doing(Mark::FirstStream, Deed::Spoil),
         Trick::TwoStreams => doing(Mark::FirstStream, Deed::Repeat),

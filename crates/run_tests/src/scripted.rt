@@ -4,7 +4,7 @@ ghost use Rattle.toy_core.specs.Outboxes.{handing};
 ghost use Rattle.toy_core.specs.Toy as toy;
 ghost use Rattle.run_tests.specs.Scripted as spec;
 
-use crate::octets::{holds, part};
+use crate::octets::{holds, message_len, part};
 use crate::queue::Queue;
 use crate::rule::{Trick, control_rule, heart_rule, iopub_rule, shell_rule};
 use jtext::{NoMemory, Text};
@@ -23,6 +23,8 @@ pub(crate) struct Scripted {
     iopub: Queue,
     heart: Queue,
     is_deaf: bool,
+    /// The idle of each cell becomes due on shell too.
+    says_idle_twice: bool,
 }
 
 impl Scripted {
@@ -39,6 +41,7 @@ impl Scripted {
             iopub: Queue::new(alloc, iopub_rule(trick)),
             heart: Queue::new(alloc, heart_rule(trick)),
             is_deaf: matches!(trick, Trick::Deaf),
+            says_idle_twice: matches!(trick, Trick::IdleOnShellFirst | Trick::IdleOnShellLast),
         }
     }
 
@@ -78,7 +81,12 @@ impl Scripted {
         match chan {
             Chan::Shell => self.shell.take(&self.key, octets),
             Chan::Control => self.control.take(&self.key, octets),
-            Chan::Iopub => self.iopub.take(&self.key, octets),
+            Chan::Iopub => {
+                if self.says_idle_twice {
+                    repeat_idles(self.alloc, &mut self.shell, &self.key, octets)?;
+                }
+                self.iopub.take(&self.key, octets)
+            }
             Chan::Heart => self.heart.take(&self.key, octets),
         }
     }
@@ -104,6 +112,28 @@ impl Scripted {
     }
 }
 
+// The idle of each cell among these published octets becomes due on shell.
+fn repeat_idles(
+    alloc: Global,
+    shell: &mut Queue,
+    key: &Text,
+    octets: &[u8],
+) -> Result<(), NoMemory> {
+    if !holds(octets, "execute_request") {
+        return Ok(());
+    }
+    let mut rest = octets;
+    for _ in 0..64 {
+        let size = message_len(alloc, rest)?;
+        let (message, more) = rest.split_at(size.min(rest.len()));
+        if holds(message, "\"idle\"") && holds(message, "execute_request") {
+            shell.take(key, message)?;
+        }
+        rest = more;
+    }
+    Ok(())
+}
+
 impl KernelSide for Scripted {
     ghost use Rattle.std.specs.Prelude.{ℕ, List, Bool, IfOk};
 
@@ -121,6 +151,10 @@ impl KernelSide for Scripted {
 
     fn tick(&mut self, alloc: Global, now: u64) -> Result<(), NoMemory> {
         self.toy.tick(alloc, now)?;
+        if self.says_idle_twice {
+            // What waits comes before what the kernel says next.
+            self.release()?;
+        }
         self.pull(now)?;
         self.release()
     }
