@@ -8,7 +8,6 @@ mod named;
 mod printing;
 mod program;
 mod same_files;
-mod toys;
 mod used_file;
 
 pub use program::{answer, run_words, start};

@@ -13,3 +13,6 @@ mod Asked
 mod Batches
 mod Exercises
 mod JobsApart
+mod NumberLemmas
+mod OpeningLemmas
+mod GeneratedLemmas

@@ -70,7 +70,7 @@ abbrev pub GivesAsks : List ℕ → Ask → List Entry → Result (List Ask) Las
 GivesAsks file common before (Ok asks) after = (bytes : List ℕ) × IsFileOf file common bytes asks × (after ≡ file_read file (found.Whole bytes) before)
 GivesAsks file common before (Err r) after = GivesNone file before r.end after
 
--- so may a run end whose file gives no jobs
+-- a run may end so where its jobs file gives no jobs
 abbrev pub IsEndOfFile : End → Type 0
 IsEndOfFile (end.Refused u) = Unit {0}
 IsEndOfFile end.NotRead = Unit {0}
@@ -90,7 +90,7 @@ pub record IsAlone (asks : List Ask) (i : ℕ) (a : Ask) : Type 0 where
   pub is : slice_get asks i ≡ Some a
   pub others : (k : ℕ) (b : Ask) → k ≢ i → slice_get asks k ≡ Some b → DoesNotWrite b.output a.output
 
--- nor does any of these jobs
+-- none of these jobs writes to the path
 abbrev pub NoneWrites : List Ask → List ℕ → Type 0
 NoneWrites asks path = (i : ℕ) (a : Ask) → slice_get asks i ≡ Some a → DoesNotWrite a.output path
 

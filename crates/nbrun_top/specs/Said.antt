@@ -28,10 +28,10 @@ said_of words e = all_lines (input_of (command_of_words words)) (output_of (comm
 abbrev pub Speaks : List ℕ → List ℕ → Answer → Type 0
 Speaks input output a = (a.end ≡ end.NoMemory) ⊎ (a.text ≡ all_lines input output a.end)
 
--- the same of the paths that the words name
+-- the answer has what is to be said of its end, on the paths that the words name
 abbrev pub SpeaksOf : List (List ℕ) → Answer → Type 0
 SpeaksOf words a = (a.end ≡ end.NoMemory) ⊎ (a.text ≡ said_of words a.end)
 
--- the same of the jobs file
+-- the answer has what is to be said of its end, on the jobs file
 abbrev pub SpeaksOfFile : List ℕ → Answer → Type 0
 SpeaksOfFile file a = Speaks file (codes "nbrun") a

@@ -4,9 +4,10 @@ ghost use Rattle.world.specs.Told.{Between};
 ghost use Rattle.said_lines.specs.Between.{SayRose, SayFailed};
 ghost use Rattle.nbrun_top.specs.Executed.{WaitsAtMost};
 ghost use Rattle.nbrun_top.specs.Exercised.{Exercised};
+ghost use Rattle.nbrun_top.specs.ExerciseLine.{IsOutcome};
 
 use crate::execution::say_no_memory;
-use crate::exercise::Exercise;
+use crate::exercise_line::outcome;
 use crate::status::unless_not_said;
 use batch_run::Limits;
 use jtext::NoMemory;
@@ -15,22 +16,16 @@ use std::alloc::Global;
 use world::Say;
 
 /// Does the exercise of so many cells, says its line, and answers the exit status.
-pub(crate) fn run_exercise<W: Say, X: Exercise>(
-    alloc: Global,
-    exercise: &X,
-    cells: u32,
-    limits: &Limits,
-    w: &mut W,
-) -> u8
+pub(crate) fn run_exercise<W: Say>(alloc: Global, cells: u32, limits: &Limits, w: &mut W) -> u8
     requires few { cells ≤ 200 }
     ensures exercised { Between W.journal w.old w.new (λ before after.
-        Exercised (X.ends exercise.now cells limits.now.turns)
+        Exercised (IsOutcome cells)
         (SayRose W.counts w.old w.new) (SayFailed W.counts w.new) before result after) }
     ensures waits { WaitsAtMost W.counts w.old w.new 0 }
     ensures heard { result ≡ 0 → SayRose W.counts w.old w.new → ⊥ }
 {
     let faults = w.say_faults();
-    match exercise.exercise(alloc, cells, limits.turns) {
+    match outcome(alloc, cells, limits.turns) {
         Ok(answer) => {
             say(w, answer.line.bytes());
             unless_not_said(w, faults, answer.status)

@@ -6,7 +6,11 @@
 mod answer;
 mod end;
 mod execution;
-mod exercise;
+mod exercise_ask;
+mod exercise_job;
+mod exercise_line;
+mod exercise_numbers;
+mod exercise_opening;
 mod exercise_run;
 mod job;
 mod jobs_file;
@@ -18,7 +22,10 @@ mod plain;
 mod plain_run;
 mod reports;
 mod status;
+mod tally;
 mod task;
 
-pub use exercise::Exercise;
+pub use exercise_job::exercise;
+pub use exercise_opening::exercise_world;
 pub use main_call::run;
+pub use tally::Tally;

@@ -1,22 +1,7 @@
 //! The exercise, as the words ask for it: its line, its status, and that the line is of its run.
 use crate::runs::{status_and_text, world};
-use job_end::Answer;
-use jtext::NoMemory;
-use nbrun_top::Exercise;
-use std::alloc::Global;
+use nbrun_top::{exercise, exercise_world};
 use std::test::Fail;
-use toy_exercise::{exercise, exercise_world, outcome};
-
-/// The exercise by a toy kernel in memory.
-pub(crate) struct Toys;
-
-impl Exercise for Toys {
-    ghost ends = { λ _ cells turns answer. Unit {0} };
-
-    fn exercise(&self, alloc: Global, cells: u32, turns: u64) -> Result<Answer, NoMemory> {
-        outcome(alloc, cells, turns)
-    }
-}
 
 /// How many waits a run may make, the words, the status, and the line.
 const ROWS: [(u64, &str, u8, &str); 5] = [

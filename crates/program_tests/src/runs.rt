@@ -1,5 +1,4 @@
 //! Runs over a world in memory, in which the input stands as `in` and the output is `out`.
-use crate::exercises::Toys;
 use batch_run::Limits;
 use jtext::{Bytes, Text};
 use nbrun_top::run;
@@ -63,7 +62,7 @@ pub(crate) fn status_within(
     }
     let here = Text::of(alloc, "/")?;
     let limits = Limits { turns, here };
-    Ok(run(alloc, given.as_slice(), &limits, &Toys, w))
+    Ok(run(alloc, given.as_slice(), &limits, w))
 }
 
 /// The status that it answers with at most that many waits, and what it says.

@@ -3,6 +3,7 @@ use Rattle.world.specs.Counts.{Counts, Rose}
 use Rattle.world.proofs.MomentsLemmas.{told_as}
 use Rattle.nbrun_top.specs.Ended.{Answers}
 use Rattle.nbrun_top.specs.Exercised.{Exercised, ended, starved}
+use Rattle.nbrun_top.specs.ExerciseLine.{IsOutcome}
 use Rattle.said_lines.specs.Speech.{Says}
 use Rattle.nbrun_top.proofs.exercise_run.run_exercise.Goals as goal
 
@@ -16,7 +17,7 @@ returns-in-Ok-clause-exercised g c =
 
 pub returns-in-Err-clause-exercised : goal.returns-in-Err-clause-exercised
 returns-in-Err-clause-exercised g c = told_as c.say_no_memory.ensures.says (λ x y says.
-    subst (λ n. Exercised (g.X.Exercise.ends c.args.exercise.now c.args.cells c.args.limits.now.turns) (Rose (g.W.Journal.counts c.args.w.now).say (g.W.Journal.counts c.say_no_memory.new.w).say)
+    subst (λ n. Exercised (IsOutcome c.args.cells) (Rose (g.W.Journal.counts c.args.w.now).say (g.W.Journal.counts c.say_no_memory.new.w).say)
     (0 < (g.W.Journal.counts c.say_no_memory.new.w).say) x n y) (sym c.say_no_memory.ensures.status) (starved y says))
 
 pub returns-in-Ok-clause-waits : goal.returns-in-Ok-clause-waits

@@ -7,6 +7,7 @@ use Rattle.nbrun_top.proofs.Asked.{no_exercise_executes, one_is_no_exercise, bat
 use Rattle.nbrun_top.proofs.Batches.{of_ended}
 use Rattle.nbrun_top.proofs.CodeLemmas.{never_plain}
 use Rattle.nbrun_top.specs.Exercised.{Exercised}
+use Rattle.nbrun_top.specs.ExerciseLine.{IsOutcome}
 use Rattle.nbrun_top.proofs.Exercises.{of_no_memory, same_cells}
 use Rattle.nbrun_top.proofs.main_call.status.Goals as goal
 
@@ -29,7 +30,7 @@ returns-in-Plain-clause-exercised g c n exercise =
     let words = map string_bytes c.args.words.now in
     let is : IsPlainOf words c.in-Plain.plain = subst (λ t. IsTaskOf words t) c.in-Plain.is c.of.ensures.asked in
     told_as (c.run_plain.ensures.causes words is) (λ x y ended.
-    of_no_memory words (g.X.Exercise.ends c.args.exercise.now n c.args.limits.now.turns)
+    of_no_memory words (IsOutcome n)
     (Rose (g.W.Journal.counts c.args.w.now).say (g.W.Journal.counts c.run_plain.new.w).say) (0 < (g.W.Journal.counts c.run_plain.new.w).say) c.run_plain.result
     x y n exercise ended)
 
@@ -49,7 +50,7 @@ pub returns-in-Exercise-clause-exercised : goal.returns-in-Exercise-clause-exerc
 returns-in-Exercise-clause-exercised g c n exercise =
     let words = map string_bytes c.args.words.now in
     let is : IsExercise words c.in-Exercise.cells = subst (λ t. IsTaskOf words t) c.in-Exercise.is c.of.ensures.asked in
-    subst (λ k. Told (g.W.Journal.journal c.args.w.now) (g.W.Journal.journal c.run_exercise.new.w) (λ x y. Exercised (g.X.Exercise.ends c.args.exercise.now k c.args.limits.now.turns)
+    subst (λ k. Told (g.W.Journal.journal c.args.w.now) (g.W.Journal.journal c.run_exercise.new.w) (λ x y. Exercised (IsOutcome k)
     (Rose (g.W.Journal.counts c.args.w.now).say (g.W.Journal.counts c.run_exercise.new.w).say) (0 < (g.W.Journal.counts c.run_exercise.new.w).say) x c.run_exercise.result y))
     (same_cells words c.in-Exercise.cells n is exercise) c.run_exercise.ensures.exercised
 

@@ -1,6 +1,0 @@
-use Rattle.std.proofs.Common.{◌≡◌, drop}
-use Rattle.toy_exercise.specs.Counted.{outputs_from}
-use Rattle.toy_exercise.proofs.counting.outputs.Given as goal
-
-abbrev pub invariant-loop-cell : goal.invariant-loop-cell
-invariant-loop-cell l = outputs_from l.total (drop l.cell-index l.cells) ≡ outputs_from 0 l.cells

@@ -1,8 +1,0 @@
-use Rattle.toy_exercise.specs.Exercise.{ask}
-use Rattle.toy_exercise.proofs.RunLemmas.{one_ask, one_job}
-use Rattle.toy_exercise.proofs.exercising.answer_of_run.Goals as goal
-
-pub returns-clause-job : goal.returns-clause-job
-returns-clause-job g c =
-    one_job _ ask _ _ _ _ _ _ (one_ask _ _ _ ask c.in_ok-push.ensures.ok c.new-asks.ensures c.in_ok-ask.ensures.is) c.take.ensures.item
-    c.in_ok-answers.ensures.jobs

@@ -1,4 +1,0 @@
-pub mod Counted
-pub mod Exercise
-pub mod Exercised
-pub mod Reported
