@@ -52,8 +52,8 @@ EndsBy o task None journal counts = HasStopped o journal counts
 abbrev pub EndsUnread : Ask → Option Answer → List Entry → List Entry → Type 0
 EndsUnread a answer before after = IfSome answer (λ x. IsUnread a x.status before after)
 
--- that of a job whose notebook is first saved so names a cause only where there are events that stop its core for it, and is 5
--- only where no kernel was found for it
+-- the answer of a job with this first notebook names a cause only where events stop its core for it, and 5 only where no kernel
+-- was found
 abbrev pub EndsRead : Ask → Notebook → Option Answer → List Entry → List Entry → Type 0
 EndsRead a first answer before after = IfSome answer (λ x. IsCausedIn a first x.status × HasKernel a first x.status before after)
 
@@ -67,7 +67,8 @@ pub data Makes (a : Ask) (answer : Option Answer) (old new : Counts) (before : L
       → after ≡ later ++ Read a.input 33554432 (found.Whole bytes) ∷ begin
       → EndsBy (origin_of a n begin then) (counted_task a (first_of a n)) answer (Some after) new → Makes a answer old new before after
 
--- so it does with each whose output is no path of another, where no rename onto it waited for its folder's sync
+-- what a run makes of the output of each job, where that is no path of another job and no rename onto it waited for its folder's
+-- sync
 abbrev pub MakesEach : {E : Type 0} → List Ask → Result (List Answer) E → Counts → Counts → List Entry → List Entry → Type 0
 MakesEach asks result old new before after = (i : ℕ) (a : Ask) → slice_get asks i ≡ Some a → IsApart asks i a → IsRested a.output before
     → Makes a (answer_at i result) old new before after
@@ -77,11 +78,11 @@ pub record IsEndOf (a : Ask) (old new : Counts) (answer : Answer) : Type 0 where
   pub is : IsAnswer a.output answer
   pub cause : HasCause old new answer.status
 
--- so is each
+-- each answer of a run is that of an end of its job
 abbrev pub AreEnds : List Ask → Counts → Counts → List Answer → Type 0
 AreEnds asks old new answers = (i : ℕ) (a : Ask) (answer : Answer) → slice_get asks i ≡ Some a → slice_get answers i ≡ Some answer → IsEndOf a old new answer
 
--- so many waits were counted, or the count stands at the last value of a `u64`
+-- the count of waits is at least this number, or stands at the last value of a `u64`
 abbrev pub HasWaited : ℕ → Counts → Type 0
 HasWaited most counts = min most (2 ^ 64 - 1) ≤ counts.waits
 
@@ -89,7 +90,7 @@ HasWaited most counts = min most (2 ^ 64 - 1) ≤ counts.waits
 abbrev pub EndSpent : ℕ → Counts → Counts → List Answer → Type 0
 EndSpent turns old new answers = (i : ℕ) (answer : Answer) → slice_get answers i ≡ Some answer → answer.status ≡ 16 → HasWaited (old.waits + turns) new
 
--- and all other paths are left alone
+-- every path that is no job's is left alone
 abbrev pub LeavesOthers : List Ask → List Entry → List Entry → Type 0
 LeavesOthers asks before after = (path : List ℕ) → IsNoPath asks path → Since (Spares path) before after
 
@@ -127,8 +128,8 @@ pub record IsLoopCall (clean : Bool) (now : List Entry) : Type 0 where
 abbrev pub IsRunCall : Cast → List Entry → Type 0
 IsRunCall c now = IsCall c now ⊎ IsLoopCall c.clean now
 
--- so is each that was made; where the run began `clean`, each line was said whole behind whole ones, up to one that was cut, that of
--- a save tells of how many cells it settles, and a child was started only where none was there
+-- each call since is one of the jobs or of the loop; where the run began `clean`, lines are said whole and with the numbers of
+-- their saves, and a child is started only where none is there
 abbrev pub CallsOfJobs : List Ask → List ℕ → Bool → List Entry → List Entry → Type 0
 CallsOfJobs asks here clean before after = Since (IsRunCall (cast_of asks here clean)) before after
 

@@ -47,7 +47,7 @@ pub record Outset : Type 0 where
   pub clean : Bool
   pub wires : List (Option ℕ)  -- the port that the loop keeps by now for each connection, by places
 
--- the same, by what the connections of a run keep
+-- the outset with the ports that the loop keeps for its connections
 abbrev pub wired_by : Loop → Outset → Outset
 wired_by l from = record from { wires = ports_in l }
 
@@ -55,7 +55,7 @@ wired_by l from = record from { wires = ports_in l }
 pub record AreWired (wires : List (Option ℕ)) (past : List Entry) : Type 0 where
   pub each : (conn : Conn) (port : ℕ) → slice_get wires (place_of conn) ≡ Some (Some port) → HasPort conn port past
 
--- the same, where was waited so often more
+-- the outset after so many more waits
 abbrev pub more_waits : ℕ → Outset → Outset
 more_waits n from = record from { waits = from.waits + n }
 
@@ -66,7 +66,7 @@ pub record PlaysRole (number : ℕ) (a : Ask) (j : Job) : Type 0 where
   pub connection : j.paths.connection ≡ connection_of a.output
   pub folder : j.paths.cwd ≡ a.cwd
 
--- so has that of a slot
+-- the job in a slot, where one runs, has the number and the paths of the one that was asked for
 abbrev pub SlotPlays : ℕ → Ask → Slot → Type 0
 SlotPlays number a Waiting = Unit {0}
 SlotPlays number a (Running j) = PlaysRole number a j
@@ -90,7 +90,7 @@ SlotTask a first Waiting = Unit {0}
 SlotTask a first (Running j) = task_of_job j ≡ task_for a first
 SlotTask a first (Ended answer) = IsCausedIn a first answer.status
 
--- it has ended with 5 only where no kernel was found for it
+-- the job of a slot has ended with 5 only where no kernel was found for it
 abbrev pub SlotKernel : Ask → Notebook → Slot → List Entry → List Entry → Type 0
 SlotKernel a first Waiting before past = Unit {0}
 SlotKernel a first (Running j) before past = Unit {0}
@@ -204,7 +204,7 @@ abbrev pub KeepsAll : {W : Type 0} → (W → Option (List Entry)) → (W → Co
 KeepsAll journal counts old new was now = (asks : List Ask) (start : Option (List Entry)) (from : Outset)
     → AllStand asks start from was (journal old) (counts old) → AllStand asks start from now (journal new) (counts new)
 
--- so do calls that may be of the loop, before which it was so, and then so
+-- calls of the loop or of a job keep all slots standing, with the ports that the loop keeps before and after
 abbrev pub KeepsLines : {W : Type 0} → (W → Option (List Entry)) → (W → Counts) → W → W → Loop → Loop → List Slot → List Slot → Type 0
 KeepsLines journal counts old new kept keeps was now = (asks : List Ask) (start : Option (List Entry)) (from : Outset)
     → AllStand asks start (wired_by kept from) was (journal old) (counts old) → AllStand asks start (wired_by keeps from) now (journal new) (counts new)
@@ -214,23 +214,23 @@ abbrev pub KeepsLinesIf : (Outset → Counts → Type 0) → {W : Type 0} → (W
 KeepsLinesIf why journal counts old new kept keeps was now = (asks : List Ask) (start : Option (List Entry)) (from : Outset) → why from (counts old)
     → AllStand asks start (wired_by kept from) was (journal old) (counts old) → AllStand asks start (wired_by keeps from) now (journal new) (counts new)
 
--- so do calls that wait as often as waits were used up, where those left are all that a run has yet
+-- calls that wait keep all slots standing, with as many more waits as were used up
 abbrev pub KeepsWaiting : {W : Type 0} → (W → Option (List Entry)) → (W → Counts) → W → W → Lines → Lines → List Slot → List Slot → Type 0
 KeepsWaiting journal counts old new kept keeps was now = (asks : List Ask) (start : Option (List Entry)) (from : Outset)
     → from.waits + waits_of kept ≡ from.most → AllStand asks start (wired_by kept.connections from) was (journal old) (counts old)
     → AllStand asks start (wired_by keeps.connections (more_waits (waits_of kept - waits_of keeps) from)) now (journal new) (counts new)
 
--- so does what calls nothing of the world
+-- what calls nothing of the world keeps all slots standing
 abbrev pub StayAll : List Slot → List Slot → Type 0
 StayAll was now = (asks : List Ask) (start : Option (List Entry)) (from : Outset) (journal : Option (List Entry)) (counts : Counts)
     → AllStand asks start from was journal counts → AllStand asks start from now journal counts
 
--- so does what queues something
+-- what only queues octets keeps all slots standing
 abbrev pub StayLines : Loop → Loop → List Slot → List Slot → Type 0
 StayLines kept keeps was now = (asks : List Ask) (start : Option (List Entry)) (from : Outset) (journal : Option (List Entry)) (counts : Counts)
     → AllStand asks start (wired_by kept from) was journal counts → AllStand asks start (wired_by keeps from) now journal counts
 
--- so it does where there is such a cause since the outset
+-- where this cause has come since the outset, the change keeps all slots standing
 abbrev pub StayAllIf : (Outset → Counts → Type 0) → List Slot → List Slot → Type 0
 StayAllIf why was now = (asks : List Ask) (start : Option (List Entry)) (from : Outset) (journal : Option (List Entry)) (counts : Counts)
     → why from counts → AllStand asks start from was journal counts → AllStand asks start from now journal counts
@@ -247,18 +247,18 @@ IsOutOfWaits from counts = HasWaited from.most counts
 abbrev pub IsFaultOf : Fault → Outset → Counts → Type 0
 IsFaultOf f from counts = FaultCause from.counts counts (IsOutOfWaits from counts) f
 
--- so do those that touch no path
+-- calls that touch no path keep all slots standing
 abbrev pub KeepsEach : {W : Type 0} → (W → Option (List Entry)) → (W → Counts) → W → W → Loop → Loop → Type 0
 KeepsEach journal counts old new kept keeps = (asks : List Ask) (start : Option (List Entry)) (from : Outset) (slots : List Slot)
     → AllStand asks start (wired_by kept from) slots (journal old) (counts old) → AllStand asks start (wired_by keeps from) slots (journal new) (counts new)
 
--- so do those that begin the connections of a job, on ports that were given for it
+-- calls that begin the connections of a job, on ports that were given for it, keep all slots standing
 abbrev pub KeepsBegun : {W : Type 0} → (W → Option (List Entry)) → (W → Counts) → W → W → ℕ → List ℕ → Loop → Loop → List Slot → List Slot → Type 0
 KeepsBegun journal counts old new job ports kept keeps was now = (asks : List Ask) (start : Option (List Entry)) (from : Outset)
     → (from.clean ≡ true → HasPorts job ports (journal old))
     → AllStand asks start (wired_by kept from) was (journal old) (counts old) → AllStand asks start (wired_by keeps from) now (journal new) (counts new)
 
--- and those of the loop that wait
+-- calls of the loop that wait keep all slots standing
 abbrev pub KeepsEachWaiting : {W : Type 0} → (W → Option (List Entry)) → (W → Counts) → W → W → Lines → Lines → Type 0
 KeepsEachWaiting journal counts old new kept keeps = (asks : List Ask) (start : Option (List Entry)) (from : Outset) (slots : List Slot)
     → AllStand asks start (wired_by kept.connections from) slots (journal old) (counts old)
@@ -270,12 +270,12 @@ SlotKeeps journal counts old new was now = (asks : List Ask) (start : Option (Li
     → slice_get slots k ≡ Some was → AllStand asks start from slots (journal old) (counts old)
     → AllStand asks start from (slice_set slots k now) (journal new) (counts new)
 
--- and what calls nothing of the world
+-- a change of one slot that calls nothing of the world keeps all slots standing
 abbrev pub SlotStays : Slot → Slot → Type 0
 SlotStays was now = (asks : List Ask) (start : Option (List Entry)) (from : Outset) (slots : List Slot) (k : ℕ) (journal : Option (List Entry)) (counts : Counts)
     → slice_get slots k ≡ Some was → AllStand asks start from slots journal counts → AllStand asks start from (slice_set slots k now) journal counts
 
--- so it does where there is such a cause
+-- where this cause has come since the outset, a change of one slot keeps all slots standing
 abbrev pub SlotStaysIf : (Outset → Counts → Type 0) → Slot → Slot → Type 0
 SlotStaysIf why was now = (asks : List Ask) (start : Option (List Entry)) (from : Outset) (slots : List Slot) (k : ℕ) (journal : Option (List Entry)) (counts : Counts)
     → why from counts → slice_get slots k ≡ Some was → AllStand asks start from slots journal counts → AllStand asks start from (slice_set slots k now) journal counts

@@ -57,7 +57,7 @@ closing_after task last before =
 abbrev pub closing : Task → List Event → List Prefix
 closing task events = closing_after task (standing task events) (passes task (length task.plan) events)
 
--- those that come without a stop
+-- the saves that are due where nothing stops the job
 abbrev pub plan_saves : Task → List Event → List Prefix
 plan_saves task events = (after_preparation ∷ passes task (length task.plan) events) ++ closing task events
 
@@ -117,6 +117,6 @@ why task events = if is_done task events then Some Done else why_not_done task (
 abbrev pub saves : Task → List Event → List Prefix
 saves task events = ((after_preparation ∷ passes task (length task.plan) events) ++ stopping task (standing task events) (why task events)) ++ closing task events
 
--- those that are due and not acknowledged
+-- the saves that are due and not acknowledged
 abbrev pub pending_saves : Task → List Event → List Prefix
 pending_saves task events = drop (ack_count events) (saves task events)

@@ -24,7 +24,7 @@ pub record IsKept (f : Fold) (n : Notebook) (settled : ℕ) (p : Progress) (firs
   pub is : n ≡ prefix (merge_of f) was settled None first
   pub fits : Fits p n.cells
 
--- so for some notebook and some messages
+-- some messages were used, and the notebook is the prefix of some first one that was saved last
 pub record IsKeptForSome (f : Fold) (n : Notebook) (settled : ℕ) (p : Progress) : Type 0 where
   pub first : Notebook
   pub us : List Used

@@ -62,7 +62,7 @@ pub record IsReady (old new : JobNotebook) (p : ℕ) (stop : Option ℕ) (first 
   pub fits : saves.Fits new.progress (notebook_of new).cells
   pub keeps : stop ≡ None → Keeps new first us
 
--- this holds where the disk was called
+-- the fact holds where the save called the disk
 abbrev pub OnCall : {U : Type 0} → Result U ProgressFault → Type 0 → Type 0
 OnCall (Ok u) called = called
 OnCall (Err (fault.Save f)) called = called

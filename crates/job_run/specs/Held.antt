@@ -45,7 +45,7 @@ IsSaid old new = new ≡ record old { session = new.session; lines = new.lines }
 abbrev pub IsAsked : Execution → Execution → Type 0
 IsAsked old new = new ≡ record old { session = new.session; lines = new.lines; asking = new.asking; pings = new.pings }
 
--- so many requests were made, and nothing else of the session has changed
+-- the session made so many further requests, and nothing else of it has changed
 abbrev pub Asks : ℕ → Execution → Execution → Type 0
 Asks n old new = new.session ≡ record old.session { made = old.session.made + n }
 

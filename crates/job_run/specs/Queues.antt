@@ -18,7 +18,7 @@ pub record HandsOutOn (chan : Chan) (was now : Job) (given : Option (List ℕ)) 
   -- its connection stands for the same, with that handed out besides
   pub stands : (h : History) (out : List ℕ) → StandsFor (line_of was chan) h out
       → StandsFor (line_of now chan) h (out ++ queue_of (line_of was chan))
-  -- so that nothing is queued on it
+  -- nothing is left queued on the channel
   pub empties : (h : History) (out : List ℕ) → StandsFor (line_of was chan) h out
       → queue_of (line_of now chan) ≡ []
   -- it plays the role that it played, and as many octets were taken of it

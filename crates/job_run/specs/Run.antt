@@ -273,7 +273,7 @@ pub record EndsLaunch {U : Type 0} (old new : Counts) (result : Result U End) : 
   pub grow : CountsGrow old new
   -- where the job ends, such a cause stands
   pub cause : IfErr result (EndCause old new)
-  -- and it ends as a start does
+  -- where it ends, it ends as a start may
   pub own : IfErr result IsEndOfLaunch
 
 -- what stands of a job by the counts alone, since they were so, whatever its world tells

@@ -35,7 +35,7 @@ pub record IsSaved (o : Origin) (is_open : Bool) (settled : ℕ) (past : List En
   pub course : Course o.output o.merge o.first 0 o.before is_open settled past
   pub rested : IsRested o.output past
 
--- the same, and the next save of this notebook goes on with that course
+-- the output was saved by a course of prefixes, and the next save of this notebook goes on with it
 pub record IsOnCourse (o : Origin) (b : JobNotebook) (is_open : Bool) (past : List Entry) : Type 0 where
   pub settled : ℕ
   pub is : IsSaved o is_open settled past
@@ -91,11 +91,11 @@ pub record IsTold (a : Ask) (b : JobNotebook) (past : List Entry) : Type 0 where
   pub rested : IsRested a.output past
   pub lines : TellsEach a.output (settled_of b) (length first.cells) past
 
--- so it is as long as saves may follow and no say has failed
+-- while saves may follow and no say has failed, each acknowledged save was told by its line
 abbrev pub TellsAll : Ask → JobNotebook → Option (List Entry) → Counts → Type 0
 TellsAll a b journal counts = is_closed b ≡ false → ((0 < counts.say) → ⊥) → IfSome journal (IsTold a b)
 
--- and this is the notebook of one of them; where they began clean, its saves are told so
+-- this is the notebook of one of the jobs of a cast; where they began clean, each of its saves was told by its line
 pub record HasPart (c : Cast) (since : List Entry) (from : Counts) (b : JobNotebook) (journal : Option (List Entry)) (counts : Counts) : Type 0 where
   pub number : ℕ
   pub ask : Ask

@@ -23,7 +23,7 @@ IsSaveEntry output (made.Said bytes did) = Unit {0}
 -- no other one: none draws a word, and none asks for ports or starts a child
 IsSaveEntry output _ = ⊥
 
--- so is the newest entry
+-- the newest entry is one of the job's saves, and draws no word, asks for no ports and starts no child
 abbrev pub IsSaveCall : List ℕ → List Entry → Type 0
 IsSaveCall output [] = ⊥
 IsSaveCall output (entry ∷ past) = IsSaveEntry output entry
@@ -35,7 +35,7 @@ IsFileEntry path (made.Wrote p bytes did) = p ≡ path
 IsFileEntry path (made.Synced p did) = p ≡ path
 IsFileEntry path _ = ⊥
 
--- so is the newest entry
+-- the newest entry belongs to the making of this file
 abbrev pub IsFileCall : List ℕ → List Entry → Type 0
 IsFileCall path [] = ⊥
 IsFileCall path (entry ∷ past) = IsFileEntry path entry

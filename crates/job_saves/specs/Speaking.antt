@@ -31,7 +31,7 @@ ends_line (c ∷ d ∷ text) = ends_line (d ∷ text)
 abbrev pub IsWhole : List Entry → Type 0
 IsWhole past = ends_line (heard past) ≡ true
 
--- the same wherever it is told, as long as no say has failed
+-- while no say has failed, what was heard ends with a whole line, where the journal is told
 abbrev pub SpeaksWhole : Option (List Entry) → Counts → Type 0
 SpeaksWhole journal counts = ((0 < counts.say) → ⊥) → IfSome journal IsWhole
 
@@ -54,12 +54,12 @@ pub record WasTold (output : List ℕ) (most cells : ℕ) (begin past : List Ent
   pub later : List Entry
   pub is : past ≡ later ++ said
 
--- so it was of each save of the output that was acknowledged
+-- right behind each acknowledged save of the output its line was said whole, with numbers of at most these
 abbrev pub TellsEach : List ℕ → ℕ → ℕ → List Entry → Type 0
 TellsEach output most cells past = (begin later : List Entry) → past ≡ later ++ begin → is_acknowledging (temporary_of output) output begin ≡ true
     → WasTold output most cells begin past
 
--- and of each that was acknowledged before the newest entry
+-- right behind each save of the output that was acknowledged before the newest entry its line was said whole
 abbrev pub TellsEarlier : List ℕ → ℕ → ℕ → List Entry → Type 0
 TellsEarlier output most cells [] = Unit {0}
 TellsEarlier output most cells (entry ∷ past) = TellsEach output most cells past

@@ -19,7 +19,7 @@ is_among sig sigs = list_any (bytes_eq sig) sigs
 abbrev pub with_offered : List (List ℕ) → List ℕ → List (List ℕ)
 with_offered kept sig = if is_among sig (recent kept) then kept else kept ++ sig ∷ []
 
--- those that were fresh, of all that were offered in that order
+-- the signatures that were fresh, of all that were offered in this order
 unfoldable pub fresh_of : List (List ℕ) → List (List ℕ)
 fresh_of offered = fold with_offered [] offered
 

@@ -14,12 +14,12 @@ mutual
     array : (xs : List Json) → AllKeyed xs → Keyed (json.Arr xs)
     object : (ps : List (List ℕ × Json)) → PairsKeyed ps → Distinct ps → Keyed (json.Obj ps)
 
-  -- the same of each item
+  -- no object in any of these trees has a key twice
   pub data AllKeyed : List Json → Type 0 where
     none : AllKeyed []
     more : (x : Json) (xs : List Json) → Keyed x → AllKeyed xs → AllKeyed (x ∷ xs)
 
-  -- the same of the value of each pair
+  -- no object in the value of any of these pairs has a key twice
   pub data PairsKeyed : List (List ℕ × Json) → Type 0 where
     no_pairs : PairsKeyed []
     pair : (key : List ℕ) (value : Json) (ps : List (List ℕ × Json)) → Keyed value → PairsKeyed ps → PairsKeyed ((key, value) ∷ ps)

@@ -35,7 +35,7 @@ mutual
     last_value : (before inner after b : List ℕ) → AreSpaces before → Value inner → AreSpaces after → b ≡ before ++ (inner ++ after) → Values b
     next_value : (before inner after more b : List ℕ) → AreSpaces before → Value inner → AreSpaces after → Values more → b ≡ before ++ (inner ++ (after ++ 44 ∷ more)) → Values b
 
-  -- the same of members: a string, a colon and a value (section 4)
+  -- one member or more, each a string, a colon and a value, with a comma between (section 4)
   pub data Members : List ℕ → Type 0 where
     last_member : (before name left right inner after b : List ℕ) → AreSpaces before → IsString name → AreSpaces left → AreSpaces right → Value inner → AreSpaces after
         → b ≡ before ++ (name ++ (left ++ 58 ∷ (right ++ (inner ++ after)))) → Members b

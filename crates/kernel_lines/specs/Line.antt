@@ -34,11 +34,11 @@ pub record StandsAs (r : Role) (l : Line) (h : History) (out : List ℕ) : Type 
   pub count : l.due ≡ clip (length (due_in r h))
   pub subscription : l.subscription_end ≡ clip_place (subscription_end r h)
 
--- the same in its own role
+-- in the connection's own role, this happened, and these octets were handed out of those that were due
 abbrev pub StandsFor : Line → History → List ℕ → Type 0
 StandsFor l h out = StandsAs (role_of l) l h out
 
--- so many octets were taken, and the subscription ends among them
+-- the subscription ends among the first octets that were taken, of which there are so many
 abbrev pub is_within : Option ℕ → ℕ → Bool
 is_within None taken = false
 is_within (Some end) taken = nat_le end taken
@@ -58,7 +58,7 @@ pub record IsBehindAs (r : Role) (l : Line) (h : History) (out piece : List ℕ)
   pub count : l.due ≡ clip (length (due_in r h))
   pub subscription : l.subscription_end ≡ clip_place (subscription_end r h)
 
--- the same in its own role
+-- in the connection's own role, its peer has read this piece besides, and what that makes owed isn't due yet
 abbrev pub IsBehind : Line → History → List ℕ → List ℕ → Type 0
 IsBehind l h out piece = IsBehindAs (role_of l) l h out piece
 

@@ -33,7 +33,7 @@ abbrev pub MakesFile : List ℕ → List ℕ → Did → List Entry → List Ent
 MakesFile path text Done before after = WritesAndSyncs path text Done before after
 MakesFile path text Failed before after = FailsAtFile path text before after
 
--- the same, by the answer; nothing is asked of the disk where memory was refused
+-- the making of a file of this text, by its answer; where memory was refused nothing is asked of the disk
 abbrev pub WritesFile : {U : Type 0} → List ℕ → List ℕ → Result U ConnectionFault → List Entry → List Entry → Type 0
 WritesFile path text (Ok u) before after = MakesFile path text Done before after
 WritesFile path text (Err fault.Failed) before after = MakesFile path text Failed before after

@@ -73,7 +73,7 @@ pub record FindsBy (a : Ask) (n : Notebook) (result : Result Kernel KernelFault)
   pub finds : Finds a n answer result
   pub ends : after ≡ read_entries a n answer before
 
--- the same where nothing is told of the disk
+-- a look for the kernel of a job, for some answer of the disk
 abbrev pub IsFound : Ask → Notebook → Result Kernel KernelFault → Type 0
 IsFound a n result = (answer : Option ReadFile) × Finds a n answer result
 

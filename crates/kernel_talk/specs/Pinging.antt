@@ -42,6 +42,6 @@ abbrev pub is_lost_by : Option Ping → ℕ → ℕ → Bool
 is_lost_by None ms taken = false
 is_lost_by (Some ping) ms taken = nat_le ping.end taken && nat_le (ping.at + ping_ms) ms
 
--- so it is by the tenth of these pings
+-- the kernel is lost by these pings: the tenth without an echo was taken whole, 3,000 ms ago or more
 abbrev pub is_lost : Pinged → ℕ → ℕ → Bool
 is_lost p ms taken = is_lost_by p.tenth ms taken

@@ -31,7 +31,7 @@ abbrev pub of_keys : List (List ℕ) → List (List ℕ) → Json → Option (Li
 of_keys required known t = option_or (place_unless (has_all required t))
     (of_unknown (λ k. list_any (λ key. bytes_eq k key) known) (fields t))
 
--- the same of an output that has to have these keys beside its `output_type`
+-- the keys of an output that has to have these beside its `output_type`: a missing one, else the first that isn't known
 abbrev pub of_output_keys : List (List ℕ) → Json → Option (List ℕ)
 of_output_keys required o = of_keys required (output_keys required) o
 

@@ -15,7 +15,7 @@ common_pairs kind c =
     (codes "cell_type", json.Str kind) ∷ (codes "id", json.Str c.id)
     ∷ (codes "metadata", c.metadata) ∷ (codes "source", c.source) ∷ []
 
--- the same with attachments, where there are some
+-- the pairs of a raw or a markdown cell, with its attachments where there are some
 abbrev pub prose_pairs : List ℕ → Cell → List (List ℕ × Json)
 prose_pairs kind c = optional_pair (codes "attachments") c.attachments ++ common_pairs kind c
 

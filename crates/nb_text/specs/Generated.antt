@@ -27,7 +27,7 @@ generated_cell i = record {
   count = None;
 }
 
--- so many cells, from this index on
+-- this number of generated cells, from this index on
 abbrev pub cells_from : ℕ → ℕ → List Cell
 cells_from i zero = []
 cells_from i (suc n) = generated_cell i ∷ cells_from (i + 1) n

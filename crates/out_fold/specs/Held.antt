@@ -113,7 +113,7 @@ pub record Holds (f : Folds) (us : List Used) : Type 0 where
 
 -- ---- what a call does
 
--- the same cells may begin
+-- both folds join streams alike, and the same cells may begin in both
 pub record IsSameShape (f f' : Folds) : Type 0 where
   pub merge : f'.merge ≡ f.merge
   pub next : f'.next ≡ f.next

@@ -30,7 +30,7 @@ pub record Grown (calls : List Call) (x : Index) (cell : ℕ) : Type 0 where
   pub more : (id : List ℕ) (n : ℕ) → has_place calls id n ≡ true → has_place calls' id n ≡ true
   pub within : (cells : ℕ) → cell < cells → IsWithin cells calls → IsWithin cells calls'
 
--- and so has the output of the message, where it has a display id
+-- what had a place still has one, and so has the output of this message, where it has a display id
 pub record Placed (calls : List Call) (x : Index) (c : Content) (cell : ℕ) : Type 0 where
   pub calls' : List Call
   pub told : index.StandsFor x calls'

@@ -52,7 +52,7 @@ with_data s (Some d) = record { bundle = d.bundle; metadata = d.metadata; id = s
 abbrev pub known_to : (List ℕ → Option Data) → Shown → Shown
 known_to known s = with_data s (option_and_then known s.id)
 
--- the same of an output
+-- an output with the data that is known of its display id, where it has one
 abbrev pub resolve : (List ℕ → Option Data) → Content → Content
 resolve known (content.Display s) = content.Display (known_to known s)
 resolve known (content.Outcome s count) = content.Outcome (known_to known s) count

@@ -12,7 +12,7 @@ is_kept k i = unwrap_or (slice_get k.stands i) false
 abbrev pub text_at : KeptTexts → ℕ → Option (List ℕ)
 text_at k i = if is_kept k i then slice_get k.texts i else None
 
--- the same texts are kept
+-- both keep the same texts of cells
 abbrev pub KeepsSame : KeptTexts → KeptTexts → Type 0
 KeepsSame old new = (i : ℕ) → text_at new i ≡ text_at old i
 

@@ -50,7 +50,7 @@ settled_cell merge us stop i c = marked_cell (stops_at stop i) (folded_cell merg
 abbrev pub saved_cell : Bool → List Used → ℕ → Option ℕ → ℕ → Cell → Cell
 saved_cell merge us settled stop i c = if nat_lt i settled then settled_cell merge us stop i c else c
 
--- those cells in a save that settles so many
+-- the cells of a notebook in a save that settles so many
 abbrev pub saved_cells : Bool → List Used → ℕ → Option ℕ → List Cell → List Cell
 saved_cells merge us settled stop cs = map (λ q. saved_cell merge us settled stop q.0 q.1) (enumerate_from 0 cs)
 

@@ -87,7 +87,7 @@ pub record EndsAs {U : Type 0} (output text : List ℕ) (result : Result U Progr
 abbrev pub IsOfSave : List Entry → Type 0
 IsOfSave now = IsOf OnDisk now ⊎ IsOf OnSay now
 
--- this holds where the save was refused before any call
+-- the fact holds where the save was refused before any call
 abbrev pub OnRefusal : {U : Type 0} → Result U ProgressFault → Type 0 → Type 0
 OnRefusal (Ok u) same = Unit {0}
 OnRefusal (Err (fault.Save f)) same = Unit {0}

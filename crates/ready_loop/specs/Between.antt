@@ -13,7 +13,7 @@ ends_reading p (made.Refused conn by) = is_at p conn
 ends_reading p (made.Closed conn) = is_at p conn
 ends_reading p _ = false
 
--- so did one since the last wait
+-- some entry since the last wait ended the reading of a place
 abbrev pub was_ended : ℕ → List Entry → Bool
 was_ended p [] = false
 was_ended p (entry ∷ past) = if is_wait entry then false else ends_reading p entry || was_ended p past

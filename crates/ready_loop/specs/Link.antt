@@ -20,7 +20,7 @@ is_known Fresh = false
 is_known Begun = true
 is_known Closed = true
 
--- and no close has followed
+-- a connect was called for the connection, and no close has followed
 abbrev pub is_begun : Stage → Bool
 is_begun Fresh = false
 is_begun Begun = true

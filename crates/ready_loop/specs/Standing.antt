@@ -145,7 +145,7 @@ pub record IsElsewhere (entry : Entry) : Type 0 where
   pub conn : conn_of entry ≡ None
   pub wait : is_wait entry ≡ false
 
--- so is the newest entry
+-- the newest entry is neither of a connection nor a wait
 abbrev pub MadeElsewhere : List Entry → Type 0
 MadeElsewhere [] = ⊥
 MadeElsewhere (entry ∷ past) = IsElsewhere entry

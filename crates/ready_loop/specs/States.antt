@@ -35,11 +35,11 @@ use Rattle.ready_loop.specs.declared.readiness.Loop.{Loop}
 use Rattle.ready_loop.specs.Link.{MayRead, MayWrite, named_link, is_found, is_known, is_begun}
 use Rattle.ready_loop.specs.Queues.{held_in, rest_at}
 
--- so it is of the connections at all places below this one
+-- the fact holds of each connection at a place below this one
 abbrev pub EachBelow : ℕ → List Link → (ℕ → Link → Type 0) → Type 0
 EachBelow n links P = (p : ℕ) (link : Link) → p < n → slice_get links p ≡ Some link → P p link
 
--- so it is of all connections
+-- the fact holds of each connection
 abbrev pub Each : List Link → (ℕ → Link → Type 0) → Type 0
 Each links P = EachBelow 64 links P
 
@@ -57,7 +57,7 @@ reads_where true false reads = 64 - reads
 reads_where true true reads = 0
 reads_where false failed reads = 0
 
--- so it is of a connection by what is kept of it
+-- how often this connection may give bytes before the next wait, by what is kept of it
 abbrev pub link_reads : Link → ℕ
 link_reads link = reads_where link.awake link.failed link.reads
 
@@ -152,13 +152,13 @@ failed_after (Ok x) p was = was
 pub record FailsOnly {T : Type 0} (result : Result T LoopFault) (old new : Loop) : Type 0 where
   pub each : (p : ℕ) → failed_at new p ≡ failed_after result p (failed_at old p)
 
--- so it is after a connect
+-- a connect leaves no other connection failed than those that were, and the one that it names
 abbrev pub failed_connect : Connected → Conn → ℕ → Bool → Bool
 failed_connect connected.Begun conn p was = was
 failed_connect connected.Refused conn p was = was
 failed_connect connected.Failed conn p was = is_at p conn || was
 
--- and after a write
+-- a write leaves no other connection failed than those that were, and the one that it names
 abbrev pub failed_put : Put → Conn → ℕ → Bool → Bool
 failed_put (put.Took n) conn p was = was
 failed_put put.Stuck conn p was = was
@@ -176,7 +176,7 @@ pub record IsOfferedAt (place last : ℕ) (l : Loop) : Type 0 where
   pub calm : IsCalmAt place last l
   pub sent : (link : Link) → slice_get l.links place ≡ Some link → MayWrite link → rest_at l.queues place ≡ []
 
--- nor at any place below this one
+-- nothing is to be done before a wait at any place below this one
 pub record AllOfferedBelow (n last : ℕ) (l : Loop) : Type 0 where
   pub each : (p : ℕ) → p < n → IsOfferedAt p last l
 

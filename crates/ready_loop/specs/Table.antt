@@ -21,7 +21,7 @@ links_of slab keys = map (link_in slab) keys
 abbrev pub AllHeld : ℕ → Slab Link → List ℕ → Type 0
 AllHeld n slab keys = (p key : ℕ) → p < n → slice_get keys p ≡ Some key → IsSome (get slab key)
 
--- and no two places have one key
+-- no two places have one key
 abbrev pub AllApart : ℕ → List ℕ → Type 0
 AllApart n keys = (p q key : ℕ) → p < n → q < n → slice_get keys p ≡ Some key → slice_get keys q ≡ Some key → p ≡ q
 

@@ -16,7 +16,7 @@ start_at j k (entry ∷ past) = or_later (start_at j k past) (if nat_le k (lengt
 abbrev pub alone : List (ℕ × Arrival) → List Arrival
 alone arrived = map (λ a. a.1) arrived
 
--- those that arrived at a later position and pass a test
+-- the messages that arrived at a later position and pass a test
 abbrev pub later_with : (Arrival → Bool) → ℕ → List (ℕ × Arrival) → List Arrival
 later_with test start arrived = alone (filter (λ a. nat_lt start a.0 && test a.1) arrived)
 

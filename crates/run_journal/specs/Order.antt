@@ -39,7 +39,7 @@ pub record ComesLater (j : Job) (past : List Entry) : Type 0 where
 abbrev pub HasAnswered : Job → List Entry → Type 0
 HasAnswered j past = (why j past ≡ Some cause.Done) ⊎ (why j past ≡ Some cause.CellError)
 
--- the same bytes were got for the same requests, each of which had come to stand before
+-- in both journals the same bytes were got for the same requests, each of which had come to stand before
 pub record SameBytes (j : Job) (one two : List Entry) : Type 0 where
   pub shell : bytes_got j Shell one ≡ bytes_got j Shell two
   pub iopub : bytes_got j Iopub one ≡ bytes_got j Iopub two

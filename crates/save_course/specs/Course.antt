@@ -59,7 +59,7 @@ pub record IsSavedAs (output : List ℕ) (texts : List (List ℕ)) (is_open : Bo
   pub whole : is_open ≡ true → save_count output after ≡ length texts
   pub but_one : is_open ≡ false → save_count output after + 1 ≡ length texts
 
--- that is so for the texts of some prefixes, which settle more and more cells by messages whose contents were read
+-- the output was saved by the texts of some prefixes, which settle more and more cells by messages whose contents were read
 pub record IsSavedSo (output : List ℕ) (merge : Bool) (first : Notebook) (from : ℕ) (is_open : Bool) (before after : List Entry) : Type 0 where
   pub saves : List PrefixSave
   pub rising : Rises from saves

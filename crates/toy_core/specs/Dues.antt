@@ -40,6 +40,6 @@ pub record StaysDue (now : ℕ) (old new : Machine) : Type 0 where
   pub ended : (t : ℕ) (status : ℤ) → now ≤ t → end_by now old.kernel.agenda ≡ Some status
       → end_by t new.kernel.agenda ≡ Some status
 
--- the same, of a `Toy`
+-- what was due of a `Toy` at a moment is due then and later before all else, and what had ended stays ended
 abbrev pub KeepsDue : ℕ → Toy → Toy → Type 0
 KeepsDue now old new = StaysDue now old.machine new.machine

@@ -23,7 +23,7 @@ rest_due box coming = drop box.given (ready box ++ coming)
 abbrev pub is_handed_out : Outbox → Bool
 is_handed_out box = nat_le (length (front box) + length box.octets) box.given
 
--- the same, with what was handed out let go once it is all
+-- the outbox without the octets that were handed out, once all were
 abbrev pub trim_box : Outbox → Outbox
 trim_box box =
     cond (is_handed_out box)
@@ -37,7 +37,7 @@ with_octets octets box = record { start = box.start; is_open = box.is_open; octe
 abbrev pub post_octets : List ℕ → Outbox → Outbox
 post_octets octets box = with_octets octets (trim_box box)
 
--- so many octets were handed out; the count stands still at the last number of its type
+-- the outbox after so many octets were handed out; the count stands still at the last number of its type
 abbrev pub hand_out : ℕ → Outbox → Outbox
 hand_out n box = record { start = box.start; is_open = box.is_open; octets = box.octets; given = min (box.given + n) (2 ^ 64 - 1) }
 

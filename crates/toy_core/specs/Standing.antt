@@ -259,7 +259,7 @@ is_body parts = nat_lt 0 (length parts) && nat_le (length parts) 63 && nat_le (s
 abbrev pub echo_body : List (List ℕ) → Lines → Lines
 echo_body body ls = cond (is_body body) (send_on chan.Heart (body_octets chan.Heart body) ls) ls
 
--- the same, of the whole kernel
+-- a body that came on the heartbeat goes back, as the whole kernel has it
 abbrev pub with_echo : List (List ℕ) → Standing → Standing
 with_echo body s = record { kernel = s.kernel; lines = echo_body body s.lines }
 
@@ -331,7 +331,7 @@ accept_line c now s =
     cond (is_some (end_by now s.kernel.agenda)) s
     (record { kernel = s.kernel; lines = with_line c (opened_line (line c s.lines)) s.lines })
 
--- so many octets are handed out on a channel
+-- the kernel after so many octets were handed out on a channel
 abbrev pub handed_on : Chan → ℕ → Standing → Standing
 handed_on c n s = record { kernel = s.kernel; lines = with_line c (handed_line n (line c s.lines)) s.lines }
 

@@ -58,7 +58,7 @@ gave c give.Ended s = s
 abbrev pub accepts_by : ℕ → Agenda → Bool
 accepts_by now a = not (is_some (end_by now a))
 
--- the same, of a `Toy`
+-- what a `Toy` gives on a channel at a moment, with this much room
 abbrev pub gives : Toy → Chan → ℕ → ℕ → Given
 gives toy c now room = given_at c now room toy.machine
 

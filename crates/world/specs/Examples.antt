@@ -18,11 +18,11 @@ renamed_save =
     ∷ made.Created (codes "d/t") Done
     ∷ []
 
--- the same with the sync of the folder
+-- a temporary file of one byte, synced and renamed to `d/o`, and the folder synced
 abbrev pub whole_save : List Entry
 whole_save = made.DirSynced (codes "d") Done ∷ renamed_save
 
--- the same where that sync failed
+-- a temporary file of one byte, synced and renamed to `d/o`, where the sync of the folder failed
 abbrev pub unsynced_save : List Entry
 unsynced_save = made.DirSynced (codes "d") Failed ∷ renamed_save
 

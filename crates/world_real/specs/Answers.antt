@@ -34,7 +34,7 @@ abbrev pub did_of : {T E : Type 0} → Result T E → Did
 did_of (Ok value) = did.Done
 did_of (Err error) = did.Failed
 
--- so many bytes of a piece were taken; to take none is a failure
+-- a write took so many bytes of a piece; to take none is a failure
 abbrev pub wrote_of : {E : Type 0} → Result ℕ E → Wrote
 wrote_of (Ok n) = if n == 0 then wrote.Failed else wrote.Took n
 wrote_of (Err error) = wrote.Failed
