@@ -1,7 +1,7 @@
 #!/usr/bin/env python3
 """Whether docs/nbrun.1 says what `./nbrun --help` says: each option with its values and its words, each status with its
-words, each example; and whether no line of the help is wider than 80 columns. With --source the help is read from the
-program's source, where the program isn't built. Status 0 where they agree."""
+words, each example; whether both completions have just its options; and whether no line of the help is wider than 80
+columns. With --source the help is read from the program's source. Status 0 where they agree."""
 import re
 import subprocess
 import sys
@@ -53,6 +53,14 @@ def of_man(text):
     return options, statuses, examples
 
 
+def completed(name):
+    """The options that a completion offers."""
+    text = re.sub(r"#.*|_files -\S+", "", (TOP / "completions" / name).read_text())
+    if name == "nbrun.bash":
+        text = re.search(r'compgen -W "(--help.*?)" --', text, re.S)[1]
+    return set(re.findall(r"(?<![\w-])--?[a-z][a-z_-]*", text))
+
+
 def main():
     text = help_text()
     wide = [line for line in text.splitlines() if len(line) > 80]
@@ -65,6 +73,10 @@ def main():
         for key in {**ours, **theirs}:
             if ours.get(key) != theirs.get(key):
                 faults.append(f"{name} {key}: help {ours.get(key)!r}, page {theirs.get(key)!r}")
+    known = set(re.findall(r"(?m)^  (?:nbrun )?(--?[a-z][a-z_-]*)|(?<=[,|] )(--?[a-z][a-z_-]*)", text.split("\nAfter -- each word")[0]))
+    known = {name for pair in known for name in pair if name}
+    for name in ("nbrun.bash", "_nbrun"):
+        faults += [f"completions/{name}: {option} is in one of it and the help" for option in sorted(known ^ completed(name))]
     print("\n".join(faults) if faults else "the page and the help agree")
     return 1 if faults else 0
 

@@ -4,7 +4,6 @@ writes, syncs, renames and syncs the folder of the same bytes as often. The file
 bench/out; what a sync costs depends on its disk."""
 import json
 import os
-import subprocess
 import sys
 import time
 from pathlib import Path
@@ -14,13 +13,6 @@ import common
 CELLS = 400
 LINES = 40
 ROUNDS = 3
-CRATE = common.TOP / "crates" / "measure_saves"
-
-
-def program():
-    """The program `measure_saves`, built where it isn't there as it is wanted."""
-    subprocess.run(["rt", "run", "--cpu", common.processor()], cwd=CRATE, check=True, stdout=sys.stderr)
-    return str(CRATE / "out" / "measure_saves")
 
 
 def notebook(word):
@@ -56,7 +48,7 @@ def main():
     first, second, out = folder / "first.ipynb", folder / "second.ipynb", folder / "saved.ipynb"
     first.write_text(notebook("first_"))
     second.write_text(notebook("second"))
-    command = [program(), str(first), str(second), str(out)]
+    command = [common.program(), "saves", str(first), str(second), str(out)]
     for _ in range(ROUNDS):
         values, peak = common.run(command)
         data = out.read_bytes()

@@ -1,18 +1,24 @@
-//! Times the layers of nbrun on inputs that bench/ makes: `measure json FILE`, `measure frames SIZE PIECE COUNT`,
-//! `measure messages COUNT SIZE`, `measure fold COUNT CELLS`, `measure takes OUTPUTS COUNT` and
-//! `measure updates CELLS COUNT`. Each line that it prints is a name and milliseconds, of the last three microseconds.
+//! Times the layers of nbrun on inputs that bench/ makes: `measure json FILE`, `measure loop TURNS`,
+//! `measure messages COUNT SIZE`, `measure fold COUNT CELLS`, `measure takes OUTPUTS COUNT`,
+//! `measure updates CELLS COUNT`, `measure frames SIZE PIECE COUNT` and `measure saves FIRST SECOND OUTPUT`.
+//! Each line that it prints is a name and milliseconds, of the last three microseconds; of `loop` nanoseconds
+//! a turn and microseconds of 64 MiB.
 #![tactic(auto)]
 
 mod fold;
 mod frames;
+mod loops;
 mod messages;
+mod saves;
+mod spout;
+mod steps;
 mod texts;
 
 use anyhow::{Result, bail};
 use std::env;
 
 const USAGE: &str =
-    "measure json FILE | frames SIZE PIECE COUNT | messages COUNT SIZE | fold COUNT CELLS | takes OUTPUTS COUNT | updates CELLS COUNT";
+    "measure json FILE | loop TURNS | messages COUNT SIZE | fold COUNT CELLS | takes OUTPUTS COUNT | updates CELLS COUNT | frames SIZE PIECE COUNT | saves FIRST SECOND OUTPUT";
 
 fn main(rt: HostRuntime) -> Result<()> {
     let mut args = env::args(&rt)?;
@@ -24,14 +30,14 @@ fn main(rt: HostRuntime) -> Result<()> {
 fn run(rt: &HostRuntime, words: &[String]) -> Result<()> {
     match words {
         [] => usage(rt),
-        [kind, file] => one(rt, kind.as_str(), file.as_str()),
+        [kind, value] => one(rt, kind.as_str(), value.as_str()),
         [kind, first, second] => two(rt, kind.as_str(), first.as_str(), second.as_str()),
-        [kind, size, piece, count] => three(
+        [kind, first, second, third] => three(
             rt,
             kind.as_str(),
-            size.as_str(),
-            piece.as_str(),
-            count.as_str(),
+            first.as_str(),
+            second.as_str(),
+            third.as_str(),
         ),
         _ => bail!("{USAGE}"),
     }
@@ -42,33 +48,30 @@ fn usage(rt: &HostRuntime) -> Result<()> {
     Ok(())
 }
 
-fn one(rt: &HostRuntime, kind: &str, file: &str) -> Result<()> {
-    if kind == "json" {
-        texts::measure(rt, file)
-    } else {
-        bail!("{USAGE}")
+fn one(rt: &HostRuntime, kind: &str, value: &str) -> Result<()> {
+    match kind {
+        "json" => texts::measure(rt, value),
+        "loop" => loops::measure(rt, number(value)?),
+        _ => bail!("{USAGE}"),
     }
 }
 
 fn two(rt: &HostRuntime, kind: &str, first: &str, second: &str) -> Result<()> {
-    if kind == "messages" {
-        messages::measure(rt, number(first)?, number(second)?)
-    } else if kind == "fold" {
-        fold::measure(rt, number(first)?, number(second)?)
-    } else if kind == "takes" {
-        fold::measure_takes(rt, number(first)?, number(second)?)
-    } else if kind == "updates" {
-        fold::measure_updates(rt, number(first)?, number(second)?)
-    } else {
-        bail!("{USAGE}")
+    let (first, second) = (number(first)?, number(second)?);
+    match kind {
+        "messages" => messages::measure(rt, first, second),
+        "fold" => fold::measure(rt, first, second),
+        "takes" => fold::measure_takes(rt, first, second),
+        "updates" => fold::measure_updates(rt, first, second),
+        _ => bail!("{USAGE}"),
     }
 }
 
-fn three(rt: &HostRuntime, kind: &str, size: &str, piece: &str, count: &str) -> Result<()> {
-    if kind == "frames" {
-        frames::measure(rt, number(size)?, number(piece)?, number(count)?)
-    } else {
-        bail!("{USAGE}")
+fn three(rt: &HostRuntime, kind: &str, first: &str, second: &str, third: &str) -> Result<()> {
+    match kind {
+        "frames" => frames::measure(rt, number(first)?, number(second)?, number(third)?),
+        "saves" => saves::measure_files(rt, first, second, third),
+        _ => bail!("{USAGE}"),
     }
 }
 

@@ -1,7 +1,7 @@
 //! Each call of a run fails in turn. It fails safely where the run has the status of that call, its
 //! child is ended, and each image of each moment has the save that was acknowledged last or the next.
 use jtext::{Bytes, List};
-use sample_notebooks::TWO_SAVED;
+use samples::notebooks::TWO_SAVED;
 use std::alloc::Global;
 use std::test::Fail;
 use toy_core::Toy;

@@ -1,5 +1,5 @@
 //! `Row`, the runs that are watched.
-use sample_notebooks::TWO;
+use samples::notebooks::TWO;
 
 /// One of the runs that are watched.
 #[derive(Clone, Copy, Debug, Drop, PartialEq, Eq)]

@@ -1,9 +1,0 @@
-use Rattle.std.proofs.Common.{◌<◌, length}
-use Rattle.ready_loop.specs.States.{IsSound}
-use Rattle.measure_loop.proofs.steps.turn.Given as goal
-
-abbrev pub invariant-loop : goal.invariant-loop
-invariant-loop g l = record {
-  room : 0 < length l.buf;
-  sound : IsSound l.l;
-}

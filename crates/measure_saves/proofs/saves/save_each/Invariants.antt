@@ -1,5 +1,0 @@
-use Rattle.progress_save.specs.State.{Fits}
-use Rattle.measure_saves.proofs.saves.save_each.Given as goal
-
-abbrev pub invariant-loop-i : goal.invariant-loop-i
-invariant-loop-i g l = Fits l.progress l.notebook.cells

@@ -1,0 +1,6 @@
+use Rattle.std.proofs.Common.{◌≡◌}
+use Rattle.out_fold.specs.Stands.{cells_of, next_of}
+use Rattle.test_fold.proofs.outputs.give_often.Given as goal
+
+abbrev pub invariant-loop-given : goal.invariant-loop-given
+invariant-loop-given l = (next_of l.fold ≡ next_of l.fn.fold) × (cells_of l.fold ≡ cells_of l.fn.fold)
