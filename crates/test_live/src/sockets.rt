@@ -124,10 +124,10 @@ fn wait_for_file(rt: &HostRuntime, w: &mut RealWorld<HostRuntime>, path: &str) -
     Err("no such file came".into())
 }
 
-/// The exit status of the child, after at most 30 seconds.
-fn status(w: &mut RealWorld<HostRuntime>) -> Option<i32> {
+/// The exit status of the child, after at most 50 seconds.
+pub(crate) fn status(w: &mut RealWorld<HostRuntime>) -> Option<i32> {
     let mut reports = Reports { ready: [false; 64] };
-    for _ in 0..3000u32 {
+    for _ in 0..5000u32 {
         if let Some(status) = w.look(0) {
             return Some(status);
         }

@@ -111,6 +111,7 @@ pub fn each_image_is_safe(
 }
 
 /// What may stand at an output at a moment.
+#[derive(Clone, Copy, Drop)]
 struct Near<'a> {
     output: &'a str,
     // The save that was acknowledged last, if one was.
