@@ -4,13 +4,13 @@
 #![tactic(auto)]
 
 use jtext::NoMemory;
+use sample_runs::{
+    Reference, Row, acknowledged, each_image_is_safe, ends_its_children, status, world,
+};
 use std::alloc::Global;
 use std::process::ExitCode;
 use std::{env, io};
 use toy_core::Toy;
-use watched_runs::{
-    Reference, Row, acknowledged, each_image_is_safe, ends_its_children, status, world,
-};
 use world_mem::{ImageFault, MemWorld};
 
 /// What came of a run.

@@ -1,11 +1,11 @@
 //! Each call of a run fails in turn. It fails safely where the run has the status of that call, its
 //! child is ended, and each image of each moment has the save that was acknowledged last or the next.
 use jtext::{Bytes, List};
+use sample_runs::{Reference, Row, each_image_is_safe, ends_its_children, status, world};
 use samples::notebooks::TWO_SAVED;
 use std::alloc::Global;
 use std::test::Fail;
 use toy_core::Toy;
-use watched_runs::{Reference, Row, each_image_is_safe, ends_its_children, status, world};
 use world_mem::MemWorld;
 
 /// The output of the run.

@@ -1,10 +1,10 @@
 //! The disk fails for good behind each number of its calls.
 use crate::calls::{is_safe_run, reference};
 use jtext::{Bytes, List, NoMemory};
+use sample_runs::{Reference, Row, is_of_disk, status, world};
 use std::alloc::Global;
 use std::test::Fail;
 use toy_core::Toy;
-use watched_runs::{Reference, Row, is_of_disk, status, world};
 use world_mem::MemWorld;
 
 // The numbers of the calls of the disk in a run in which no call fails.
