@@ -72,12 +72,14 @@ fn nothing_but_a_regular_file_is_replaced(rt: HostRuntime) -> Result<(), Fail> {
     symlink(&rt, "a-folder", "to-folder")?;
     symlink(&rt, "a-pipe", "to-pipe")?;
     symlink(&rt, "/dev/null", "to-device")?;
+    symlink(&rt, "/proc/self/exe", "to-stream")?;
     let barred = [
         "a-folder",
         "a-pipe",
         "to-folder",
         "to-pipe",
         "to-device",
+        "to-stream",
         "/dev/stdout",
     ];
     for path in barred {
@@ -89,7 +91,7 @@ fn nothing_but_a_regular_file_is_replaced(rt: HostRuntime) -> Result<(), Fail> {
             "{path}"
         );
     }
-    assert_eq!(rt; w.disk_faults(), 6);
+    assert_eq!(rt; w.disk_faults(), 7);
     fs::write(&rt, "a-file", "kept")?;
     symlink(&rt, "a-file", "to-file")?;
     symlink(&rt, "absent", "to-nothing")?;
@@ -104,6 +106,7 @@ fn nothing_but_a_regular_file_is_replaced(rt: HostRuntime) -> Result<(), Fail> {
         "to-folder",
         "to-pipe",
         "to-device",
+        "to-stream",
         "a-file",
         "to-file",
         "to-nothing",

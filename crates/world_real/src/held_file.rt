@@ -5,6 +5,7 @@ use crate::file_id::FileId;
 use crate::making::make;
 use crate::standing::{may_rename, standing_at, standing_behind};
 use jtext::Text;
+use std::alloc::Global;
 use std::fs::{File, Files};
 use std::io::{ErrorKind, Write};
 use std::{fs, io};
@@ -46,9 +47,9 @@ impl HeldFile {
     }
 
     /// Gives it that name.
-    pub(crate) fn rename<R: Files>(&self, files: &R, to: &str) -> io::Result<()> {
+    pub(crate) fn rename<R: Files>(&self, files: &R, alloc: Global, to: &str) -> io::Result<()> {
         let from = standing_at(files, self.path.as_str())?;
-        may_rename(self.id, from, standing_behind(files, to)?)?;
+        may_rename(self.id, from, standing_behind(files, alloc, to)?)?;
         fs::rename(files, self.path.as_str(), to)
     }
 

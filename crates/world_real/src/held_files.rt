@@ -12,6 +12,7 @@ use std::io::ErrorKind;
 /// under it, and to no other.
 #[derive(Drop)]
 pub(crate) struct HeldFiles {
+    alloc: Global,
     files: Vec<HeldFile>,
 }
 
@@ -19,6 +20,7 @@ impl HeldFiles {
     /// No file yet.
     pub(crate) fn new(alloc: Global) -> HeldFiles {
         HeldFiles {
+            alloc,
             files: Vec::new(alloc),
         }
     }
@@ -57,7 +59,7 @@ impl HeldFiles {
     /// Gives the file of this name that name, and lets it go.
     pub(crate) fn rename<R: Files>(&mut self, files: &R, path: &str, to: &str) -> io::Result<()> {
         match self.find(path) {
-            Some(held) => held.rename(files, to)?,
+            Some(held) => held.rename(files, self.alloc, to)?,
             None => return Err(not_made()),
         }
         self.let_go(path);

@@ -3,9 +3,13 @@ ghost use Rattle.std.specs.Prelude.{◌≡◌, ◌↔◌, IsOk, IfOk, IfErr, IsT
 ghost use Rattle.world_real.specs.Names as spec;
 
 use crate::file_id::FileId;
+use std::alloc::Global;
 use std::fs::{Files, Metadata};
 use std::io::ErrorKind;
 use std::{fs, io};
+
+/// The folder of what runs (proc(5)).
+const PROCESSES: &str = "/proc/";
 
 /// What stands under a name.
 #[derive(Clone, Copy, Debug, Drop, PartialEq, Eq)]
@@ -14,7 +18,7 @@ pub(crate) enum Standing {
     Nothing,
     /// This regular file.
     Regular(FileId),
-    /// A folder, a link, a device or a pipe.
+    /// A folder, a link, a device, a pipe or a stream.
     Other,
 }
 
@@ -36,8 +40,25 @@ pub(crate) fn standing_at<R: Files>(files: &R, path: &str) -> io::Result<Standin
 }
 
 /// What the name leads to. A link that leads to nothing has nothing behind it.
-pub(crate) fn standing_behind<R: Files>(files: &R, path: &str) -> io::Result<Standing> {
+pub(crate) fn standing_behind<R: Files>(
+    files: &R,
+    alloc: Global,
+    path: &str,
+) -> io::Result<Standing> {
+    if is_stream(files, alloc, path)? {
+        return Ok(Standing::Other);
+    }
     standing_of(fs::metadata(files, path))
+}
+
+// Whether the name is that of a stream of the process, as /dev/stdout is a link to /proc/self/fd/1
+// (proc(5)). Behind it may stand a regular file, and yet the name isn't one of a file.
+fn is_stream<R: Files>(files: &R, alloc: Global, path: &str) -> io::Result<bool> {
+    match files.read_link(alloc, path) {
+        Ok(link) => Ok(link.as_path().as_os_str().starts_with(PROCESSES)),
+        Err(e) if e.kind() == ErrorKind::OutOfMemory => Err(e),
+        Err(_) => Ok(false),
+    }
 }
 
 // What stands there, by what the system says of the name.
