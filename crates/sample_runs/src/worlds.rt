@@ -1,5 +1,5 @@
 //! The world of a run: what it reads, the description of a toy kernel, and a kernel for each job.
-ghost use Rattle.std.specs.Prelude.{◌≡◌, ◌≤◌, All, IfOk};
+ghost use Rattle.std.specs.Prelude.{◌≡◌, ◌<◌, ◌≤◌, All, IfOk};
 ghost use Rattle.toy_core.specs.Toy.{latest_of};
 
 use crate::row::Row;
