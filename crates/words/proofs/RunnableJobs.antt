@@ -1,12 +1,9 @@
 -- A jobs file asks for what a run can do.
 use Rattle.std.proofs.Common.{◌≡◌, ◌≤◌, ℕ, ◌+◌, Bool, true, false, cond, nat_eq, List, [], ◌∷◌, map, Option, Some, None, IfSome, refl, sym, ap, ◌∙◌, subst, arith}
-use Rattle.std.proofs.lemmas.Bool.{and_parts}
 use Rattle.std.specs.Prelude.{codes, option_map, unwrap_or}
-use Rattle.std.specs.List.{AllByRecursion, list_all}
-use Rattle.std.specs.Str.{bytes_eq}
+use Rattle.std.specs.List.{AllByRecursion}
 use Rattle.std.specs.Cmp.Lexicographic.{pointwise}
-use Rattle.std.proofs.lemmas.Slice.Eq.{bytes_eq-Decides}
-use Rattle.words.proofs.RunnableWords.{IsPlain, AreParameters}
+use Rattle.words.proofs.RunnableWords.{IsPlain, AreParameters, parameter}
 use Rattle.jtext.specs.declared.json.Json.{Json, out-Json}
 use Rattle.jtext.specs.declared.json.Json.TheOpen.{Json-F}
 use Rattle.jtext.specs.declared.json.Json.TheVariants as json
@@ -15,15 +12,13 @@ use Rattle.jtext.specs.Find.{find, fields, fields_of, field}
 use Rattle.jtext.specs.Grammar.{Distinct}
 use Rattle.jtext.specs.Keyed as keyed
 use Rattle.jtext.specs.Keyed.{Keyed, AllKeyed, PairsKeyed}
-use Rattle.jtext.specs.Look.{is_object, items, items_layer, there_and, items_of}
+use Rattle.jtext.specs.Look.{items, items_layer, items_of}
 use Rattle.jtext.proofs.Trees.{open_Null, open_Bool, open_Num, open_Str, open_Arr, open_Obj}
 use Rattle.jtext.proofs.SpelledKeyed.{spelled_keyed}
 use Rattle.jtext.proofs.Depths.{depth-Arr, depth-Obj, highest-all, pairs-all}
-use Rattle.jtext.specs.Names.{is_name}
 use Rattle.jtext.specs.Within.{IsTextWithin}
 use Rattle.words.specs.declared.ask.Ask.{Ask}
-use Rattle.words.specs.Members.{member_of, are_parameters}
-use Rattle.words.specs.JobsFile.{member_takes, is_member, is_job, are_jobs, jobs_of, IsJobsFile}
+use Rattle.words.specs.JobsFile.{jobs_of}
 use Rattle.words.specs.JobsAsked.{ask_of_job, asks_of}
 use Rattle.words.specs.Runnable.{IsParameter, IsRunnable}
 
@@ -96,52 +91,27 @@ items_of_fine (Some v) h = fine_items v h.0 h.1
 jobs_fine : (t : Json) → IsPlain t → AllByRecursion IsPlain (jobs_of t)
 jobs_fine t fine = items_of_fine (field t (codes "jobs")) (found IsPlain (codes "jobs") (fields t) (fine_fields t fine.0 fine.1).0)
 
-jobs_are : (o : Option Json) → there_and are_jobs o ≡ true → list_all is_job (items_of o) ≡ true
-jobs_are None e = refl
-jobs_are (Some v) e = (and_parts _ (list_all is_job (items v)) e).1
-
 -- ---- the parameters
 
-parameters_value : (name : List ℕ) (v : Json) → bytes_eq name (codes "parameters") ≡ true → is_member (name, v) ≡ true → are_parameters v ≡ true
-parameters_value name v e is = sym (ap (λ n. member_takes (member_of n) v) ((bytes_eq-Decides name (codes "parameters")).0 e)) ∙ is
+fine_parameters : (ps : List (List ℕ × Json)) → AllByRecursion (λ p. IsPlain p.1) ps → AllByRecursion IsParameter ps
+fine_parameters [] fine = tt
+fine_parameters (p ∷ ps) fine = (parameter p fine.0, fine_parameters ps fine.1)
 
-found_parameters : (ps : List (List ℕ × Json)) → list_all is_member ps ≡ true → IfSome (find (codes "parameters") ps) (λ v. are_parameters v ≡ true)
-found_parameters [] all = tt
-found_parameters (p ∷ ps) all =
-    let parts = and_parts (is_member p) (list_all is_member ps) all in
-    by_test (bytes_eq p.0 (codes "parameters")) (find (codes "parameters") ps) (λ e. parameters_value p.0 p.1 e parts.0) (found_parameters ps parts.1)
-  where
-    by_test : (b : Bool) (rest : Option Json) → (b ≡ true → are_parameters p.1 ≡ true) → IfSome rest (λ v. are_parameters v ≡ true) → IfSome (cond b (Some p.1) rest) (λ v. are_parameters v ≡ true)
-    by_test true rest here there = here refl
-    by_test false rest here there = there
+params_are : (common : List (List ℕ × Json)) (o : Option Json) → AreParameters common → IfSome o IsPlain → AreParameters (unwrap_or (option_map fields o) common)
+params_are common None are fine = are
+params_are common (Some v) are fine = let inside = fine_fields v fine.0 fine.1 in (inside.1, fine_parameters (fields v) inside.0)
 
-named : (ps : List (List ℕ × Json)) → list_all (λ p. is_name p.0) ps ≡ true → AllByRecursion (λ p. IsPlain p.1) ps → AllByRecursion IsParameter ps
-named [] all fine = tt
-named (p ∷ ps) all fine =
-    let parts = and_parts (is_name p.0) (list_all (λ q. is_name q.0) ps) all in
-    (record { name = parts.0; keyed = fine.0.0; nests = fine.0.1 }, named ps parts.1 fine.1)
-
-params_are : (common : List (List ℕ × Json)) (o : Option Json) → AreParameters common → IfSome o IsPlain → IfSome o (λ v. are_parameters v ≡ true) → AreParameters (unwrap_or (option_map fields o) common)
-params_are common None are fine is = are
-params_are common (Some v) are fine is =
-    let inside = fine_fields v fine.0 fine.1 in
-    (inside.1, named (fields v) (and_parts (is_object v) (list_all (λ p. is_name p.0) (fields v)) is).1 inside.0)
-
-job_runnable : (common : Ask) (job : Json) → IsRunnable common → IsPlain job → is_job job ≡ true → IsRunnable (ask_of_job common job)
-job_runnable common job run fine is =
-    let members = (and_parts _ (list_all is_member (fields job)) is).1 in
+job_runnable : (common : Ask) (job : Json) → IsRunnable common → IsPlain job → IsRunnable (ask_of_job common job)
+job_runnable common job run fine =
     let inside = fine_fields job fine.0 fine.1 in
-    let are = params_are common.params (field job (codes "parameters")) (run.distinct, run.parameters) (found IsPlain (codes "parameters") (fields job) inside.0) (found_parameters (fields job) members) in
+    let are = params_are common.params (field job (codes "parameters")) (run.distinct, run.parameters) (found IsPlain (codes "parameters") (fields job) inside.0) in
     record { distinct = are.0; parameters = are.1; start = run.start; limit = run.limit }
 
-all_runnable : (common : Ask) (jobs : List Json) → IsRunnable common → AllByRecursion IsPlain jobs → list_all is_job jobs ≡ true → AllByRecursion IsRunnable (map (ask_of_job common) jobs)
-all_runnable common [] run fine is = tt
-all_runnable common (job ∷ jobs) run fine is =
-    let parts = and_parts (is_job job) (list_all is_job jobs) is in
-    (job_runnable common job run fine.0 parts.0, all_runnable common jobs run fine.1 parts.1)
+all_runnable : (common : Ask) (jobs : List Json) → IsRunnable common → AllByRecursion IsPlain jobs → AllByRecursion IsRunnable (map (ask_of_job common) jobs)
+all_runnable common [] run fine = tt
+all_runnable common (job ∷ jobs) run fine = (job_runnable common job run fine.0, all_runnable common jobs run fine.1)
 
-pub asks_runnable : (file bytes : List ℕ) (common : Ask) (t : Json) → IsTextWithin 1048576 100 bytes t → IsJobsFile file t → IsRunnable common → AllByRecursion IsRunnable (asks_of common t)
-asks_runnable file bytes common t text valid run =
+pub asks_runnable : (bytes : List ℕ) (common : Ask) (t : Json) → IsTextWithin 1048576 100 bytes t → IsRunnable common → AllByRecursion IsRunnable (asks_of common t)
+asks_runnable bytes common t text run =
     let fine : IsPlain t = (spelled_keyed t text.spells.value text.spells.is_value, text.within) in
-    let shape = and_parts _ (there_and are_jobs (field t (codes "jobs"))) valid.shape in
-    all_runnable common (jobs_of t) run (jobs_fine t fine) (jobs_are (field t (codes "jobs")) shape.1)
+    all_runnable common (jobs_of t) run (jobs_fine t fine)

@@ -1,8 +1,7 @@
 -- The words ask for what a run can do.
-use Rattle.std.proofs.Common.{◌≡◌, ◌≤◌, ◌<◌, ◌^◌, ℕ, ◌*◌, Bool, true, false, cond, not, ◌&&◌, List, [], ◌∷◌, Option, Some, None, IfSome, refl, sym, ap, ◌∙◌, subst, arith}
-use Rattle.std.proofs.lemmas.Bool.{and_parts, false≢true}
+use Rattle.std.proofs.Common.{◌≡◌, ◌≤◌, ◌<◌, ◌^◌, ℕ, ◌*◌, Bool, true, false, cond, ◌&&◌, List, [], ◌∷◌, Option, Some, None, IfSome, refl, sym, subst, arith}
 use Rattle.std.specs.Prelude.{nat_le, codes, option_map, option_and_then, unwrap_or}
-use Rattle.std.specs.List.{AllByRecursion, list_all}
+use Rattle.std.specs.List.{AllByRecursion}
 use Rattle.std.specs.Str.{bytes_eq}
 use Rattle.std.proofs.lemmas.Bool.Decides.{nat_tests}
 use Rattle.jtext.specs.declared.json.Json.{Json}
@@ -12,28 +11,21 @@ use Rattle.jtext.specs.Grammar.{Distinct}
 use Rattle.jtext.specs.Keyed as keyed
 use Rattle.jtext.specs.Keyed.{Keyed}
 use Rattle.jtext.proofs.Depths.{depth-Null, depth-Bool, depth-Num, depth-Str}
-use Rattle.words.specs.declared.choice.Choice.{Choice}
 use Rattle.words.specs.declared.choice.Choice.TheVariants as choice
 use Rattle.words.specs.declared.command.Command.{Command}
 use Rattle.words.specs.declared.form.Form.{Form}
 use Rattle.words.specs.declared.form.Form.TheVariants.{One, Batch, Exercise}
-use Rattle.words.specs.declared.kind.Kind.{Kind}
-use Rattle.words.specs.declared.kind.Kind.TheVariants.{Path, End, Unknown, Chosen}
 use Rattle.words.specs.declared.part.Part.{Part}
-use Rattle.words.specs.declared.takes.Takes.TheVariants.{NameAndText}
 use Rattle.words.specs.Numbers.{seconds, count, within}
-use Rattle.words.specs.Parts.{word, parts_of, has_values, is_unknown, is_choice, takes_of}
+use Rattle.words.specs.Parts.{word, parts_of, is_choice}
 use Rattle.words.specs.Forms.{form_of}
-use Rattle.words.specs.Grammar.{fits, is_well_formed}
 use Rattle.words.specs.Values.{value_of}
 use Rattle.words.specs.Parameters.{with_parameter, parameters_from}
 use Rattle.jtext.specs.Edit.{set_pair}
-use Rattle.jtext.specs.Names.{is_name, is_number, short_number}
+use Rattle.jtext.specs.Names.{is_number, short_number}
 use Rattle.words.specs.Asked.{option_value, milliseconds, ask_of, command_in, command_of_words}
-use Rattle.words.specs.Refusals.{refusal}
 use Rattle.words.specs.Runnable.{IsParameter, IsRunnable, IsRunnableCommand}
 use Rattle.words.proofs.PairLemmas.{all-set_pair, distinct-set_pair}
-use Rattle.words.proofs.GrammarLaws.{only_commands}
 
 -- ---- values
 
@@ -69,58 +61,35 @@ plain_value text =
 
 -- ---- parameters
 
-names_value : (c : Choice) → is_choice choice.Parameter (Chosen c) ≡ true → takes_of (Chosen c) ≡ NameAndText
-names_value choice.Parameter e = refl
-names_value c e = absurd (false≢true e)
-
-names_raw : (c : Choice) → is_choice choice.RawParameter (Chosen c) ≡ true → takes_of (Chosen c) ≡ NameAndText
-names_raw choice.RawParameter e = refl
-names_raw c e = absurd (false≢true e)
-
-takes_name : (k : Kind) → is_choice choice.Parameter k ≡ true → takes_of k ≡ NameAndText
-takes_name (Chosen c) e = names_value c e
-takes_name Path e = absurd (false≢true e)
-takes_name End e = absurd (false≢true e)
-takes_name Unknown e = absurd (false≢true e)
-
-takes_raw_name : (k : Kind) → is_choice choice.RawParameter k ≡ true → takes_of k ≡ NameAndText
-takes_raw_name (Chosen c) e = names_raw c e
-takes_raw_name Path e = absurd (false≢true e)
-takes_raw_name End e = absurd (false≢true e)
-takes_raw_name Unknown e = absurd (false≢true e)
-
--- the first value of a part that takes a name is one
-named : (words : List (List ℕ)) (p : Part) → is_well_formed words p ≡ true → takes_of p.kind ≡ NameAndText → is_name (word p.first words) ≡ true
-named words p well takes =
-    let known = and_parts (not (is_unknown p.kind)) (has_values words p && fits (takes_of p.kind) (word p.first words)) well in
-    let valued = and_parts (has_values words p) (fits (takes_of p.kind) (word p.first words)) known.1 in
-    sym (ap (λ t. fits t (word p.first words)) takes) ∙ valued.1
-
 -- parameters, each name once
 abbrev pub AreParameters : List (List ℕ × Json) → Type 0
 AreParameters fields = Distinct fields × AllByRecursion IsParameter fields
 
-put_parameter : (name : List ℕ) (v : Json) (fields : List (List ℕ × Json)) → is_name name ≡ true → IsPlain v → AreParameters fields → AreParameters (set_pair name v fields)
-put_parameter name v fields is plain are =
-    (distinct-set_pair name v fields are.0, all-set_pair IsParameter name v fields (record { name = is; keyed = plain.0; nests = plain.1 }) are.1)
+-- what nests at most 100 deep can be given
+pub parameter : (p : List ℕ × Json) → IsPlain p.1 → IsParameter p
+parameter p plain = record { keyed = plain.0; nests = deeper (depth p.1) plain.1 }
+  where
+    deeper : (n : ℕ) → n ≤ 100 → n ≤ 124
+    deeper n le = omega arith
 
-given_step : (a b : Bool) (x y fields : List (List ℕ × Json)) → (a ≡ true → AreParameters x) → (b ≡ true → AreParameters y) → AreParameters fields → AreParameters (cond a x (cond b y fields))
-given_step true b x y fields p q r = p refl
-given_step false true x y fields p q r = q refl
+put_parameter : (name : List ℕ) (v : Json) (fields : List (List ℕ × Json)) → IsPlain v → AreParameters fields → AreParameters (set_pair name v fields)
+put_parameter name v fields plain are = (distinct-set_pair name v fields are.0, all-set_pair IsParameter name v fields (parameter (name, v) plain) are.1)
+
+given_step : (a b : Bool) (x y fields : List (List ℕ × Json)) → AreParameters x → AreParameters y → AreParameters fields → AreParameters (cond a x (cond b y fields))
+given_step true b x y fields p q r = p
+given_step false true x y fields p q r = q
 given_step false false x y fields p q r = r
 
-given_parameters : (words : List (List ℕ)) (p : Part) (fields : List (List ℕ × Json)) → is_well_formed words p ≡ true → AreParameters fields → AreParameters (with_parameter words p fields)
-given_parameters words p fields well are =
+given_parameters : (words : List (List ℕ)) (p : Part) (fields : List (List ℕ × Json)) → AreParameters fields → AreParameters (with_parameter words p fields)
+given_parameters words p fields are =
     given_step (is_choice choice.Parameter p.kind) (is_choice choice.RawParameter p.kind) _ _ fields
-    (λ e. put_parameter (word p.first words) (value_of (word p.second words)) fields (named words p well (takes_name p.kind e)) (plain_value (word p.second words)) are)
-    (λ e. put_parameter (word p.first words) (json.Str (word p.second words)) fields (named words p well (takes_raw_name p.kind e)) (plain_str (word p.second words)) are)
+    (put_parameter (word p.first words) (value_of (word p.second words)) fields (plain_value (word p.second words)) are)
+    (put_parameter (word p.first words) (json.Str (word p.second words)) fields (plain_str (word p.second words)) are)
     are
 
-all_parameters : (words : List (List ℕ)) (fields : List (List ℕ × Json)) (ps : List Part) → list_all (is_well_formed words) ps ≡ true → AreParameters fields → AreParameters (parameters_from words fields ps)
-all_parameters words fields [] well are = are
-all_parameters words fields (p ∷ ps) well are =
-    let parts = and_parts (is_well_formed words p) (list_all (is_well_formed words) ps) well in
-    all_parameters words (with_parameter words p fields) ps parts.1 (given_parameters words p fields parts.0 are)
+all_parameters : (words : List (List ℕ)) (fields : List (List ℕ × Json)) (ps : List Part) → AreParameters fields → AreParameters (parameters_from words fields ps)
+all_parameters words fields [] are = are
+all_parameters words fields (p ∷ ps) are = all_parameters words (with_parameter words p fields) ps (given_parameters words p fields are)
 
 -- ---- numbers
 
@@ -168,9 +137,9 @@ at_most_200 (Some text) = or_none (count text) (count_range text)
 
 -- ---- the command
 
-ask_runnable : (input output : List ℕ) (words : List (List ℕ)) (ps : List Part) → list_all (is_well_formed words) ps ≡ true → IsRunnable (ask_of input output words ps)
-ask_runnable input output words ps well =
-    let are = all_parameters words [] ps well (tt, tt) in
+ask_runnable : (input output : List ℕ) (words : List (List ℕ)) (ps : List Part) → IsRunnable (ask_of input output words ps)
+ask_runnable input output words ps =
+    let are = all_parameters words [] ps (tt, tt) in
     record {
       distinct = are.0;
       parameters = are.1;
@@ -178,10 +147,10 @@ ask_runnable input output words ps well =
       limit = thousands (option_value choice.ExecutionTimeout words ps);
     }
 
-command_runnable : (form : Form) (words : List (List ℕ)) (ps : List Part) → list_all (is_well_formed words) ps ≡ true → IsRunnableCommand (command_in form words ps)
-command_runnable One words ps well = ask_runnable _ _ words ps well
-command_runnable Batch words ps well = ask_runnable [] [] words ps well
-command_runnable Exercise words ps well = at_most_200 (option_value choice.Exercise words ps)
+command_runnable : (form : Form) (words : List (List ℕ)) (ps : List Part) → IsRunnableCommand (command_in form words ps)
+command_runnable One words ps = ask_runnable _ _ words ps
+command_runnable Batch words ps = ask_runnable [] [] words ps
+command_runnable Exercise words ps = at_most_200 (option_value choice.Exercise words ps)
 
-pub words_runnable : (words : List (List ℕ)) (c : Command) → c ≡ command_of_words words → refusal words ≡ None → IsRunnableCommand c
-words_runnable words c is none = subst IsRunnableCommand (sym is) (command_runnable (form_of (parts_of words)) words (parts_of words) (only_commands words none).well_formed)
+pub words_runnable : (words : List (List ℕ)) (c : Command) → c ≡ command_of_words words → IsRunnableCommand c
+words_runnable words c is = subst IsRunnableCommand (sym is) (command_runnable (form_of (parts_of words)) words (parts_of words))

@@ -19,5 +19,4 @@ pub returns-clause-runnable : goal.returns-clause-runnable
 returns-clause-runnable c = λ run.
     let tree = c.in-Some.tree in
     subst (AllByRecursion IsRunnable) (sym (c.in_ok-asks-in-None.ensures ∙ ap (map (ask_of_job c.args.common.now)) c.jobs_of.ensures))
-    (asks_runnable c.args.file.now c.args.bytes.now c.args.common.now tree (rw c.in-Some.is at c.in_ok-tree.ensures)
-    (only_valid c.args.file.now tree (sym c.in_ok-place.ensures ∙ c.in-None.is)) run)
+    (asks_runnable c.args.bytes.now c.args.common.now tree (rw c.in-Some.is at c.in_ok-tree.ensures) run)

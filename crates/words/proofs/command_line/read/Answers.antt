@@ -1,7 +1,6 @@
-use Rattle.std.proofs.Common.{map, sym, ap, ◌∙◌}
+use Rattle.std.proofs.Common.{map, ap, ◌∙◌}
 use Rattle.std.specs.Prelude.{string_bytes}
 use Rattle.words.specs.Asked.{command_of}
-use Rattle.words.specs.Refusals.{refusal_of}
 use Rattle.words.proofs.RunnableWords.{words_runnable}
 use Rattle.words.proofs.command_line.read.Goals as goal
 
@@ -10,4 +9,3 @@ returns-clause-runnable c =
     let words = map string_bytes c.args.words.now in
     words_runnable words c.in_ok-command.field-0
     (c.in_ok-command.ensures ∙ ap (command_of words) (c.as_slice-2.ensures ∙ c.in_ok-parts.ensures))
-    (sym (c.in_default.ensures ∙ ap (refusal_of words) (c.as_slice.ensures ∙ c.in_ok-parts.ensures)))
