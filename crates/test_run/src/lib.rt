@@ -11,6 +11,10 @@ mod jobs;
 #[cfg(test)]
 mod leaves;
 #[cfg(test)]
+mod marks;
+#[cfg(test)]
+mod moments;
+#[cfg(test)]
 mod notebooks;
 #[cfg(test)]
 mod octets;

@@ -37,6 +37,8 @@ pub(crate) enum Trick {
     Deaf,
     /// It sends nothing on the heartbeat.
     NoEcho,
+    /// It sends no reply to kernel_info_request.
+    NoInfo,
     /// After its reply to kernel_info_request it sends the head of a frame of 2^63 octets.
     BrokenInfo,
     /// After its reply to each cell it sends the head of a frame of 2^63 octets.
@@ -121,6 +123,7 @@ pub(crate) fn shell_rule(trick: Trick) -> Rule {
         Trick::BadGreeting => doing(Mark::Greeting, Deed::Break),
         Trick::HugeFrame => doing(Mark::Ready, Deed::AddHuge),
         Trick::SecondReady => doing(Mark::Ready, Deed::Repeat),
+        Trick::NoInfo => doing(Mark::Info, Deed::Drop),
         Trick::BrokenInfo => doing(Mark::Info, Deed::AddHuge),
         Trick::BrokenReply | Trick::Flood => doing(Mark::Replies, Deed::AddHuge),
         Trick::LateReply => doing(Mark::Replies, Deed::Hold),
