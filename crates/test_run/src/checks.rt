@@ -101,6 +101,19 @@ pub(crate) fn often_in_save<K: KernelSide>(
     Ok(count(save.bytes(), text.as_bytes()))
 }
 
+/// How often this text stands in what was sent.
+pub(crate) fn sends<K: KernelSide>(w: &MemWorld<K>, text: &str) -> usize {
+    let mut often: usize = 0;
+    if let Some(entries) = w.journal() {
+        for entry in entries.iter() {
+            if let Entry::Put { bytes, .. } = entry {
+                often = often.saturating_add(count(bytes.bytes(), text.as_bytes()));
+            }
+        }
+    }
+    often
+}
+
 /// How many kernels were started.
 pub(crate) fn starts<K: KernelSide>(w: &MemWorld<K>) -> usize {
     let mut starts: usize = 0;

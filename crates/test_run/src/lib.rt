@@ -27,6 +27,8 @@ mod plays;
 #[cfg(test)]
 mod queue;
 #[cfg(test)]
+mod requests;
+#[cfg(test)]
 mod rule;
 #[cfg(test)]
 mod runs;
