@@ -1,7 +1,7 @@
 //! What a crash may leave at each moment of a run.
 use crate::row::Row;
 use crate::worlds::{SPEC, SPEC_PATH};
-use jtext::{Bytes, List, NoMemory};
+use jtext::{Bytes, List, NoMemory, Text};
 use std::alloc::Global;
 use std::mem;
 use toy_core::Toy;
@@ -81,6 +81,50 @@ fn is_done_sync(entry: &Entry) -> bool {
     }
 }
 
+/// Whether no call of the disk names this output or its temporary file once one of these failed.
+pub fn is_left_alone(w: &MemWorld<Toy>, output: &str) -> bool {
+    let mut has_failed = false;
+    let mut renamed = false;
+    if let Some(entries) = w.journal() {
+        for entry in entries.iter() {
+            if has_failed && is_of_save(entry, output) {
+                return false;
+            }
+            has_failed = has_failed || fails_save(entry, output, renamed);
+            renamed = is_done_rename(entry, output);
+        }
+    }
+    true
+}
+
+// Whether this is a call of a save of the output that failed; the folder is synced behind a rename.
+fn fails_save(entry: &Entry, output: &str, renamed: bool) -> bool {
+    match entry {
+        Entry::Created { did, .. } | Entry::Wrote { did, .. } => {
+            *did == Did::Failed && is_of_save(entry, output)
+        }
+        Entry::Synced { did, .. } | Entry::Renamed { did, .. } => {
+            *did == Did::Failed && is_of_save(entry, output)
+        }
+        Entry::DirSynced { did, .. } => *did == Did::Failed && renamed,
+        _ => false,
+    }
+}
+
+// Whether the call names the output or its temporary file.
+fn is_of_save(entry: &Entry, output: &str) -> bool {
+    match entry {
+        Entry::Created { path, .. } | Entry::Wrote { path, .. } => is_path_of(path, output),
+        Entry::Synced { path, .. } | Entry::Removed { path, .. } => is_path_of(path, output),
+        Entry::Renamed { from, to, .. } => is_path_of(from, output) || is_path_of(to, output),
+        _ => false,
+    }
+}
+
+fn is_path_of(path: &Text, output: &str) -> bool {
+    path.as_str() == output || is_temporary_of(path.as_str(), output)
+}
+
 /// Whether at each moment of a run each image has at this output what was acknowledged last or the
 /// next of these texts, and every input as it was.
 pub fn each_image_is_safe(
@@ -96,7 +140,7 @@ pub fn each_image_is_safe(
     let mut saves: usize = 0;
     let mut renamed = false;
     for entry in entries.iter() {
-        let near = Near::of(output, texts, saves);
+        let near = Near::of(row, output, texts, saves);
         if !is_safe_at(w, row, moment, &near)? {
             return Ok(false);
         }
@@ -106,7 +150,7 @@ pub fn each_image_is_safe(
         }
         renamed = is_done_rename(entry, output);
     }
-    let near = Near::of(output, texts, saves);
+    let near = Near::of(row, output, texts, saves);
     is_safe_at(w, row, moment, &near)
 }
 
@@ -114,17 +158,17 @@ pub fn each_image_is_safe(
 #[derive(Clone, Copy, Drop)]
 struct Near<'a> {
     output: &'a str,
-    // The save that was acknowledged last, if one was.
+    // The save that was acknowledged last, or what stood there before any.
     last: Option<&'a [u8]>,
     next: Option<&'a [u8]>,
 }
 
 impl<'a> Near<'a> {
     // Where so many saves are acknowledged.
-    fn of(output: &'a str, texts: &'a List<Bytes>, saves: usize) -> Near<'a> {
+    fn of(row: Row, output: &'a str, texts: &'a List<Bytes>, saves: usize) -> Near<'a> {
         let last = match saves.checked_sub(1) {
             Some(place) => texts.get(place).map(|text| text.bytes()),
-            None => None,
+            None => row.old().map(|text| text.as_bytes()),
         };
         Near {
             output,
@@ -141,7 +185,7 @@ impl<'a> Near<'a> {
 
 fn is_safe_at(w: &MemWorld<Toy>, row: Row, moment: u64, near: &Near) -> Result<bool, ImageFault> {
     let images = match row {
-        Row::Two => IMAGES,
+        Row::Two | Row::Over => IMAGES,
         Row::Batch => IMAGES_OF_TWO,
     };
     for choice in 0..images {

@@ -9,7 +9,7 @@ mod reference;
 mod row;
 mod worlds;
 
-pub use images::{acknowledged, each_image_is_safe};
+pub use images::{acknowledged, each_image_is_safe, is_left_alone};
 pub use kinds::is_of_disk;
 pub use reference::Reference;
 pub use row::Row;

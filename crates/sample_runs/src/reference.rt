@@ -51,7 +51,7 @@ impl Reference {
 /// How many saves the jobs of a row make together.
 pub(crate) fn saves_of(row: Row) -> usize {
     match row {
-        Row::Two => SAVES_OF_TWO,
+        Row::Two | Row::Over => SAVES_OF_TWO,
         Row::Batch => 2 * SAVES_OF_ONE,
     }
 }

@@ -64,6 +64,11 @@ fn files(alloc: Global, row: Row) -> Result<Files, NoMemory> {
     for (path, text) in row.inputs() {
         files.push((Text::of(alloc, path)?, Bytes::of(alloc, text.as_bytes())?))?;
     }
+    if let Some(old) = row.old() {
+        for output in row.outputs() {
+            files.push((Text::of(alloc, output)?, Bytes::of(alloc, old.as_bytes())?))?;
+        }
+    }
     files.push((
         Text::of(alloc, SPEC_PATH)?,
         Bytes::of(alloc, SPEC.as_bytes())?,

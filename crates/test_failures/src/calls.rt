@@ -1,7 +1,9 @@
 //! Each call of a run fails in turn. It fails safely where the run has the status of that call, its
 //! child is ended, and each image of each moment has the save that was acknowledged last or the next.
 use jtext::{Bytes, List};
-use sample_runs::{Reference, Row, each_image_is_safe, ends_its_children, status, world};
+use sample_runs::{
+    Reference, Row, each_image_is_safe, ends_its_children, is_left_alone, status, world,
+};
 use samples::notebooks::TWO_SAVED;
 use std::alloc::Global;
 use std::test::Fail;
@@ -30,7 +32,8 @@ fn last_is(reference: &Reference, text: &str) -> bool {
     }
 }
 
-/// Whether the run there has this status, ends its child and leaves whole saves.
+/// Whether the run there has this status, ends its child and leaves whole saves, and nothing of a save is
+/// done once a call of one failed.
 pub(crate) fn is_safe_run(
     alloc: Global,
     w: &mut MemWorld<Toy>,
@@ -38,7 +41,12 @@ pub(crate) fn is_safe_run(
     texts: &List<Bytes>,
 ) -> Result<bool, Fail> {
     let answered = status(alloc, Row::Two, w)?;
-    Ok(answered == code && ends_its_children(w) && each_image_is_safe(w, Row::Two, OUT, texts)?)
+    Ok(
+        answered == code
+            && ends_its_children(w)
+            && is_left_alone(w, OUT)
+            && each_image_is_safe(w, Row::Two, OUT, texts)?,
+    )
 }
 
 // Whether the run in which the call with this number fails is so.

@@ -6,3 +6,5 @@
 mod calls;
 #[cfg(test)]
 mod fuses;
+#[cfg(test)]
+mod old_outputs;

@@ -1,7 +1,7 @@
 //! What a run has left.
 use crate::jobs::run;
 use job_end::Answer;
-use jtext::{List, NoMemory, Text};
+use jtext::{Bytes, List, NoMemory, Text};
 use std::alloc::Global;
 use world::{Entry, KernelSide};
 use world_mem::MemWorld;
@@ -42,6 +42,110 @@ pub(crate) fn holds<K: KernelSide>(
         Some(file) => Ok(file.bytes() == text.as_bytes()),
         None => Ok(false),
     }
+}
+
+/// The marks of the cells in the file at this path and the types of their outputs, in their order, each
+/// with a space behind it.
+pub(crate) fn marks<K: KernelSide>(
+    alloc: Global,
+    w: &MemWorld<K>,
+    path: &str,
+) -> Result<String, NoMemory> {
+    let mut marks = String::new(alloc);
+    if let Some(file) = w.file(&Text::of(alloc, path)?) {
+        if let Ok(text) = std::str::from_utf8(file.bytes()) {
+            for line in text.lines() {
+                put_mark(&mut marks, line.trim())?;
+            }
+        }
+    }
+    Ok(marks)
+}
+
+// Adds the value of a line that says how a cell ended or of which type an output is.
+fn put_mark(marks: &mut String, line: &str) -> Result<(), NoMemory> {
+    let value = match line.split_once(": \"") {
+        Some(("\"status\"", value)) => value,
+        Some(("\"output_type\"", value)) => value,
+        _ => return Ok(()),
+    };
+    if let Some((word, _)) = value.split_once('"') {
+        marks.push_str(word)?;
+        marks.push_str(" ")?;
+    }
+    Ok(())
+}
+
+/// How often this text stands in the save of this number, from 0, onto `out.ipynb`.
+pub(crate) fn often_in_save<K: KernelSide>(
+    alloc: Global,
+    w: &MemWorld<K>,
+    number: usize,
+    text: &str,
+) -> Result<usize, NoMemory> {
+    let mut saves: usize = 0;
+    let mut save = Bytes::new(alloc);
+    if let Some(entries) = w.journal() {
+        for entry in entries.iter() {
+            match entry {
+                Entry::Wrote { path, bytes, .. } => {
+                    if saves == number && path.as_str() == "out.ipynb.nbrun-tmp" {
+                        save.add(bytes.bytes())?;
+                    }
+                }
+                Entry::Renamed { .. } => saves = saves.saturating_add(1),
+                _ => {}
+            }
+        }
+    }
+    Ok(count(save.bytes(), text.as_bytes()))
+}
+
+/// How often this text stands in what was sent.
+pub(crate) fn sends<K: KernelSide>(w: &MemWorld<K>, text: &str) -> usize {
+    let mut often: usize = 0;
+    if let Some(entries) = w.journal() {
+        for entry in entries.iter() {
+            if let Entry::Put { bytes, .. } = entry {
+                often = often.saturating_add(count(bytes.bytes(), text.as_bytes()));
+            }
+        }
+    }
+    often
+}
+
+/// How many kernels were started.
+pub(crate) fn starts<K: KernelSide>(w: &MemWorld<K>) -> usize {
+    let mut starts: usize = 0;
+    if let Some(entries) = w.journal() {
+        for entry in entries.iter() {
+            if let Entry::Started { .. } = entry {
+                starts = starts.saturating_add(1);
+            }
+        }
+    }
+    starts
+}
+
+/// How many pings were taken, and the limit of the first wait after the last one.
+pub(crate) fn pings<K: KernelSide>(w: &MemWorld<K>) -> (usize, Option<u32>) {
+    let mut pings: usize = 0;
+    let mut limit = None;
+    if let Some(entries) = w.journal() {
+        for entry in entries.iter() {
+            match entry {
+                Entry::Put { bytes, .. } => {
+                    if holds_text(bytes.bytes(), "\x04ping") {
+                        pings = pings.saturating_add(1);
+                        limit = None;
+                    }
+                }
+                Entry::Waited { ms, .. } => limit = limit.or(Some(*ms)),
+                _ => {}
+            }
+        }
+    }
+    (pings, limit)
 }
 
 /// Whether this text stands so often in the file at this path.

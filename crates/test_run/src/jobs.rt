@@ -14,6 +14,10 @@ use world_mem::{Files, Kernels, MemWorld, Script, Sizes};
 const SPEC: &str =
     "{\"argv\":[\"toy_kernel\",\"{connection_file}\"],\"display_name\":\"Toy\",\"interrupt_mode\":\"message\",\"language\":\"toy\"}";
 
+/// The jobs of two inputs.
+const JOBS: &str =
+    "{\"jobs\":[{\"input\":\"in.ipynb\",\"output\":\"a.ipynb\"},{\"input\":\"in-2.ipynb\",\"output\":\"b.ipynb\"}]}";
+
 fn add(alloc: Global, files: &mut Files, path: &str, text: &str) -> Result<(), NoMemory> {
     files.push((Text::of(alloc, path)?, Bytes::of(alloc, text.as_bytes())?))?;
     Ok(())
@@ -39,7 +43,7 @@ pub(crate) fn world_of<K: KernelSide>(
     world_by(alloc, input, kernels, script)
 }
 
-/// A world with this input and these kernels, by a script.
+/// A world with this input, under two names, a jobs file for both and these kernels, by a script.
 pub(crate) fn world_by<K: KernelSide>(
     alloc: Global,
     input: &str,
@@ -51,6 +55,8 @@ pub(crate) fn world_by<K: KernelSide>(
 {
     let mut files = Files::new(alloc);
     add(alloc, &mut files, "in.ipynb", input)?;
+    add(alloc, &mut files, "in-2.ipynb", input)?;
+    add(alloc, &mut files, "jobs.json", JOBS)?;
     add(
         alloc,
         &mut files,
@@ -97,6 +103,19 @@ fn run_asks<W: World>(
         here: Text::of(alloc, "/here")?,
     };
     run_jobs(alloc, w, asks, &limits)
+}
+
+/// Runs the program with these words, and answers its exit status.
+pub(crate) fn program<W: World>(alloc: Global, w: &mut W, words: &str) -> Result<u8, NoMemory> {
+    let mut given = Vec::new(alloc);
+    for word in words.split(' ') {
+        given.push(String::from_str(alloc, word)?)?;
+    }
+    let limits = Limits {
+        turns: 100_000,
+        here: Text::of(alloc, "/here")?,
+    };
+    Ok(nbrun_top::run(alloc, given.as_slice(), &limits, w))
 }
 
 /// Runs the job of these words alone.

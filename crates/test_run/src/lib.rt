@@ -11,6 +11,10 @@ mod jobs;
 #[cfg(test)]
 mod leaves;
 #[cfg(test)]
+mod marks;
+#[cfg(test)]
+mod moments;
+#[cfg(test)]
 mod notebooks;
 #[cfg(test)]
 mod octets;
@@ -22,6 +26,8 @@ mod peers;
 mod plays;
 #[cfg(test)]
 mod queue;
+#[cfg(test)]
+mod requests;
 #[cfg(test)]
 mod rule;
 #[cfg(test)]

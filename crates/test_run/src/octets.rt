@@ -119,7 +119,7 @@ pub(crate) fn spoil(alloc: Global, octets: &[u8]) -> Result<Bytes, NoMemory> {
     with_body(alloc, octets, last, digit)
 }
 
-/// A published message with this text in place of that one, of the same length, signed under the key.
+/// A message with this text in place of that one, of the same length, signed under the key.
 pub(crate) fn swap(
     alloc: Global,
     key: &[u8],
@@ -135,12 +135,19 @@ pub(crate) fn swap(
     sign_anew(alloc, key, changed.bytes())
 }
 
-// A published message, signed under the key.
+// A message, signed under the key. A published one has its topic before the delimiter.
 fn sign_anew(alloc: Global, key: &[u8], octets: &[u8]) -> Result<Bytes, NoMemory> {
     let frames = frames(alloc, octets)?;
-    let [_, _, signature, header, parent, metadata, content, ..] = frames.as_slice() else {
-        return Bytes::of(alloc, octets);
+    let (signature, dicts) = match frames.as_slice() {
+        [_, signature, header, parent, metadata, content] => {
+            (*signature, [*header, *parent, *metadata, *content])
+        }
+        [_, _, signature, header, parent, metadata, content, ..] => {
+            (*signature, [*header, *parent, *metadata, *content])
+        }
+        _ => return Bytes::of(alloc, octets),
     };
+    let [header, parent, metadata, content] = dicts;
     let digits = sign(
         key,
         part(octets, header.from, header.to),
@@ -148,5 +155,5 @@ fn sign_anew(alloc: Global, key: &[u8], octets: &[u8]) -> Result<Bytes, NoMemory
         part(octets, metadata.from, metadata.to),
         part(octets, content.from, content.to),
     );
-    with_body(alloc, octets, *signature, &digits)
+    with_body(alloc, octets, signature, &digits)
 }

@@ -1,6 +1,6 @@
 //! Kernels that send messages in another order, twice, changed or for another request.
 use crate::notebooks::ONE;
-use crate::plays::play;
+use crate::plays::{play, play_within};
 use crate::rule::Trick;
 use std::process::Abort;
 use std::test::Fail;
@@ -58,5 +58,30 @@ fn a_stream_of_the_next_request_is_not_taken_before_it(rt: HostRuntime) -> Resul
     let played = play(rt.alloc(), Trick::NextRequest)?;
     assert!(rt; played.is_done(rt.alloc(), ONE)?);
     assert_eq!(rt; played.gets("\"stream\""), 2);
+    Ok(())
+}
+
+#[test]
+fn a_message_that_came_as_its_request_was_sent_is_not_taken(rt: HostRuntime) -> Result<(), Fail> {
+    let played = play(rt.alloc(), Trick::EarlyStream)?;
+    assert!(rt; played.is_done(rt.alloc(), ONE)?);
+    assert_eq!(rt; played.gets("\"stream\""), 2);
+    Ok(())
+}
+
+/// A cell that may fail, and one that may not.
+const FAILING: &str =
+    r#"{"cells":[{"cell_type":"code","execution_count":null,"id":"a","metadata":{"tags":["raises-exception"]},"outputs":[],"source":["raise E \"no\""]},{"cell_type":"code","execution_count":null,"id":"b","metadata":{},"outputs":[],"source":["result 2"]}],"metadata":{"kernelspec":{"display_name":"Toy","name":"toy"}},"nbformat":4,"nbformat_minor":5}"#;
+
+#[test]
+fn a_reply_that_came_before_its_request_is_not_taken_when_it_comes_again(
+    rt: HostRuntime,
+) -> Result<(), Fail> {
+    let words = "in.ipynb out.ipynb";
+    let alloc = rt.alloc();
+    let played = play_within(alloc, Trick::ReplayedReply, FAILING, words, &[], 100_000)?;
+    assert_eq!(rt; played.gets("execute_reply"), 4);
+    assert!(rt; played.has_status(0, 0));
+    assert_eq!(rt; played.has("\"execute_result\""), 1);
     Ok(())
 }

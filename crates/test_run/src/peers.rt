@@ -1,9 +1,16 @@
 //! Kernels that break the grammar of the wire.
+use crate::checks::holds;
+use crate::jobs::{program, world_of};
 use crate::notebooks::ONE;
-use crate::plays::{play, play_two};
+use crate::plays::{pair, play, play_two};
 use crate::rule::Trick;
+use crate::scripted::Scripted;
+use jtext::NoMemory;
+use samples::notebooks::{TWO, TWO_SAVED};
+use std::alloc::Global;
 use std::process::Abort;
 use std::test::Fail;
+use world_mem::MemWorld;
 
 #[test]
 fn a_broken_greeting_ends_the_job(rt: HostRuntime) -> Result<(), Fail> {
@@ -46,4 +53,20 @@ fn a_broken_kernel_leaves_the_other_job_alone(rt: HostRuntime) -> Result<(), Fai
     assert!(rt; played.has_line(1, "b.ipynb: done\n"));
     assert!(rt; played.has_outputs(rt.alloc(), ONE)?);
     Ok(())
+}
+
+#[test]
+fn a_batch_answers_the_status_of_its_broken_kernel(rt: HostRuntime) -> Result<(), Fail> {
+    let alloc = rt.alloc();
+    let kernels = pair(alloc, Trick::BadGreeting)?;
+    let mut w = world_of(alloc, TWO, kernels, &[], &[])?;
+    let is_so = answers_for_the_broken_one(alloc, &mut w);
+    drop(w);
+    assert!(rt; is_so?);
+    Ok(())
+}
+
+// Whether the program answers the first job's status, and the second one's output is whole.
+fn answers_for_the_broken_one(alloc: Global, w: &mut MemWorld<Scripted>) -> Result<bool, NoMemory> {
+    Ok(program(alloc, w, "--jobs jobs.json")? == 15 && holds(alloc, w, "b.ipynb", TWO_SAVED)?)
 }

@@ -73,6 +73,9 @@ impl Queue {
         if matches!(self.rule.deed, Deed::Endless) && !self.held.is_empty() {
             return Ok(());
         }
+        if matches!(self.rule.deed, Deed::Replay) {
+            self.release()?;
+        }
         let is_meant = self.is_meant(message);
         self.count = self.count.saturating_add(1);
         if is_meant {
@@ -80,7 +83,7 @@ impl Queue {
         } else {
             self.post(message)?;
         }
-        if matches!(self.rule.deed, Deed::Late) && holds(message, "idle") {
+        if matches!(self.rule.deed, Deed::Late | Deed::Early) && holds(message, "idle") {
             self.release()?;
         }
         Ok(())
@@ -96,6 +99,7 @@ impl Queue {
             Mark::Replies => holds(message, "execute_reply"),
             Mark::Idles => holds(message, "\"idle\"") && holds(message, "execute_request"),
             Mark::First => holds(message, "execute_request") && holds(message, FIRST),
+            Mark::FirstReply => holds(message, "execute_reply") && holds(message, FIRST),
             Mark::FirstIdle => holds(message, "\"idle\"") && holds(message, FIRST),
             Mark::FirstInput => holds(message, "execute_input") && holds(message, FIRST),
             Mark::FirstStream => holds(message, "\"stream\"") && holds(message, FIRST),
@@ -116,6 +120,7 @@ impl Queue {
                 Ok(())
             }
             Deed::Hold | Deed::Late | Deed::Endless => self.held.add(message),
+            Deed::Early | Deed::Replay => self.repeat(key, message),
             Deed::Spoil | Deed::Swap | Deed::Echo => self.change(key, message),
         }
     }
@@ -136,6 +141,16 @@ impl Queue {
             }
             _ => Ok(()),
         }
+    }
+
+    // The message becomes due, and later also for the next request.
+    fn repeat(&mut self, key: &Text, message: &[u8]) -> Result<(), NoMemory> {
+        let changed = swap(self.alloc, key.bytes(), message, FIRST, NEXT)?;
+        self.post(message)?;
+        if matches!(self.rule.deed, Deed::Replay) {
+            self.post(changed.bytes())?;
+        }
+        self.held.add(changed.bytes())
     }
 
     fn post_both(&mut self, first: &[u8], second: &[u8]) -> Result<(), NoMemory> {

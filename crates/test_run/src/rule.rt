@@ -37,6 +37,12 @@ pub(crate) enum Trick {
     Deaf,
     /// It sends nothing on the heartbeat.
     NoEcho,
+    /// It sends no reply to kernel_info_request.
+    NoInfo,
+    /// It sends the stream of the first cell for the next request too, right behind the idle of the first.
+    EarlyStream,
+    /// It sends the reply to the first cell for the next request too, at once and again before the reply to it.
+    ReplayedReply,
     /// After its reply to kernel_info_request it sends the head of a frame of 2^63 octets.
     BrokenInfo,
     /// After its reply to each cell it sends the head of a frame of 2^63 octets.
@@ -64,6 +70,8 @@ pub(crate) enum Mark {
     Idles,
     /// All that is published for the first cell.
     First,
+    /// The reply to the request of the first cell.
+    FirstReply,
     /// The idle of the first cell.
     FirstIdle,
     /// The input of the first cell.
@@ -99,6 +107,10 @@ pub(crate) enum Deed {
     Hold,
     /// It waits until the kernel is idle.
     Late,
+    /// It goes out, and for the next request once the kernel is idle.
+    Early,
+    /// It goes out, and for the next request at once and before the next message.
+    Replay,
     /// It goes out at each tick, and no other message does.
     Endless,
 }
@@ -121,6 +133,8 @@ pub(crate) fn shell_rule(trick: Trick) -> Rule {
         Trick::BadGreeting => doing(Mark::Greeting, Deed::Break),
         Trick::HugeFrame => doing(Mark::Ready, Deed::AddHuge),
         Trick::SecondReady => doing(Mark::Ready, Deed::Repeat),
+        Trick::NoInfo => doing(Mark::Info, Deed::Drop),
+        Trick::ReplayedReply => doing(Mark::FirstReply, Deed::Replay),
         Trick::BrokenInfo => doing(Mark::Info, Deed::AddHuge),
         Trick::BrokenReply | Trick::Flood => doing(Mark::Replies, Deed::AddHuge),
         Trick::LateReply => doing(Mark::Replies, Deed::Hold),
@@ -145,6 +159,7 @@ pub(crate) fn iopub_rule(trick: Trick) -> Rule {
         Trick::LateIdle => doing(Mark::Idles, Deed::Hold),
         Trick::IdleOnShellFirst => doing(Mark::Idles, Deed::Hold),
         Trick::LateStream => doing(Mark::FirstStream, Deed::Late),
+        Trick::EarlyStream => doing(Mark::FirstStream, Deed::Early),
         Trick::BadSignature => doing(Mark::FirstStream, Deed::Spoil),
         Trick::TwoStreams => doing(Mark::FirstStream, Deed::Repeat),
         Trick::OtherRequest => doing(Mark::First, Deed::Swap),

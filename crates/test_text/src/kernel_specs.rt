@@ -213,6 +213,29 @@ fn names_in_arguments_are_replaced_once(rt: HostRuntime) -> Result<(), Fail> {
 }
 
 #[test]
+fn a_kernel_is_started_by_the_words_of_its_spec(rt: HostRuntime) -> Result<(), Fail> {
+    let text = br#"{"argv":["k","-f","{connection_file}"]}"#;
+    let s = spec(rt.alloc(), text, false).map_err(|_| "refused")?;
+    let said = words_of(rt.alloc(), &s);
+    drop(s);
+    assert_eq!(rt; said?.as_str(), "k -f /t/c.json ");
+    Ok(())
+}
+
+/// The words by which the kernel is started, with this connection file.
+fn words_of(alloc: Global, s: &Spec) -> Result<String, Fail> {
+    let words = argv(
+        alloc,
+        s,
+        &Text::of(alloc, "/t/c.json")?,
+        &Text::of(alloc, "/k/toy")?,
+    )?;
+    let said = words_text(alloc, &words);
+    drop(words);
+    said
+}
+
+#[test]
 fn a_connection_file_has_its_keys_in_order(rt: HostRuntime) -> Result<(), Fail> {
     let key = Text::of(rt.alloc(), "k")?;
     let text = connection_text(rt.alloc(), [1001, 1002, 1003, 1004, 1005], &key)?;
