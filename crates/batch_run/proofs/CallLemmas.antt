@@ -1,6 +1,6 @@
 -- Calls of one job and of the loop, as calls of a run.
 use Rattle.std.proofs.Common.{◌≡◌, ◌≢◌, ◌⊎◌, inl, inr, ℕ, ◌==◌, ◌||◌, List, [], ◌∷◌, Bool, true, false, Option, Some, None, refl, sym, ◌∙◌, ap, subst}
-use Rattle.std.specs.Prelude.{slice_get, IfSome, if◌then◌else◌}
+use Rattle.std.specs.Prelude.{IfSome, if◌then◌else◌}
 use Rattle.std.specs.Str.{bytes_eq}
 use Rattle.std.proofs.lemmas.Bool.{eq-eqb, eqb-true}
 use Rattle.std.proofs.lemmas.Option.{same_Some}
@@ -50,18 +50,18 @@ pub sole_at : (n k : ℕ) (a b : Ask) → (if n == k then Some a else None) ≡ 
 sole_at n k a b e = sole_by n k a b (n == k) refl e
 
 -- its call is a call of the run
-wide_entry : (asks : List Ask) (here : List ℕ) (clean : Bool) (k : ℕ) (a : Ask) → slice_get asks k ≡ Some a → (past : List Entry) (entry : Entry) → IsCallBy (sole k a here true clean) past entry
+wide_entry : (asks : ℕ → Option Ask) (here : List ℕ) (clean : Bool) (k : ℕ) (a : Ask) → asks k ≡ Some a → (past : List Entry) (entry : Entry) → IsCallBy (sole k a here true clean) past entry
     → IsCallBy (cast_of asks here clean) past entry
 wide_entry asks here clean k a own past entry is =
     let at = sole_at is.number k a is.ask is.has in
-    record { number = is.number; ask = is.ask; has = subst (λ n. slice_get asks n ≡ Some is.ask) (sym at.0) (own ∙ ap Some at.1); is = is.is }
+    record { number = is.number; ask = is.ask; has = subst (λ n. asks n ≡ Some is.ask) (sym at.0) (own ∙ ap Some at.1); is = is.is }
 
-wide : (asks : List Ask) (here : List ℕ) (clean : Bool) (k : ℕ) (a : Ask) → slice_get asks k ≡ Some a → (now : List Entry) → IsCall (sole k a here true clean) now
+wide : (asks : ℕ → Option Ask) (here : List ℕ) (clean : Bool) (k : ℕ) (a : Ask) → asks k ≡ Some a → (now : List Entry) → IsCall (sole k a here true clean) now
     → IsRunCall (cast_of asks here clean) now
 wide asks here clean k a own [] is = absurd is
 wide asks here clean k a own (entry ∷ past) is = inl (wide_entry asks here clean k a own past entry is)
 
-pub calls_wide : (asks : List Ask) (here : List ℕ) (clean : Bool) (k : ℕ) (a : Ask) → slice_get asks k ≡ Some a → {x y : List Entry} → Since (IsCall (sole k a here true clean)) x y
+pub calls_wide : (asks : ℕ → Option Ask) (here : List ℕ) (clean : Bool) (k : ℕ) (a : Ask) → asks k ≡ Some a → {x y : List Entry} → Since (IsCall (sole k a here true clean)) x y
     → Since (IsRunCall (cast_of asks here clean)) x y
 calls_wide asks here clean k a own s = since_as (wide asks here clean k a own) s
 
@@ -136,7 +136,7 @@ loop_spares path [] is = absurd is
 loop_spares path (entry ∷ past) is = spared_other path entry (loop_other entry is)
 
 -- a call of a run touches no other path than those of its jobs
-pub run_spares : (asks : List Ask) (here path : List ℕ) (clean : Bool) → IsNoPath asks path → (now : List Entry) → IsRunCall (cast_of asks here clean) now → Spares path now
+pub run_spares : (asks : ℕ → Option Ask) (here path : List ℕ) (clean : Bool) → IsNoPath asks path → (now : List Entry) → IsRunCall (cast_of asks here clean) now → Spares path now
 run_spares asks here path clean none [] (inl is) = absurd is
 run_spares asks here path clean none (entry ∷ past) (inl is) = call_spares path here true clean is.number is.ask past entry (none is.number is.ask is.has) is.is
 run_spares asks here path clean none now (inr is) = loop_spares path now is.is

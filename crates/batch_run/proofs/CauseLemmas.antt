@@ -57,30 +57,30 @@ waited_more from n c d h more = waited_on from n c.waits d.waits h more
 -- ---- waits
 
 -- where none was waited
-pub rests : (asks : List Ask) (first : Option (List Entry)) (from : Outset) {slots : List Slot} {p : Option (List Entry)} {c : Counts} (n : ℕ) → n ≡ 0
+pub rests : (asks : ℕ → Option Ask) (first : Option (List Entry)) (from : Outset) {slots : List Slot} {p : Option (List Entry)} {c : Counts} (n : ℕ) → n ≡ 0
     → AllStand asks first from slots p c → AllStand asks first (more_waits n from) slots p c
 rests asks first from {slots} {p} {c} n none s =
     let same : from.waits ≡ from.waits + n = omega (arith, none) in
     subst (λ (m : ℕ). AllStand asks first (record from { waits = m }) slots p c) same s
 
 -- as often as so
-pub fits : (asks : List Ask) (first : Option (List Entry)) (from : Outset) {slots : List Slot} {p : Option (List Entry)} {c : Counts} (m n : ℕ) → m ≡ n
+pub fits : (asks : ℕ → Option Ask) (first : Option (List Entry)) (from : Outset) {slots : List Slot} {p : Option (List Entry)} {c : Counts} (m n : ℕ) → m ≡ n
     → AllStand asks first (more_waits m from) slots p c → AllStand asks first (more_waits n from) slots p c
 fits asks first from {slots} {p} {c} m n same s = subst (λ (k : ℕ). AllStand asks first (more_waits k from) slots p c) same s
 
 -- some waits, and then others
-pub fits_then : (asks : List Ask) (first : Option (List Entry)) (from : Outset) {slots : List Slot} {p : Option (List Entry)} {c : Counts} (l m n : ℕ) → l + m ≡ n
+pub fits_then : (asks : ℕ → Option Ask) (first : Option (List Entry)) (from : Outset) {slots : List Slot} {p : Option (List Entry)} {c : Counts} (l m n : ℕ) → l + m ≡ n
     → AllStand asks first (more_waits m (more_waits l from)) slots p c → AllStand asks first (more_waits n from) slots p c
 fits_then asks first from {slots} {p} {c} l m n same s =
     let all : (from.waits + l) + m ≡ from.waits + n = omega (arith, same) in
     subst (λ (k : ℕ). AllStand asks first (record from { waits = k }) slots p c) all s
 
 -- where the connections are as they were
-pub same_lines : (asks : List Ask) (first : Option (List Entry)) (from : Outset) {slots : List Slot} {p : Option (List Entry)} {c : Counts} (was now : Lines) → now ≡ was
+pub same_lines : (asks : ℕ → Option Ask) (first : Option (List Entry)) (from : Outset) {slots : List Slot} {p : Option (List Entry)} {c : Counts} (was now : Lines) → now ≡ was
     → AllStand asks first (wired_by was.connections from) slots p c → AllStand asks first (wired_by now.connections from) slots p c
 same_lines asks first from {slots} {p} {c} was now same s = subst (λ (l : Lines). AllStand asks first (wired_by l.connections from) slots p c) (sym same) s
 
-pub same_ports : (asks : List Ask) (first : Option (List Entry)) (from : Outset) {slots : List Slot} {p : Option (List Entry)} {c : Counts} (was now : Loop) → ports_in now ≡ ports_in was
+pub same_ports : (asks : ℕ → Option Ask) (first : Option (List Entry)) (from : Outset) {slots : List Slot} {p : Option (List Entry)} {c : Counts} (was now : Loop) → ports_in now ≡ ports_in was
     → AllStand asks first (wired_by was from) slots p c → AllStand asks first (wired_by now from) slots p c
 same_ports asks first from {slots} {p} {c} was now same s = subst (λ (w : List (Option ℕ)). AllStand asks first (record from { wires = w }) slots p c) (sym same) s
 

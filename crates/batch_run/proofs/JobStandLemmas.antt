@@ -1,8 +1,7 @@
 -- How the jobs of a run stand once one of them has begun, gone on or ended.
-use Rattle.std.proofs.Common.{◌≡◌, ◌⊎◌, inl, inr, ℕ, ◌<◌, Bool, true, List, ◌∷◌, set, Option, Some, None, Result, Ok, Err, refl, sym, ◌∙◌, ap, subst}
+use Rattle.std.proofs.Common.{◌≡◌, ◌⊎◌, inl, inr, ℕ, Bool, true, List, ◌∷◌, set, Option, Some, None, Result, Ok, Err, refl, sym, ◌∙◌, ap, subst}
 use Rattle.std.specs.Prelude.{slice_get, IfSome, IfOk, IfErr}
-use Rattle.std.proofs.lemmas.Option.{slice_get_within, same_Some}
-use Rattle.jtext.proofs.Lists.{some_at}
+use Rattle.std.proofs.lemmas.Option.{same_Some}
 use Rattle.words.specs.declared.ask.Ask.{Ask}
 use Rattle.world.specs.declared.entry.Entry.{Entry}
 use Rattle.world.specs.declared.entry.Entry.TheVariants.{Read}
@@ -64,14 +63,14 @@ called k a here clean was p q c d spoken tells role calls =
     calls (or_none p) (plays k a here true clean was (or_none p) p c spoken tells role (at_start (IsCall (sole k a here true clean)) p))
 
 -- the job of a slot, by what was asked
-own_ask : (asks : List Ask) (first : Option (List Entry)) (from : Outset) (slots : List Slot) (p : Option (List Entry)) (c : Counts) (k : ℕ) (was : Job)
-    → slice_get slots k ≡ Some (Running was) → AllStand asks first from slots p c → (a : Ask) × (slice_get asks k ≡ Some a) × PlaysRole k a was
+own_ask : (asks : ℕ → Option Ask) (first : Option (List Entry)) (from : Outset) (slots : List Slot) (p : Option (List Entry)) (c : Counts) (k : ℕ) (was : Job)
+    → slice_get slots k ≡ Some (Running was) → AllStand asks first from slots p c → (a : Ask) × (asks k ≡ Some a) × PlaysRole k a was
 own_ask asks first from slots p c k was found s =
-    let own = some_at asks k (subst (λ n. k < n) s.size (slice_get_within slots k (Running was) found)) in
+    let own : (a : Ask) × (asks k ≡ Some a) = elim (s.asked k (Running was) found) [ inl ended ↦ absurd ended | inr is ↦ is ] in
     (own.0, own.1, s.plays k own.0 (Running was) own.1 found)
 
 -- a call of a job
-pub job_goes_on : (asks : List Ask) (first : Option (List Entry)) (from : Outset) (slots : List Slot) (p q : Option (List Entry)) (c d : Counts) (k : ℕ) (was next : Job)
+pub job_goes_on : (asks : ℕ → Option Ask) (first : Option (List Entry)) (from : Outset) (slots : List Slot) (p q : Option (List Entry)) (c d : Counts) (k : ℕ) (was next : Job)
     → ((o : Origin) → Runs o was p c → Runs o next q d)
     → ((cast : Cast) (since : List Entry) (then : Counts) → HasRole cast since then was p c → HasRole cast since then next q d)
     → task_of_job next ≡ task_of_job was → output_of_job next ≡ output_of_job was
@@ -79,15 +78,15 @@ pub job_goes_on : (asks : List Ask) (first : Option (List Entry)) (from : Outset
     → slice_get slots k ≡ Some (Running was)
     → AllStand asks first from slots p c → AllStand asks first from (set slots k (Running next)) q d
 job_goes_on asks first from slots p q c d k was next runs leaves task output lost spent found s =
-    change asks first from slots p q c d k (Running was) (Running next) found so.counts_work (λ e. absurd (cc)) so.spoken
+    change asks first from slots p q c d k (Running was) (Running next) found (λ e. e) so.counts_work (λ e. absurd (cc)) so.spoken
     (λ a at role. (made a at role, played k a from.here true from.clean (or_none p) c next q d (goes a at role)))
     (λ e a at role. played_tells k a from.here true from.clean (or_none p) c next q d (goes a at role) e)
     (λ a at role h. tt) step count s
   where
-    tells_of : (a : Ask) → slice_get asks k ≡ Some a → from.clean ≡ true → TellsAll a was.run.book p c
+    tells_of : (a : Ask) → asks k ≡ Some a → from.clean ≡ true → TellsAll a was.run.book p c
     tells_of a at e = s.tells e k a (Running was) at found
 
-    goes : (a : Ask) → slice_get asks k ≡ Some a → PlaysRole k a was → HasRole (sole k a from.here true from.clean) (or_none p) c next q d
+    goes : (a : Ask) → asks k ≡ Some a → PlaysRole k a was → HasRole (sole k a from.here true from.clean) (or_none p) c next q d
     goes a at role =
         leaves (sole k a from.here true from.clean) (or_none p) c
         (plays k a from.here true from.clean was (or_none p) p c s.spoken (tells_of a at) role (at_start (IsCall (sole k a from.here true from.clean)) p))
@@ -95,10 +94,10 @@ job_goes_on asks first from slots p q c d k was next runs leaves task output los
     calls : (a : Ask) (since : List Entry) → HasRole (sole k a from.here true from.clean) since c was p c → HasCalled (sole k a from.here true from.clean) since c q d
     calls a since h = (leaves (sole k a from.here true from.clean) since c h).part.so
 
-    made : (a : Ask) → slice_get asks k ≡ Some a → PlaysRole k a was → Told p q (Since (IsCall (sole k a from.here true from.clean)))
+    made : (a : Ask) → asks k ≡ Some a → PlaysRole k a was → Told p q (Since (IsCall (sole k a from.here true from.clean)))
     made a at role = adds k a from.here from.clean was p q c d s.spoken (tells_of a at) role (calls a)
 
-    own : (a : Ask) × (slice_get asks k ≡ Some a) × PlaysRole k a was
+    own : (a : Ask) × (asks k ≡ Some a) × PlaysRole k a was
     own = own_ask asks first from slots p c k was found s
 
     so : HasCalled (sole k own.0 from.here true from.clean) (or_none p) c q d
@@ -107,7 +106,7 @@ job_goes_on asks first from slots p q c d k was next runs leaves task output los
     work : CountsWork c d
     work = so.counts_work
 
-    count : (a : Ask) → slice_get asks k ≡ Some a → SlotCounted a from.counts from.most (Running was) p c → SlotCounted a from.counts from.most (Running next) q d
+    count : (a : Ask) → asks k ≡ Some a → SlotCounted a from.counts from.most (Running was) p c → SlotCounted a from.counts from.most (Running next) q d
     count a at r = record {
       output = output ∙ r.output;
       runs = record { origin = r.runs.origin; unwatched = r.runs.unwatched; grow = r.runs.grow; runs = runs r.runs.origin r.runs.runs };
@@ -115,7 +114,7 @@ job_goes_on asks first from slots p q c d k was next runs leaves task output los
       spent = λ l. elim (spent l) [ inl e ↦ waited_still from.most c d work.grow (r.spent e) | inr e ↦ e ];
     }
 
-    step : (a : Ask) (before past after : List Entry) → slice_get asks k ≡ Some a → PlaysRole k a was → p ≡ Some past → q ≡ Some after → IsRested a.output before
+    step : (a : Ask) (before past after : List Entry) → asks k ≡ Some a → PlaysRole k a was → p ≡ Some past → q ≡ Some after → IsRested a.output before
         → Stands a from.counts before past c (Running was) → Stands a from.counts before after d (Running next)
     step a before past after at role e f rested (waits g h) = absurd (cc)
     step a before past after at role e f rested (spared answer g u h) = absurd (cc)
@@ -137,7 +136,7 @@ counted_end a first o task answer after d of e = record {
 }
 
 -- the end of a job
-pub job_ends : (asks : List Ask) (first : Option (List Entry)) (from : Outset) (slots : List Slot) (p q : Option (List Entry)) (c d : Counts) (k : ℕ) (was : Job) (answer : Answer)
+pub job_ends : (asks : ℕ → Option Ask) (first : Option (List Entry)) (from : Outset) (slots : List Slot) (p q : Option (List Entry)) (c d : Counts) (k : ℕ) (was : Job) (answer : Answer)
     → ((o : Origin) → Runs o was p c → EndsWith o (Some (task_of_job was)) answer q d)
     → ((cast : Cast) (since : List Entry) (then : Counts) → HasRole cast since then was p c → HasCalled cast since then q d)
     → HasEnd (number_of was) q
@@ -145,16 +144,16 @@ pub job_ends : (asks : List Ask) (first : Option (List Entry)) (from : Outset) (
     → slice_get slots k ≡ Some (Running was)
     → AllStand asks first from slots p c → AllStand asks first from (set slots k (Ended answer)) q d
 job_ends asks first from slots p q c d k was answer ends leaves left end lost spent found s =
-    change asks first from slots p q c d k (Running was) (Ended answer) found work (λ e. absurd (cc)) so.spoken (λ a at role. (made a at role, tt)) (λ e a at role. tt)
+    change asks first from slots p q c d k (Running was) (Ended answer) found (λ e. e) work (λ e. absurd (cc)) so.spoken (λ a at role. (made a at role, tt)) (λ e a at role. tt)
     (λ a at role h before. subst (λ n. HasEnd n q) role.number_is left) step count s
   where
-    tells_of : (a : Ask) → slice_get asks k ≡ Some a → from.clean ≡ true → TellsAll a was.run.book p c
+    tells_of : (a : Ask) → asks k ≡ Some a → from.clean ≡ true → TellsAll a was.run.book p c
     tells_of a at e = s.tells e k a (Running was) at found
 
-    made : (a : Ask) → slice_get asks k ≡ Some a → PlaysRole k a was → Told p q (Since (IsCall (sole k a from.here true from.clean)))
+    made : (a : Ask) → asks k ≡ Some a → PlaysRole k a was → Told p q (Since (IsCall (sole k a from.here true from.clean)))
     made a at role = adds k a from.here from.clean was p q c d s.spoken (tells_of a at) role (λ since h. leaves (sole k a from.here true from.clean) since c h)
 
-    own : (a : Ask) × (slice_get asks k ≡ Some a) × PlaysRole k a was
+    own : (a : Ask) × (asks k ≡ Some a) × PlaysRole k a was
     own = own_ask asks first from slots p c k was found s
 
     so : HasCalled (sole k own.0 from.here true from.clean) (or_none p) c q d
@@ -163,7 +162,7 @@ job_ends asks first from slots p q c d k was answer ends leaves left end lost sp
     work : CountsWork c d
     work = so.counts_work
 
-    count : (a : Ask) → slice_get asks k ≡ Some a → SlotCounted a from.counts from.most (Running was) p c → SlotCounted a from.counts from.most (Ended answer) q d
+    count : (a : Ask) → asks k ≡ Some a → SlotCounted a from.counts from.most (Running was) p c → SlotCounted a from.counts from.most (Ended answer) q d
     count a at r =
         let o : Origin = r.runs.origin in
         let e : EndsWith o (Some (task_of_job was)) answer q d = ends o r.runs.runs in
@@ -180,7 +179,7 @@ job_ends asks first from slots p q c d k was answer ends leaves left end lost sp
           spent = λ is. waited_still from.most c d work.grow (r.spent (spent is));
         }
 
-    step : (a : Ask) (before past after : List Entry) → slice_get asks k ≡ Some a → PlaysRole k a was → p ≡ Some past → q ≡ Some after → IsRested a.output before
+    step : (a : Ask) (before past after : List Entry) → asks k ≡ Some a → PlaysRole k a was → p ≡ Some past → q ≡ Some after → IsRested a.output before
         → Stands a from.counts before past c (Running was) → Stands a from.counts before after d (Ended answer)
     step a before past after at role e f rested (waits g h) = absurd (cc)
     step a before past after at role e f rested (spared x g u h) = absurd (cc)
@@ -194,9 +193,9 @@ job_ends asks first from slots p q c d k was answer ends leaves left end lost sp
         (subst (λ x. EndsWith o (Some (task_of_job was)) answer x d) f (ends o (subst (λ x. Runs o was x c) (sym e) r))))
 
 -- what is said of it is the last line of the job that was asked for
-pub end_said : (asks : List Ask) (first : Option (List Entry)) (from : Outset) (slots : List Slot) (p : Option (List Entry)) (c : Counts) (k : ℕ) (was : Job) (answer : Answer)
+pub end_said : (asks : ℕ → Option Ask) (first : Option (List Entry)) (from : Outset) (slots : List Slot) (p : Option (List Entry)) (c : Counts) (k : ℕ) (was : Job) (answer : Answer)
     → IsEnding (output_of_job was) (task_of_job was) answer → slice_get slots k ≡ Some (Running was) → AllStand asks first from slots p c
-    → (a : Ask) × (slice_get asks k ≡ Some a) × IsAnswer a.output answer
+    → (a : Ask) × (asks k ≡ Some a) × IsAnswer a.output answer
 end_said asks first from slots p c k was answer end found s =
     let own = own_ask asks first from slots p c k was found s in
     (own.0, own.1, ending_answers (output_of_job was) (Ask.output own.0) (task_of_job was) answer (s.counted k own.0 (Running was) own.1 found).output end)
@@ -253,17 +252,17 @@ begin_stands a from before past after c d result g h (without {answer} e u s) = 
 begin_stands a from before past after c d result g h (with_notebook bytes n front acc e of kernel b) =
     begun bytes n past c acc h g (subst (λ j. Extends (Read a.input 33554432 (found.Whole bytes) ∷ past) j) (sym e) (extended front (Read a.input 33554432 (found.Whole bytes) ∷ past))) (begins_task a (first_of a n) result of) (begins_kernel a (first_of a n) result (Read a.input 33554432 (found.Whole bytes) ∷ past) after kernel) (begins_runs (origin_of a n past c) (counted_task a (first_of a n)) result (Some after) d b)
 
-pub job_begins : (asks : List Ask) (first : Option (List Entry)) (from : Outset) (slots : List Slot) (p q : Option (List Entry)) (c d : Counts) (k : ℕ) (a : Ask) (result : Result Job Answer)
+pub job_begins : (asks : ℕ → Option Ask) (first : Option (List Entry)) (from : Outset) (slots : List Slot) (p q : Option (List Entry)) (c d : Counts) (k : ℕ) (a : Ask) (result : Result Job Answer)
     {here : List ℕ} → from.here ≡ here
     → Told p q (λ before after. IsRested a.output before → Begun a result c d before after)
     → ((cast : Cast) (since : List Entry) (then : Counts) → IsCastAs cast k a here → HasNoChild cast k p → HasNoPorts cast k p → HasNoSave cast a p → HasCalled cast since then p c
     → StartsInRole cast since then result q d)
     → IfErr result (λ e. KeepsEnd k p q)
     → IfErr result (λ x. HasCause c d x.status) → IfErr result (IsAnswer a.output) → IfErr result (λ x. x.status ≡ 16 → ⊥) → IfOk result (λ j. output_of_job j ≡ a.output)
-    → IfOk result (λ j. RunsCounted c j q d) → IfOk result (λ j. outcome_of j ≡ None) → slice_get asks k ≡ Some a → slice_get slots k ≡ Some Waiting
+    → IfOk result (λ j. RunsCounted c j q d) → IfOk result (λ j. outcome_of j ≡ None) → asks k ≡ Some a → slice_get slots k ≡ Some Waiting
     → AllStand asks first from slots p c → AllStand asks first from (set slots k (slot_of result)) q d
 job_begins asks first from slots p q c d k a result {here} here_is begins leaves left cause answer unspent output runs fresh own found s =
-    change asks first from slots p q c d k Waiting (slot_of result) found work (slot_moves result) (starts_called (sole k a from.here true from.clean) (or_none p) c result q d at_first).spoken (λ b at role.
+    change asks first from slots p q c d k Waiting (slot_of result) found (λ e. e) work (slot_moves result) (starts_called (sole k a from.here true from.clean) (or_none p) c result q d at_first).spoken (λ b at role.
     let same : a ≡ b = same_Some _ _ (sym own ∙ at) in
     (subst (λ x. Told p q (Since (IsCall (sole k x from.here true from.clean)))) same made, subst (λ x. SlotPlays k x (slot_of result)) same plays_so))
     (λ e b at role. subst (λ x. SlotTells x (slot_of result) q d) (same_Some _ _ (sym own ∙ at)) (starts_tells k a from.here from.clean (or_none p) c result q d at_first e))
@@ -287,10 +286,10 @@ job_begins asks first from slots p q c d k a result {here} here_is begins leaves
     work : CountsWork c d
     work = (starts_called (sole k a from.here true from.clean) (or_none p) c result q d at_first).counts_work
 
-    count : (b : Ask) → slice_get asks k ≡ Some b → SlotCounted b from.counts from.most Waiting p c → SlotCounted b from.counts from.most (slot_of result) q d
+    count : (b : Ask) → asks k ≡ Some b → SlotCounted b from.counts from.most Waiting p c → SlotCounted b from.counts from.most (slot_of result) q d
     count b at w = subst (λ x. SlotCounted x from.counts from.most (slot_of result) q d) (same_Some _ _ (sym own ∙ at)) (begins_counted a from.counts c d from.most q result s.grow cause answer unspent output runs fresh)
 
-    step : (b : Ask) (before past after : List Entry) → slice_get asks k ≡ Some b → Unit {0} → p ≡ Some past → q ≡ Some after → IsRested b.output before
+    step : (b : Ask) (before past after : List Entry) → asks k ≡ Some b → Unit {0} → p ≡ Some past → q ≡ Some after → IsRested b.output before
         → Stands b from.counts before past c Waiting → Stands b from.counts before after d (slot_of result)
     step b before past after at role e f rested (spared x g u h) = absurd (cc)
     step b before past after at role e f rested (begun bytes n begin then acc h gr ext of kernel r) = absurd r

@@ -4,7 +4,6 @@ use Rattle.std.proofs.lemmas.Bool.{cases_lt}
 use Rattle.std.proofs.lemmas.Option.{same_Some}
 use Rattle.save_course.proofs.CourseLemmas.{spared_other}
 use Rattle.world.specs.declared.entry.Entry.{Entry}
-use Rattle.world.specs.declared.entry.Entry.TheVariants as made
 use Rattle.world.specs.Counts.{Counts, CountsGrow, Rose}
 use Rattle.world.proofs.CountsLemmas.{net_grows, wait_grows, grow_same}
 use Rattle.ready_loop.specs.declared.fault.LoopFault.{LoopFault}
@@ -12,7 +11,7 @@ use Rattle.ready_loop.specs.declared.fault.LoopFault.TheVariants.{NetFault, Spen
 use Rattle.ready_loop.specs.Waits.{LookCounts, TurnCounts, left_after}
 use Rattle.world.specs.Moments.{Since, start, more as later, Told}
 use Rattle.world.specs.Parts.{OnDisk, OnSay, IsNotOf, IsOf}
-use Rattle.world.specs.Touched.{touches, Spares}
+use Rattle.world.specs.Touched.{Spares}
 use Rattle.world.proofs.MomentsLemmas.{told_as, since_as}
 use Rattle.said_lines.specs.Speech.{Says}
 use Rattle.said_lines.proofs.SpeechLemmas.{says_since}

@@ -1,5 +1,5 @@
 -- What calls for one job leave of the connections.
-use Rattle.std.proofs.Common.{◌≡◌, ◌≢◌, inl, inr, ◌<◌, ◌≤◌, ◌||◌, ℕ, Bool, true, false, List, Some, None, Result, Ok, Err, OnOk, slice_get, arith, refl, sym, ◌∙◌, ap, subst}
+use Rattle.std.proofs.Common.{◌≡◌, inl, inr, ◌<◌, ◌≤◌, ◌||◌, ℕ, Bool, true, false, Some, None, Result, Ok, Err, OnOk, arith, refl, sym, ◌∙◌, ap, subst}
 use Rattle.std.proofs.lemmas.Bool.{cases_eq, false≢true, ne_eqb}
 use Rattle.world.specs.declared.conn.Conn.{Conn}
 use Rattle.world.specs.Places.{is_at, place_of}
@@ -8,7 +8,7 @@ use Rattle.ready_loop.specs.declared.fault.LoopFault.TheVariants.{NetFault, Spen
 use Rattle.ready_loop.specs.declared.readiness.Loop.{Loop}
 use Rattle.ready_loop.specs.Begins.{Closes, OnlyOfJob, is_of_job, unless_closed}
 use Rattle.ready_loop.specs.Offers.{IsOfConn}
-use Rattle.ready_loop.specs.States.{FailsOnly, IsDrained, IsSound, IsWell, OnlyAt, SameKnown, begun_at, failed_at, failed_in, known_at, open_left, reads_left, waits_left}
+use Rattle.ready_loop.specs.States.{FailsOnly, IsDrained, IsSound, IsWell, OnlyAt, SameKnown, begun_at, failed_at, failed_in, open_left, reads_left, waits_left}
 use Rattle.ready_loop.specs.Wires.{ports_in}
 use Rattle.ready_loop.proofs.JobLemmas.{conn_in_job, only_conn, only_job_start, only_job_then, open_less, open_most, open_same}
 use Rattle.ready_loop.proofs.StateLemmas.{sound_as, sound_at}

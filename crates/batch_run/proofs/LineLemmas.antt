@@ -1,12 +1,11 @@
 -- What each call of the loop leaves of what is kept beside it.
-use Rattle.std.proofs.Common.{◌≡◌, ◌≢◌, inl, inr, ◌+◌, ◌*◌, ◌<◌, ◌≤◌, ◌||◌, ◌/◌, ℕ, Bool, true, false, List, length, replicate, set, suc, zero, Option, Some, None, Result, Ok, Err, slice_get, arith, refl, sym, ◌∙◌, ap, subst}
+use Rattle.std.proofs.Common.{◌≡◌, ◌≢◌, inl, inr, ◌+◌, ◌*◌, ◌<◌, ◌≤◌, ◌||◌, ℕ, Bool, true, false, List, length, replicate, set, suc, zero, Some, Result, Ok, Err, slice_get, arith, refl, sym, ◌∙◌, ap, subst}
 use Rattle.std.specs.Prelude.{IsErr}
 use Rattle.std.proofs.lemmas.Bool.{cases_eq, cases_lt, eq-eqb, ne_eqb, false≢true, or_from, or_left, or_right}
 use Rattle.std.proofs.lemmas.List.{length-set}
 use Rattle.std.proofs.lemmas.Option.{slice_get_within, same_Some}
 use Rattle.world.specs.declared.chan.Chan.TheVariants.{Shell, Control, Iopub, Heart}
-use Rattle.world.specs.Places.{chan_number, place_of, is_at}
-use Rattle.world.proofs.StatusLemmas.{chan_below}
+use Rattle.world.specs.Places.{place_of, is_at}
 use Rattle.ready_loop.specs.declared.next.Next.{Next}
 use Rattle.ready_loop.specs.declared.next.Next.TheVariants as next
 use Rattle.ready_loop.specs.declared.readiness.Loop.{Loop}
@@ -14,7 +13,7 @@ use Rattle.ready_loop.specs.Begins.{IsFresh, IsBegun, is_of_job}
 use Rattle.ready_loop.specs.History.{conn_on}
 use Rattle.ready_loop.specs.States.{known_at}
 use Rattle.batch_run.specs.Kept.{AreBegun, IsFreshFrom, NoPlaces, mark_job}
-use Rattle.jtext.proofs.Lists.{slice_get-set_same, slice_get-set_other, or_other}
+use Rattle.jtext.proofs.Lists.{slice_get-set_same, slice_get-set_other}
 
 -- ---- places
 

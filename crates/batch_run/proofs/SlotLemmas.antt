@@ -1,5 +1,5 @@
 -- Lists of jobs, one after another.
-use Rattle.std.proofs.Common.{◌≡◌, ◌≢◌, inl, inr, ℕ, ◌+◌, ◌<◌, ◌≤◌, ◌++◌, List, [], ◌∷◌, length, set, Some, Bool, true, false, Result, Ok, arith, refl, sym, ◌∙◌, ap, subst, suc, zero, Option, None, Err}
+use Rattle.std.proofs.Common.{◌≡◌, ◌≢◌, ◌⊎◌, inl, inr, ℕ, ◌+◌, ◌<◌, ◌≤◌, ◌++◌, List, [], ◌∷◌, length, set, Some, true, false, Result, Ok, arith, refl, sym, ◌∙◌, ap, subst, suc, zero, Option, None, Err}
 use Rattle.std.specs.Prelude.{slice_get, IfOk, IfSome}
 use Rattle.std.proofs.lemmas.Bool.{cases_eq, cases_lt, false≢true}
 use Rattle.std.proofs.lemmas.List.{length-set}
@@ -8,26 +8,35 @@ use Rattle.job_end.specs.declared.answer.Answer.{Answer}
 use Rattle.job_run.specs.declared.job.Job.{Job}
 use Rattle.batch_run.specs.declared.slot.Slot.{Slot}
 use Rattle.batch_run.specs.declared.slot.Slot.TheVariants.{Waiting, Running, Ended}
-use Rattle.batch_run.specs.Stands.{WaitingFrom, EndedBelow, AllEnded, HasEnded, AreAnswers, ChangesAt, EndsSaying, KeepsOthers, NoneOver, NoneOverBelow, answer_of, answers_of, is_slot_running}
+use Rattle.batch_run.specs.Stands.{WaitingFrom, EndedBelow, AllEnded, HasEnded, AreAnswers, ChangesAt, EndsSaying, KeepsOthers, NoneOver, NoneOverBelow, answer_of, answers_from, answers_of, is_slot_running}
 use Rattle.world.specs.declared.entry.Entry.{Entry}
 use Rattle.world.specs.Moments.{Told}
 use Rattle.said_lines.specs.Speech.{Says}
 use Rattle.batch_run.specs.Due.{is_slot_over}
 use Rattle.jtext.proofs.Lists.{some_at, slice_get-set_same, slice_get-set_other}
 
--- what holds of each holds of each with one more
-each_push : (P : Slot → Type 0) (xs : List Slot) (x : Slot) → ((i : ℕ) (slot : Slot) → slice_get xs i ≡ Some slot → P slot) → P x
-    → (i : ℕ) (slot : Slot) → slice_get (xs ++ x ∷ []) i ≡ Some slot → P slot
-each_push P [] x all here zero slot e = subst P (same_Some _ _ e) here
-each_push P [] x all here (suc i) slot e = absurd (cc)
-each_push P (y ∷ xs) x all here zero slot e = all zero slot e
-each_push P (y ∷ xs) x all here (suc i) slot e = each_push P xs x (λ j s g. all (suc j) s g) here i slot e
+-- one at a number is one there, or the new one at the end
+push_at : (xs : List Slot) (x : Slot) (i : ℕ) (slot : Slot) → slice_get (xs ++ x ∷ []) i ≡ Some slot → (slice_get xs i ≡ Some slot) ⊎ ((i ≡ length xs) × (x ≡ slot))
+push_at [] x zero slot e = inr (refl, same_Some _ _ e)
+push_at [] x (suc i) slot e = absurd (cc)
+push_at (y ∷ xs) x zero slot e = inl e
+push_at (y ∷ xs) x (suc i) slot e = elim (push_at xs x i slot e) [ inl h ↦ inl h | inr h ↦ inr (ap suc h.0, h.1) ]
 
-pub waiting_none : WaitingFrom 0 []
-waiting_none = record { each = λ i slot low e. absurd (cc) }
+pub waiting_none : (n : ℕ) → WaitingFrom n []
+waiting_none n = record { each = λ i slot low e. absurd (cc) }
 
-pub waiting_push : {xs : List Slot} → WaitingFrom 0 xs → WaitingFrom 0 (xs ++ Waiting ∷ [])
-waiting_push {xs} w = record { each = λ i slot low e. each_push (λ s. s ≡ Waiting) xs Waiting (λ j s g. w.each j s (omega arith) g) refl i slot e }
+pub waiting_push : {n : ℕ} {xs : List Slot} (x : Slot) → (n ≤ length xs → x ≡ Waiting) → WaitingFrom n xs → WaitingFrom n (xs ++ x ∷ [])
+waiting_push {n} {xs} x is w = record {
+  each = λ i slot low e. elim (push_at xs x i slot e) [ inl h ↦ w.each i slot low h | inr h ↦ sym h.1 ∙ is (subst (λ k. n ≤ k) h.0 low) ];
+}
+
+pub ended_push : {n : ℕ} {xs : List Slot} (x : Slot) → (length xs < n → HasEnded x) → EndedBelow n xs → EndedBelow n (xs ++ x ∷ [])
+ended_push {n} {xs} x is b = record {
+  each = λ i slot low e. elim (push_at xs x i slot e) [ inl h ↦ b.each i slot low h | inr h ↦ subst HasEnded h.1 (is (subst (λ k. k < n) h.0 low)) ];
+}
+
+pub below_none : (n : ℕ) → EndedBelow n []
+below_none n = record { each = λ i slot low e. absurd (cc) }
 
 pub waiting_set : {n : ℕ} {xs : List Slot} (x : Slot) → WaitingFrom n xs → WaitingFrom (n + 1) (set xs n x)
 waiting_set {n} {xs} x w = record {
@@ -73,8 +82,30 @@ answers_push (Waiting ∷ xs) x = answers_push xs x
 answers_push (Running j ∷ xs) x = answers_push xs x
 answers_push (Ended answer ∷ xs) x = ap (λ ys. answer ∷ ys) (answers_push xs x)
 
-pub answers_after : (xs : List Slot) (x : Slot) (was now : List Answer) → was ≡ answers_of xs → now ≡ was ++ answers_of (x ∷ []) → now ≡ answers_of (xs ++ x ∷ [])
-answers_after xs x was now e f = f ∙ ap (λ ys. ys ++ answers_of (x ∷ [])) e ∙ sym (answers_push xs x)
+-- a job before this number has no answer here
+answers_before : (n : ℕ) (xs : List Slot) (x : Slot) → length xs < n → answers_from n (xs ++ x ∷ []) ≡ answers_from n xs
+answers_before zero xs x low = absurd (omega (arith, low))
+answers_before (suc n) [] x low = none_from n
+  where
+    none_from : (n : ℕ) → answers_from n [] ≡ []
+    none_from zero = refl
+    none_from (suc n) = refl
+answers_before (suc n) (y ∷ xs) x low = answers_before n xs x (omega (arith, low))
+
+answers_behind : (n : ℕ) (xs : List Slot) (x : Slot) → n ≤ length xs → answers_from n (xs ++ x ∷ []) ≡ answers_from n xs ++ answers_of (x ∷ [])
+answers_behind zero xs x low = answers_push xs x
+answers_behind (suc n) [] x low = absurd (omega (arith, low))
+answers_behind (suc n) (y ∷ xs) x low = answers_behind n xs x (omega (arith, low))
+
+pub answers_after : (n : ℕ) (xs : List Slot) (x : Slot) (was now : List Answer) → n ≤ length xs → was ≡ answers_from n xs → now ≡ was ++ answers_of (x ∷ []) → now ≡ answers_from n (xs ++ x ∷ [])
+answers_after n xs x was now low e f = f ∙ ap (λ ys. ys ++ answers_of (x ∷ [])) e ∙ sym (answers_behind n xs x low)
+
+pub answers_still : (n : ℕ) (xs : List Slot) (x : Slot) (was now : List Answer) → length xs < n → was ≡ answers_from n xs → now ≡ was → now ≡ answers_from n (xs ++ x ∷ [])
+answers_still n xs x was now low e f = f ∙ e ∙ sym (answers_before n xs x low)
+
+pub answers_none : (n : ℕ) → [] ≡ answers_from n []
+answers_none zero = refl
+answers_none (suc n) = refl
 
 none_more : (xs : List Answer) → xs ≡ xs ++ []
 none_more [] = refl
@@ -104,8 +135,21 @@ each_of (Running j ∷ xs) all i = absurd (all zero (Running j) refl)
 each_of (Ended answer ∷ xs) all zero = refl
 each_of (Ended answer ∷ xs) all (suc i) = each_of xs (λ j s e. all (suc j) s e) i
 
-pub are_answers : {xs : List Slot} → AllEnded xs → AreAnswers xs (answers_of xs)
-are_answers {xs} a = record { size = size_of xs a.each; each = λ i. each_of xs a.each i }
+size_from : (n : ℕ) (xs : List Slot) → n ≤ length xs → ((i : ℕ) (slot : Slot) → slice_get xs i ≡ Some slot → HasEnded slot) → length xs ≡ n + length (answers_from n xs)
+size_from zero xs low all = let h = size_of xs all in omega (arith, h)
+size_from (suc n) [] low all = absurd (omega (arith, low))
+size_from (suc n) (x ∷ xs) low all = let h = size_from n xs (omega (arith, low)) (λ i s e. all (suc i) s e) in omega (arith, h)
+
+each_from : (n : ℕ) (xs : List Slot) → ((i : ℕ) (slot : Slot) → slice_get xs i ≡ Some slot → HasEnded slot)
+    → (i : ℕ) → slice_get (answers_from n xs) i ≡ answer_of (slice_get xs (n + i))
+each_from zero xs all i = let same : i ≡ 0 + i = omega arith in each_of xs all i ∙ ap (λ k. answer_of (slice_get xs k)) same
+each_from (suc n) [] all i = refl
+each_from (suc n) (x ∷ xs) all i =
+    let same : suc (n + i) ≡ suc n + i = omega arith in
+    each_from n xs (λ j s e. all (suc j) s e) i ∙ ap (λ k. answer_of (slice_get (x ∷ xs) k)) same
+
+pub are_answers : {n : ℕ} {xs : List Slot} → n ≤ length xs → AllEnded xs → AreAnswers n xs (answers_from n xs)
+are_answers {n} {xs} low a = record { size = size_from n xs low a.each; each = λ i. each_from n xs a.each i }
 
 -- ---- jobs that are over
 

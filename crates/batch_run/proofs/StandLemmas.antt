@@ -44,13 +44,13 @@ use Rattle.job_begin.proofs.EndLemmas.{starved_end, unread_starved, unread_pass,
 use Rattle.batch_run.specs.declared.slot.Slot.{Slot}
 use Rattle.batch_run.specs.declared.slot.Slot.TheVariants.{Waiting, Running, Ended}
 use Rattle.batch_run.specs.Batch.{IsApart, HasWaited}
-use Rattle.batch_run.specs.Stands.{Outset, SlotPlays, SlotTells, SlotEnds, SlotRuns, SlotKernel, SlotCounted, Stands, waits, spared, begun, AllStand, PassBy, AreWired, more_waits, wired_by}
+use Rattle.batch_run.specs.Stands.{Outset, SlotPlays, SlotTells, SlotEnds, SlotRuns, SlotKernel, SlotCounted, Stands, waits, spared, begun, AllStand, HasEnded, PassBy, AreWired, more_waits, wired_by}
 use Rattle.batch_run.proofs.CallLemmas.{sole, sole_here, sole_at, calls_wide, calls_spare, loop_spares, loop_keeps_end, loop_quiet, loop_asks_none}
 use Rattle.world.proofs.CountsLemmas.{rose_still}
 use Rattle.batch_run.proofs.CauseLemmas.{cause_still, waited_still, waited_more}
 use Rattle.batch_run.proofs.JournalLemmas.{told_back, says_touch}
 use Rattle.ready_loop.proofs.LookLemmas.{extends_of}
-use Rattle.jtext.proofs.Lists.{some_at, slice_get-set_same, slice_get-set_other, set_given}
+use Rattle.jtext.proofs.Lists.{slice_get-set_same, slice_get-set_other, set_given}
 
 -- ---- calls that touch no path of a job
 
@@ -137,11 +137,12 @@ ends_then n (Running j) first p q keeps h = tt
 ends_then n (Ended answer) first p q keeps h = λ s. keeps (h s)
 
 -- calls that leave the jobs as they stand
-pub calls_pass : (asks : List Ask) (first : Option (List Entry)) (from : Outset) (slots : List Slot) (p q : Option (List Entry)) (c d : Counts) (most : ℕ) (wires : List (Option ℕ))
+pub calls_pass : (asks : ℕ → Option Ask) (first : Option (List Entry)) (from : Outset) (slots : List Slot) (p q : Option (List Entry)) (c d : Counts) (most : ℕ) (wires : List (Option ℕ))
     → d.waits ≤ most → HasWaited most d → PassBy asks from.here from.clean from.wires wires p q c d → AllStand asks first from slots p c
     → AllStand asks first (record from { waits = most; wires = wires }) slots q d
 calls_pass asks first from slots p q c d most wires few all pass s = record {
   size = s.size;
+  asked = s.asked;
   grow = grow_then s.grow pass.grow;
   waits = few;
   waited = all;
@@ -160,7 +161,7 @@ calls_pass asks first from slots p q c d most wires few all pass s = record {
       pass_one a from.counts before back.0 after c d slot back.2 pass.grow (s.each before back.0 st back.1 i a slot at got apart rested);
 }
 
-loop_passes : (asks : List Ask) (here : List ℕ) (clean : Bool) (was wires : List (Option ℕ)) (p q : Option (List Entry)) (c d : Counts) → Told p q (Since IsOfLoop) → Told p q (Since (IsWired wires))
+loop_passes : (asks : ℕ → Option Ask) (here : List ℕ) (clean : Bool) (was wires : List (Option ℕ)) (p q : Option (List Entry)) (c d : Counts) → Told p q (Since IsOfLoop) → Told p q (Since (IsWired wires))
     → CountsGrow c d → (clean ≡ true → IfSome p (AreWired wires)) → PassBy asks here clean was wires p q c d
 loop_passes asks here clean was wires p q c d told wired grow at = record {
   calls = told_as (loop_calls clean wires p q told wired at) (λ x y b. since_as (λ now is. inr is) b);
@@ -178,7 +179,7 @@ loop_passes asks here clean was wires p q c d told wired grow at = record {
 
 -- calls of the loop that keep the ports
 pub loop_keeps : {p q : Option (List Entry)} {c d : Counts} (old new : Loop) → ports_in new ≡ ports_in old → Told p q (Since (IsWired (ports_in new))) → Told p q (Since IsOfLoop) → CountsGrow c d → d.waits ≡ c.waits
-    → (asks : List Ask) (first : Option (List Entry)) (from : Outset) (slots : List Slot) → AllStand asks first (wired_by old from) slots p c → AllStand asks first (wired_by new from) slots q d
+    → (asks : ℕ → Option Ask) (first : Option (List Entry)) (from : Outset) (slots : List Slot) → AllStand asks first (wired_by old from) slots p c → AllStand asks first (wired_by new from) slots q d
 loop_keeps {p} {q} {c} {d} old new same wired told grow still = λ asks first from slots s.
     calls_pass asks first (wired_by old from) slots p q c d from.waits (ports_in new) (omega (arith, still, s.waits)) (waited_still from.waits c d grow s.waited)
     (loop_passes asks from.here from.clean (ports_in old) (ports_in new) p q c d told wired grow (λ e. subst (λ w. IfSome p (AreWired w)) (sym same) (s.wired e))) s
@@ -187,7 +188,7 @@ loop_keeps {p} {q} {c} {d} old new same wired told grow still = λ asks first fr
 pub loop_begins : {p q : Option (List Entry)} {c d : Counts} (job : ℕ) (ports : List ℕ) (old new : Loop) → HasPorts job ports new
     → ((n : ℕ) → is_of_job job n ≡ false → slice_get (ports_in new) n ≡ slice_get (ports_in old) n)
     → Told p q (Since (IsWired (ports_in new))) → Told p q (Since IsOfLoop) → CountsGrow c d → d.waits ≡ c.waits
-    → (asks : List Ask) (first : Option (List Entry)) (from : Outset) (slots : List Slot) → (from.clean ≡ true → IfSome p (λ past. ports_of job past ≡ Some ports))
+    → (asks : ℕ → Option Ask) (first : Option (List Entry)) (from : Outset) (slots : List Slot) → (from.clean ≡ true → IfSome p (λ past. ports_of job past ≡ Some ports))
     → AllStand asks first (wired_by old from) slots p c → AllStand asks first (wired_by new from) slots q d
 loop_begins {p} {q} {c} {d} job ports old new has others wired told grow still = λ asks first from slots given s.
     calls_pass asks first (wired_by old from) slots p q c d from.waits (ports_in new) (omega (arith, still, s.waits)) (waited_still from.waits c d grow s.waited)
@@ -196,7 +197,7 @@ loop_begins {p} {q} {c} {d} job ports old new has others wired told grow still =
 -- and those that wait
 pub loop_waits : {p q : Option (List Entry)} {c d : Counts} (old new : Loop) → ports_in new ≡ ports_in old → Told p q (Since (IsWired (ports_in new))) → Told p q (Since IsOfLoop) → CountsGrow c d → (left rest : ℕ)
     → d.waits ≤ c.waits + (left - rest) → HasWaited (c.waits + (left - rest)) d
-    → (asks : List Ask) (first : Option (List Entry)) (from : Outset) (slots : List Slot) → AllStand asks first (wired_by old from) slots p c
+    → (asks : ℕ → Option Ask) (first : Option (List Entry)) (from : Outset) (slots : List Slot) → AllStand asks first (wired_by old from) slots p c
     → AllStand asks first (more_waits (left - rest) (wired_by new from)) slots q d
 loop_waits {p} {q} {c} {d} old new same wired told grow left rest few all = λ asks first from slots s.
     calls_pass asks first (wired_by old from) slots p q c d (from.waits + (left - rest)) (ports_in new) (omega (arith, few, s.waits)) (waited_more from.waits (left - rest) c d s.waited all)
@@ -205,7 +206,7 @@ loop_waits {p} {q} {c} {d} old new same wired told grow left rest few all = λ a
 -- what is said of the end of a job
 pub saying_keeps : {p q : Option (List Entry)} {c d : Counts} {line : List ℕ} (answer : Answer) → line ≡ answer.line → Told p q (Says line (0 < d.say)) → (0 < c.say → q ≡ p)
     → CountsWork c d
-    → (asks : List Ask) (first : Option (List Entry)) (from : Outset) (slots : List Slot) (i : ℕ) (a : Ask) → slice_get asks i ≡ Some a → IsAnswer a.output answer
+    → (asks : ℕ → Option Ask) (first : Option (List Entry)) (from : Outset) (slots : List Slot) (i : ℕ) (a : Ask) → asks i ≡ Some a → IsAnswer a.output answer
     → AllStand asks first from slots p c → AllStand asks first from slots q d
 saying_keeps {p} {q} {c} {d} {line} answer same told silent work = λ asks first from slots i a own is s. calls_pass asks first from slots p q c d from.waits from.wires (omega (arith, work.waits, s.waits)) (waited_still from.waits c d work.grow s.waited) (record {
   calls = told_as (said_by i a from.here true from.clean is s.spoken) (λ x y b. calls_wide asks from.here from.clean i a own b);
@@ -229,17 +230,21 @@ saying_keeps {p} {q} {c} {d} {line} answer same told silent work = λ asks first
 
 -- ---- one job changes
 
-pub change : (asks : List Ask) (first : Option (List Entry)) (from : Outset) (slots : List Slot) (p q : Option (List Entry)) (c d : Counts) (k : ℕ) (was next : Slot)
-    → slice_get slots k ≡ Some was → CountsWork c d → (next ≡ Waiting → ⊥) → (from.clean ≡ true → SpeaksWhole q d)
-    → ((a : Ask) → slice_get asks k ≡ Some a → SlotPlays k a was → Told p q (Since (IsCall (sole k a from.here true from.clean))) × SlotPlays k a next)
-    → (from.clean ≡ true → (a : Ask) → slice_get asks k ≡ Some a → SlotPlays k a was → SlotTells a next q d)
-    → ((a : Ask) → slice_get asks k ≡ Some a → SlotPlays k a was → SlotEnds k was first p → SlotEnds k next first q)
-    → ((a : Ask) (before past after : List Entry) → slice_get asks k ≡ Some a → SlotPlays k a was → p ≡ Some past → q ≡ Some after → IsRested a.output before
+pub change : (asks : ℕ → Option Ask) (first : Option (List Entry)) (from : Outset) (slots : List Slot) (p q : Option (List Entry)) (c d : Counts) (k : ℕ) (was next : Slot)
+    → slice_get slots k ≡ Some was → (HasEnded was → ⊥) → CountsWork c d → (next ≡ Waiting → ⊥) → (from.clean ≡ true → SpeaksWhole q d)
+    → ((a : Ask) → asks k ≡ Some a → SlotPlays k a was → Told p q (Since (IsCall (sole k a from.here true from.clean))) × SlotPlays k a next)
+    → (from.clean ≡ true → (a : Ask) → asks k ≡ Some a → SlotPlays k a was → SlotTells a next q d)
+    → ((a : Ask) → asks k ≡ Some a → SlotPlays k a was → SlotEnds k was first p → SlotEnds k next first q)
+    → ((a : Ask) (before past after : List Entry) → asks k ≡ Some a → SlotPlays k a was → p ≡ Some past → q ≡ Some after → IsRested a.output before
     → Stands a from.counts before past c was → Stands a from.counts before after d next)
-    → ((a : Ask) → slice_get asks k ≡ Some a → SlotCounted a from.counts from.most was p c → SlotCounted a from.counts from.most next q d)
+    → ((a : Ask) → asks k ≡ Some a → SlotCounted a from.counts from.most was p c → SlotCounted a from.counts from.most next q d)
     → AllStand asks first from slots p c → AllStand asks first from (set slots k next) q d
-change asks first from slots p q c d k was next found work moved spoken calls tells ends step count s = record {
+change asks first from slots p q c d k was next found runs work moved spoken calls tells ends step count s = record {
   size = length-set slots k next ∙ s.size;
+  asked = λ i slot got. elim (cases_eq i k) [
+    | inl e ↦ inr (own.0, subst (λ m. asks m ≡ Some own.0) (sym e) own.1)
+    | inr ne ↦ s.asked i slot (sym (slice_get-set_other slots k i next ne) ∙ got)
+  ];
   grow = grow_then s.grow work.grow;
   waits = omega (arith, work.waits, s.waits);
   waited = waited_still from.waits c d work.grow s.waited;
@@ -259,7 +264,7 @@ change asks first from slots p q c d k was next found work moved spoken calls te
   apart = s.apart;
   tells = λ e i b slot at got. elim (cases_eq i k) [
     | inl same ↦
-        let at_k = subst (λ m. slice_get asks m ≡ Some b) same at in
+        let at_k = subst (λ m. asks m ≡ Some b) same at in
         subst (λ x. SlotTells b x q d) (here i slot same got) (tells e b at_k (s.plays k b was at_k found))
     | inr ne ↦
         tells_passed b slot p q c d (others_spared b (s.apart e i b at k own.0 own.1 (λ f. ne (sym f)))) work.grow
@@ -268,13 +273,13 @@ change asks first from slots p q c d k was next found work moved spoken calls te
   wired = λ e. wired_calls (sole k own.0 from.here true from.clean) from.wires p q e made (s.wired e);
   plays = λ i b slot at got. elim (cases_eq i k) [
     | inl e ↦
-        let at_k = subst (λ m. slice_get asks m ≡ Some b) e at in
+        let at_k = subst (λ m. asks m ≡ Some b) e at in
         subst (λ m. SlotPlays m b slot) (sym e) (subst (λ x. SlotPlays k b x) (here i slot e got) (calls b at_k (s.plays k b was at_k found)).1)
     | inr ne ↦ s.plays i b slot at (sym (slice_get-set_other slots k i next ne) ∙ got)
   ];
   ends = λ i b slot at got. elim (cases_eq i k) [
     | inl e ↦
-        let at_k = subst (λ m. slice_get asks m ≡ Some b) e at in
+        let at_k = subst (λ m. asks m ≡ Some b) e at in
         subst (λ m. SlotEnds m slot first q) (sym e) (subst (λ x. SlotEnds k x first q) (here i slot e got) (ends b at_k (s.plays k b was at_k found) (s.ends k b was at_k found)))
     | inr ne ↦
         ends_then i slot first p q (told_keeps_end (sole k own.0 from.here true from.clean) i (λ number x has starts f. ne (sym (sym (sole_at number k own.0 x has).0 ∙ f))) p q made)
@@ -282,7 +287,7 @@ change asks first from slots p q c d k was next found work moved spoken calls te
   ];
   counted = λ i b slot at got. elim (cases_eq i k) [
     | inl e ↦
-        let at_k = subst (λ m. slice_get asks m ≡ Some b) e at in
+        let at_k = subst (λ m. asks m ≡ Some b) e at in
         subst (λ x. SlotCounted b from.counts from.most x q d) (here i slot e got) (count b at_k (s.counted k b was at_k found))
     | inr ne ↦ counted_pass b from.counts from.most slot p q c d work.grow (s.counted i b slot at (sym (slice_get-set_other slots k i next ne) ∙ got))
   ];
@@ -290,7 +295,7 @@ change asks first from slots p q c d k was next found work moved spoken calls te
       let back = told_back p q (Since (IsCall (sole k own.0 from.here true from.clean))) after made f in
       elim (cases_eq i k) [
         | inl e ↦
-            let at_k = subst (λ m. slice_get asks m ≡ Some b) e at in
+            let at_k = subst (λ m. asks m ≡ Some b) e at in
             let apart_k = subst (λ m. IsApart asks m b) e apart in
             subst (λ x. Stands b from.counts before after d x) (here i slot e got)
             (step b before back.0 after at_k (s.plays k b was at_k found) back.1 f rested (s.each before back.0 st back.1 k b was at_k found apart_k rested))
@@ -304,8 +309,8 @@ change asks first from slots p q c d k was next found work moved spoken calls te
     low : k < length slots
     low = slice_get_within slots k was found
 
-    own : (a : Ask) × (slice_get asks k ≡ Some a)
-    own = some_at asks k (subst (λ n. k < n) s.size low)
+    own : (a : Ask) × (asks k ≡ Some a)
+    own = elim (s.asked k was found) [ inl ended ↦ absurd (runs ended) | inr is ↦ is ]
 
     made : Told p q (Since (IsCall (sole k own.0 from.here true from.clean)))
     made = (calls own.0 own.1 (s.plays k own.0 was own.1 found)).0
@@ -318,23 +323,23 @@ change asks first from slots p q c d k was next found work moved spoken calls te
 
 -- ---- one slot
 
-pub slot_rests : (asks : List Ask) (first : Option (List Entry)) (from : Outset) (slots : List Slot) (k : ℕ) (was : Slot) (p : Option (List Entry)) (c : Counts)
+pub slot_rests : (asks : ℕ → Option Ask) (first : Option (List Entry)) (from : Outset) (slots : List Slot) (k : ℕ) (was : Slot) (p : Option (List Entry)) (c : Counts)
     → slice_get slots k ≡ Some was → AllStand asks first from slots p c → AllStand asks first from (set slots k was) p c
 slot_rests asks first from slots k was p c found s = subst (λ x. AllStand asks first from x p c) (sym (set_given slots k was found)) s
 
 -- a job that hasn't begun ends
-pub waiting_ends : (asks : List Ask) (first : Option (List Entry)) (from : Outset) (slots : List Slot) (p : Option (List Entry)) (c : Counts) (k : ℕ) (answer : Answer)
+pub waiting_ends : (asks : ℕ → Option Ask) (first : Option (List Entry)) (from : Outset) (slots : List Slot) (p : Option (List Entry)) (c : Counts) (k : ℕ) (answer : Answer)
     → answer ≡ starved_answer → slice_get slots k ≡ Some Waiting → AllStand asks first from slots p c → AllStand asks first from (set slots k (Ended answer)) p c
 waiting_ends asks first from slots p c k answer is found s =
-    change asks first from slots p p c c k Waiting (Ended answer) found (work_start c) (λ e. absurd (cc)) s.spoken (λ a at role. (told_start (λ x. start), tt)) (λ e a at role. tt) (λ a at role h. h) step count s
+    change asks first from slots p p c c k Waiting (Ended answer) found (λ e. e) (work_start c) (λ e. absurd (cc)) s.spoken (λ a at role. (told_start (λ x. start), tt)) (λ e a at role. tt) (λ a at role h. h) step count s
   where
-    count : (a : Ask) → slice_get asks k ≡ Some a → SlotCounted a from.counts from.most Waiting p c → SlotCounted a from.counts from.most (Ended answer) p c
+    count : (a : Ask) → asks k ≡ Some a → SlotCounted a from.counts from.most Waiting p c → SlotCounted a from.counts from.most (Ended answer) p c
     count a at w = record {
       is = record { is = starved_end a.output answer is; cause = starved_caused from.counts c answer is };
       spent = λ e. let no : 12 ≡ 16 = sym (ap (λ (x : Answer). x.status) is) ∙ e in absurd (cc);
     }
 
-    step : (a : Ask) (before past after : List Entry) → slice_get asks k ≡ Some a → Unit {0} → p ≡ Some past → p ≡ Some after → IsRested a.output before
+    step : (a : Ask) (before past after : List Entry) → asks k ≡ Some a → Unit {0} → p ≡ Some past → p ≡ Some after → IsRested a.output before
         → Stands a from.counts before past c Waiting → Stands a from.counts before after c (Ended answer)
     step a before past after at role e f rested (waits g h) = spared answer refl (subst (λ x. IsUnread a answer.status before x) (same_Some _ _ (sym e ∙ f)) (unread_pass a answer.status before past past past h start (unread_starved a answer past is)))
         (subst (λ x. Since (Spares a.output) before x) (same_Some _ _ (sym e ∙ f)) h)

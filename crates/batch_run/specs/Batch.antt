@@ -1,5 +1,5 @@
 -- What a run makes of its jobs' outputs. A journal has its newest entry first.
-use Rattle.std.specs.Prelude.{◌≡◌, ◌≢◌, ◌⊎◌, ◌≤◌, ◌+◌, ◌-◌, ◌^◌, min, ℕ, List, [], ◌∷◌, ◌++◌, Bool, true, false, Option, Some, None, IfSome, Result, Ok, Err, slice_get}
+use Rattle.std.specs.Prelude.{◌≡◌, ◌≢◌, ◌⊎◌, ◌≤◌, ◌+◌, ◌-◌, ◌^◌, min, ℕ, zero, suc, List, [], ◌∷◌, ◌++◌, Bool, true, false, Option, Some, None, IfSome, Result, Ok, Err, slice_get}
 use Rattle.nb_model.specs.declared.notebook.Notebook.{Notebook}
 use Rattle.nb_load.specs.Loaded.{Accepts}
 use Rattle.words.specs.declared.ask.Ask.{Ask}
@@ -25,13 +25,19 @@ use Rattle.job_saves.specs.Reads.{first_of}
 use Rattle.job_begin.specs.Begun.{origin_of, counted_task, IsCausedIn, IsUnread, HasKernel}
 use Rattle.job_begin.specs.Causes.{HasCause}
 
+-- the job of each number, where the jobs of a run have the numbers from the first on
+abbrev pub numbered : ℕ → List Ask → ℕ → Option Ask
+numbered zero asks n = slice_get asks n
+numbered (suc first) asks zero = None
+numbered (suc first) asks (suc n) = numbered first asks n
+
 -- the output of a job is no path of another one
-abbrev pub IsApart : List Ask → ℕ → Ask → Type 0
-IsApart asks i a = (k : ℕ) (b : Ask) → slice_get asks k ≡ Some b → k ≢ i → IsOther b.output a.output
+abbrev pub IsApart : (ℕ → Option Ask) → ℕ → Ask → Type 0
+IsApart asks i a = (k : ℕ) (b : Ask) → asks k ≡ Some b → k ≢ i → IsOther b.output a.output
 
 -- a path that no job touches
-abbrev pub IsNoPath : List Ask → List ℕ → Type 0
-IsNoPath asks path = (k : ℕ) (b : Ask) → slice_get asks k ≡ Some b → IsOther b.output path
+abbrev pub IsNoPath : (ℕ → Option Ask) → List ℕ → Type 0
+IsNoPath asks path = (k : ℕ) (b : Ask) → asks k ≡ Some b → IsOther b.output path
 
 -- the answer of a job, which there is where memory wasn't refused
 abbrev pub answer_at : {E : Type 0} → ℕ → Result (List Answer) E → Option Answer
@@ -70,7 +76,7 @@ pub data Makes (a : Ask) (answer : Option Answer) (old new : Counts) (before : L
 -- what a run makes of the output of each job, where that is no path of another job and no rename onto it waited for its folder's
 -- sync
 abbrev pub MakesEach : {E : Type 0} → List Ask → Result (List Answer) E → Counts → Counts → List Entry → List Entry → Type 0
-MakesEach asks result old new before after = (i : ℕ) (a : Ask) → slice_get asks i ≡ Some a → IsApart asks i a → IsRested a.output before
+MakesEach asks result old new before after = (i : ℕ) (a : Ask) → slice_get asks i ≡ Some a → IsApart (numbered 0 asks) i a → IsRested a.output before
     → Makes a (answer_at i result) old new before after
 
 -- The answer of a job is that of an end. Its statuses 3, 6, 10 and 14 come only where a count of failed calls rose.
@@ -92,20 +98,20 @@ EndSpent turns old new answers = (i : ℕ) (answer : Answer) → slice_get answe
 
 -- every path that is no job's is left alone
 abbrev pub LeavesOthers : List Ask → List Entry → List Entry → Type 0
-LeavesOthers asks before after = (path : List ℕ) → IsNoPath asks path → Since (Spares path) before after
+LeavesOthers asks before after = (path : List ℕ) → IsNoPath (numbered 0 asks) path → Since (Spares path) before after
 
 -- the jobs of a run by their numbers, in this working folder, which may start their children, and whether they began clean
-abbrev pub cast_of : List Ask → List ℕ → Bool → Cast
-cast_of asks here clean = record { job = λ number. slice_get asks number; here = here; starts = true; clean = clean }
+abbrev pub cast_of : (ℕ → Option Ask) → List ℕ → Bool → Cast
+cast_of asks here clean = record { job = asks; here = here; starts = true; clean = clean }
 
--- the jobs of a run begin clean: what was heard ends with a whole line, no child is there, no ports were asked for, no save of an
--- output was acknowledged, and no job writes to the output of another one
-pub record IsClean (asks : List Ask) (before : List Entry) : Type 0 where
+-- the jobs of a run begin clean: what was heard ends with a whole line, no child of their numbers is there, no ports were asked
+-- for these, no save of an output was acknowledged, and no job writes to the output of another one
+pub record IsClean (asks : ℕ → Option Ask) (before : List Entry) : Type 0 where
   pub whole : IsWhole before
-  pub childless : (number : ℕ) → has_child number before ≡ false
-  pub portless : (number : ℕ) → ports_of number before ≡ None
-  pub lacks : (i : ℕ) (a : Ask) → slice_get asks i ≡ Some a → LacksSaves a.output before
-  pub apart : (i : ℕ) (a : Ask) → slice_get asks i ≡ Some a → IsApart asks i a
+  pub childless : (i : ℕ) (a : Ask) → asks i ≡ Some a → has_child i before ≡ false
+  pub portless : (i : ℕ) (a : Ask) → asks i ≡ Some a → ports_of i before ≡ None
+  pub lacks : (i : ℕ) (a : Ask) → asks i ≡ Some a → LacksSaves a.output before
+  pub apart : (i : ℕ) (a : Ask) → asks i ≡ Some a → IsApart asks i a
 
 -- a port is that of a connection: of the ports that were given for its job, that of its channel
 pub record HasPort (conn : Conn) (port : ℕ) (past : List Entry) : Type 0 where
@@ -130,13 +136,13 @@ IsRunCall c now = IsCall c now ⊎ IsLoopCall c.clean now
 
 -- each call since is one of the jobs or of the loop; where the run began `clean`, lines are said whole and with the numbers of
 -- their saves, and a child is started only where none is there
-abbrev pub CallsOfJobs : List Ask → List ℕ → Bool → List Entry → List Entry → Type 0
+abbrev pub CallsOfJobs : (ℕ → Option Ask) → List ℕ → Bool → List Entry → List Entry → Type 0
 CallsOfJobs asks here clean before after = Since (IsRunCall (cast_of asks here clean)) before after
 
 -- the calls of a run, which began clean or not
-abbrev pub CallsOfRun : List Ask → List ℕ → List Entry → List Entry → Type 0
+abbrev pub CallsOfRun : (ℕ → Option Ask) → List ℕ → List Entry → List Entry → Type 0
 CallsOfRun asks here before after = (clean : Bool) → (clean ≡ true → IsClean asks before) → CallsOfJobs asks here clean before after
 
 -- each child that was started has its end
-abbrev pub EndsChildren : List Ask → List Entry → List Entry → Type 0
-EndsChildren asks before after = (i : ℕ) (a : Ask) → slice_get asks i ≡ Some a → has_child i before ≡ false → has_child i after ≡ false
+abbrev pub EndsChildren : (ℕ → Option Ask) → List Entry → List Entry → Type 0
+EndsChildren asks before after = (i : ℕ) (a : Ask) → asks i ≡ Some a → has_child i before ≡ false → has_child i after ≡ false

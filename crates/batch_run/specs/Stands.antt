@@ -1,5 +1,5 @@
 -- How the jobs of a run stand while it lasts.
-use Rattle.std.specs.Prelude.{◌≡◌, ◌≢◌, ℕ, Bool, true, false, ◌+◌, ◌-◌, ◌<◌, ◌≤◌, List, [], ◌∷◌, length, Option, Some, None, Result, Ok, Err, slice_get, slice_set, IfSome}
+use Rattle.std.specs.Prelude.{◌≡◌, ◌≢◌, ◌⊎◌, ℕ, zero, suc, Bool, true, false, ◌+◌, ◌-◌, ◌<◌, ◌≤◌, List, [], ◌∷◌, length, Option, Some, None, Result, Ok, Err, slice_get, slice_set, IfSome}
 use Rattle.nb_model.specs.declared.notebook.Notebook.{Notebook}
 use Rattle.nb_load.specs.Loaded.{Accepts}
 use Rattle.words.specs.declared.ask.Ask.{Ask}
@@ -37,9 +37,10 @@ use Rattle.batch_run.specs.Lines.{waits_of}
 use Rattle.said_lines.specs.Speech.{Says}
 use Rattle.batch_run.specs.Kept.{FaultCause}
 
--- what a run begins with: its working folder, the counts of its world, and whether it begins clean; and the count of waits by
--- now, and at most
+-- what a run begins with: how many numbers are taken, those of jobs that ran before it among them, its working folder, the counts
+-- of its world, and whether it begins clean; and the count of waits by now, and at most
 pub record Outset : Type 0 where
+  pub size : ℕ
   pub here : List ℕ
   pub counts : Counts
   pub waits : ℕ
@@ -137,24 +138,31 @@ SlotTells a Waiting journal counts = Unit {0}
 SlotTells a (Running j) journal counts = TellsAll a j.run.book journal counts
 SlotTells a (Ended answer) journal counts = Unit {0}
 
--- how all do, since a world was in this state
-pub record AllStand (asks : List Ask) (start : Option (List Entry)) (from : Outset) (slots : List Slot) (journal : Option (List Entry)) (counts : Counts) : Type 0 where
-  pub size : length slots ≡ length asks
+-- a job has ended
+abbrev pub HasEnded : Slot → Type 0
+HasEnded Waiting = ⊥
+HasEnded (Running j) = ⊥
+HasEnded (Ended answer) = Unit {0}
+
+-- how all do, since a world was in this state; a number that is no job's is one of a job that ran before
+pub record AllStand (asks : ℕ → Option Ask) (start : Option (List Entry)) (from : Outset) (slots : List Slot) (journal : Option (List Entry)) (counts : Counts) : Type 0 where
+  pub size : length slots ≡ from.size
+  pub asked : (i : ℕ) (slot : Slot) → slice_get slots i ≡ Some slot → HasEnded slot ⊎ ((a : Ask) × (asks i ≡ Some a))
   pub grow : CountsGrow from.counts counts
   pub waits : counts.waits ≤ from.waits
   pub waited : HasWaited from.waits counts
   pub told : Told start journal Extends
   pub calls : Told start journal (CallsOfJobs asks from.here from.clean)
   pub spoken : from.clean ≡ true → SpeaksWhole journal counts
-  pub idle : from.clean ≡ true → (i : ℕ) (a : Ask) → slice_get asks i ≡ Some a → slice_get slots i ≡ Some Waiting → IsIdle i a journal
-  pub apart : from.clean ≡ true → (i : ℕ) (a : Ask) → slice_get asks i ≡ Some a → IsApart asks i a
-  pub tells : from.clean ≡ true → (i : ℕ) (a : Ask) (slot : Slot) → slice_get asks i ≡ Some a → slice_get slots i ≡ Some slot → SlotTells a slot journal counts
+  pub idle : from.clean ≡ true → (i : ℕ) (a : Ask) → asks i ≡ Some a → slice_get slots i ≡ Some Waiting → IsIdle i a journal
+  pub apart : from.clean ≡ true → (i : ℕ) (a : Ask) → asks i ≡ Some a → IsApart asks i a
+  pub tells : from.clean ≡ true → (i : ℕ) (a : Ask) (slot : Slot) → asks i ≡ Some a → slice_get slots i ≡ Some slot → SlotTells a slot journal counts
   pub wired : from.clean ≡ true → IfSome journal (AreWired from.wires)
-  pub plays : (i : ℕ) (a : Ask) (slot : Slot) → slice_get asks i ≡ Some a → slice_get slots i ≡ Some slot → SlotPlays i a slot
-  pub ends : (i : ℕ) (a : Ask) (slot : Slot) → slice_get asks i ≡ Some a → slice_get slots i ≡ Some slot → SlotEnds i slot start journal
-  pub counted : (i : ℕ) (a : Ask) (slot : Slot) → slice_get asks i ≡ Some a → slice_get slots i ≡ Some slot → SlotCounted a from.counts from.most slot journal counts
+  pub plays : (i : ℕ) (a : Ask) (slot : Slot) → asks i ≡ Some a → slice_get slots i ≡ Some slot → SlotPlays i a slot
+  pub ends : (i : ℕ) (a : Ask) (slot : Slot) → asks i ≡ Some a → slice_get slots i ≡ Some slot → SlotEnds i slot start journal
+  pub counted : (i : ℕ) (a : Ask) (slot : Slot) → asks i ≡ Some a → slice_get slots i ≡ Some slot → SlotCounted a from.counts from.most slot journal counts
   pub each : (before past : List Entry) → start ≡ Some before → journal ≡ Some past
-      → (i : ℕ) (a : Ask) (slot : Slot) → slice_get asks i ≡ Some a → slice_get slots i ≡ Some slot
+      → (i : ℕ) (a : Ask) (slot : Slot) → asks i ≡ Some a → slice_get slots i ≡ Some slot
       → IsApart asks i a → IsRested a.output before → Stands a from.counts before past counts slot
 
 -- the slots of all jobs but this one stay as they were
@@ -201,38 +209,38 @@ slot_of (Err answer) = Ended answer
 
 -- calls keep them so
 abbrev pub KeepsAll : {W : Type 0} → (W → Option (List Entry)) → (W → Counts) → W → W → List Slot → List Slot → Type 0
-KeepsAll journal counts old new was now = (asks : List Ask) (start : Option (List Entry)) (from : Outset)
+KeepsAll journal counts old new was now = (asks : ℕ → Option Ask) (start : Option (List Entry)) (from : Outset)
     → AllStand asks start from was (journal old) (counts old) → AllStand asks start from now (journal new) (counts new)
 
 -- calls of the loop or of a job keep all slots standing, with the ports that the loop keeps before and after
 abbrev pub KeepsLines : {W : Type 0} → (W → Option (List Entry)) → (W → Counts) → W → W → Loop → Loop → List Slot → List Slot → Type 0
-KeepsLines journal counts old new kept keeps was now = (asks : List Ask) (start : Option (List Entry)) (from : Outset)
+KeepsLines journal counts old new kept keeps was now = (asks : ℕ → Option Ask) (start : Option (List Entry)) (from : Outset)
     → AllStand asks start (wired_by kept from) was (journal old) (counts old) → AllStand asks start (wired_by keeps from) now (journal new) (counts new)
 
 -- so do these where there is such a cause since the outset
 abbrev pub KeepsLinesIf : (Outset → Counts → Type 0) → {W : Type 0} → (W → Option (List Entry)) → (W → Counts) → W → W → Loop → Loop → List Slot → List Slot → Type 0
-KeepsLinesIf why journal counts old new kept keeps was now = (asks : List Ask) (start : Option (List Entry)) (from : Outset) → why from (counts old)
+KeepsLinesIf why journal counts old new kept keeps was now = (asks : ℕ → Option Ask) (start : Option (List Entry)) (from : Outset) → why from (counts old)
     → AllStand asks start (wired_by kept from) was (journal old) (counts old) → AllStand asks start (wired_by keeps from) now (journal new) (counts new)
 
 -- calls that wait keep all slots standing, with as many more waits as were used up
 abbrev pub KeepsWaiting : {W : Type 0} → (W → Option (List Entry)) → (W → Counts) → W → W → Lines → Lines → List Slot → List Slot → Type 0
-KeepsWaiting journal counts old new kept keeps was now = (asks : List Ask) (start : Option (List Entry)) (from : Outset)
+KeepsWaiting journal counts old new kept keeps was now = (asks : ℕ → Option Ask) (start : Option (List Entry)) (from : Outset)
     → from.waits + waits_of kept ≡ from.most → AllStand asks start (wired_by kept.connections from) was (journal old) (counts old)
     → AllStand asks start (wired_by keeps.connections (more_waits (waits_of kept - waits_of keeps) from)) now (journal new) (counts new)
 
 -- what calls nothing of the world keeps all slots standing
 abbrev pub StayAll : List Slot → List Slot → Type 0
-StayAll was now = (asks : List Ask) (start : Option (List Entry)) (from : Outset) (journal : Option (List Entry)) (counts : Counts)
+StayAll was now = (asks : ℕ → Option Ask) (start : Option (List Entry)) (from : Outset) (journal : Option (List Entry)) (counts : Counts)
     → AllStand asks start from was journal counts → AllStand asks start from now journal counts
 
 -- what only queues octets keeps all slots standing
 abbrev pub StayLines : Loop → Loop → List Slot → List Slot → Type 0
-StayLines kept keeps was now = (asks : List Ask) (start : Option (List Entry)) (from : Outset) (journal : Option (List Entry)) (counts : Counts)
+StayLines kept keeps was now = (asks : ℕ → Option Ask) (start : Option (List Entry)) (from : Outset) (journal : Option (List Entry)) (counts : Counts)
     → AllStand asks start (wired_by kept from) was journal counts → AllStand asks start (wired_by keeps from) now journal counts
 
 -- where this cause has come since the outset, the change keeps all slots standing
 abbrev pub StayAllIf : (Outset → Counts → Type 0) → List Slot → List Slot → Type 0
-StayAllIf why was now = (asks : List Ask) (start : Option (List Entry)) (from : Outset) (journal : Option (List Entry)) (counts : Counts)
+StayAllIf why was now = (asks : ℕ → Option Ask) (start : Option (List Entry)) (from : Outset) (journal : Option (List Entry)) (counts : Counts)
     → why from counts → AllStand asks start from was journal counts → AllStand asks start from now journal counts
 
 -- a call of the network has failed since the outset
@@ -249,39 +257,39 @@ IsFaultOf f from counts = FaultCause from.counts counts (IsOutOfWaits from count
 
 -- calls that touch no path keep all slots standing
 abbrev pub KeepsEach : {W : Type 0} → (W → Option (List Entry)) → (W → Counts) → W → W → Loop → Loop → Type 0
-KeepsEach journal counts old new kept keeps = (asks : List Ask) (start : Option (List Entry)) (from : Outset) (slots : List Slot)
+KeepsEach journal counts old new kept keeps = (asks : ℕ → Option Ask) (start : Option (List Entry)) (from : Outset) (slots : List Slot)
     → AllStand asks start (wired_by kept from) slots (journal old) (counts old) → AllStand asks start (wired_by keeps from) slots (journal new) (counts new)
 
 -- calls that begin the connections of a job, on ports that were given for it, keep all slots standing
 abbrev pub KeepsBegun : {W : Type 0} → (W → Option (List Entry)) → (W → Counts) → W → W → ℕ → List ℕ → Loop → Loop → List Slot → List Slot → Type 0
-KeepsBegun journal counts old new job ports kept keeps was now = (asks : List Ask) (start : Option (List Entry)) (from : Outset)
+KeepsBegun journal counts old new job ports kept keeps was now = (asks : ℕ → Option Ask) (start : Option (List Entry)) (from : Outset)
     → (from.clean ≡ true → HasPorts job ports (journal old))
     → AllStand asks start (wired_by kept from) was (journal old) (counts old) → AllStand asks start (wired_by keeps from) now (journal new) (counts new)
 
 -- calls of the loop that wait keep all slots standing
 abbrev pub KeepsEachWaiting : {W : Type 0} → (W → Option (List Entry)) → (W → Counts) → W → W → Lines → Lines → Type 0
-KeepsEachWaiting journal counts old new kept keeps = (asks : List Ask) (start : Option (List Entry)) (from : Outset) (slots : List Slot)
+KeepsEachWaiting journal counts old new kept keeps = (asks : ℕ → Option Ask) (start : Option (List Entry)) (from : Outset) (slots : List Slot)
     → AllStand asks start (wired_by kept.connections from) slots (journal old) (counts old)
     → AllStand asks start (wired_by keeps.connections (more_waits (waits_of kept - waits_of keeps) from)) slots (journal new) (counts new)
 
 -- calls of the job in one slot keep all so
 abbrev pub SlotKeeps : {W : Type 0} → (W → Option (List Entry)) → (W → Counts) → W → W → Slot → Slot → Type 0
-SlotKeeps journal counts old new was now = (asks : List Ask) (start : Option (List Entry)) (from : Outset) (slots : List Slot) (k : ℕ)
+SlotKeeps journal counts old new was now = (asks : ℕ → Option Ask) (start : Option (List Entry)) (from : Outset) (slots : List Slot) (k : ℕ)
     → slice_get slots k ≡ Some was → AllStand asks start from slots (journal old) (counts old)
     → AllStand asks start from (slice_set slots k now) (journal new) (counts new)
 
 -- a change of one slot that calls nothing of the world keeps all slots standing
 abbrev pub SlotStays : Slot → Slot → Type 0
-SlotStays was now = (asks : List Ask) (start : Option (List Entry)) (from : Outset) (slots : List Slot) (k : ℕ) (journal : Option (List Entry)) (counts : Counts)
+SlotStays was now = (asks : ℕ → Option Ask) (start : Option (List Entry)) (from : Outset) (slots : List Slot) (k : ℕ) (journal : Option (List Entry)) (counts : Counts)
     → slice_get slots k ≡ Some was → AllStand asks start from slots journal counts → AllStand asks start from (slice_set slots k now) journal counts
 
 -- where this cause has come since the outset, a change of one slot keeps all slots standing
 abbrev pub SlotStaysIf : (Outset → Counts → Type 0) → Slot → Slot → Type 0
-SlotStaysIf why was now = (asks : List Ask) (start : Option (List Entry)) (from : Outset) (slots : List Slot) (k : ℕ) (journal : Option (List Entry)) (counts : Counts)
+SlotStaysIf why was now = (asks : ℕ → Option Ask) (start : Option (List Entry)) (from : Outset) (slots : List Slot) (k : ℕ) (journal : Option (List Entry)) (counts : Counts)
     → why from counts → slice_get slots k ≡ Some was → AllStand asks start from slots journal counts → AllStand asks start from (slice_set slots k now) journal counts
 
 -- calls that leave the jobs as they stand: each is one of theirs or of the loop, touches no path and starts no child
-pub record PassBy (asks : List Ask) (here : List ℕ) (clean : Bool) (kept wires : List (Option ℕ)) (old new : Option (List Entry)) (was now : Counts) : Type 0 where
+pub record PassBy (asks : ℕ → Option Ask) (here : List ℕ) (clean : Bool) (kept wires : List (Option ℕ)) (old new : Option (List Entry)) (was now : Counts) : Type 0 where
   pub calls : Told old new (CallsOfJobs asks here clean)
   pub spoken : clean ≡ true → SpeaksWhole old was → SpeaksWhole new now
   pub idle : (number : ℕ) (a : Ask) → IsIdle number a old → IsIdle number a new
@@ -292,15 +300,9 @@ pub record PassBy (asks : List Ask) (here : List ℕ) (clean : Bool) (kept wires
 
 -- what is said of the end of one of the jobs leaves all as they stand
 abbrev pub KeepsSaying : {W : Type 0} → (W → Option (List Entry)) → (W → Counts) → W → W → Answer → Type 0
-KeepsSaying journal counts old new answer = (asks : List Ask) (start : Option (List Entry)) (from : Outset) (slots : List Slot) (i : ℕ) (a : Ask)
-    → slice_get asks i ≡ Some a → IsAnswer a.output answer → AllStand asks start from slots (journal old) (counts old)
+KeepsSaying journal counts old new answer = (asks : ℕ → Option Ask) (start : Option (List Entry)) (from : Outset) (slots : List Slot) (i : ℕ) (a : Ask)
+    → asks i ≡ Some a → IsAnswer a.output answer → AllStand asks start from slots (journal old) (counts old)
     → AllStand asks start from slots (journal new) (counts new)
-
--- a job has ended
-abbrev pub HasEnded : Slot → Type 0
-HasEnded Waiting = ⊥
-HasEnded (Running j) = ⊥
-HasEnded (Ended answer) = Unit {0}
 
 -- each job has
 pub record AllEnded (slots : List Slot) : Type 0 where
@@ -321,10 +323,10 @@ answer_of (Some Waiting) = None
 answer_of (Some (Running j)) = None
 answer_of (Some (Ended answer)) = Some answer
 
--- the answers of jobs, each in its place
-pub record AreAnswers (slots : List Slot) (answers : List Answer) : Type 0 where
-  pub size : length answers ≡ length slots
-  pub each : (i : ℕ) → slice_get answers i ≡ answer_of (slice_get slots i)
+-- the answers of jobs from a number on, each in its place
+pub record AreAnswers (first : ℕ) (slots : List Slot) (answers : List Answer) : Type 0 where
+  pub size : length slots ≡ first + length answers
+  pub each : (i : ℕ) → slice_get answers i ≡ answer_of (slice_get slots (first + i))
 
 -- the answers of the jobs that have ended, in their order
 abbrev pub answers_of : List Slot → List Answer
@@ -332,3 +334,9 @@ answers_of [] = []
 answers_of (Waiting ∷ slots) = answers_of slots
 answers_of (Running j ∷ slots) = answers_of slots
 answers_of (Ended answer ∷ slots) = answer ∷ answers_of slots
+
+-- those of the jobs from this number on
+abbrev pub answers_from : ℕ → List Slot → List Answer
+answers_from zero slots = answers_of slots
+answers_from (suc n) [] = []
+answers_from (suc n) (slot ∷ slots) = answers_from n slots

@@ -7,9 +7,10 @@ ghost use Rattle.world.specs.Told.{Between};
 ghost use Rattle.world.specs.declared.entry.Entry.{Entry};
 ghost use Rattle.world.specs.Counts.{Counts, CountsGrow};
 ghost use Rattle.batch_run.specs.Batch.{AreEnds, CallsOfRun, EndSpent, EndsChildren, LeavesOthers};
-ghost use Rattle.batch_run.specs.Batch.{MakesEach};
+ghost use Rattle.batch_run.specs.Batch.{MakesEach, numbered};
 ghost use Rattle.batch_run.specs.Kept.{IsFreshFrom};
-ghost use Rattle.batch_run.specs.Stands.{AllEnded, AllStand, Outset, WaitingFrom, more_waits, wired_by};
+ghost use Rattle.batch_run.specs.Stands.{AllEnded, AllStand, EndedBelow, Outset, WaitingFrom, more_waits};
+ghost use Rattle.batch_run.specs.Stands.{wired_by};
 ghost use Rattle.batch_run.specs.Lines.{waits_of};
 
 use crate::Limits;
@@ -22,14 +23,17 @@ use world::World;
 
 /// Runs 1 to 16 jobs side by side to their ends, and says how each ended in the order of the ends.
 /// One answer a job, in the order of the asks. Without memory each child that was started is ended.
+/// The jobs have the numbers from `first` on, by which the world knows their connections, ports and
+/// children: the numbers below are those of jobs that ran before in the same world.
 pub fn run_jobs<W: World>(
     alloc: Global,
     w: &mut W,
     asks: Asks,
+    first: u8,
     limits: &Limits,
 ) -> Result<List<Answer>, NoMemory>
-    // So many jobs have numbers; a jobs file has no more.
-    requires few { length asks ≤ 16 }
+    // There are 16 numbers; a jobs file has no more jobs.
+    requires few { first + length asks ≤ 16 }
     requires asks { AllByRecursion IsRunnable asks }
 
     // What it makes of the output of each job, with the answer that it gives for it: 0, 1, 7, 8, 9,
@@ -38,9 +42,9 @@ pub fn run_jobs<W: World>(
         (MakesEach asks result (W.counts w.old) (W.counts w.new)) }
     // Each call is one of the loop or of one of the jobs: none reads or writes another file, starts
     // another program than the kernel that is asked for, or says another line.
-    ensures calls { Between W.journal w.old w.new (CallsOfRun asks limits.now.here) }
+    ensures calls { Between W.journal w.old w.new (CallsOfRun (numbered first asks) limits.now.here) }
     // In the end each child that was started has its end.
-    ensures children { Between W.journal w.old w.new (EndsChildren asks) }
+    ensures children { Between W.journal w.old w.new (EndsChildren (numbered first asks)) }
     // All other paths are left alone, and no count falls.
     ensures others { Between W.journal w.old w.new (LeavesOthers asks) }
     ensures counts { CountsGrow (W.counts w.old) (W.counts w.new) }
@@ -54,22 +58,24 @@ pub fn run_jobs<W: World>(
     ensures spent { IfOk result
         (EndSpent limits.now.turns (W.counts w.old) (W.counts w.new)) }
 {
-    match Running::new(alloc, asks.len(), limits.turns) {
-        Ok(running) => answers_of(w, asks, limits, running),
+    match Running::new(alloc, first as usize, asks.len(), limits.turns) {
+        Ok(running) => answers_of(w, asks, first as usize, limits, running),
         Err(refused) => Err(refused),
     }
 }
 
-/// Runs these jobs, none of which has begun.
+/// Runs these jobs, none of which has begun, by their numbers from the first on.
 fn answers_of<W: World>(
     w: &mut W,
     asks: Asks,
+    first: usize,
     limits: &Limits,
     running: Running,
 ) -> Result<List<Answer>, NoMemory>
     requires asks { AllByRecursion IsRunnable asks }
-    requires size { length running.jobs.slots.items ≡ length asks }
-    requires waiting { WaitingFrom 0 running.jobs.slots.items }
+    requires size { length running.jobs.slots.items ≡ first + length asks }
+    requires ended { EndedBelow first running.jobs.slots.items }
+    requires waiting { WaitingFrom first running.jobs.slots.items }
     requires fresh { IsFreshFrom 0 running.lines.connections }
     requires drained { IsDrained running.lines.connections }
     requires sound { IsSound running.lines.connections }
@@ -77,8 +83,8 @@ fn answers_of<W: World>(
     requires left { waits_of running.lines ≡ limits.now.turns }
     ensures jobs { Between W.journal w.old w.new
         (MakesEach asks result (W.counts w.old) (W.counts w.new)) }
-    ensures calls { Between W.journal w.old w.new (CallsOfRun asks limits.now.here) }
-    ensures children { Between W.journal w.old w.new (EndsChildren asks) }
+    ensures calls { Between W.journal w.old w.new (CallsOfRun (numbered first asks) limits.now.here) }
+    ensures children { Between W.journal w.old w.new (EndsChildren (numbered first asks)) }
     ensures others { Between W.journal w.old w.new (LeavesOthers asks) }
     ensures counts { CountsGrow (W.counts w.old) (W.counts w.new) }
     ensures waits { (W.counts w.new).waits ≤ (W.counts w.old).waits + limits.now.turns }
@@ -88,8 +94,8 @@ fn answers_of<W: World>(
         (EndSpent limits.now.turns (W.counts w.old) (W.counts w.new)) }
 {
     let mut running = running;
-    match carry_out(w, asks, limits, &mut running) {
-        Ok(()) => running.into_answers(),
+    match carry_out(w, asks, first, limits, &mut running) {
+        Ok(()) => running.into_answers(first),
         Err(refused) => {
             running.abandon(w);
             Err(refused)
@@ -101,12 +107,13 @@ fn answers_of<W: World>(
 fn carry_out<W: World>(
     w: &mut W,
     asks: Asks,
+    first: usize,
     limits: &Limits,
     running: &mut Running,
 ) -> Result<(), NoMemory>
     requires asks { AllByRecursion IsRunnable asks }
-    requires size { length running.old.jobs.slots.items ≡ length asks }
-    requires waiting { WaitingFrom 0 running.old.jobs.slots.items }
+    requires size { length running.old.jobs.slots.items ≡ first + length asks }
+    requires waiting { WaitingFrom first running.old.jobs.slots.items }
     requires fresh { IsFreshFrom 0 running.old.lines.connections }
     requires drained { IsDrained running.old.lines.connections }
     requires sound { IsSound running.old.lines.connections }
@@ -114,14 +121,14 @@ fn carry_out<W: World>(
     ensures ended { OnOk result (AllEnded running.new.jobs.slots.items) }
     ensures stands { (start : Maybe (Plain Entry)) (from : Outset) →
         from.here ≡ limits.now.here → from.waits + waits_of running.old.lines ≡ from.most →
-        AllStand asks start (wired_by running.old.lines.connections from)
+        AllStand (numbered first asks) start (wired_by running.old.lines.connections from)
         running.old.jobs.slots.items (W.journal w.old) (W.counts w.old) →
-        AllStand asks start
+        AllStand (numbered first asks) start
         (wired_by running.new.lines.connections
         (more_waits (waits_of running.old.lines - waits_of running.new.lines) from))
         running.new.jobs.slots.items (W.journal w.new) (W.counts w.new) }
 {
-    match begin_all(w, asks, limits, running) {
+    match begin_all(w, asks, first, limits, running) {
         Ok(()) => running.run(w),
         Err(refused) => Err(refused),
     }
@@ -131,12 +138,13 @@ fn carry_out<W: World>(
 fn begin_all<W: World>(
     w: &mut W,
     asks: Asks,
+    first: usize,
     limits: &Limits,
     running: &mut Running,
 ) -> Result<(), NoMemory>
     requires asks { AllByRecursion IsRunnable asks }
-    requires size { length running.old.jobs.slots.items ≡ length asks }
-    requires waiting { WaitingFrom 0 running.old.jobs.slots.items }
+    requires size { length running.old.jobs.slots.items ≡ first + length asks }
+    requires waiting { WaitingFrom first running.old.jobs.slots.items }
     requires fresh { IsFreshFrom 0 running.old.lines.connections }
     requires drained { IsDrained running.old.lines.connections }
     requires sound { IsSound running.old.lines.connections }
@@ -147,12 +155,12 @@ fn begin_all<W: World>(
     ensures buf { running.new.buf ≡ running.old.buf }
     ensures stands { (start : Maybe (Plain Entry)) (from : Outset) →
         from.here ≡ limits.now.here →
-        AllStand asks start (wired_by running.old.lines.connections from)
+        AllStand (numbered first asks) start (wired_by running.old.lines.connections from)
         running.old.jobs.slots.items (W.journal w.old) (W.counts w.old) →
-        AllStand asks start (wired_by running.new.lines.connections from)
+        AllStand (numbered first asks) start (wired_by running.new.lines.connections from)
         running.new.jobs.slots.items (W.journal w.new) (W.counts w.new) }
 {
-    let mut number = 0;
+    let mut number = first;
     for ask in asks.into_vec() {
         running.begin(w, number, ask, &limits.here)?;
         number += 1;

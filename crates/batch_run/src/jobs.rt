@@ -1,5 +1,5 @@
 //! `Jobs`, the jobs of a run by their numbers.
-ghost use Rattle.std.specs.Prelude.{◌≡◌, ◌≤◌, ◌++◌, ◌∷◌, [], length, OnOk};
+ghost use Rattle.std.specs.Prelude.{◌≡◌, ◌≤◌, ◌++◌, ◌∷◌, [], length, OnOk, true, false};
 ghost use Rattle.batch_run.specs.Stands.{answers_of};
 
 use crate::slot::{Slot, say_end};
@@ -22,7 +22,7 @@ pub(crate) struct Jobs {
 }
 
 impl Jobs {
-    ghost use Rattle.std.specs.Prelude.{◌≡◌, ◌<◌, ◌≤◌, ◌+◌, IfOk, IfSome, IsTrue, true, false};
+    ghost use Rattle.std.specs.Prelude.{◌≡◌, ◌<◌, ◌≤◌, ◌+◌, ℕ, IfOk, IfSome, IsTrue, true, false};
     ghost use Rattle.said_lines.specs.Between.{SayFailed};
     ghost use Rattle.job_run.specs.Run.{HasPorts};
     ghost use Rattle.job_run.specs.Task.{ports_of_job, pings_kernel};
@@ -32,18 +32,21 @@ impl Jobs {
     ghost use Rattle.words.specs.declared.ask.Ask.{Ask as Asked};
     ghost use Rattle.world.specs.declared.entry.Entry.{Entry};
     ghost use Rattle.batch_run.specs.Stands.{AllStand, AllEnded, EndedBelow, KeepsAll, Outset};
-    ghost use Rattle.batch_run.specs.Stands.{KeepsOthers, KeepsSaying, SaysEndOf, WaitingFrom, answers_of};
+    ghost use Rattle.batch_run.specs.Stands.{KeepsOthers, KeepsSaying, SaysEndOf, WaitingFrom, answers_from};
     ghost use Rattle.batch_run.specs.Stands.{is_slot_running};
 
-    /// So many jobs, of which none has begun.
-    pub(crate) fn new(alloc: Global, count: usize) -> Result<Jobs, NoMemory>
-        requires { count ≤ 16 }
-        ensures count { IfOk result (λ j. length j.slots.items ≡ count) }
-        ensures waiting { IfOk result (λ j. WaitingFrom 0 j.slots.items) }
+    /// So many jobs from the first number on, of which none has begun. Those of the numbers below ran
+    /// before, and have ended.
+    pub(crate) fn new(alloc: Global, first: usize, count: usize) -> Result<Jobs, NoMemory>
+        requires { first + count ≤ 16 }
+        ensures count { IfOk result (λ j. length j.slots.items ≡ first + count) }
+        ensures ended { IfOk result (λ j. EndedBelow first j.slots.items) }
+        ensures waiting { IfOk result (λ j. WaitingFrom first j.slots.items) }
     {
         let mut slots = Vec::with_capacity(alloc, 16)?;
-        while slots.len() < count {
-            slots.push(Slot::Waiting)?;
+        while slots.len() < first + count {
+            let ran_before = slots.len() < first;
+            slots.push(Slot::new(alloc, ran_before))?;
         }
         Ok(Jobs { alloc, slots })
     }
@@ -69,8 +72,8 @@ impl Jobs {
         requires waiting { WaitingFrom number self.old.slots.items }
         ensures size { length self.new.slots.items ≡ length self.old.slots.items }
         ensures waiting { WaitingFrom (number + 1) self.new.slots.items }
-        ensures stands { (asks : Plain Asked) (start : Maybe (Plain Entry)) (from : Outset) →
-            slice_get asks number ≡ Some ask → from.here ≡ here.now →
+        ensures stands { (asks : ℕ → Maybe Asked) (start : Maybe (Plain Entry)) (from : Outset) →
+            asks number ≡ Some ask → from.here ≡ here.now →
             AllStand asks start from self.old.slots.items (W.journal w.old) (W.counts w.old) →
             AllStand asks start from self.new.slots.items (W.journal w.new) (W.counts w.new) }
         // The connections that it wants are on the ports that were given for it.
@@ -180,13 +183,15 @@ impl Jobs {
         }
     }
 
-    /// How each job ended, in their order.
-    pub(crate) fn into_answers(self) -> Result<List<Answer>, NoMemory>
-        ensures { IfOk result (λ answers. answers ≡ answers_of self.slots.items) }
+    /// How each job from the first number on ended, in their order.
+    pub(crate) fn into_answers(self, first: usize) -> Result<List<Answer>, NoMemory>
+        ensures { IfOk result (λ answers. answers ≡ answers_from first self.slots.items) }
     {
         let mut answers = List::new(self.alloc);
+        let mut number = 0;
         for slot in self.slots {
-            push_answer(&mut answers, slot)?;
+            push_where(&mut answers, slot, number >= first)?;
+            number += 1;
         }
         Ok(answers)
     }
@@ -210,6 +215,20 @@ impl Jobs {
             Some(slot) => slot.wants_look(),
             None => false,
         }
+    }
+}
+
+/// Puts how this job ended at the end, if it has, and is one of this run.
+fn push_where(answers: &mut List<Answer>, slot: Slot, is_own: bool) -> Result<(), NoMemory>
+    ensures own { is_own ≡ true →
+        OnOk result (answers.new ≡ answers.old ++ answers_of (slot ∷ [])) }
+    ensures other { is_own ≡ false → answers.new ≡ answers.old }
+{
+    if is_own {
+        push_answer(answers, slot)
+    } else {
+        drop(slot);
+        Ok(())
     }
 }
 

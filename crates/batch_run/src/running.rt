@@ -21,7 +21,7 @@ pub(crate) struct Running {
 }
 
 impl Running {
-    ghost use Rattle.std.specs.Prelude.{◌≡◌, ◌<◌, ◌≤◌, ◌+◌, IfOk, IfSome, OnOk, length, true, false};
+    ghost use Rattle.std.specs.Prelude.{◌≡◌, ◌<◌, ◌≤◌, ◌+◌, ℕ, IfOk, IfSome, OnOk, length, true, false};
     ghost use Rattle.std.specs.Prelude.{List as Plain, Option as Maybe, Some, slice_get};
     ghost use Rattle.said_lines.specs.Between.{SayFailed};
     ghost use Rattle.ready_loop.specs.States.{IsDrained, IsSound, waits_left};
@@ -32,15 +32,21 @@ impl Running {
     ghost use Rattle.batch_run.specs.Stands.{AllStand, AllEnded, EndedBelow, IsCutOff, KeepsBegun};
     ghost use Rattle.batch_run.specs.Stands.{KeepsLines, KeepsLinesIf, KeepsOthers, NoneOver};
     ghost use Rattle.batch_run.specs.Stands.{Outset, SaysEndOf, is_slot_running, wired_by};
-    ghost use Rattle.batch_run.specs.Stands.{WaitingFrom, answers_of};
+    ghost use Rattle.batch_run.specs.Stands.{WaitingFrom, answers_from};
     ghost use Rattle.words.specs.declared.ask.Ask.{Ask as Asked};
     ghost use Rattle.world.specs.declared.entry.Entry.{Entry};
 
-    /// So many jobs, none of which has begun, and so many waits.
-    pub(crate) fn new(alloc: Global, count: usize, turns: u64) -> Result<Running, NoMemory>
-        requires { count ≤ 16 }
-        ensures count { IfOk result (λ r. length r.jobs.slots.items ≡ count) }
-        ensures waiting { IfOk result (λ r. WaitingFrom 0 r.jobs.slots.items) }
+    /// So many jobs from the first number on, none of which has begun, and so many waits.
+    pub(crate) fn new(
+        alloc: Global,
+        first: usize,
+        count: usize,
+        turns: u64,
+    ) -> Result<Running, NoMemory>
+        requires { first + count ≤ 16 }
+        ensures count { IfOk result (λ r. length r.jobs.slots.items ≡ first + count) }
+        ensures ended { IfOk result (λ r. EndedBelow first r.jobs.slots.items) }
+        ensures waiting { IfOk result (λ r. WaitingFrom first r.jobs.slots.items) }
         ensures drained { IfOk result (λ r. IsDrained r.lines.connections) }
         ensures sound { IfOk result (λ r. IsSound r.lines.connections) }
         ensures fresh { IfOk result (λ r. IsFreshFrom 0 r.lines.connections) }
@@ -48,7 +54,7 @@ impl Running {
         ensures left { IfOk result (λ r. waits_of r.lines ≡ turns) }
     {
         Ok(Running {
-            jobs: Jobs::new(alloc, count)?,
+            jobs: Jobs::new(alloc, first, count)?,
             lines: Lines::new(alloc, turns)?,
             buf: Vec::from_elem(alloc, 0u8, PIECE)?,
         })
@@ -68,8 +74,8 @@ impl Running {
         requires sound { IsSound self.old.lines.connections }
         requires waiting { WaitingFrom number self.old.jobs.slots.items }
         ensures waiting { OnOk result (WaitingFrom (number + 1) self.new.jobs.slots.items) }
-        ensures stands { (asks : Plain Asked) (start : Maybe (Plain Entry)) (from : Outset) →
-            slice_get asks number ≡ Some ask → from.here ≡ here.now →
+        ensures stands { (asks : ℕ → Maybe Asked) (start : Maybe (Plain Entry)) (from : Outset) →
+            asks number ≡ Some ask → from.here ≡ here.now →
             AllStand asks start (wired_by self.old.lines.connections from)
             self.old.jobs.slots.items (W.journal w.old) (W.counts w.old) →
             AllStand asks start (wired_by self.new.lines.connections from)
@@ -230,11 +236,11 @@ impl Running {
         }
     }
 
-    /// How each job ended.
-    pub(crate) fn into_answers(self) -> Result<List<Answer>, NoMemory>
-        ensures { IfOk result (λ answers. answers ≡ answers_of self.jobs.slots.items) }
+    /// How each job from the first number on ended.
+    pub(crate) fn into_answers(self, first: usize) -> Result<List<Answer>, NoMemory>
+        ensures { IfOk result (λ answers. answers ≡ answers_from first self.jobs.slots.items) }
     {
         let Running { jobs, .. } = self;
-        jobs.into_answers()
+        jobs.into_answers(first)
     }
 }

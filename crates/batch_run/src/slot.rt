@@ -20,11 +20,24 @@ pub(crate) enum Slot {
 }
 
 impl Slot {
-    ghost use Rattle.std.specs.Prelude.{◌≡◌, ◌<◌, ◌^◌, Some, true, IfSome};
+    ghost use Rattle.std.specs.Prelude.{◌≡◌, ◌<◌, ◌^◌, Some, true, false, IfSome};
     ghost use Rattle.said_lines.specs.Between.{SayFailed};
     ghost use Rattle.batch_run.specs.Due.{IsSlotDue, SlotWantsLook, is_slot_over};
     ghost use Rattle.batch_run.specs.Stands.{HasEnded, SaysEndOf, SlotKeeps, SlotStays, is_slot_running};
     ghost use Rattle.batch_run.specs.Stands.{IsCutOff, IsOutOfWaits, SlotStaysIf};
+
+    /// The slot of a number before any job begins: where its job ran before, that has ended, and
+    /// nothing more is told of it.
+    pub(crate) fn new(alloc: Global, ran_before: bool) -> Slot
+        ensures ended { ran_before ≡ true → HasEnded result }
+        ensures waiting { ran_before ≡ false → result ≡ Slot.Waiting }
+    {
+        if ran_before {
+            Slot::Ended(Answer::starved(alloc))
+        } else {
+            Slot::Waiting
+        }
+    }
 
     /// Whether a job runs of which it stands how it ended.
     pub(crate) fn is_over(&self) -> bool

@@ -1,21 +1,22 @@
 use Rattle.std.proofs.Common.{refl, ◌≡◌, length, Some, arith, sym, ◌∙◌, subst}
-use Rattle.std.specs.Prelude.{slice_get}
 use Rattle.std.proofs.lemmas.Iterator.Adapters.{YieldsList-from_vec}
 use Rattle.std.proofs.lemmas.Iterator.Consumers.{YieldsList-turn}
 use Rattle.std.proofs.lemmas.List.{length_push}
 use Rattle.std.proofs.lemmas.Option.{slice_get_read}
+use Rattle.batch_run.specs.Batch.{numbered}
+use Rattle.batch_run.proofs.EndLemmas.{numbered_at}
 use Rattle.batch_run.proofs.batch.begin_all.Goals as goal
 
 pub loop-ask-preserved : goal.loop-ask-preserved
 loop-ask-preserved g c =
     let t = YieldsList-turn (YieldsList-from_vec c.args.asks (cc) (cc)) c.loop-ask.yielded _ c.loop-ask.yielded_by _ c.next.new.self c.in-Some.ask c.in-Some.is c.next.ensures.steps in
-    let own : slice_get c.args.asks c.loop-ask.number ≡ Some c.in-Some.ask =
-    subst (λ n. slice_get c.args.asks n ≡ Some c.in-Some.ask) (sym c.loop-ask.invariant.number) (slice_get_read c.args.asks _ (length c.loop-ask.yielded) c.in-Some.ask refl t.0 t.1) in
+    let own : numbered c.args.first c.args.asks c.loop-ask.number ≡ Some c.in-Some.ask =
+    subst (λ n. numbered c.args.first c.args.asks n ≡ Some c.in-Some.ask) (sym c.loop-ask.invariant.number) (numbered_at c.args.first c.args.asks (length c.loop-ask.yielded) ∙ slice_get_read c.args.asks _ (length c.loop-ask.yielded) c.in-Some.ask refl t.0 t.1) in
     record {
       number = omega (arith, c.loop-ask.invariant.number, length_push c.loop-ask.yielded c.in-Some.ask);
       size = c.begin.ensures.size ∙ c.loop-ask.invariant.size;
       waiting = c.in_ok-begin.ensures.waiting;
-      stands = λ start from here s. c.begin.ensures.stands c.args.asks start from own here (c.loop-ask.invariant.stands start from here s);
+      stands = λ start from here s. c.begin.ensures.stands (numbered c.args.first c.args.asks) start from own here (c.loop-ask.invariant.stands start from here s);
       fresh = c.in_ok-begin.ensures.fresh;
       drained = c.begin.ensures.drained c.loop-ask.invariant.drained;
       sound = c.in_ok-begin.ensures.sound;
@@ -26,9 +27,9 @@ loop-ask-preserved g c =
 pub returns-in_err-begin-clause-stands : goal.returns-in_err-begin-clause-stands
 returns-in_err-begin-clause-stands g c =
     let t = YieldsList-turn (YieldsList-from_vec c.args.asks (cc) (cc)) c.loop-ask.yielded _ c.loop-ask.yielded_by _ c.next.new.self c.in-Some.ask c.in-Some.is c.next.ensures.steps in
-    let own : slice_get c.args.asks c.loop-ask.number ≡ Some c.in-Some.ask =
-    subst (λ n. slice_get c.args.asks n ≡ Some c.in-Some.ask) (sym c.loop-ask.invariant.number) (slice_get_read c.args.asks _ (length c.loop-ask.yielded) c.in-Some.ask refl t.0 t.1) in
-    λ start from here s. c.begin.ensures.stands c.args.asks start from own here (c.loop-ask.invariant.stands start from here s)
+    let own : numbered c.args.first c.args.asks c.loop-ask.number ≡ Some c.in-Some.ask =
+    subst (λ n. numbered c.args.first c.args.asks n ≡ Some c.in-Some.ask) (sym c.loop-ask.invariant.number) (numbered_at c.args.first c.args.asks (length c.loop-ask.yielded) ∙ slice_get_read c.args.asks _ (length c.loop-ask.yielded) c.in-Some.ask refl t.0 t.1) in
+    λ start from here s. c.begin.ensures.stands (numbered c.args.first c.args.asks) start from own here (c.loop-ask.invariant.stands start from here s)
 
 pub returns-in_err-begin-clause-waits : goal.returns-in_err-begin-clause-waits
 returns-in_err-begin-clause-waits g c = c.begin.ensures.waits ∙ c.loop-ask.invariant.waits

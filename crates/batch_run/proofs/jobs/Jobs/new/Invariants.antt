@@ -1,9 +1,13 @@
-use Rattle.std.proofs.Common.{◌≤◌, ◌-◌, length}
-use Rattle.batch_run.specs.Stands.{WaitingFrom}
+use Rattle.std.proofs.Common.{◌≤◌, ◌+◌, ◌-◌, length}
+use Rattle.batch_run.specs.Stands.{EndedBelow, WaitingFrom}
 use Rattle.batch_run.proofs.jobs.Jobs.new.Given as goal
 
 abbrev pub invariant-loop-slots : goal.invariant-loop-slots
-invariant-loop-slots l = record { few : length l.slots.items ≤ l.count; waiting : WaitingFrom 0 l.slots.items }
+invariant-loop-slots l = record {
+  few : length l.slots.items ≤ l.first + l.count;
+  ended : EndedBelow l.first l.slots.items;
+  waiting : WaitingFrom l.first l.slots.items;
+}
 
 abbrev pub decreases-loop-slots : goal.decreases-loop-slots
-decreases-loop-slots l = l.count - length l.slots.items
+decreases-loop-slots l = (l.first + l.count) - length l.slots.items

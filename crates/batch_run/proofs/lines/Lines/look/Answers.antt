@@ -1,4 +1,4 @@
-use Rattle.std.proofs.Common.{◌≡◌, ◌∙◌, Err, ap, refl}
+use Rattle.std.proofs.Common.{◌∙◌, Err, ap, refl}
 use Rattle.ready_loop.specs.declared.fault.LoopFault.TheVariants.{NetFault}
 use Rattle.ready_loop.specs.States.{waits_left}
 use Rattle.ready_loop.proofs.JobLemmas.{open_same}

@@ -1,4 +1,4 @@
-use Rattle.std.proofs.Common.{◌≡◌, Err, ap}
+use Rattle.std.proofs.Common.{Err, ap}
 use Rattle.ready_loop.specs.States.{waits_left}
 use Rattle.ready_loop.proofs.JobLemmas.{open_same}
 use Rattle.batch_run.specs.Lines.{waits_of}

@@ -1,4 +1,4 @@
-use Rattle.std.proofs.Common.{refl, ◌∙◌}
+use Rattle.std.proofs.Common.{◌∙◌}
 use Rattle.batch_run.specs.Stands.{wired_by}
 use Rattle.batch_run.proofs.KeptLemmas.{kept_start}
 use Rattle.batch_run.proofs.running.Running.hear.Goals as goal

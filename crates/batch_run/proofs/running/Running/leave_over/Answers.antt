@@ -1,5 +1,4 @@
 use Rattle.std.proofs.Common.{arith, refl, ◌∙◌}
-use Rattle.batch_run.specs.Stands.{wired_by}
 use Rattle.batch_run.proofs.KeptLemmas.{kept_start, kept_then}
 use Rattle.batch_run.proofs.SlotLemmas.{none_all, none_below, over_more}
 use Rattle.batch_run.proofs.running.Running.leave_over.Goals as goal

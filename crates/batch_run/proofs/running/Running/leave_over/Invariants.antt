@@ -1,4 +1,4 @@
-use Rattle.std.proofs.Common.{◌≡◌, ℕ, length}
+use Rattle.std.proofs.Common.{◌≡◌}
 use Rattle.batch_run.specs.Kept.{IsKept}
 use Rattle.batch_run.specs.Stands.{NoneOverBelow, KeepsLines}
 use Rattle.batch_run.proofs.running.Running.leave_over.Given as goal

@@ -1,4 +1,4 @@
-use Rattle.std.proofs.Common.{◌-◌, ap, arith}
+use Rattle.std.proofs.Common.{◌-◌, arith}
 use Rattle.batch_run.specs.Lines.{waits_of}
 use Rattle.batch_run.specs.Stands.{AllStand, Outset, more_waits, wired_by}
 use Rattle.batch_run.proofs.CauseLemmas.{fits, wait_fault}

@@ -1,4 +1,4 @@
-use Rattle.std.proofs.Common.{ap, arith, subst, ◌∙◌}
+use Rattle.std.proofs.Common.{ap, arith, subst}
 use Rattle.batch_run.specs.Kept.{LeftBy, IsBroken, goes_on}
 use Rattle.batch_run.specs.Stands.{IsFaultOf, wired_by}
 use Rattle.batch_run.proofs.KeptLemmas.{kept_start, kept_then}

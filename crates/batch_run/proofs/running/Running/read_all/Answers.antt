@@ -1,4 +1,4 @@
-use Rattle.std.proofs.Common.{arith, refl, ◌∙◌, ap, Ok}
+use Rattle.std.proofs.Common.{arith, refl, ◌∙◌}
 use Rattle.batch_run.proofs.running.Running.read_all.Goals as goal
 
 pub loop-init : goal.loop-init

@@ -1,8 +1,8 @@
-use Rattle.std.proofs.Common.{refl, ap, arith, ◌∙◌}
+use Rattle.std.proofs.Common.{refl, arith, ◌∙◌}
 use Rattle.world.proofs.CountsLemmas.{rose_since}
 use Rattle.ready_loop.specs.declared.next.Next.TheVariants.{Piece, Ended, Refused, Quiet}
 use Rattle.batch_run.specs.Stands.{wired_by}
-use Rattle.batch_run.proofs.LineLemmas.{err_not, err_other, not_quiet}
+use Rattle.batch_run.proofs.LineLemmas.{err_other, not_quiet}
 use Rattle.batch_run.proofs.SlotLemmas.{none_one}
 use Rattle.batch_run.proofs.running.Running.read_one.Goals as goal
 
