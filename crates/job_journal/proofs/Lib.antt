@@ -1,0 +1,12 @@
+pub mod Calculus
+pub mod Bytes
+pub mod Lines
+pub mod Heard
+pub mod Left
+pub mod Books
+pub mod Steps
+pub mod Knows
+pub mod Talks
+pub mod Signatures
+pub mod Saving
+pub mod Plots

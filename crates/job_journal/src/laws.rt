@@ -1,0 +1,10 @@
+//! How the parts of an execution go on with the journal, each law the contract of a function
+//! without a body.
+
+pub mod heard;
+pub mod lines;
+pub mod plot;
+pub mod saved;
+pub mod talk;
+pub mod told;
+pub mod used;
