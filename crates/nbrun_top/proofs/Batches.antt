@@ -14,7 +14,7 @@ use Rattle.nb_model.specs.declared.notebook.Notebook.{Notebook}
 use Rattle.job_saves.specs.Reads.{first_of}
 use Rattle.job_begin.specs.Begun.{IsCausedIn, IsUnread, HasKernel}
 use Rattle.job_begin.proofs.EndLemmas.{uncaused_in, unread_pass, unread_twelve, unread_not_zero, other_kernel}
-use Rattle.batch_run.specs.Batch.{IsClean}
+use Rattle.batch_run.specs.Batch.{IsClean, numbered}
 use Rattle.said_lines.specs.Speech.{Says}
 use Rattle.nbrun_top.specs.declared.end.End.{End}
 use Rattle.nbrun_top.specs.declared.end.End.TheVariants as end
@@ -70,20 +70,20 @@ one_apart words a is = record { outputs = alone_in_one a; inputs = input_in_one 
 
 -- ---- a run begins clean
 
-clean_start : (asks : List Ask) → AreApart asks → IsClean asks []
+clean_start : (asks : List Ask) → AreApart asks → IsClean (numbered 0 asks) []
 clean_start asks alone = record {
   whole = refl;
-  childless = λ n. refl;
-  portless = λ n. refl;
+  childless = λ i a at. refl;
+  portless = λ i a at. refl;
   lacks = λ i a at. record { rested = refl; none = refl };
   apart = λ i a at. apart_of asks i a (alone.outputs i a at);
 }
 
-clean_read : (asks : List Ask) → AreApart asks → (file bytes : List ℕ) → IsClean asks (file_read file (found.Whole bytes) [])
+clean_read : (asks : List Ask) → AreApart asks → (file bytes : List ℕ) → IsClean (numbered 0 asks) (file_read file (found.Whole bytes) [])
 clean_read asks alone file bytes = record {
   whole = refl;
-  childless = λ n. refl;
-  portless = λ n. refl;
+  childless = λ i a at. refl;
+  portless = λ i a at. refl;
   lacks = λ i a at. record { rested = refl; none = refl };
   apart = λ i a at. apart_of asks i a (alone.outputs i a at);
 }
@@ -91,11 +91,11 @@ clean_read asks alone file bytes = record {
 -- ---- the parts
 
 pub of_one : {here : List ℕ} (words : List (List ℕ)) (a : Ask) (asks : List Ask) (rose cut : Type 0) (code : ℕ) (before after : List Entry) → asks ≡ a ∷ [] → IsExecuted words a
-    → (IsQuiet before → IsClean asks before → AreApart asks → Runs asks here rose cut code before after) → before ≡ [] → Executed words here rose cut code after
+    → (IsQuiet before → IsClean (numbered 0 asks) before → AreApart asks → Runs asks here rose cut code before after) → before ≡ [] → Executed words here rose cut code after
 of_one {here} words a asks rose cut code before after same is runs new =
     executed.ran (a ∷ []) [] after code (of_words a is)
     (subst (λ b. Runs (a ∷ []) here rose cut code b after) new (subst (λ xs. Runs xs here rose cut code before after) same
-    (runs (λ path. subst (Since (Spares path) []) (sym new) start) (subst (IsClean asks) (sym new) (clean_start asks (subst AreApart (sym same) (one_apart words a is))))
+    (runs (λ path. subst (Since (Spares path) []) (sym new) start) (subst (IsClean (numbered 0 asks)) (sym new) (clean_start asks (subst AreApart (sym same) (one_apart words a is))))
     (subst AreApart (sym same) (one_apart words a is)))))
 
 pub of_starved : {here : List ℕ} (words : List (List ℕ)) (rose cut : Type 0) (code : ℕ) (before after : List Entry) → code ≡ 12 → Says (all_lines [] [] end.NoMemory) cut before after → before ≡ []
@@ -104,12 +104,12 @@ of_starved {here} words rose cut code before after is says new =
     subst (λ n. Executed words here rose cut n after) (sym is) (executed.starved after (subst (λ b. Says (all_lines [] [] end.NoMemory) cut b after) new says))
 
 pub of_batch : {here : List ℕ} (words : List (List ℕ)) (file : List ℕ) (common : Ask) (asks : List Ask) (rose cut : Type 0) (code : ℕ) (before read after : List Entry) → IsBatch words file common
-    → GivesAsks file common before (Ok asks) read → (IsQuiet read → IsClean asks read → AreApart asks → Runs asks here rose cut code read after) → before ≡ [] → Executed words here rose cut code after
+    → GivesAsks file common before (Ok asks) read → (IsQuiet read → IsClean (numbered 0 asks) read → AreApart asks → Runs asks here rose cut code read after) → before ≡ [] → Executed words here rose cut code after
 of_batch {here} words file common asks rose cut code before read after is (bytes, gives, entry) runs new =
     let begun : read ≡ file_read file (found.Whole bytes) [] = entry ∙ ap (λ b. file_read file (found.Whole bytes) b) new in
     executed.ran asks (file_read file (found.Whole bytes) []) after code (of_file file common bytes asks is gives)
     (subst (λ b. Runs asks here rose cut code b after) begun
-    (runs (λ path. subst (Since (Spares path) []) (sym begun) (later start refl)) (subst (IsClean asks) (sym begun) (clean_read asks (file_apart file common bytes asks gives) file bytes)) (file_apart file common bytes asks gives)))
+    (runs (λ path. subst (Since (Spares path) []) (sym begun) (later start refl)) (subst (IsClean (numbered 0 asks)) (sym begun) (clean_read asks (file_apart file common bytes asks gives) file bytes)) (file_apart file common bytes asks gives)))
 
 pub of_none : {here : List ℕ} (words : List (List ℕ)) (file : List ℕ) (common : Ask) (answer : Last) (line : List ℕ) (rose cut : Type 0) (code : ℕ) (before read after : List Entry)
     → IsBatch words file common → code ≡ code_of answer.end → line ≡ all_lines file (codes "nbrun") answer.end → GivesNone file before answer.end read → Says line cut read after

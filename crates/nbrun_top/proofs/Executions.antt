@@ -28,7 +28,7 @@ use Rattle.job_saves.specs.Reads.{first_of}
 use Rattle.job_begin.specs.Begun.{origin_of, IsCausedIn}
 use Rattle.job_begin.proofs.EndLemmas.{uncaused_in, unread_pass, unread_twelve, other_kernel, twelve_other}
 use Rattle.job_begin.specs.Begun.{HasKernel}
-use Rattle.batch_run.specs.Batch.{Makes, nothing, saves, IsNoPath, IsApart, LeavesOthers, CallsOfJobs, EndsChildren}
+use Rattle.batch_run.specs.Batch.{Makes, nothing, saves, IsNoPath, IsApart, LeavesOthers, CallsOfJobs, EndsChildren, numbered}
 use Rattle.said_lines.specs.Speech.{Says}
 use Rattle.nbrun_top.specs.declared.end.End.TheVariants as end
 use Rattle.nbrun_top.specs.Ended.{Answers, plain}
@@ -111,10 +111,10 @@ other_of output path d = record {
   connection = apart_from (connection_of output) path d.not_connection;
 }
 
-none_of : (asks : List Ask) (path : List ℕ) → NoneWrites asks path → IsNoPath asks path
+none_of : (asks : List Ask) (path : List ℕ) → NoneWrites asks path → IsNoPath (numbered 0 asks) path
 none_of asks path none k b is = other_of b.output path (none k b is)
 
-pub apart_of : (asks : List Ask) (i : ℕ) (a : Ask) → IsAlone asks i a → IsApart asks i a
+pub apart_of : (asks : List Ask) (i : ℕ) (a : Ask) → IsAlone asks i a → IsApart (numbered 0 asks) i a
 apart_of asks i a s k b is differs = other_of b.output a.output (s.others k b differs is)
 
 -- a path that is longer than all that the jobs write to
@@ -140,7 +140,7 @@ abbrev pub output_in : Option Ask → List ℕ
 output_in None = []
 output_in (Some a) = a.output
 
-far_others : (asks : List Ask) (path : List ℕ) → length (far asks) ≤ length path → IsNoPath asks path
+far_others : (asks : List Ask) (path : List ℕ) → length (far asks) ≤ length path → IsNoPath (numbered 0 asks) path
 far_others [] path long k b is = cc
 far_others (a ∷ rest) path long zero b is =
     let whole = length-append (connection_of a.output) (temporary_of a.output ++ (a.output ++ far rest)) in
@@ -158,10 +158,10 @@ far_others (a ∷ rest) path long (suc k) b is =
     far_others rest path (omega (arith, long, whole, next, last)) k b is
 
 module _ (asks : List Ask) (here : List ℕ) (rose cut : Type 0) (code : ℕ) (before done after : List Entry) (others : LeavesOthers asks before after) (quiet : IsQuiet before)
-    (alone : AreApart asks) (calls : CallsOfJobs asks here true before done) (speech : EndsSpeech cut code done after) where
+    (alone : AreApart asks) (calls : CallsOfJobs (numbered 0 asks) here true before done) (speech : EndsSpeech cut code done after) where
   runs_with : (answers : List Answer) → length answers ≡ length asks
-      → ((i : ℕ) (a : Ask) (answer : Answer) → slice_get asks i ≡ Some a → IsApart asks i a → slice_get answers i ≡ Some answer → IsSavedOnly a answer.status after)
-      → Answers rose (first_fault answers) code → EndsChildren asks before after → Runs asks here rose cut code before after
+      → ((i : ℕ) (a : Ask) (answer : Answer) → slice_get asks i ≡ Some a → IsApart (numbered 0 asks) i a → slice_get answers i ≡ Some answer → IsSavedOnly a answer.status after)
+      → Answers rose (first_fault answers) code → EndsChildren (numbered 0 asks) before after → Runs asks here rose cut code before after
   runs_with answers count jobs status children =
       let f = front (others (far asks) (far_others asks (far asks) (omega arith))) in
       record {
@@ -186,16 +186,16 @@ rested : (output : List ℕ) {before : List Entry} → IsQuiet before → IsRest
 rested output quiet = spared_rest output refl (quiet output)
 
 pub runs_done : {here : List ℕ} (asks : List Ask) (answers : List Answer) (old new : Counts) (rose cut : Type 0) (code : ℕ) (before after : List Entry)
-    → LeavesOthers asks before after → CallsOfJobs asks here true before after → EndsChildren asks before after
-    → ((i : ℕ) (a : Ask) → slice_get asks i ≡ Some a → IsApart asks i a → IsRested a.output before → Makes a (slice_get answers i) old new before after)
+    → LeavesOthers asks before after → CallsOfJobs (numbered 0 asks) here true before after → EndsChildren (numbered 0 asks) before after
+    → ((i : ℕ) (a : Ask) → slice_get asks i ≡ Some a → IsApart (numbered 0 asks) i a → IsRested a.output before → Makes a (slice_get answers i) old new before after)
     → length answers ≡ length asks → Answers rose (first_fault answers) code → IsQuiet before → AreApart asks → Runs asks here rose cut code before after
 runs_done {here} asks answers old new rose cut code before after others calls children jobs count status quiet alone =
     runs_with asks here rose cut code before after after others quiet alone calls silence answers count
     (λ i a answer at apart is. saved_only a old new before after quiet answer (subst (λ o. Makes a o old new before after) is (jobs i a at apart (rested a.output quiet)))) status children
 
 pub runs_starved : {here : List ℕ} (asks : List Ask) (old mid new : Counts) (rose cut : Type 0) (line : List ℕ) (code : ℕ) (before past after : List Entry)
-    → LeavesOthers asks before past → CallsOfJobs asks here true before past → EndsChildren asks before past
-    → ((i : ℕ) (a : Ask) → slice_get asks i ≡ Some a → IsApart asks i a → IsRested a.output before → Makes a None old mid before past)
+    → LeavesOthers asks before past → CallsOfJobs (numbered 0 asks) here true before past → EndsChildren (numbered 0 asks) before past
+    → ((i : ℕ) (a : Ask) → slice_get asks i ≡ Some a → IsApart (numbered 0 asks) i a → IsRested a.output before → Makes a None old mid before past)
     → CountsGrow mid new → line ≡ all_lines [] [] end.NoMemory → Says line cut past after → 1 ≤ length asks → code ≡ 12 → IsQuiet before → AreApart asks → Runs asks here rose cut code before after
 runs_starved {here} asks old mid new rose cut line code before past after others calls children jobs grow text says some is quiet alone =
     runs_with asks here rose cut code before past after (λ path apart. says_spare path (others path apart) says) quiet alone calls

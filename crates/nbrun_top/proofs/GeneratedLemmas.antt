@@ -18,7 +18,7 @@ use Rattle.std.proofs.Common.{
   Err,
 }
 use Rattle.std.specs.Prelude.{IfOk, OnOk, IfSome, IsSomeAnd, slice_get}
-use Rattle.batch_run.specs.Batch.{IsApart, LeavesOthers, Makes}
+use Rattle.batch_run.specs.Batch.{IsApart, LeavesOthers, Makes, numbered}
 use Rattle.job_end.specs.declared.answer.Answer.{Answer}
 use Rattle.save_course.specs.Course.{IsRested}
 use Rattle.words.specs.declared.ask.Ask.{Ask}
@@ -36,13 +36,13 @@ use Rattle.nbrun_top.specs.Exercise.{ask, output, IsOpened}
 use Rattle.nbrun_top.specs.ExerciseRun.{HasRun, IsTally, IsWhole}
 
 -- a job alone has no other beside it
-pub alone : (a : Ask) → IsApart (a ∷ []) 0 a
+pub alone : (a : Ask) → IsApart (numbered 0 (a ∷ [])) 0 a
 alone a zero b at other = absurd (other refl)
 alone a (suc k) b at other = absurd (cc)
 
 -- what a run makes of each output, where these are its answers
 abbrev MakesBy : List Ask → List Answer → Counts → Counts → List Entry → List Entry → Type 0
-MakesBy asks answers old new before after = (i : ℕ) (a : Ask) → slice_get asks i ≡ Some a → IsApart asks i a → IsRested a.output before
+MakesBy asks answers old new before after = (i : ℕ) (a : Ask) → slice_get asks i ≡ Some a → IsApart (numbered 0 asks) i a → IsRested a.output before
     → Makes a (slice_get answers i) old new before after
 
 -- what a run makes of the output of its one job

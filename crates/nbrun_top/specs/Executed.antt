@@ -28,7 +28,7 @@ use Rattle.job_end.specs.declared.answer.Answer.{Answer}
 use Rattle.job_saves.specs.Reads.{first_of}
 use Rattle.job_begin.specs.Begun.{counted_task, IsCausedIn, IsUnread, HasKernel}
 use Rattle.job_begin.specs.Causes.{HasCause}
-use Rattle.batch_run.specs.Batch.{CallsOfJobs, EndsChildren, HasWaited}
+use Rattle.batch_run.specs.Batch.{CallsOfJobs, EndsChildren, HasWaited, numbered}
 use Rattle.nbrun_top.specs.declared.answer.Answer.{Answer as Last}
 use Rattle.nbrun_top.specs.declared.end.End.{End}
 use Rattle.nbrun_top.specs.declared.end.End.TheVariants as end
@@ -144,9 +144,9 @@ pub record Runs (asks : List Ask) (here : List ℕ) (rose cut : Type 0) (code : 
   pub run : HaveRun asks answers after
   pub status : Answers rose (first_fault answers) code
   pub done : List Entry
-  pub calls : CallsOfJobs asks here true before done
+  pub calls : CallsOfJobs (numbered 0 asks) here true before done
   pub speech : EndsSpeech cut code done after
-  pub children : EndsChildren asks before after
+  pub children : EndsChildren (numbered 0 asks) before after
 
 -- a status of a run that executes comes only where the count of the calls that it tells of rose: 3 and 10 of the disk, 6 of the
 -- random words or of the children, 11 of the says, 14 of the network; 16 only where all of so many waits were made

@@ -4,7 +4,7 @@ ghost use Rattle.std.specs.List.{AllByRecursion};
 ghost use Rattle.words.specs.Runnable.{IsRunnable};
 ghost use Rattle.world.specs.Told.{Between};
 ghost use Rattle.said_lines.specs.Between.{FromStart, SayRose, SayFailed};
-ghost use Rattle.batch_run.specs.Batch.{IsClean};
+ghost use Rattle.batch_run.specs.Batch.{IsClean, numbered};
 ghost use Rattle.nbrun_top.specs.Asked.{IsExecuted, IsBatch};
 ghost use Rattle.nbrun_top.specs.Executed.{Executed, Runs, IsCounted, IsQuiet, AreApart};
 ghost use Rattle.nbrun_top.specs.Executed.{WaitsAtMost};
@@ -73,14 +73,14 @@ fn run_all<W: World>(alloc: Global, asks: Asks, limits: &Limits, w: &mut W) -> u
     requires few { length asks ≤ 16 }
     requires runnable { AllByRecursion IsRunnable asks }
     ensures runs { Between W.journal w.old w.new (λ before after. IsQuiet before →
-        IsClean asks before → AreApart asks → Runs asks limits.now.here
+        IsClean (numbered 0 asks) before → AreApart asks → Runs asks limits.now.here
         (SayRose W.counts w.old w.new) (SayFailed W.counts w.new) result before after) }
     ensures counted { IsCounted limits.now.turns (W.counts w.old) (W.counts w.new) result }
     ensures waits { WaitsAtMost W.counts w.old w.new limits.now.turns }
     ensures heard { result ≡ 0 → SayRose W.counts w.old w.new → ⊥ }
 {
     let faults = w.say_faults();
-    match run_jobs(alloc, w, asks, limits) {
+    match run_jobs(alloc, w, asks, 0, limits) {
         Ok(answers) => unless_not_said(w, faults, first_fault(answers.as_slice())),
         Err(NoMemory) => say_no_memory(w),
     }

@@ -89,6 +89,6 @@ fn answer_of_run<W: World>(alloc: Global, turns: u64, w: &mut W) -> Result<Answe
     let mut asks = Asks::new(alloc);
     asks.push(ask)?;
     let here = Text::of(alloc, "/")?;
-    let mut answers = run_jobs(alloc, w, asks, &Limits { turns, here })?;
+    let mut answers = run_jobs(alloc, w, asks, 0, &Limits { turns, here })?;
     Ok(answers.take(0))
 }
