@@ -10,3 +10,4 @@ pub mod Talks
 pub mod Signatures
 pub mod Saving
 pub mod Plots
+pub mod Making

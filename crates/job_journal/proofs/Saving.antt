@@ -202,7 +202,8 @@ module _ (j : Job) (told : List Event) (past : List Entry) (a : Agrees j told pa
 
   -- ---- the save of the whole notebook
 
-  whole_is : 0 < length j.task.plan → core_saves.is_whole j.task (core.standing j.task told) ≡ is_complete j (requests j past)
+  -- the plan is executed for the core where it is by the journal
+  pub whole_is : 0 < length j.task.plan → core_saves.is_whole j.task (core.standing j.task told) ≡ is_complete j (requests j past)
   whole_is p =
       let some : (length j.task.plan == 0) ≡ false
       = false_from_ne_true (length j.task.plan == 0) (λ f. let n : length j.task.plan ≡ 0 = eqb-true (length j.task.plan) 0 f in absurd (omega (arith, p, n))) in

@@ -5,3 +5,4 @@ pub mod Seen
 pub mod Used
 pub mod Talk
 pub mod Saved
+pub mod Made

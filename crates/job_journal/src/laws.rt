@@ -3,6 +3,7 @@
 
 pub mod heard;
 pub mod lines;
+pub mod made;
 pub mod plot;
 pub mod saved;
 pub mod talk;

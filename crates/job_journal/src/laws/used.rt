@@ -1,7 +1,7 @@
 //! What was used for the requests, what is still to be told of what came for the last one, and what
 //! the core takes of it, message after message.
-ghost use Rattle.std.specs.Prelude.{◌≡◌, ◌⊎◌, ◌<◌, ℕ, List, [], ◌∷◌, ◌++◌, true, false, Bool, Option, Some};
-ghost use Rattle.std.specs.Prelude.{length, map, not, is_some};
+ghost use Rattle.std.specs.Prelude.{◌≡◌, ◌⊎◌, ◌<◌, ℕ, List, [], ◌∷◌, ◌++◌, true, false, Bool};
+ghost use Rattle.std.specs.Prelude.{length, map, not, is_some, Option, Some};
 ghost use Rattle.std.specs.Str.{bytes_eq};
 ghost use Rattle.world.specs.declared.chan.Chan.TheVariants.{Shell, Iopub};
 ghost use Rattle.world.specs.declared.entry.Entry.{Entry};
