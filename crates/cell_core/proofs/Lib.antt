@@ -16,3 +16,4 @@ pub mod Looks
 pub mod AskedWhereDue
 pub mod LookTurns
 pub mod SendsLemmas
+pub mod StopsLemmas

@@ -11,3 +11,4 @@ pub mod Laws
 pub mod Allowed
 pub mod LastLooks
 pub mod Sending
+pub mod Stops

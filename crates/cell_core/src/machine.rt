@@ -45,6 +45,10 @@ impl Core {
     ghost use Rattle.cell_core.specs.StandsFor.{StandsFor, task_of, failing_in, awaits_saved_of};
     ghost use Rattle.cell_core.specs.Acts.{act_of, takes_of, failing_of, due_of, wants_look_of, IsTimely};
     ghost use Rattle.cell_core.specs.Events.{is_saved};
+    ghost use Rattle.cell_core.specs.Stops.{asked_of, stopping_of, is_starting, IsLastSave, IsEarly};
+    ghost use Rattle.std.specs.Prelude.{◌⊎◌};
+    ghost use Rattle.cell_core.specs.declared.act.Act.TheVariants as act;
+    ghost use Rattle.cell_core.specs.declared.why.Why.{Why as TheCause};
     ghost use Rattle.cell_core.specs.Holds.{is_save, is_past, looks_in, IsSmall, due_in, lost_after as lost_by};
 
     /// The core of a job before any event. It awaits the first `Saved`.
@@ -57,6 +61,9 @@ impl Core {
         ensures of { task_of result ≡ record { plan = plan; cells = cells; times = limits } }
         ensures next { awaits_saved_of result ≡ true }
         ensures first { next_of result ≡ 0 }
+        ensures asks { asked_of result ≡ 0 }
+        ensures names { stopping_of result ≡ None }
+        ensures still { is_starting result ≡ false }
     {
         Core {
             plan,
@@ -97,6 +104,18 @@ impl Core {
 
         // The end of a connection or of the kernel alone asks for none.
         ensures lost { e ≡ event.Lost → is_save result.act ≡ false }
+
+        // It stops before a request was sent, or at the acknowledgement of the save that is due
+        // before the stop: that of all cells, or that which names the cell whose request stood.
+        ensures asks { (n : ℕ) → result.act ≡ act.Save n → asked_of self.new ≡ n }
+        ensures stops { (events : List TheEvent) → StandsFor self.old events → (why : TheCause)
+            → result.act ≡ act.Stop why → (IsEarly why × (is_starting self.old ≡ true))
+            ⊎ ((e ≡ event.Saved)
+            × IsLastSave (task_of self.old) why (asked_of self.old) (stopping_of self.old)) }
+
+        // The kernel is awaited from the first save on, which settles no cell.
+        ensures starts { is_starting self.new ≡ true → (is_starting self.old ≡ true)
+            ⊎ ((e ≡ event.Saved) × (asked_of self.old ≡ 0) × (stopping_of self.old ≡ None)) }
     {
         let moved = self.next_move(e);
         self.clock = self.clock.after(e);
@@ -160,8 +179,9 @@ impl Core {
     /// The stopping cell of the save last asked for: none where no save was asked for, or where
     /// that save isn't a stop's.
     pub fn failing(&self) -> Option<u32>
-        ensures { (events : List TheEvent) → StandsFor self.now events
+        ensures is { (events : List TheEvent) → StandsFor self.now events
             → result ≡ failing_of (task_of self.now) events }
+        ensures names { result ≡ stopping_of self.now }
     {
         self.stopping_cell()
     }
