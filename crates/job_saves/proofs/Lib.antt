@@ -3,6 +3,7 @@ pub mod ChildLemmas
 pub mod CourseLemmas
 pub mod KeptLemmas
 pub mod LaunchLemmas
+pub mod LeftLemmas
 pub mod ReadLemmas
 pub mod SessionLemmas
 pub mod SpeakingLemmas

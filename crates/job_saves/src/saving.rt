@@ -1,5 +1,5 @@
 //! `save_next`, the next save of a job.
-ghost use Rattle.std.specs.Prelude.{◌≡◌, ◌≤◌, ◌+◌, List, length, Err, IfErr, OnOk};
+ghost use Rattle.std.specs.Prelude.{◌≡◌, ◌≤◌, ◌+◌, List, length, true, Err, IfErr, IfSome, OnOk};
 ghost use Rattle.nb_model.specs.declared.notebook.Notebook as whole;
 ghost use Rattle.out_fold.specs.declared.used.Used.{Used};
 ghost use Rattle.world.specs.Disk.{place};
@@ -10,8 +10,9 @@ ghost use Rattle.nb_text.specs.Notebooks.{text_of};
 ghost use Rattle.job_end.specs.declared.end.End.TheVariants as ending;
 ghost use Rattle.job_notebook.specs.State.{notebook_of, settled_of, begun_of, merge_of, output_of};
 ghost use Rattle.job_notebook.specs.State.{Keeps};
-ghost use Rattle.job_saves.specs.Course.{GoesOn, CallsOwn, stays_open, answer_of};
+ghost use Rattle.job_saves.specs.Course.{Origin, Stands, GoesOn, CallsOwn, stays_open, answer_of};
 ghost use Rattle.job_saves.specs.Course.{IsEndOfRun, IsEndOfSave};
+ghost use Rattle.job_saves.specs.Left.{IsLeft, output_at};
 ghost use Rattle.job_saves.specs.Sessions.{IsSaveCall};
 
 use job_end::End;
@@ -47,6 +48,10 @@ pub fn save_next<W: Disk + Say>(
     ensures acked { OnOk result (Told (W.journal w.old) (W.journal w.new) (λ before after.
         save_count (output_of book.old) after ≡
         save_count (output_of book.old) before + 1)) }
+    // It is a prefix of the notebook that the job began with, for messages whose contents were read.
+    ensures left { OnOk result ((o : Origin) → o.is_watched ≡ true →
+        Stands o book.old true (W.journal w.old) (W.counts w.old) →
+        IfSome (W.journal w.new) (λ past. IsLeft (output_at o past) settled stop)) }
     // Where memory is refused nothing is asked of the world.
     ensures idle { result ≡ Err ending.NoMemory →
         (W.journal w.new ≡ W.journal w.old) × (W.counts w.new ≡ W.counts w.old) }

@@ -2,6 +2,7 @@ use Rattle.std.proofs.Common.{sym, subst, ◌∙◌}
 use Rattle.world.proofs.MomentsLemmas.{told_as}
 use Rattle.job_saves.specs.Course.{Stands, stays_open}
 use Rattle.job_saves.proofs.CourseLemmas.{save_stands, save_called, on_answer, durable_answer, acknowledged_answer, left_alone}
+use Rattle.job_saves.proofs.LeftLemmas.{left_answer}
 use Rattle.job_saves.proofs.SessionLemmas.{saves_made}
 use Rattle.job_saves.proofs.saving.save_next.Goals as goal
 
@@ -32,3 +33,9 @@ returns-clause-acked g c = acknowledged_answer c.save.result c.end_of.result _ _
 
 pub returns-clause-idle : goal.returns-clause-idle
 returns-clause-idle g c e = left_alone c.save.result _ c.save.ensures.idle (sym c.end_of.ensures.answer ∙ e)
+
+pub returns-clause-left : goal.returns-clause-left
+returns-clause-left g c =
+    let e = c.save.ensures in
+    left_answer c.args.book.now c.save.new.self c.args.settled c.args.stop c.save.result c.end_of.result (g.W.Journal.journal c.args.w.now) (g.W.Journal.journal c.save.new.w) (g.W.Journal.counts c.args.w.now)
+    c.end_of.ensures.answer (λ closed. e.closed.1 closed) e.prefix e.end
