@@ -30,8 +30,7 @@ use Rattle.job_run.specs.declared.execution.Execution.{Execution}
 use Rattle.job_run.specs.declared.job.Job.{Job}
 use Rattle.job_run.specs.declared.paths.Paths.{Paths}
 use Rattle.cell_core.specs.declared.act.Act.TheVariants.{Nothing}
-use Rattle.job_notebook.specs.State.{output_of}
-use Rattle.save_disk.specs.Places.{save_count}
+use Rattle.job_saves.specs.Left.{output_at}
 use Rattle.job_run.specs.Counted.{IsCounted, IsCountedIn}
 use Rattle.cell_core.specs.Task.{Task}
 use Rattle.job_run.specs.Task.{task_of_job, output_of_job}
@@ -57,8 +56,8 @@ pub turns : (o : Origin) (was now : Job) (mid : JobNotebook) (j k : Option (List
     → now.paths.connection ≡ was.paths.connection
     → (is_open ≡ false → HasEnded now.outcome)
     → (HasFailed now.outcome → is_open ≡ false)
-    → (IsNew o → output_of was.run.book ≡ o.output → output_of now.run.book ≡ o.output → IfSome j (λ past. IsCounted was.run Nothing (save_count o.output past))
-    → IfSome k (λ past. IsCountedIn now.outcome now.run (save_count o.output past)))
+    → (IsNew o → Stands o was.run.book true j c → IfSome j (λ past. IsCounted was.run Nothing (output_at o past))
+    → IfSome k (λ past. IsCountedIn now.outcome now.run (output_at o past)))
     → Runs o was j c → Runs o now k d
 turns o was now mid j k c d is_open running goes stays path shut fails counts r =
     let stands = stays o is_open k d (goes (runs_open o was j c running r)) in
@@ -68,7 +67,7 @@ turns o was now mid j k c d is_open running goes stays path shut fails counts r 
       apart = subst (λ p. bytes_eq p o.output ≡ false) (sym path) r.apart;
       shut = shut;
       fails = fails;
-      counted = λ fresh. counts fresh r.stands.output stands.output (running_count was.outcome was.run o.output j running (r.counted fresh));
+      counted = λ fresh. counts fresh (runs_open o was j c running r) (running_count was.outcome was.run o j running (r.counted fresh));
     }
 
 role_on : (cast : Cast) (was now : Job) → now.number ≡ was.number → now.paths ≡ was.paths → IsRole cast was.number was.paths → IsRole cast now.number now.paths
@@ -95,8 +94,8 @@ passes o was now i k c d run path outcome told grow r = record {
   apart = subst (λ (p : Paths). bytes_eq p.connection o.output ≡ false) (sym path) r.apart;
   shut = λ e. subst HasEnded (sym outcome) (r.shut e);
   fails = λ f. r.fails (subst HasFailed outcome f);
-  counted = λ fresh. subst (λ (x : Execution). IfSome k (λ past. IsCountedIn now.outcome x (save_count o.output past))) (sym run)
-      (subst (λ a. IfSome k (λ past. IsCountedIn a was.run (save_count o.output past))) (sym outcome)
+  counted = λ fresh. subst (λ (x : Execution). IfSome k (λ past. IsCountedIn now.outcome x (output_at o past))) (sym run)
+      (subst (λ a. IfSome k (λ past. IsCountedIn a was.run (output_at o past))) (sym outcome)
       (count_passes o was.run.book r.is_open was.run was.outcome i k told (r.stands.told fresh.watched) (r.counted fresh)));
 }
 
@@ -150,7 +149,7 @@ ends_with o j a journal counts is r = record {
   ends = job_ends o j.run.book r.is_open journal counts r.stands;
   shut = λ e. subst HasEnded is (r.shut e);
   fails = λ f. r.stands.cause (r.fails (subst HasFailed (sym is) f));
-  counted = λ t same fresh. ended_count o.output j.run a (task_of_job j) t journal refl same (subst (λ out. IfSome journal (λ past. IsCountedIn out j.run (save_count o.output past))) is (r.counted fresh));
+  counted = λ t same fresh. ended_count o j.run a (task_of_job j) t journal refl same (subst (λ out. IfSome journal (λ past. IsCountedIn out j.run (output_at o past))) is (r.counted fresh));
 }
 
 pub ends_starved : (o : Origin) (j : Job) (a : Answer) (journal : Option (List Entry)) (counts : Counts) → j.outcome ≡ None → a ≡ starved_answer → Runs o j journal counts
@@ -160,7 +159,7 @@ ends_starved o j a journal counts is starved r = record {
   ends = job_ends o j.run.book r.is_open journal counts r.stands;
   shut = λ e. starved_shut a (ap (λ (x : Answer). x.status) starved);
   fails = λ f. absurd (starved_fails a (ap (λ (x : Answer). x.status) starved) f);
-  counted = λ t same fresh. starved_count o.output a t journal starved;
+  counted = λ t same fresh. starved_count o a t journal starved;
 }
 
 -- what brought its end isn't asked for
@@ -178,8 +177,8 @@ begun o j x paths journal counts run path outcome s apart counted = record {
   apart = subst (λ (p : Paths). bytes_eq p.connection o.output ≡ false) (sym path) apart;
   shut = λ e. absurd (cc);
   fails = λ f. let none : HasFailed None = subst HasFailed outcome f in absurd none;
-  counted = λ fresh. subst (λ (y : Execution). IfSome journal (λ past. IsCountedIn j.outcome y (save_count o.output past))) (sym run)
-      (subst (λ out. IfSome journal (λ past. IsCountedIn out x (save_count o.output past))) (sym outcome) (counted fresh));
+  counted = λ fresh. subst (λ (y : Execution). IfSome journal (λ past. IsCountedIn j.outcome y (output_at o past))) (sym run)
+      (subst (λ out. IfSome journal (λ past. IsCountedIn out x (output_at o past))) (sym outcome) (counted fresh));
 }
 
 pub begun_role : (cast : Cast) (since : List Entry) (from : Counts) (j : Job) (x : Execution) (number : ℕ) (paths : Paths) (journal : Option (List Entry)) (counts : Counts)

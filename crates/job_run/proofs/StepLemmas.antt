@@ -1,5 +1,5 @@
 -- Steps of an execution, one after another.
-use Rattle.std.proofs.Common.{◌≡◌, ℕ, true, List, Option, Result, Ok, Err, refl, sym, ap, subst, ◌∙◌}
+use Rattle.std.proofs.Common.{◌≡◌, true, List, Option, Result, Ok, Err, refl, sym, ap, subst, ◌∙◌}
 use Rattle.std.proofs.lemmas.Result.{err_from_is_err_and}
 use Rattle.std.specs.Result.{IsErrAnd}
 use Rattle.world.specs.declared.entry.Entry.{Entry}
@@ -9,13 +9,12 @@ use Rattle.cell_core.specs.declared.act.Act.TheVariants.{Nothing}
 use Rattle.cell_core.specs.StandsFor.{task_of}
 use Rattle.job_end.specs.declared.end.End.{End}
 use Rattle.job_end.specs.declared.end.End.TheVariants.{NoMemory}
-use Rattle.job_notebook.specs.State.{output_of}
 use Rattle.job_saves.specs.Course.{Stands, HasPart, StaysOn, KeepsPart}
+use Rattle.job_saves.specs.Left.{OutputAt}
 use Rattle.job_run.specs.declared.execution.Execution.{Execution}
 use Rattle.job_run.specs.Counted.{IsCounted, KeepsTold}
 use Rattle.job_run.specs.Held.{Holds, IsCalm}
 use Rattle.job_run.specs.Steps.{Proceeds}
-use Rattle.job_run.proofs.CauseLemmas.{part_output}
 use Rattle.job_run.proofs.CountLemmas.{counts_by, counts_kept, told_counted, starved_on}
 
 module _ {W : Type 0} {journal : W → Option (List Entry)} {tally : W → Counts} where
@@ -30,7 +29,7 @@ module _ {W : Type 0} {journal : W → Option (List Entry)} {tally : W → Count
     task = h.task ∙ g.task;
     terms = h.terms ∙ g.terms;
     own = h.own;
-    counts = λ at. h.counts (g.counts at);
+    counts = λ o on s at. h.counts o on (g.course o s) (g.counts o on s at);
   }
 
   -- nothing was done
@@ -43,7 +42,7 @@ module _ {W : Type 0} {journal : W → Option (List Entry)} {tally : W → Count
     task = refl;
     terms = refl;
     own = tt;
-    counts = λ at. at;
+    counts = λ o on s at. at;
   }
 
   -- memory was wanted
@@ -56,12 +55,12 @@ module _ {W : Type 0} {journal : W → Option (List Entry)} {tally : W → Count
     task = refl;
     terms = refl;
     own = tt;
-    counts = λ at. starved_on U x (journal p);
+    counts = λ o on s at. starved_on U o x (journal p);
   }
 
   -- a step after what has changed the core alone, which counts as many saves as before
   pub goes_told : {U : Type 0} {p q : W} {x y z : Execution} {a b : Act} {result : Result U End} → y.book ≡ x.book → task_of y.core ≡ task_of x.core → y.terms ≡ x.terms
-      → ((n : ℕ) → IsCounted x a n → IsCounted y b n) → Proceeds journal tally p q y z b result → Proceeds journal tally p q x z a result
+      → ((n : OutputAt) → IsCounted x a n → IsCounted y b n) → Proceeds journal tally p q y z b result → Proceeds journal tally p q x z a result
   goes_told {U} {p} {q} {x} {y} {z} {a} {b} book task terms counts g = record {
     holds = g.holds;
     calm = g.calm;
@@ -70,7 +69,7 @@ module _ {W : Type 0} {journal : W → Option (List Entry)} {tally : W → Count
     task = g.task ∙ task;
     terms = g.terms ∙ terms;
     own = g.own;
-    counts = λ at. g.counts (counts_by x y a b (journal p) (ap output_of book) counts at);
+    counts = λ o on s at. g.counts o on (subst (λ k. Stands o k true (journal p) (tally p)) (sym book) s) (counts_by o x y a b (journal p) counts at);
   }
 
   -- a step after what has changed neither the core nor the notebook
@@ -89,7 +88,7 @@ module _ {W : Type 0} {journal : W → Option (List Entry)} {tally : W → Count
     task = g.task ∙ ap task_of told.core;
     terms = g.terms ∙ told.terms;
     own = g.own;
-    counts = λ at. g.counts (counts_kept x y act (journal p) told (part_output x.book y.book part) at);
+    counts = λ o on s at. g.counts o on (stays o true (journal p) (tally p) s) (counts_kept o x y act (journal p) told at);
   }
 
   -- where memory was wanted or the job has ended, and that is passed on

@@ -1,5 +1,5 @@
 -- What one event more adds to what the core of a job was told.
-use Rattle.std.proofs.Common.{◌≡◌, ℕ, ◌≤◌, Bool, true, false, ◌||◌, List, [], ◌∷◌, Some, None, if◌then◌else◌, refl, sym, subst, ◌∙◌, arith}
+use Rattle.std.proofs.Common.{◌≡◌, ◌⊎◌, inl, inr, ℕ, ◌+◌, ◌≤◌, Bool, true, false, ◌||◌, List, [], ◌∷◌, Option, Some, None, if◌then◌else◌, refl, sym, subst, ◌∙◌, arith}
 use Rattle.std.proofs.Math.Bool.{Bool-set}
 use Rattle.std.proofs.Math.Logic.{∥∥₁_map, ∥∥₁_elim}
 use Rattle.std.proofs.lemmas.Bool.{or_right}
@@ -16,11 +16,14 @@ use Rattle.cell_core.specs.Requests.{standing}
 use Rattle.cell_core.specs.Saves.{is_done, is_cell_error, is_not_ready, is_no_idle, is_timed_out}
 use Rattle.cell_core.specs.Saves.{why as why_of}
 use Rattle.cell_core.specs.StandsFor.{StandsFor, task_of, awaits_saved_of}
-use Rattle.cell_core.specs.Task.{Task}
+use Rattle.cell_core.specs.Stops.{IsEarly, IsLastSave, NamesCell, is_starting, asked_of, stopping_of}
+use Rattle.cell_core.specs.Task.{Task, cell_of}
 use Rattle.cell_core.proofs.Looks.{timely}
 use Rattle.cell_core.proofs.OverRuns.{stopped_where}
 use Rattle.job_run.specs.Told.{Tells, Hears, MayCome, Stopping, StopsFor}
+use Rattle.job_saves.specs.Left.{OutputAt, acks_at, IsLeft}
 use Rattle.job_run.specs.Counted.{TellsOf, StopsAfter}
+use Rattle.job_run.specs.Left.{NamesFailed, Leaves}
 
 -- ---- the clock
 
@@ -106,6 +109,46 @@ pub record Steps (old new : Core) (e : Event) (act : Act) : Type 0 where
   pub stands : (events : List Event) → StandsFor old events → IsTimely (task_of old) e events → StandsFor new (e ∷ events)
   pub act_is : (events : List Event) → StandsFor old events → IsTimely (task_of old) e events → act ≡ act_of (task_of old) e events
   pub same : task_of new ≡ task_of old
+  pub stops_so : (events : List Event) → StandsFor old events → (cause : Why) → act ≡ Stop cause → (IsEarly cause × (is_starting old ≡ true)) ⊎ ((e ≡ Saved) × IsLastSave (task_of old) cause (asked_of old) (stopping_of old))
+  pub starts : is_starting new ≡ true → (is_starting old ≡ true) ⊎ ((e ≡ Saved) × (asked_of old ≡ 0) × (stopping_of old ≡ None))
+
+-- ---- what is left at a stop
+
+early_leaves : (m : OutputAt) (task : Task) (cause : Why) → IsEarly cause → IsLeft m 0 None → Leaves m task cause
+early_leaves m task why.Done early left = absurd early
+early_leaves m task why.CellError early left = absurd early
+early_leaves m task why.NotReady early left = left
+early_leaves m task why.KernelLost early left = inl left
+early_leaves m task why.TimedOut early left = absurd early
+early_leaves m task why.NoIdle early left = absurd early
+early_leaves m task why.BadPeer early left = inl left
+
+named_left : (m : OutputAt) (task : Task) (settled : ℕ) (stop : Option ℕ) → NamesCell task settled stop → IsLeft m settled stop → NamesFailed m task
+named_left m task settled stop n left = record {
+  request = n.request;
+  planned = n.planned;
+  left = subst (λ s. IsLeft m (cell_of task n.request + 1) s) n.stop_is (subst (λ p. IsLeft m p stop) n.settled_is left);
+}
+
+last_leaves : (m : OutputAt) (task : Task) (cause : Why) (settled : ℕ) (stop : Option ℕ) → IsLastSave task cause settled stop → IsLeft m settled stop → Leaves m task cause
+last_leaves m task why.Done settled stop last left = subst (λ s. IsLeft m task.cells s) last.1 (subst (λ p. IsLeft m p stop) last.0 left)
+last_leaves m task why.CellError settled stop last left = named_left m task settled stop last left
+last_leaves m task why.NotReady settled stop last left = absurd last
+last_leaves m task why.KernelLost settled stop last left = inr (named_left m task settled stop last left)
+last_leaves m task why.TimedOut settled stop last left = named_left m task settled stop last left
+last_leaves m task why.NoIdle settled stop last left = named_left m task settled stop last left
+last_leaves m task why.BadPeer settled stop last left = inr (named_left m task settled stop last left)
+
+-- by the first save, or by the one that is acknowledged now
+leaves_by : (m : OutputAt) (old : Core) (e : Event) (cause : Why) → (e ≡ Saved → IsLeft m (asked_of old) (stopping_of old)) → (is_starting old ≡ true → IsLeft m 0 None)
+    → (IsEarly cause × (is_starting old ≡ true)) ⊎ ((e ≡ Saved) × IsLastSave (task_of old) cause (asked_of old) (stopping_of old)) → Leaves m (task_of old) cause
+leaves_by m old e cause saved first (inl early) = early_leaves m (task_of old) cause early.0 (first early.1)
+leaves_by m old e cause saved first (inr last) = last_leaves m (task_of old) cause (asked_of old) (stopping_of old) last.1 (saved last.0)
+
+first_by : (m : OutputAt) (old : Core) (e : Event) → (e ≡ Saved → IsLeft m (asked_of old) (stopping_of old)) → (is_starting old ≡ true → IsLeft m 0 None)
+    → (is_starting old ≡ true) ⊎ ((e ≡ Saved) × (asked_of old ≡ 0) × (stopping_of old ≡ None)) → IsLeft m 0 None
+first_by m old e saved first (inl was) = first was
+first_by m old e saved first (inr (so, none, whole)) = subst (λ s. IsLeft m 0 s) whole (subst (λ p. IsLeft m p (stopping_of old)) none (saved so))
 
 module _ (old new : Core) (clock : ℕ) (is_named : Bool) (e : Event) (act : Act) (steps : Steps old new e act) (may : MayCome old clock is_named e) where
   timely_now : (t : Tells old clock is_named) → IsTimely (task_of old) e t.events
@@ -140,14 +183,21 @@ module _ (old new : Core) (clock : ℕ) (is_named : Bool) (e : Event) (act : Act
   stops_more h cause is = ∥∥₁_map h (λ t. stopping t cause is)
 
   -- so many of the events are saves
-  pub counts_more : (n m : ℕ) → ((past : List Event) → ack_count past ≡ n → ack_count (e ∷ past) ≡ m) → ∥ TellsOf old clock is_named n ∥₁ → ∥ TellsOf new clock is_named m ∥₁
+  pub counts_more : (n m : OutputAt) → ((past : List Event) → ack_count past ≡ acks_at n → ack_count (e ∷ past) ≡ acks_at m) → ∥ TellsOf old clock is_named n ∥₁ → ∥ TellsOf new clock is_named m ∥₁
   unfolding tells_more
   counts_more n m more h = ∥∥₁_map h (λ t. record { tells = tells_more t.tells; count = more t.tells.events t.count })
 
-  pub stops_after : (n m : ℕ) → ((past : List Event) → ack_count past ≡ n → ack_count (e ∷ past) ≡ m) → ∥ TellsOf old clock is_named n ∥₁ → (cause : Why) → act ≡ Stop cause
-      → StopsAfter m (task_of new) cause
+  pub stops_after : (n m : OutputAt) → ((past : List Event) → ack_count past ≡ acks_at n → ack_count (e ∷ past) ≡ acks_at m) → (e ≡ Saved → IsLeft m (asked_of old) (stopping_of old))
+      → (is_starting old ≡ true → IsLeft m 0 None) → ∥ TellsOf old clock is_named n ∥₁ → (cause : Why) → act ≡ Stop cause → StopsAfter m (task_of new) cause
   unfolding stopping
-  stops_after n m more h cause is = ∥∥₁_map h (λ t. record { stopping = stopping t.tells cause is; count = more t.tells.events t.count })
+  stops_after n m more saved first h cause is = ∥∥₁_map h (λ t. record {
+    stopping = stopping t.tells cause is;
+    count = more t.tells.events t.count;
+    left = subst (λ q. Leaves m q cause) (sym steps.same) (leaves_by m old e cause saved first (steps.stops_so t.tells.events t.tells.stands cause is));
+  })
+
+  pub first_after : (m : OutputAt) → (e ≡ Saved → IsLeft m (asked_of old) (stopping_of old)) → (is_starting old ≡ true → IsLeft m 0 None) → is_starting new ≡ true → IsLeft m 0 None
+  first_after m saved first now = first_by m old e saved first (steps.starts now)
 
   pub names_more : Hears old clock is_named → act ≡ Stop why.BadPeer → is_named ≡ true
   names_more h is = ∥∥₁_elim h (Bool-set is_named true) (λ t.
@@ -163,7 +213,7 @@ tell_later core clock later is_named on t =
 pub hears_later : (core : Core) (clock later : ℕ) (is_named : Bool) → clock ≤ later → Hears core clock is_named → Hears core later is_named
 hears_later core clock later is_named on h = ∥∥₁_map h (λ t. tell_later core clock later is_named on t)
 
-pub tells_later : (core : Core) (clock later : ℕ) (is_named : Bool) (n : ℕ) → clock ≤ later → ∥ TellsOf core clock is_named n ∥₁ → ∥ TellsOf core later is_named n ∥₁
+pub tells_later : (core : Core) (clock later : ℕ) (is_named : Bool) (n : OutputAt) → clock ≤ later → ∥ TellsOf core clock is_named n ∥₁ → ∥ TellsOf core later is_named n ∥₁
 unfolding tell_later
 tells_later core clock later is_named n on h = ∥∥₁_map h (λ t. record { tells = tell_later core clock later is_named on t.tells; count = t.count })
 
@@ -174,7 +224,7 @@ tell_named core clock is_named t = record { events = t.events; stands = t.stands
 pub hears_named : (core : Core) (clock : ℕ) (is_named : Bool) → Hears core clock is_named → Hears core clock true
 hears_named core clock is_named h = ∥∥₁_map h (λ t. tell_named core clock is_named t)
 
-pub tells_named : (core : Core) (clock : ℕ) (is_named : Bool) (n : ℕ) → ∥ TellsOf core clock is_named n ∥₁ → ∥ TellsOf core clock true n ∥₁
+pub tells_named : (core : Core) (clock : ℕ) (is_named : Bool) (n : OutputAt) → ∥ TellsOf core clock is_named n ∥₁ → ∥ TellsOf core clock true n ∥₁
 unfolding tell_named
 tells_named core clock is_named n h = ∥∥₁_map h (λ t. record { tells = tell_named core clock is_named t.tells; count = t.count })
 

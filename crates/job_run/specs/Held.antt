@@ -1,13 +1,15 @@
 -- How the parts of an execution agree: its core, its notebook and the request that stands.
 use Rattle.std.specs.Prelude.{◌≡◌, ℕ, ◌+◌, ◌<◌, ◌≤◌, ◌^◌, length, true, false, is_some}
 use Rattle.cell_core.specs.declared.act.Act.{Act}
-use Rattle.cell_core.specs.declared.act.Act.TheVariants.{Nothing, Send, Interrupt, Stop}
+use Rattle.cell_core.specs.declared.act.Act.TheVariants.{Nothing, Send, Interrupt, Save, Stop}
 use Rattle.cell_core.specs.declared.why.Why.{Why}
 use Rattle.cell_core.specs.declared.why.Why.TheVariants.{BadPeer}
 use Rattle.cell_core.specs.Holds.{is_save}
+use Rattle.cell_core.specs.Stops.{asked_of}
 use Rattle.cell_core.specs.Sending.{IsInOrder, SendsOn, next_of}
 use Rattle.cell_core.specs.StandsFor.{task_of, awaits_saved_of}
 use Rattle.job_notebook.specs.State.{notebook_of, settled_of, begun_of}
+use Rattle.job_saves.specs.Left.{OutputAt, acks_at}
 use Rattle.job_run.specs.Told.{Hears, StopsFor}
 use Rattle.job_run.specs.Counted.{IsCounted}
 use Rattle.job_run.specs.declared.execution.Execution.{Execution}
@@ -23,7 +25,7 @@ pub record Holds (x : Execution) : Type 0 where
   pub heard : Hears x.core x.clock (is_some x.broken)
 
 -- the act that the core has answered last may be done: a cell's request is of one that comes after those before, and a save
--- settles no fewer cells than the last one; where it stops the job its cause stands
+-- settles no fewer cells than the last one, as many as the core has asked for; where it stops the job its cause stands
 pub record IsToDo (x : Execution) (act : Act) : Type 0 where
   pub was : ℕ
   pub begun : begun_of x.book ≤ was
@@ -32,6 +34,7 @@ pub record IsToDo (x : Execution) (act : Act) : Type 0 where
   pub awaits : awaits_saved_of x.core ≡ is_save act
   pub stops : (cause : Why) → act ≡ Stop cause → StopsFor (task_of x.core) cause
   pub named : act ≡ Stop BadPeer → is_some x.broken ≡ true
+  pub settles : (settled : ℕ) → act ≡ Save settled → asked_of x.core ≡ settled
 
 -- no save is awaited
 abbrev pub IsCalm : Execution → Type 0
@@ -71,4 +74,5 @@ pub record IsFirst (x : Execution) : Type 0 where
   pub settled : settled_of x.book ≡ 0
   pub next : next_of x.core ≡ 0
   pub awaits : awaits_saved_of x.core ≡ true
-  pub counted : IsCounted x Nothing 0
+  pub asks : asked_of x.core ≡ 0
+  pub counted : (m : OutputAt) → acks_at m ≡ 0 → IsCounted x Nothing m

@@ -2,6 +2,7 @@ pub mod Counted
 pub mod Due
 pub mod Heard
 pub mod Held
+pub mod Left
 pub mod Pings
 pub mod Queues
 pub mod Run

@@ -12,6 +12,7 @@ use Rattle.job_end.specs.declared.answer.Answer.{Answer}
 use Rattle.job_end.specs.declared.end.End.{End}
 use Rattle.job_end.specs.declared.end.End.TheVariants as end
 use Rattle.job_saves.specs.Course.{Origin, Stands, Ends, HasCalled, LacksSaves, HasOnlyRead, HasPart, keeps_open, stays_open}
+use Rattle.job_saves.specs.Left.{output_at}
 use Rattle.nb_model.specs.declared.notebook.Notebook.{Notebook}
 use Rattle.job_saves.specs.Calls.{Cast, IsReady}
 use Rattle.job_saves.specs.Children.{HasEnd, AsksNone, ports_of}
@@ -87,13 +88,13 @@ pub record IsNew (o : Origin) : Type 0 where
 abbrev pub BeginsNew : Origin → Option (List Entry) → Type 0
 BeginsNew o journal = IsNew o → IfSome journal (λ past. save_count o.output past ≡ 0)
 
--- a start that ended so: of the events that brought the end as many are saves as were acknowledged
+-- a start that ended so: of the events that brought the end as many are saves as were acknowledged, and they left what it asks for
 abbrev pub StartsCounted : Origin → Task → Option (List Entry) → End → Type 0
-StartsCounted o task journal e = IsNew o → IfSome journal (λ past. StartsAfter (save_count o.output past) task e)
+StartsCounted o task journal e = IsNew o → IfSome journal (λ past. StartsAfter (output_at o past) task e)
 
--- of the events that a job was told, or that brought its end, as many are saves as were acknowledged
+-- of the events that a job was told, or that brought its end, as many are saves as were acknowledged, and they left what it asks for
 abbrev pub CountsAll : Origin → Option Answer → Execution → Option (List Entry) → Type 0
-CountsAll o outcome x journal = IsNew o → IfSome journal (λ past. IsCountedIn outcome x (save_count o.output past))
+CountsAll o outcome x journal = IsNew o → IfSome journal (λ past. IsCountedIn outcome x (output_at o past))
 
 -- a job that began so stands on its course; where a save has failed it has ended, and by that status only there
 pub record Runs (o : Origin) (j : Job) (journal : Option (List Entry)) (counts : Counts) : Type 0 where
@@ -113,13 +114,13 @@ abbrev pub KeepsRun : Job → Job → Type 0
 KeepsRun was now = (o : Origin) (journal : Option (List Entry)) (counts : Counts) → Runs o was journal counts → Runs o now journal counts
 
 -- The job has ended with this answer; where that says that the disk failed, its count has risen. Where its run of this task
--- has ended, of the events that brought it as many are saves as were acknowledged.
+-- has ended, of the events that brought it as many are saves as were acknowledged, and they left what its cause asks for.
 pub record EndsWith (o : Origin) (task : Option Task) (answer : Answer) (journal : Option (List Entry)) (counts : Counts) : Type 0 where
   pub is_open : Bool
   pub ends : Ends o is_open journal counts
   pub shut : is_open ≡ false → IsUnsaved answer.status
   pub fails : IsFileStatus answer.status → Rose o.counts.disk counts.disk
-  pub counted : (t : Task) → task ≡ Some t → IsNew o → IfSome journal (λ past. IsCausedAfter (save_count o.output past) t answer.status)
+  pub counted : (t : Task) → task ≡ Some t → IsNew o → IfSome journal (λ past. IsCausedAfter (output_at o past) t answer.status)
 
 -- a job of this number and these paths is one of a cast
 pub record IsRole (c : Cast) (number : ℕ) (paths : Paths) : Type 0 where

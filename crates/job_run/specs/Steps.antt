@@ -1,5 +1,5 @@
 -- What a step of an execution leaves: of the execution, of its notebook and of the world.
-use Rattle.std.specs.Prelude.{◌≡◌, List, Option, Result, OnOk, IfErr}
+use Rattle.std.specs.Prelude.{◌≡◌, List, true, Option, Result, OnOk, IfErr}
 use Rattle.world.specs.declared.entry.Entry.{Entry}
 use Rattle.world.specs.Counts.{Counts}
 use Rattle.world.specs.Moments.{Told, Since}
@@ -8,7 +8,7 @@ use Rattle.cell_core.specs.StandsFor.{task_of}
 use Rattle.job_end.specs.declared.end.End.{End}
 use Rattle.job_notebook.specs.declared.notebook.JobNotebook.{JobNotebook}
 use Rattle.job_notebook.specs.State.{output_of}
-use Rattle.job_saves.specs.Course.{GoesOn, CallsOwn, stays_open}
+use Rattle.job_saves.specs.Course.{Origin, Stands, GoesOn, CallsOwn, stays_open}
 use Rattle.job_saves.specs.Sessions.{IsSaveCall}
 use Rattle.job_run.specs.Counted.{IsCountedAt, CountsOn}
 use Rattle.job_run.specs.Held.{Holds, IsCalm}
@@ -34,8 +34,8 @@ pub record Proceeds {W U : Type 0} (journal : W → Option (List Entry)) (tally 
   pub terms : now.terms ≡ was.terms
   -- where the job ends, it ends as a run does
   pub own : IfErr result (EndsBy (task_of now.core))
-  -- the core was told of as many saves as were acknowledged, where it was so
-  pub counts : IsCountedAt was act (journal old) → CountsOn now result (journal new)
+  -- the core was told of as many saves as were acknowledged, and they left what it has asked for, where it was so
+  pub counts : (o : Origin) → o.is_watched ≡ true → Stands o was.book true (journal old) (tally old) → IsCountedAt o was act (journal old) → CountsOn o now result (journal new)
 
 -- all that was asked of the world is saves of this notebook, lines that were said and readings of the clock
 abbrev pub OnlySaves : {W : Type 0} → (W → Option (List Entry)) → W → W → JobNotebook → Type 0

@@ -13,6 +13,7 @@ ghost use Rattle.world.specs.Counts.{Counts, Rose};
 ghost use Rattle.job_run.specs.Told.{EndsJob, IsEnding, IsEndOfLaunch};
 ghost use Rattle.job_run.specs.Counted.{IsCausedAfter, EndsJobAfter, IsCountedBy, IsCountedIn};
 ghost use Rattle.job_notebook.specs.State.{output_of};
+ghost use Rattle.job_saves.specs.Left.{OutputAt};
 
 use crate::execution::Execution;
 use job_end::{Answer, End};
@@ -42,7 +43,7 @@ pub(crate) fn outcome_of(
     ensures terms { run.new.terms ≡ run.old.terms }
     ensures end { IfSome result (IsEnding output.now (task_of run.new.core)) }
     ensures once { AsksOnce run.old run.new }
-    ensures counts { (n : ℕ) → IsCountedBy run.old done n → IsCountedIn result run.new n }
+    ensures counts { (n : OutputAt) → IsCountedBy run.old done n → IsCountedIn result run.new n }
     ensures saves { output_of run.new.book ≡ output_of run.old.book }
 {
     match done {
@@ -66,7 +67,7 @@ fn farewell(alloc: Global, output: &Text, run: &mut Execution, end: &End) -> Ans
     ensures terms { run.new.terms ≡ run.old.terms }
     ensures end { IsEnding output.now (task_of run.new.core) result }
     ensures once { AsksOnce run.old run.new }
-    ensures counts { (n : ℕ) → EndsJobAfter n (task_of run.old.core) end.now →
+    ensures counts { (n : OutputAt) → EndsJobAfter n (task_of run.old.core) end.now →
         IsCausedAfter n (task_of run.old.core) result.status }
     ensures saves { output_of run.new.book ≡ output_of run.old.book }
 {
@@ -89,7 +90,7 @@ fn memory_answer(alloc: Global) -> Answer
     ensures fails { IsFileStatus result.status → ⊥ }
     ensures lost { result.status ≡ 14 → ⊥ }
     ensures spent { result.status ≡ 16 → ⊥ }
-    ensures counts { (n : ℕ) (task : Task) → IsCausedAfter n task result.status }
+    ensures counts { (n : OutputAt) (task : Task) → IsCausedAfter n task result.status }
     ensures end { (output : List ℕ) (task : Task) → IsEnding output task result }
 {
     Answer::starved(alloc)
@@ -101,7 +102,7 @@ fn answer_for(alloc: Global, output: &Text, end: &End) -> Answer
         keeps_open end.now ≡ false }
     ensures lost { result.status ≡ 14 → end.now ≡ ending.NetFault }
     ensures spent { result.status ≡ 16 → end.now ≡ ending.Spent }
-    ensures counts { (n : ℕ) (task : Task) → EndsJobAfter n task end.now →
+    ensures counts { (n : OutputAt) (task : Task) → EndsJobAfter n task end.now →
         IsCausedAfter n task result.status }
     ensures end { (task : Task) → EndsJob task end.now → IsEnding output.now task result }
 {

@@ -15,7 +15,7 @@ const RAISES: &str = "raises-exception";
 
 impl Execution {
     ghost use Rattle.std.specs.Prelude.{◌≡◌, ℕ, ◌<◌, ◌≤◌, ◌^◌, ◌+◌, true, false, is_some};
-    ghost use Rattle.std.specs.Prelude.{IfOk, IfErr, OnOk};
+    ghost use Rattle.std.specs.Prelude.{IfOk, IfErr, IfSome, OnOk};
     ghost use Rattle.cell_core.specs.Events.{is_saved};
     ghost use Rattle.cell_core.specs.Holds.{IsSmall, is_save};
     ghost use Rattle.cell_core.specs.Sending.{next_of, saves_ahead};
@@ -31,6 +31,9 @@ impl Execution {
     ghost use Rattle.job_run.specs.Counted.{CountsFor, KeepsTold};
     ghost use Rattle.job_run.specs.Counted.{StopsAfter, EndsAfter};
     ghost use Rattle.job_saves.specs.Course.{GoesOn, CallsOwn, StaysOn, KeepsPart, IsEndOfSave};
+    ghost use Rattle.job_saves.specs.Course.{Origin, Stands};
+    ghost use Rattle.job_saves.specs.Left.{OutputAt, IsLeft, output_at};
+    ghost use Rattle.cell_core.specs.Stops.{stopping_of};
     ghost use Rattle.job_saves.specs.Course.{stays_open, keeps_open};
     ghost use Rattle.cell_core.specs.declared.act.Act.TheVariants.{Nothing};
     ghost use Rattle.job_run.specs.Steps.{Proceeds, OnlySaves};
@@ -64,7 +67,7 @@ impl Execution {
         ensures session { self.new.session ≡ self.old.session }
         ensures terms { self.new.terms ≡ self.old.terms }
         ensures task { task_of self.new.core ≡ task_of self.old.core }
-        ensures counts { (n : ℕ) → IsCounted self.old Act.Nothing n →
+        ensures counts { (n : OutputAt) → IsCounted self.old Act.Nothing n →
             IsCounted self.new result.act n }
     {
         self.core.step(e)
@@ -100,8 +103,10 @@ impl Execution {
         ensures task { task_of self.new.core ≡ task_of self.old.core }
         ensures terms { self.new.terms ≡ self.old.terms }
         ensures own { IfErr result (EndsBy (task_of self.new.core)) }
-        ensures counts { IsCountedAt self.old Act.Nothing (W.journal w.old) →
-            CountsFor self.new result (W.journal w.new) }
+        ensures counts { (o : Origin) → o.is_watched ≡ true →
+            Stands o self.old.book true (W.journal w.old) (W.counts w.old) →
+            IsCountedAt o self.old Act.Nothing (W.journal w.old) →
+            CountsFor o self.new result (W.journal w.new) }
         ensures asks { self.new.session ≡ self.old.session }
     {
         self.save(w, settled)?;
@@ -121,7 +126,7 @@ impl Execution {
         ensures task { task_of self.new.core ≡ task_of self.old.core }
         ensures terms { self.new.terms ≡ self.old.terms }
         ensures own { IfErr result (EndsBy (task_of self.new.core)) }
-        ensures counts { (n : ℕ) → IsCounted self.old act n → IsCountedOn self.new result n }
+        ensures counts { (n : OutputAt) → IsCounted self.old act n → IsCountedOn self.new result n }
         ensures asks { OnOk result (Asks (requests_of act) self.old self.new) }
     {
         match act {
@@ -157,6 +162,10 @@ impl Execution {
         ensures acked { OnOk result (Told (W.journal w.old) (W.journal w.new) (λ before after.
             save_count (output_of self.old.book) after ≡
             save_count (output_of self.old.book) before + 1)) }
+        ensures left { OnOk result ((o : Origin) → o.is_watched ≡ true →
+            Stands o self.old.book true (W.journal w.old) (W.counts w.old) →
+            IfSome (W.journal w.new) (λ past.
+            IsLeft (output_at o past) settled (stopping_of self.old.core))) }
         ensures asks { self.new.session ≡ self.old.session }
     {
         let stop = self.core.failing();
@@ -177,7 +186,7 @@ impl Execution {
         ensures task { task_of self.new.core ≡ task_of self.old.core }
         ensures terms { self.new.terms ≡ self.old.terms }
         ensures own { IfErr result (EndsBy (task_of self.new.core)) }
-        ensures counts { (n : ℕ) → IsCounted self.old Act.Nothing n →
+        ensures counts { (n : OutputAt) → IsCounted self.old Act.Nothing n →
             IsCountedOn self.new result n }
         ensures asks { OnOk result (Asks 1 self.old self.new) }
     {
@@ -252,7 +261,7 @@ impl Execution {
         requires named { why ≡ cause.BadPeer → is_some self.now.broken ≡ true }
         ensures saved { IfOk result (λ e. keeps_open e ≡ true) }
         ensures own { IfOk result (EndsBy (task_of self.now.core)) }
-        ensures counts { (n : ℕ) → StopsAfter n (task_of self.now.core) why →
+        ensures counts { (n : OutputAt) → StopsAfter n (task_of self.now.core) why →
             IfOk result (EndsAfter n (task_of self.now.core)) }
     {
         match why {
@@ -278,7 +287,7 @@ impl Execution {
         requires { StopsFor (task_of self.now.core) cause.CellError }
         ensures saved { IfOk result (λ e. keeps_open e ≡ true) }
         ensures own { IfOk result (EndsBy (task_of self.now.core)) }
-        ensures counts { (n : ℕ) → StopsAfter n (task_of self.now.core) cause.CellError →
+        ensures counts { (n : OutputAt) → StopsAfter n (task_of self.now.core) cause.CellError →
             IfOk result (EndsAfter n (task_of self.now.core)) }
     {
         let name = self.error_name()?;
@@ -293,7 +302,7 @@ impl Execution {
         requires named { is_some self.now.broken ≡ true }
         ensures saved { keeps_open result ≡ true }
         ensures own { EndsBy (task_of self.now.core) result }
-        ensures counts { (n : ℕ) → StopsAfter n (task_of self.now.core) cause.BadPeer →
+        ensures counts { (n : OutputAt) → StopsAfter n (task_of self.now.core) cause.BadPeer →
             EndsAfter n (task_of self.now.core) result }
     {
         let (chan, fault) = self.broken.unwrap();

@@ -19,6 +19,7 @@ impl Execution {
     ghost use Rattle.job_run.specs.Counted.{IsCounted, IsCountedOn};
     ghost use Rattle.cell_core.specs.declared.act.Act.TheVariants.{Nothing};
     ghost use Rattle.job_saves.specs.Course.{stays_open};
+    ghost use Rattle.job_saves.specs.Left.{OutputAt};
     ghost use Rattle.job_run.specs.Steps.{Proceeds, OnlySaves};
 
     /// The clock was read in a turn, and the child was found ended or not.
@@ -63,7 +64,7 @@ impl Execution {
         ensures asked { IsAsked self.old self.new }
         ensures saved { stays_open result ≡ true }
         ensures own { IfErr result (EndsBy (task_of self.new.core)) }
-        ensures counts { (n : ℕ) → IsCounted self.old Nothing n →
+        ensures counts { (n : OutputAt) → IsCounted self.old Nothing n →
             IsCountedOn self.new result n }
     {
         match self.ask_and_ping() {
@@ -113,7 +114,7 @@ impl Execution {
         ensures book { self.new.book ≡ self.old.book }
         ensures terms { self.new.terms ≡ self.old.terms }
         ensures task { task_of self.new.core ≡ task_of self.old.core }
-        ensures counts { (n : ℕ) → IsCounted self.old Nothing n → IsCounted self.new Nothing n }
+        ensures counts { (n : OutputAt) → IsCounted self.old Nothing n → IsCounted self.new Nothing n }
     {
         self.core.step(Event::Lost);
     }

@@ -1,4 +1,4 @@
-use Rattle.std.proofs.Common.{[], false, refl, ◌≡◌, ◌<◌, ◌≤◌, ◌^◌, length, AllPairs, arith, sym, ap, ◌∙◌, subst}
+use Rattle.std.proofs.Common.{[], false, true≢false, refl, ◌≡◌, ◌<◌, ◌≤◌, ◌^◌, length, AllPairs, arith, sym, ap, ◌∙◌, subst}
 use Rattle.cell_core.specs.Sending.{IsInOrder, next_of}
 use Rattle.cell_core.specs.StandsFor.{task_of}
 use Rattle.job_notebook.specs.State.{begun_of, settled_of}
@@ -29,7 +29,8 @@ returns-in-Ok-clause-first c =
       settled = c.in_ok-book.ensures.settled;
       next = c.new-core.ensures.first;
       awaits = c.new-core.ensures.next;
-      counted = record { heard = ∣ record { tells = told; count = refl } ∣₁; stops = λ cause is. absurd (cc) };
+      asks = c.new-core.ensures.asks;
+      counted = λ m none. record { heard = ∣ record { tells = told; count = sym none } ∣₁; stops = λ cause is. absurd (cc); first = λ e. absurd (true≢false (sym e ∙ c.new-core.ensures.still)) };
     }
 
 pub returns-in-Ok-clause-key : goal.returns-in-Ok-clause-key

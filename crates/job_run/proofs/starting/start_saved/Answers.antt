@@ -21,7 +21,7 @@ returns-in-Ok-clause-course g c o s apart fresh =
     let stands = subst (λ r. Stands o c.save_first.new.self.book (stays_open r) (g.W.Journal.journal c.save_first.new.w) (g.W.Journal.counts c.save_first.new.w)) c.in-Ok.is (c.save_first.ensures.goes.course o s) in
     c.with_kernel.ensures.course o (begun o c.job_of.result c.save_first.new.self c.args.paths _ _ c.job_of.ensures.run c.job_of.ensures.paths c.job_of.ensures.outcome
     stands apart
-    (first_counts o c.args.run c.save_first.new.self (g.W.Journal.journal c.args.w.now) (g.W.Journal.journal c.save_first.new.w) s.output stands.output c.requires.first.counted fresh c.in-Ok.ensures.goes.counts))
+    (first_counts o c.args.run c.save_first.new.self (g.W.Journal.journal c.args.w.now) (g.W.Journal.journal c.save_first.new.w) c.requires.first.counted fresh (λ new. c.in-Ok.ensures.goes.counts o new.watched s)))
 
 pub returns-in-Ok-clause-calls : goal.returns-in-Ok-clause-calls
 returns-in-Ok-clause-calls g c cast since from may portless role s =
@@ -85,8 +85,8 @@ returns-in-Ok-clause-counted g c o s fresh = launches_counted o (task_of c.args.
 pub returns-in-Err-clause-counted : goal.returns-in-Err-clause-counted
 returns-in-Err-clause-counted g c o s fresh =
     let f = c.save_first in
-    first_ends o c.args.run f.new.self (task_of c.args.run.core) (g.W.Journal.journal c.args.w.now) (g.W.Journal.journal f.new.w) c.in-Err.end s.output (f.ensures.goes.course o s).output f.ensures.goes.task
-    c.requires.first.counted fresh c.in-Err.ensures.goes.counts
+    first_ends o c.args.run f.new.self (task_of c.args.run.core) (g.W.Journal.journal c.args.w.now) (g.W.Journal.journal f.new.w) c.in-Err.end f.ensures.goes.task
+    c.requires.first.counted fresh (λ new. c.in-Err.ensures.goes.counts o new.watched s)
 
 pub returns-in-Ok-clause-pings : goal.returns-in-Ok-clause-pings
 returns-in-Ok-clause-pings g c =

@@ -4,7 +4,7 @@ use Rattle.world.proofs.MomentsLemmas.{told_start}
 use Rattle.job_saves.specs.Course.{Stands}
 use Rattle.job_run.proofs.AskLemmas.{acts_once}
 use Rattle.job_run.proofs.CountLemmas.{counts_on, quiet_at}
-use Rattle.job_run.proofs.CauseLemmas.{part_output, calls_output}
+use Rattle.job_run.proofs.CauseLemmas.{calls_output}
 use Rattle.job_run.proofs.StepLemmas.{goes_err}
 use Rattle.job_saves.proofs.SessionLemmas.{saves_then}
 use Rattle.job_notebook.specs.State.{output_of}
@@ -20,7 +20,7 @@ loop-act-init g c = record {
   task = refl;
   terms = refl;
   session = refl;
-  counts = λ h. h;
+  counts = λ o on s h. h;
 }
 
 pub loop-act-preserved : goal.loop-act-preserved
@@ -38,7 +38,7 @@ loop-act-preserved g c =
       task = e.task ∙ i.task;
       terms = e.terms ∙ i.terms;
       session = e.asks ∙ i.session;
-      counts = λ h. e.counts (quiet_at c.loop-act.self c.loop-act.act (g.W.Journal.journal c.loop-act.w) (i.counts h));
+      counts = λ o on s h. e.counts o on (i.course o s) (quiet_at o c.loop-act.self c.loop-act.act (g.W.Journal.journal c.loop-act.w) (i.counts o on s h));
     }
 
 pub returns : goal.returns
@@ -55,8 +55,7 @@ returns g c =
         task = p.task ∙ i.task;
         terms = p.terms ∙ i.terms;
         own = p.own;
-        counts = λ h. counts_on c.loop-act.self c.perform.new.self c.loop-act.act c.perform.result (g.W.Journal.journal c.loop-act.w)
-            (part_output c.loop-act.self.book c.perform.new.self.book p.calls) p.counts (i.counts h);
+        counts = λ o on s h. counts_on o c.loop-act.self c.perform.new.self c.loop-act.act c.perform.result (g.W.Journal.journal c.loop-act.w) p.counts (i.counts o on s h);
       };
       saves = i.saves;
       asks = acts_once c.perform.result c.loop-act.act c.args.self.now c.loop-act.self c.perform.new.self i.session p.asks;
@@ -81,5 +80,5 @@ returns-in_err-act-clause-goes g c =
       task = e.task ∙ i.task;
       terms = e.terms ∙ i.terms;
       own = e.own;
-      counts = λ h. e.counts (quiet_at c.loop-act.self c.loop-act.act (g.W.Journal.journal c.loop-act.w) (i.counts h));
+      counts = λ o on s h. e.counts o on (i.course o s) (quiet_at o c.loop-act.self c.loop-act.act (g.W.Journal.journal c.loop-act.w) (i.counts o on s h));
     })

@@ -3,7 +3,7 @@ use Rattle.cell_core.specs.StandsFor.{task_of}
 use Rattle.cell_core.specs.Sending.{saves_ahead}
 use Rattle.world.specs.Moments.{Told, Since}
 use Rattle.job_notebook.specs.State.{output_of}
-use Rattle.job_saves.specs.Course.{GoesOn, CallsOwn}
+use Rattle.job_saves.specs.Course.{Origin, Stands, GoesOn, CallsOwn}
 use Rattle.job_saves.specs.Sessions.{IsSaveCall}
 use Rattle.job_run.specs.Held.{Holds, IsToDo}
 use Rattle.job_run.specs.Counted.{IsCountedAt}
@@ -20,7 +20,8 @@ invariant-loop-act g l =
       task : task_of l.self.core ≡ task_of l.fn.self.core;
       terms : l.self.terms ≡ l.fn.self.terms;
       session : l.self.session ≡ l.fn.self.session;
-      counts : IsCountedAt l.fn.self l.fn.act (g.W.Journal.journal l.fn.w) → IsCountedAt l.self l.act (g.W.Journal.journal l.w);
+      counts : (o : Origin) → o.is_watched ≡ true → Stands o l.fn.self.book true (g.W.Journal.journal l.fn.w) (g.W.Journal.counts l.fn.w) → IsCountedAt o l.fn.self l.fn.act (g.W.Journal.journal l.fn.w)
+          → IsCountedAt o l.self l.act (g.W.Journal.journal l.w);
     }
 
 abbrev pub decreases-loop-act : goal.decreases-loop-act

@@ -1,7 +1,6 @@
 use Rattle.std.proofs.Common.{rules, ◌≡◌, ap, subst, sym, ◌∙◌}
 use Rattle.cell_core.specs.declared.act.Act.TheVariants.{Nothing}
 use Rattle.cell_core.specs.StandsFor.{task_of}
-use Rattle.job_notebook.specs.State.{output_of}
 use Rattle.job_saves.specs.Course.{Stands, HasPart, stays_open}
 use Rattle.job_run.specs.declared.execution.Execution.{Execution}
 use Rattle.job_run.proofs.CountLemmas.{counts_on}
@@ -24,5 +23,5 @@ returns-in-Ok g c =
       task = ap (λ (z : Execution). task_of z.core) e.asked ∙ l.task;
       terms = ap (λ (z : Execution). z.terms) e.asked ∙ l.terms;
       own = e.own;
-      counts = λ h. counts_on x y Nothing c.ask_or_end.result j (ap output_of book) e.counts (l.counts h);
+      counts = λ o on s h. counts_on o x y Nothing c.ask_or_end.result j e.counts (l.counts o on s h);
     }

@@ -30,7 +30,8 @@ returns-clause-goes g c =
       task = rest.task;
       terms = rest.terms;
       own = rest.own;
-      counts = λ h. rest.counts (counts_passed x Nothing (g.W.Journal.journal c.args.w.now) (g.W.Journal.journal c.now-ms.new.self) _ (λ past. refl) m.tells h);
+      counts = λ o on s h. rest.counts o on (others_pass o x.book true _ _ _ _ (told_spares o.output _ _ _ refl m.tells) (moment_grows m.later m.counts) s)
+          (counts_passed o x Nothing (g.W.Journal.journal c.args.w.now) (g.W.Journal.journal c.now-ms.new.self) _ (λ past. refl) (λ past. refl) m.tells h);
     }
 
 pub returns-clause-saves : goal.returns-clause-saves

@@ -1,4 +1,4 @@
-use Rattle.std.proofs.Common.{refl}
+use Rattle.std.proofs.Common.{◌≡◌, refl, arith, ◌∙◌}
 use Rattle.job_notebook.specs.State.{output_of}
 use Rattle.job_saves.proofs.SessionLemmas.{saves_then}
 use Rattle.job_run.proofs.AskLemmas.{keyed_then}
@@ -24,3 +24,17 @@ returns-in_err-act-clause-saves g c = c.act.ensures.saves
 
 pub returns-clause-key : goal.returns-clause-key
 returns-clause-key g c = keyed_then c.read_clock.result c.args.self.now c.act.new.self c.read_clock.new.self c.in_ok-act.ensures.asks.key c.read_clock.ensures.key
+
+pub act-requires-clause-todo : goal.act-requires-clause-todo
+act-requires-clause-todo g c =
+    let f = c.requires.first in
+    record {
+      was = 0;
+      begun = omega (arith, f.begun);
+      settled = omega (arith, f.settled);
+      sends = (omega arith, omega arith, omega (arith, f.next));
+      awaits = f.awaits;
+      stops = λ cause is. absurd (cc);
+      named = λ is. absurd (cc);
+      settles = λ settled is. let same : 0 ≡ settled = cc in f.asks ∙ same;
+    }

@@ -14,7 +14,7 @@ returns-clause-course c o journal counts r =
     let book = c.args.self.now.run.book in
     turns o c.args.self.now _ book journal journal counts counts (keeps_open c.args.end) c.requires.running
     (λ s. subst (λ b. Stands o book b journal counts) (sym c.requires.saved) s) e.course refl e.shut e.fails
-    (λ fresh from to h. end_counts o.output c.args.self.now.run c.outcome_of.new.run c.args.end c.outcome_of.result journal from to e.saves c.requires.outside e.counts h) r
+    (λ fresh s h. end_counts o c.args.self.now.run c.outcome_of.new.run c.args.end c.outcome_of.result journal c.requires.outside e.counts h) r
 
 pub returns-clause-calls : goal.returns-clause-calls
 returns-clause-calls c cast since from journal counts r =

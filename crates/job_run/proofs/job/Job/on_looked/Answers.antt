@@ -16,8 +16,8 @@ returns g c =
     record {
       course = λ o r.
           turns o c.args.self.now _ t.new.self.book _ _ _ _ (stays_open t.result) (sym c.is_over.ensures ∙ c.if-is_over.false) (t.ensures.course o) e.course refl e.shut e.fails
-          (λ fresh from to h. turn_counts o.output c.args.self.now.run t.new.self c.outcome_of.new.run t.result c.outcome_of.result
-          (g.W.Journal.journal c.args.w.now) (g.W.Journal.journal t.new.w) from to e.saves t.ensures.counts e.counts h) r;
+          (λ fresh s h. turn_counts o c.args.self.now.run t.new.self c.outcome_of.new.run t.result c.outcome_of.result
+          (g.W.Journal.journal c.args.w.now) (g.W.Journal.journal t.new.w) (t.ensures.counts o fresh.watched s) e.counts h) r;
       calls = λ cast since from r.
           plays_on cast since from c.args.self.now _ t.new.self.book _ _ _ _ (t.ensures.calls cast since from) e.calls refl refl r;
       keeps = keeps_on t.new.self t.result e.task t.ensures.task e.terms t.ensures.terms refl t.ensures.own e.lost e.spent;

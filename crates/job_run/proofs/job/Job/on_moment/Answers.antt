@@ -23,8 +23,10 @@ returns g c =
       course = λ o r.
           turns o c.args.self.now _ t.new.self.book _ _ _ _ (stays_open t.result) (sym c.is_over.ensures ∙ c.if-is_over.false)
           (λ s. t.ensures.course o (others_pass o _ true _ _ _ _ (told_spares o.output _ _ _ refl c.look.ensures.tells) (grow_same c.look.ensures.same) s)) e.course refl e.shut e.fails
-          (λ fresh from to h. turn_counts o.output c.args.self.now.run t.new.self c.outcome_of.new.run t.result c.outcome_of.result
-          (g.W.Journal.journal c.args.w.now) (g.W.Journal.journal t.new.w) from to e.saves (λ at. t.ensures.counts (counts_passed c.args.self.now.run Nothing _ _ _ (λ past. refl) c.look.ensures.tells at)) e.counts h) r;
+          (λ fresh s h. turn_counts o c.args.self.now.run t.new.self c.outcome_of.new.run t.result c.outcome_of.result
+          (g.W.Journal.journal c.args.w.now) (g.W.Journal.journal t.new.w)
+          (λ at. t.ensures.counts o fresh.watched (others_pass o _ true _ _ _ _ (told_spares o.output _ _ _ refl c.look.ensures.tells) (grow_same c.look.ensures.same) s)
+          (counts_passed o c.args.self.now.run Nothing _ _ _ (λ past. refl) (λ past. refl) c.look.ensures.tells at)) e.counts h) r;
       calls = λ cast since from r.
           plays_on cast since from c.args.self.now _ t.new.self.book _ _ _ _
           (λ s. t.ensures.calls cast since from (entry_called cast since from _ _ _ _ _ _ (λ past. record { number = c.args.self.now.number; ask = r.role.ask; has = r.role.has; is = refl }) kids_quiet (λ past. tt) c.look.ensures.tells (same_works c.look.ensures.same) s)) e.calls refl refl r;
