@@ -1,4 +1,4 @@
--- How many saves are among the events that bring the end of a job's begin.
+-- How many saves are among the events that bring the end of a job's begin, and what they left.
 use Rattle.std.proofs.Common.{◌≡◌, ℕ, zero, suc, ◌+◌, ◌<◌, Bool, true, false, List, [], ◌∷◌, length, Option, Some, None, Result, Ok, Err, if◌then◌else◌, refl, sym, ap, subst, ◌∙◌, arith}
 use Rattle.std.specs.Prelude.{◌==◌, ◌&&◌, not, nat_lt, drop, is_some, IfSome, IfErr, OnOk}
 use Rattle.std.proofs.lemmas.Bool.{lt-ltb}
@@ -28,7 +28,7 @@ use Rattle.job_end.specs.Statuses.{status_of}
 use Rattle.job_notebook.specs.declared.notebook.JobNotebook.{JobNotebook}
 use Rattle.job_notebook.specs.State.{notebook_of, merge_of, output_of}
 use Rattle.job_saves.specs.Course.{Origin, Stands, IsEndOfSave}
-use Rattle.job_saves.proofs.CourseLemmas.{told_on}
+use Rattle.job_saves.specs.Left.{OutputAt, output_at, acks_at, IsLeft}
 use Rattle.job_run.specs.declared.job.Job.{Job}
 use Rattle.job_run.specs.Counted.{IsCausedAfter, StopsAfter}
 use Rattle.job_run.specs.Run.{IsNew, BeginsNew, StartsCounted}
@@ -51,24 +51,24 @@ only_task a first t is = by_mode a.prepare (task_for a first) t is
 -- ---- ends that no event brings
 
 pub prepared_counts : (a : Ask) (first : Notebook) (o : Origin) (k : Option (List Entry)) (e : End) → a.prepare ≡ true → EndsCounted o (counted_task a first) k e
-prepared_counts a first o k e on t is = none_told (IsNew o → IfSome k (λ past. IsCausedAfter (save_count o.output past) t (status_of e))) (sym (ap (λ b. if b then None else Some (task_for a first)) on) ∙ is)
+prepared_counts a first o k e on t is = none_told (IsNew o → IfSome k (λ past. IsCausedAfter (output_at o past) t (status_of e))) (sym (ap (λ b. if b then None else Some (task_for a first)) on) ∙ is)
   where
     none_told : (P : Type 0) {t : Task} → None ≡ Some t → P
     none_told P is = absurd (cc)
 
-no_cause : (n : ℕ) (t : Task) (status : ℕ) → IsUncaused status → IsCausedAfter n t status
+no_cause : (n : OutputAt) (t : Task) (status : ℕ) → IsUncaused status → IsCausedAfter n t status
 no_cause n t status none cause is = let no : Some cause ≡ None = sym is ∙ none in absurd (cc)
 
 pub uncaused_counts : (o : Origin) (task : Option Task) (k : Option (List Entry)) (e : End) → IsUncaused (status_of e) → EndsCounted o task k e
 uncaused_counts o task None e none t is fresh = tt
-uncaused_counts o task (Some past) e none t is fresh = no_cause (save_count o.output past) t (status_of e) none
+uncaused_counts o task (Some past) e none t is fresh = no_cause (output_at o past) t (status_of e) none
 
 -- ---- the end of a start
 
 started_counts : (a : Ask) (first : Notebook) (o : Origin) (k : Option (List Entry)) (e : End) → StartsCounted o (task_for a first) k e → EndsCounted o (counted_task a first) k e
 started_counts a first o None e h t is fresh = tt
 started_counts a first o (Some past) e h t is fresh =
-    subst (λ q. IsCausedAfter (save_count o.output past) q (status_of e)) (only_task a first t is) (start_after (save_count o.output past) (task_for a first) [] e _ said (h fresh))
+    subst (λ q. IsCausedAfter (output_at o past) q (status_of e)) (only_task a first t is) (start_after (output_at o past) (task_for a first) [] e _ said (h fresh))
 
 pub start_counts : (a : Ask) (first : Notebook) (o : Origin) (k : Option (List Entry)) (r : Result Job End) → IfErr r (StartsCounted o (task_for a first) k)
     → IfErr r (EndsCounted o (counted_task a first) k)
@@ -117,17 +117,19 @@ module _ (n : ℕ) (times : Times) where
       at ∙ ap (λ b. if b then Nothing else act_at idle (Saved ∷ Saved ∷ [])) on ∙ by
 
 -- the events of its saves stop its core, for it has nothing to execute
-none_stops : (cells : ℕ) (times : Times) → StopsAfter (1 + closing_saves cells) (record { plan = []; cells = cells; times = times }) why.Done
-none_stops zero times = ∣ record { stopping = record { event = Saved; past = []; meets = (refl, tt, tt); stops = refl }; count = refl } ∣₁
-none_stops (suc n) times = ∣ record {
+none_stops : (m : OutputAt) (cells : ℕ) (times : Times) → 1 + closing_saves cells ≡ acks_at m → IsLeft m cells None → StopsAfter m (record { plan = []; cells = cells; times = times }) why.Done
+none_stops m zero times count left = ∣ record { stopping = record { event = Saved; past = []; meets = (refl, tt, tt); stops = refl }; count = count; left = left } ∣₁
+none_stops m (suc n) times count left = ∣ record {
   stopping = record { event = Saved; past = Saved ∷ []; meets = (awaits_second n times, tt, (refl, tt, tt)); stops = stops_second n times };
-  count = refl;
+  count = count;
+  left = left;
 } ∣₁
 
-plan_stops : (a : Ask) (first : Notebook) → length (plan first) ≡ 0 → StopsAfter (1 + closing_saves (length first.cells)) (task_for a first) why.Done
-plan_stops a first none =
-    let m = length first.cells in
-    subst (λ xs. StopsAfter (1 + closing_saves m) (record { plan = xs; cells = m; times = times_of a }) why.Done) (sym (nil_from_length (plan first) none)) (none_stops m (times_of a))
+plan_stops : (m : OutputAt) (a : Ask) (first : Notebook) → length (plan first) ≡ 0 → 1 + closing_saves (length first.cells) ≡ acks_at m → IsLeft m (length first.cells) None
+    → StopsAfter m (task_for a first) why.Done
+plan_stops m a first none count left =
+    let size = length first.cells in
+    subst (λ xs. StopsAfter m (record { plan = xs; cells = size; times = times_of a }) why.Done) (sym (nil_from_length (plan first) none)) (none_stops m size (times_of a) count left)
 
 save_uncaused : (e : End) → IsEndOfSave e → IsUncaused (status_of e)
 save_uncaused (end.NotSaved f) own = refl
@@ -154,20 +156,24 @@ module _ (a : Ask) (first : Notebook) (o : Origin) (none : length (plan first) �
   abbrev Saves : Option (List Entry) → Option (List Entry) → Type 0
   Saves j k = Told j k (λ before after. save_count a.output after ≡ save_count a.output before + (1 + closing_saves (length first.cells)))
 
-  done_at : (before after : List Entry) (t : Task) → task_for a first ≡ t → save_count o.output before ≡ 0
-      → save_count a.output after ≡ save_count a.output before + (1 + closing_saves (length first.cells)) → IsCausedAfter (save_count o.output after) t 0
-  done_at before after t at zero_saves more =
+  done_at : (before after : List Entry) (t : Task) → task_for a first ≡ t → IsLeft (output_at o after) (length first.cells) None → save_count o.output before ≡ 0
+      → save_count a.output after ≡ save_count a.output before + (1 + closing_saves (length first.cells)) → IsCausedAfter (output_at o after) t 0
+  done_at before after t at left zero_saves more =
       let from : save_count a.output before ≡ 0 = subst (λ out. save_count out before ≡ 0) to zero_saves in
       let count : 1 + closing_saves (length first.cells) ≡ save_count o.output after = omega (arith, ap (λ out. save_count out after) to, more, from) in
-      subst (λ q. IsCausedAfter (save_count o.output after) q 0) at
-      (subst (λ n. IsCausedAfter n (task_for a first) 0) count (end_caused (1 + closing_saves (length first.cells)) (task_for a first) end.Done (plan_stops a first none)))
+      subst (λ q. IsCausedAfter (output_at o after) q 0) at (end_caused (output_at o after) (task_for a first) end.Done (plan_stops (output_at o after) a first none count left))
 
-  pub saves_count : (j k : Option (List Entry)) (saved : Result (Unit {0}) End) → BeginsNew o j → OnOk saved (Saves j k) → IfErr saved IsEndOfSave
+  told_done : (j k : Option (List Entry)) (t : Task) → task_for a first ≡ t → IfSome j (λ past. save_count o.output past ≡ 0) → Saves j k
+      → IfSome k (λ past. IsLeft (output_at o past) (length first.cells) None) → IfSome k (λ past. IsCausedAfter (output_at o past) t 0)
+  told_done j None t at none_yet told left = tt
+  told_done None (Some y) t at none_yet told left = absurd told.so
+  told_done (Some x) (Some y) t at none_yet told left = done_at x y t at left none_yet told.so
+
+  pub saves_count : (j k : Option (List Entry)) (saved : Result (Unit {0}) End) → BeginsNew o j → OnOk saved (Saves j k)
+      → OnOk saved (o.is_watched ≡ true → IfSome k (λ past. IsLeft (output_at o past) (length first.cells) None)) → IfErr saved IsEndOfSave
       → EndsCounted o (counted_task a first) k (end_by saved)
-  saves_count j k (Ok u) begins told kind t is fresh =
-      told_on j k (λ before after. save_count a.output after ≡ save_count a.output before + (1 + closing_saves (length first.cells))) (λ past. save_count o.output past ≡ 0)
-      (λ past. IsCausedAfter (save_count o.output past) t 0) told (begins fresh) (λ x y none more. done_at x y t (only_task a first t is) none more)
-  saves_count j k (Err e) begins told kind t is fresh = uncaused_counts o (counted_task a first) k e (save_uncaused e kind) t is fresh
+  saves_count j k (Ok u) begins told left kind t is fresh = told_done j k t (only_task a first t is) (begins fresh) told (left fresh.watched)
+  saves_count j k (Err e) begins told left kind t is fresh = uncaused_counts o (counted_task a first) k e (save_uncaused e kind) t is fresh
 
 -- ---- its saves
 
@@ -205,9 +211,39 @@ both_acked output was mid is_open h i j c d m n (Ok u) at same goes first more =
     (subst (λ out. Told i j (λ before after. save_count out after ≡ save_count out before + closing_saves n)) to more)
     (λ x y z p q. let r : closing_saves n ≡ closing_saves m = ap closing_saves same in omega (arith, p, q, r))
 
+-- ---- what they leave
+
+-- a notebook that has cells was saved with all settled
+pub some_left : (saved : Result (Unit {0}) End) (j k : Option (List Entry)) (P : (o : Origin) → Type 0) (size count : ℕ) → count ≡ size
+    → OnOk saved ((o : Origin) → o.is_watched ≡ true → P o → IfSome k (λ past. IsLeft (output_at o past) count None))
+    → OnOk saved ((o : Origin) → o.is_watched ≡ true → P o → IfSome j (λ past. IsLeft (output_at o past) 0 None) → IfSome k (λ past. IsLeft (output_at o past) size None))
+some_left (Err e) j k P size count same h = tt
+some_left (Ok u) j k P size count same h = λ o on p first. subst (λ n. IfSome k (λ past. IsLeft (output_at o past) n None)) same (h o on p)
+
+-- the first save, and then the rest
+pub both_left : (saved : Result (Unit {0}) End) (mid k : Option (List Entry)) (P Q : (o : Origin) → Type 0) (size count : ℕ) → count ≡ size
+    → ((o : Origin) → o.is_watched ≡ true → P o → IfSome mid (λ past. IsLeft (output_at o past) 0 None)) → ((o : Origin) → P o → Q o)
+    → OnOk saved ((o : Origin) → o.is_watched ≡ true → Q o → IfSome mid (λ past. IsLeft (output_at o past) 0 None) → IfSome k (λ past. IsLeft (output_at o past) count None))
+    → OnOk saved ((o : Origin) → o.is_watched ≡ true → P o → IfSome k (λ past. IsLeft (output_at o past) size None))
+both_left (Err e) mid k P Q size count same first goes rest = tt
+both_left (Ok u) mid k P Q size count same first goes rest = λ o on p. subst (λ n. IfSome k (λ past. IsLeft (output_at o past) n None)) same (rest o on (goes o p) (first o on p))
+
+-- of a job that begins so
+pub whole_of : (saved : Result (Unit {0}) End) (k : Option (List Entry)) (size : ℕ) (P Q R : (o : Origin) → Type 0) → ((o : Origin) → P o → Q o → R o)
+    → OnOk saved ((o : Origin) → o.is_watched ≡ true → R o → IfSome k (λ past. IsLeft (output_at o past) size None))
+    → OnOk saved ((o : Origin) → o.is_watched ≡ true → P o → Q o → IfSome k (λ past. IsLeft (output_at o past) size None))
+whole_of (Err e) k size P Q R goes h = tt
+whole_of (Ok u) k size P Q R goes h = λ o on p q. h o on (goes o p q)
+
+pub whole_for : (o : Origin) (saved : Result (Unit {0}) End) (k : Option (List Entry)) (size : ℕ) (P Q : (o : Origin) → Type 0) → P o → Q o
+    → OnOk saved ((o : Origin) → o.is_watched ≡ true → P o → Q o → IfSome k (λ past. IsLeft (output_at o past) size None))
+    → OnOk saved (o.is_watched ≡ true → IfSome k (λ past. IsLeft (output_at o past) size None))
+whole_for o (Err e) k size P Q p q h = tt
+whole_for o (Ok u) k size P Q p q h = λ on. h o on p q
+
 -- ---- the answer
 
 pub answer_counts : (output : List ℕ) (e : End) (answer : Answer) (o : Origin) (task : Option Task) (k : Option (List Entry)) → Answers output e answer → EndsCounted o task k e
-    → (t : Task) → task ≡ Some t → IsNew o → IfSome k (λ past. IsCausedAfter (save_count o.output past) t answer.status)
+    → (t : Task) → task ≡ Some t → IsNew o → IfSome k (λ past. IsCausedAfter (output_at o past) t answer.status)
 answer_counts output e _ o task k said h t is fresh = h t is fresh
-answer_counts output e _ o task k starved h t is fresh = starved_count o.output starved_answer t k refl
+answer_counts output e _ o task k starved h t is fresh = starved_count o starved_answer t k refl

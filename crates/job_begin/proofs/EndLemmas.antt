@@ -36,7 +36,7 @@ use Rattle.job_saves.specs.Speaking.{IsAnswer}
 use Rattle.job_run.specs.Told.{EndsJob, StartsBy, IsEnding, IsCaused, cause_of}
 use Rattle.job_run.proofs.StopLemmas.{why_in, start_caused}
 use Rattle.job_saves.specs.Reads.{first_of}
-use Rattle.job_begin.specs.Begun.{AnswersAs, IsCausedIn, IsUncaused, IsEndOfSaving, StartsWith, BeginsWith, FindsKernel, GivesNone, not_read, too_large, refused, no_memory, not_asked, IsUnread, end_for, LooksInVain, KernelEnds, HasKernel}
+use Rattle.job_begin.specs.Begun.{AnswersAs, IsCausedIn, IsUncaused, IsEndOfSaving, StartsWith, BeginsWith, FindsKernel, GivesNone, not_read, too_large, refused, no_memory, not_asked, IsUnread, end_for, KernelEnds, HasKernel}
 
 -- ---- an end that names no cause
 

@@ -1,5 +1,5 @@
 -- What the steps of a job's begin make of the world, for each job that hasn't saved yet.
-use Rattle.std.specs.Prelude.{◌≡◌, ℕ, ◌+◌, zero, suc, List, Bool, Option, Some, IfSome, Result, Ok, Err, IfErr}
+use Rattle.std.specs.Prelude.{◌≡◌, ℕ, ◌+◌, zero, suc, length, List, Bool, true, Option, Some, None, IfSome, Result, Ok, Err, IfErr}
 use Rattle.nb_model.specs.declared.notebook.Notebook.{Notebook}
 use Rattle.words.specs.declared.ask.Ask.{Ask}
 use Rattle.world.specs.declared.entry.Entry.{Entry}
@@ -13,6 +13,7 @@ use Rattle.job_end.specs.Statuses.{status_of}
 use Rattle.job_saves.specs.Calls.{Cast}
 use Rattle.job_saves.specs.Children.{KeepsEnd}
 use Rattle.job_saves.specs.Course.{Origin, IsFor, HasCalled, Begins, Ends}
+use Rattle.job_saves.specs.Left.{IsLeft, output_at}
 use Rattle.job_run.specs.declared.job.Job.{Job}
 use Rattle.job_run.specs.Counted.{IsCausedAfter}
 use Rattle.job_run.specs.Run.{IsNew, BeginsNew, IsCastAs, HasNoChild, HasNoPorts, HasNoSave, OnlyReads, StartsAs, StartsInRole}
@@ -28,12 +29,13 @@ abbrev pub StartsFor : {W : Type 0} → (W → Option (List Entry)) → (W → C
 StartsFor journal counts old new a first result = (o : Origin) → IsFor a.output a.merge first o → Begins o (journal old) (counts old)
     → BeginsNew o (journal old) → StartsAs o result (journal new) (counts new)
 
--- a job ended so: of the events of this task that brought the end as many are saves as were acknowledged
+-- a job ended so: of the events of this task that brought the end as many are saves as were acknowledged, and they left what its
+-- cause asks for
 abbrev pub EndsCounted : Origin → Option Task → Option (List Entry) → End → Type 0
-EndsCounted o task journal e = (t : Task) → task ≡ Some t → IsNew o → IfSome journal (λ past. IsCausedAfter (save_count o.output past) t (status_of e))
+EndsCounted o task journal e = (t : Task) → task ≡ Some t → IsNew o → IfSome journal (λ past. IsCausedAfter (output_at o past) t (status_of e))
 
 -- calls of a job of which nothing was saved before, where they end it: of the events that brought the end as many are saves as were
--- acknowledged
+-- acknowledged, and they left what its cause asks for
 abbrev pub CountsEnd : {W : Type 0} → (W → Option (List Entry)) → (W → Counts) → W → W → Ask → Notebook → Result Job End → Type 0
 CountsEnd journal counts old new a first result = (o : Origin) → IsFor a.output a.merge first o → Begins o (journal old) (counts old)
     → BeginsNew o (journal old) → IfErr result (EndsCounted o (counted_task a first) (journal new))
@@ -46,6 +48,12 @@ closing_saves (suc n) = 1
 -- calls by which so many saves of this output are acknowledged
 abbrev pub Acknowledges : {W : Type 0} → (W → Option (List Entry)) → W → W → List ℕ → ℕ → Type 0
 Acknowledges journal old new output n = Told (journal old) (journal new) (λ before after. save_count output after ≡ save_count output before + n)
+
+-- after calls that save this notebook of a job that hasn't saved yet, a crash leaves it with all cells settled, and none at which
+-- its run stopped
+abbrev pub LeavesWhole : {W : Type 0} → (W → Option (List Entry)) → (W → Counts) → W → W → Ask → Notebook → Type 0
+LeavesWhole journal counts old new a first = (o : Origin) → o.is_watched ≡ true → IsFor a.output a.merge first o → Begins o (journal old) (counts old)
+    → IfSome (journal new) (λ past. IsLeft (output_at o past) (length first.cells) None)
 
 -- the end of a job that was to save its notebook, and nothing more
 abbrev pub end_by : {U : Type 0} → Result U End → End

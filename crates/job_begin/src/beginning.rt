@@ -1,5 +1,5 @@
 //! `begin`, the begin of a job.
-ghost use Rattle.std.specs.Prelude.{◌≡◌, ◌⊎◌, ◌<◌, ◌^◌, ◌+◌, ◌∷◌, ℕ, List, false, length, None, Ok};
+ghost use Rattle.std.specs.Prelude.{◌≡◌, ◌⊎◌, ◌<◌, ◌^◌, ◌+◌, ◌∷◌, ℕ, List, true, false, length, None, Ok};
 ghost use Rattle.std.specs.Prelude.{Err};
 ghost use Rattle.std.specs.Prelude.{IfSome, IfOk, IfErr, OnOk};
 ghost use Rattle.std.specs.Str.{bytes_eq};
@@ -11,13 +11,14 @@ ghost use Rattle.kernel_start.specs.declared.kernel_fault.KernelFault as faults;
 ghost use Rattle.job_end.specs.Statuses.{status_of};
 ghost use Rattle.job_begin.specs.Causes.{HasCause};
 ghost use Rattle.job_begin.specs.Steps.{SavesFor, StartsFor, CountsEnd, EndsInRole};
-ghost use Rattle.job_begin.specs.Steps.{Acknowledges, closing_saves, end_by};
+ghost use Rattle.job_begin.specs.Steps.{Acknowledges, LeavesWhole, closing_saves, end_by};
+ghost use Rattle.job_saves.specs.Left.{IsLeft, output_at};
 ghost use Rattle.job_begin.specs.Steps.{BeginsInRole, LeavesNone};
 ghost use Rattle.job_notebook.specs.State.{notebook_of, settled_of, merge_of, output_of, KeepsRead};
 ghost use Rattle.job_saves.specs.Calls.{Cast, IsCall};
 ghost use Rattle.job_saves.specs.Reads.{IsInputOf, IsNotebookOf, IsKernelOf, first_of};
 ghost use Rattle.job_saves.specs.Speaking.{IsAnswer};
-ghost use Rattle.job_saves.specs.Course.{GoesOn, CallsOwn, CountsWork};
+ghost use Rattle.job_saves.specs.Course.{Origin, Stands, GoesOn, CallsOwn, CountsWork};
 ghost use Rattle.job_saves.specs.Course.{IsEndOfRun, IsEndOfSave, stays_open, keeps_open};
 ghost use Rattle.job_run.specs.Run.{EndCause, RunsCounted, outcome_of, HasPorts};
 ghost use Rattle.job_run.specs.Task.{output_of_job, ports_of_job, pings_kernel};
@@ -268,6 +269,7 @@ fn save_twice<W: Disk + Say>(
     ensures course { SavesFor W.journal W.counts w.old w.new ask.now notebook (stays_open result) }
     ensures acked { OnOk result (Acknowledges W.journal w.old w.new ask.now.output
         (1 + closing_saves (length notebook.cells))) }
+    ensures whole { OnOk result (LeavesWhole W.journal W.counts w.old w.new ask.now notebook) }
     ensures calls { EndsInRole W.journal W.counts w.old w.new ask.now notebook }
     ensures own { IfErr result IsEndOfRun }
     ensures kind { IfErr result IsEndOfSave }
@@ -295,6 +297,11 @@ fn save_done<W: Disk + Say>(w: &mut W, book: &mut JobNotebook) -> Result<(), End
     ensures course { GoesOn W.journal W.counts w.old w.new book.old book.new (stays_open result) }
     ensures acked { OnOk result (Acknowledges W.journal w.old w.new (output_of book.old)
         (closing_saves (length (notebook_of book.old).cells))) }
+    ensures left { OnOk result ((o : Origin) → o.is_watched ≡ true →
+        Stands o book.old true (W.journal w.old) (W.counts w.old) →
+        IfSome (W.journal w.old) (λ past. IsLeft (output_at o past) 0 None) →
+        IfSome (W.journal w.new) (λ past.
+        IsLeft (output_at o past) (length (notebook_of book.old).cells) None)) }
     ensures calls { CallsOwn W.journal W.counts w.old w.new book.old book.new }
     ensures own { IfErr result IsEndOfRun }
     ensures kind { IfErr result IsEndOfSave }

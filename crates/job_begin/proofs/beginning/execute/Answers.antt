@@ -4,12 +4,12 @@ use Rattle.job_begin.proofs.BeginLemmas.{end_unsaved, disk_calls, disk_keeps_end
 use Rattle.job_run.proofs.LaunchLemmas.{ends_then}
 use Rattle.job_run.proofs.TurnLemmas.{new_passes, begins_rested}
 use Rattle.job_begin.proofs.CauseLemmas.{saving_caused}
-use Rattle.job_begin.proofs.CountLemmas.{uncaused_counts, start_counts, saves_count}
+use Rattle.job_begin.proofs.CountLemmas.{uncaused_counts, start_counts, saves_count, whole_for}
 use Rattle.job_begin.specs.Begun.{counted_task}
 use Rattle.job_begin.specs.Steps.{EndsCounted}
 use Rattle.nb_model.specs.Planned.{plan}
 use Rattle.std.proofs.Common.{◌≡◌, ℕ, List, length, refl, sym, ap, subst, arith}
-use Rattle.job_saves.specs.Course.{Ends}
+use Rattle.job_saves.specs.Course.{IsFor, Begins, Ends}
 use Rattle.job_end.specs.declared.end.End.TheVariants as end
 use Rattle.job_begin.proofs.EndLemmas.{saving_in, uncaused_in, started_with, saving_ends, starting_ends}
 use Rattle.job_begin.proofs.beginning.execute.Goals as goal
@@ -104,7 +104,7 @@ returns-then-len-eq0-clause-counted g c o for s fresh =
     let t = c.save_twice-saved in
     let none : length (plan n) ≡ 0 = omega (arith, ap (λ (xs : List ℕ). length xs) c.in-Ok.ensures, c.len.ensures, c.if-len-eq0.true) in
     subst (EndsCounted o (counted_task a n) (g.W.Journal.journal t.new.w)) (sym c.end_of.ensures.answer)
-    (saves_count a n o none for.output_is (g.W.Journal.journal c.args.w.now) (g.W.Journal.journal t.new.w) t.result fresh t.ensures.acked t.ensures.kind)
+    (saves_count a n o none for.output_is (g.W.Journal.journal c.args.w.now) (g.W.Journal.journal t.new.w) t.result fresh t.ensures.acked (whole_for o t.result (g.W.Journal.journal t.new.w) (length n.cells) (IsFor a.output a.merge n) (λ p. Begins p (g.W.Journal.journal c.args.w.now) (g.W.Journal.counts c.args.w.now)) for s t.ensures.whole) t.ensures.kind)
 
 pub returns-in-Ok-kernel_of-clause-counted : goal.returns-in-Ok-kernel_of-clause-counted
 returns-in-Ok-kernel_of-clause-counted g c o for s fresh =
