@@ -23,7 +23,7 @@ use Rattle.job_run.specs.declared.job.Job.{Job}
 use Rattle.job_run.specs.Run.{Runs, RunsCounted, EndsWith, IsLost, IsSpent, IsCastAs, HasNoChild, HasNoPorts, HasNoSave, HasRole, StartsInRole, BeginsAs, number_of, outcome_of}
 use Rattle.job_run.specs.Task.{task_of_job, task_for, output_of_job}
 use Rattle.job_run.specs.Counted.{IsCausedAfter}
-use Rattle.save_disk.specs.Places.{save_count}
+use Rattle.job_saves.specs.Left.{output_at}
 use Rattle.cell_core.specs.Task.{Task}
 use Rattle.job_saves.specs.Calls.{Cast, IsCall}
 use Rattle.job_saves.specs.Children.{HasEnd, KeepsEnd}
@@ -132,7 +132,7 @@ counted_end a first o task answer after d of e = record {
   shut = e.shut;
   fails = e.fails;
   counted = λ t same fresh.
-      subst (λ x. IsCausedAfter (save_count o.output after) x answer.status) (of ∙ sym (counted_is a first t same)) (e.counted task refl fresh);
+      subst (λ x. IsCausedAfter (output_at o after) x answer.status) (of ∙ sym (counted_is a first t same)) (e.counted task refl fresh);
 }
 
 -- the end of a job

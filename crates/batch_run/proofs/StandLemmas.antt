@@ -26,11 +26,13 @@ use Rattle.job_end.specs.Answers.{starved_answer}
 use Rattle.nb_model.specs.declared.notebook.Notebook.{Notebook}
 use Rattle.job_saves.specs.Course.{Origin, CountsWork, HasSaved}
 use Rattle.job_saves.specs.Reads.{first_of}
-use Rattle.job_saves.proofs.TellingLemmas.{lacks_later, tells_spared, spared_count}
+use Rattle.job_saves.proofs.TellingLemmas.{lacks_later, tells_spared}
 use Rattle.job_saves.proofs.CourseLemmas.{others_pass, ends_pass, work_start, quiet_speaks, line_speaks}
 use Rattle.job_run.specs.declared.job.Job.{Job}
 use Rattle.job_run.specs.Run.{IsOther, Runs, IsNew}
-use Rattle.job_run.specs.Counted.{IsCausedAfter}
+use Rattle.job_saves.specs.Left.{output_at}
+use Rattle.job_saves.proofs.LeftLemmas.{spared_left}
+use Rattle.job_run.proofs.CountLemmas.{caused_later}
 use Rattle.job_run.proofs.TurnLemmas.{count_passes}
 use Rattle.cell_core.specs.Task.{Task}
 use Rattle.job_saves.specs.Calls.{IsCall}
@@ -72,7 +74,7 @@ runs_pass o task (Ended answer) past after c d s g r = record {
   fails = λ e. rose_still o.counts.disk c.disk d.disk (r.fails e) g.disk;
   counted = λ t same fresh.
       let saved : HasSaved o r.is_open past = r.ends.told fresh.watched in
-      subst (λ n. IsCausedAfter n t answer.status) (sym (spared_count o.output saved.is.rested s)) (r.counted t same fresh);
+      caused_later (output_at o past) (output_at o after) t answer.status (spared_left o saved.is.rested s) (r.counted t same fresh);
 }
 
 kernel_slot : (a : Ask) (first : Notebook) (slot : Slot) (read past after : List Entry) → Since (Spares a.output) past after → SlotKernel a first slot read past
