@@ -30,7 +30,7 @@ use Rattle.nbrun_top.specs.Ran as ran
 use Rattle.nbrun_top.specs.Said.{said_of}
 use Rattle.nbrun_top.proofs.Asked.{no_job_executes, no_batch_of_one}
 use Rattle.nbrun_top.proofs.JobsApart.{file_apart}
-use Rattle.nbrun_top.proofs.Executions.{untouched_path, uncounted, apart_of, output_in}
+use Rattle.nbrun_top.proofs.Executions.{untouched_path, uncounted, left_as, apart_of, output_in}
 use Rattle.nbrun_top.proofs.Statuses.{one_fault}
 use Rattle.nbrun_top.proofs.Spared.{one_ask, says_spare, apart_paths, apart_from_temporary, apart_from_connection}
 use Rattle.job_run.specs.Run.{IsUnsaved}
@@ -156,9 +156,10 @@ counted_code a first rose status code journal (not_said f) is = uncounted a firs
 
 as_code : (a : Ask) (rose : Type 0) (status code : ℕ) (journal : List Entry) → Answers rose status code → IsSavedOnly a status journal → IsSavedOnly a code journal
 as_code a rose status code journal answers (untouched before is unread) = untouched before is (unread_code a rose status code before journal answers unread)
-as_code a rose status code journal answers (saved bytes n is_open before newer accepted split first so shut caused counted kernel) =
+as_code a rose status code journal answers (saved bytes n is_open before newer accepted split first so shut caused counted left kernel) =
     saved bytes n is_open before newer accepted split first so (λ e. unsaved_code rose status code answers (shut e)) (caused_code a (first_of a n) rose status code answers caused)
     (counted_code a (first_of a n) rose status code journal answers counted)
+    (left_as a (first_of a n) code journal (counted_code a (first_of a n) rose status code journal answers counted))
     (kernel_code a (first_of a n) rose status code (Read a.input 33554432 (found.Whole bytes) ∷ before) journal answers kernel)
 
 one_saved : (a : Ask) (answers : List Answer) (rose : Type 0) (code : ℕ) (journal : List Entry) → HaveRun (a ∷ []) answers journal → Answers rose (first_fault answers) code

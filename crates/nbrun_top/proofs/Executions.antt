@@ -1,5 +1,6 @@
 -- What runs that execute notebooks make of the world.
-use Rattle.std.proofs.Common.{◌≡◌, inr, ℕ, zero, suc, ◌<◌, ◌≤◌, Bool, true, false, List, [], ◌∷◌, ◌++◌, length, length-append, append_assoc, Option, Some, None, refl, sym, ◌∙◌, ap, subst, arith}
+use Rattle.std.proofs.Common.{◌≡◌, ◌⊎◌, inl, inr, ℕ, zero, suc, ◌<◌, ◌≤◌, Bool, true, false, List, [], ◌∷◌, ◌++◌, length, length-append, append_assoc, Option, Some, None, if◌then◌else◌, refl, sym, ◌∙◌, ap, subst, arith}
+use Rattle.std.proofs.Math.Logic.{∥∥₁_map}
 use Rattle.std.specs.Prelude.{slice_get}
 use Rattle.std.specs.Str.{bytes_eq}
 use Rattle.nb_model.specs.declared.notebook.Notebook.{Notebook}
@@ -24,6 +25,13 @@ use Rattle.job_saves.specs.Course.{HasSaved, Ends}
 use Rattle.job_saves.proofs.CourseLemmas.{ends_pass}
 use Rattle.job_run.specs.Run.{IsOther, IsNew, IsUnsaved}
 use Rattle.job_run.specs.Told.{cause_of}
+use Rattle.job_run.specs.Counted.{IsCausedAfter}
+use Rattle.job_run.specs.Left.{NamesFailed, Leaves}
+use Rattle.job_run.specs.Task.{task_for}
+use Rattle.job_saves.specs.Left.{OutputAt, IsLeft}
+use Rattle.cell_core.specs.Task.{Task}
+use Rattle.cell_core.specs.declared.why.Why.{Why}
+use Rattle.cell_core.specs.declared.why.Why.TheVariants as why
 use Rattle.job_saves.specs.Reads.{first_of}
 use Rattle.job_begin.specs.Begun.{origin_of, IsCausedIn}
 use Rattle.job_begin.proofs.EndLemmas.{uncaused_in, unread_pass, unread_twelve, other_kernel, twelve_other}
@@ -32,7 +40,7 @@ use Rattle.batch_run.specs.Batch.{Makes, nothing, saves, IsNoPath, IsApart, Leav
 use Rattle.said_lines.specs.Speech.{Says}
 use Rattle.nbrun_top.specs.declared.end.End.TheVariants as end
 use Rattle.nbrun_top.specs.Ended.{Answers, plain}
-use Rattle.nbrun_top.specs.Executed.{DoesNotWrite, IsAlone, AreApart, IsCountedIn, IsSavedOnly, untouched, saved, IsQuiet, NoneWrites, EndsSpeech, silence, last_line, Runs, first_fault}
+use Rattle.nbrun_top.specs.Executed.{DoesNotWrite, IsAlone, AreApart, IsCountedIn, IsLeftAs, output_of, IsSavedOnly, untouched, saved, IsQuiet, NoneWrites, EndsSpeech, silence, last_line, Runs, first_fault}
 use Rattle.nbrun_top.specs.Lines.{all_lines}
 use Rattle.nbrun_top.specs.Ran.{IsUntouched}
 use Rattle.nbrun_top.proofs.Spared.{apart_from, says_spare, said_childless, spared_moments, at_moment}
@@ -54,6 +62,38 @@ none_acked output (later {past} {entry} since spared) =
 pub uncounted : (a : Ask) (first : Notebook) (status : ℕ) (journal : List Entry) → cause_of status ≡ None → IsCountedIn a first status journal
 uncounted a first status journal none task same cause is = let wrong : None ≡ Some cause = sym none ∙ is in absurd (cc)
 
+-- ---- what is left
+
+left_for : (m : OutputAt) (task : Task) (status : ℕ) (cause : Why) → IsCausedAfter m task status → cause_of status ≡ Some cause → ∥ Leaves m task cause ∥₁
+left_for m task status cause h is = ∥∥₁_map (h cause is) (λ t. t.left)
+
+-- a crash leaves what the status asks for
+pub left_as : (a : Ask) (first : Notebook) (status : ℕ) (journal : List Entry) → IsCountedIn a first status journal → a.prepare ≡ false → IsLeftAs a first status journal
+left_as a first status journal counted executes = record {
+  done = λ is. left_for m task status why.Done h (ap cause_of is);
+  failed = failed_by;
+  broken = broken_by;
+  not_ready = λ is. left_for m task status why.NotReady h (ap cause_of is);
+}
+  where
+    m : OutputAt
+    m = output_of a first journal
+
+    task : Task
+    task = task_for a first
+
+    h : IsCausedAfter m task status
+    h = counted task (ap (λ b. if b then None else Some task) executes)
+
+    failed_by : (status ≡ 1) ⊎ (status ≡ 9) ⊎ (status ≡ 13) → ∥ NamesFailed m task ∥₁
+    failed_by (inl is) = left_for m task status why.CellError h (ap cause_of is)
+    failed_by (inr (inl is)) = left_for m task status why.TimedOut h (ap cause_of is)
+    failed_by (inr (inr is)) = left_for m task status why.NoIdle h (ap cause_of is)
+
+    broken_by : (status ≡ 8) ⊎ (status ≡ 15) → ∥ IsLeft m 0 None ⊎ NamesFailed m task ∥₁
+    broken_by (inl is) = left_for m task status why.KernelLost h (ap cause_of is)
+    broken_by (inr is) = left_for m task status why.BadPeer h (ap cause_of is)
+
 module _ (a : Ask) (old new : Counts) (before after : List Entry) (quiet : IsQuiet before) where
   saved_by : (status : ℕ) (bytes : List ℕ) (n : Notebook) (begin : List Entry) (counts : Counts) (newer : List Entry) (is_open : Bool) → Accepts a bytes n
       → Since (Spares a.output) before begin → after ≡ newer ++ Read a.input 33554432 (found.Whole bytes) ∷ begin
@@ -62,8 +102,9 @@ module _ (a : Ask) (old new : Counts) (before after : List Entry) (quiet : IsQui
   saved_by status bytes n begin counts newer is_open accepted since split ends shut caused counted kernel =
       let first = since_then (quiet a.output) since in
       let course : HasSaved (origin_of a n begin counts) is_open after = ends.told refl in
+      let by : IsCountedIn a (first_of a n) status after = counted (record { watched = refl; none = none_acked a.output first }) in
       saved bytes n is_open begin newer accepted split (untouched_path a.output first)
-      (course_safe a.output a.merge (first_of a n) 0 begin (untouched_since first refl) (none_acked a.output first) is_open course.settled after course.is.course) shut caused (counted (record { watched = refl; none = none_acked a.output first })) kernel
+      (course_safe a.output a.merge (first_of a n) 0 begin (untouched_since first refl) (none_acked a.output first) is_open course.settled after course.is.course) shut caused by (left_as a (first_of a n) status after by) kernel
 
   pub saved_only : (answer : Answer) → Makes a (Some answer) old new before after → IsSavedOnly a answer.status after
   saved_only answer (nothing unread since) = untouched before (untouched_path a.output (since_then (quiet a.output) since)) unread

@@ -1,5 +1,5 @@
 -- What a run makes of the world that executes notebooks, over a journal that was empty at its start, its newest entry first.
-use Rattle.std.specs.Prelude.{◌≡◌, ◌≢◌, ◌⊎◌, ◌==◌, ◌+◌, ◌≤◌, ℕ, List, [], ◌∷◌, ◌++◌, Bool, true, false, not, length, slice_get, Some, Result, Ok, Err, find, option_map, unwrap_or, codes}
+use Rattle.std.specs.Prelude.{◌≡◌, ◌≢◌, ◌⊎◌, ◌==◌, ◌+◌, ◌≤◌, ℕ, List, [], ◌∷◌, ◌++◌, Bool, true, false, not, length, slice_get, Some, None, Result, Ok, Err, find, option_map, unwrap_or, codes}
 use Rattle.jtext.specs.declared.json.Json.{Json}
 use Rattle.nb_model.specs.declared.notebook.Notebook.{Notebook}
 use Rattle.nb_load.specs.Loaded.{Accepts}
@@ -15,10 +15,12 @@ use Rattle.world.specs.declared.entry.Entry.{Entry}
 use Rattle.world.specs.declared.entry.Entry.TheVariants.{Read}
 use Rattle.world.specs.declared.read_file.ReadFile.{ReadFile}
 use Rattle.world.specs.declared.read_file.ReadFile.TheVariants as found
-use Rattle.save_disk.specs.Places.{save_count}
 use Rattle.world.specs.Save.{temporary_of}
 use Rattle.cell_core.specs.Task.{Task}
 use Rattle.job_run.specs.Counted.{IsCausedAfter}
+use Rattle.job_run.specs.Left.{NamesFailed}
+use Rattle.job_run.specs.Task.{task_for}
+use Rattle.job_saves.specs.Left.{OutputAt, IsLeft}
 use Rattle.save_course.specs.Course.{IsSavedSo}
 use Rattle.said_lines.specs.Speech.{Says}
 use Rattle.world.specs.Counts.{Counts, Rose}
@@ -99,21 +101,38 @@ pub record AreApart (asks : List Ask) : Type 0 where
   pub outputs : (i : ℕ) (a : Ask) → slice_get asks i ≡ Some a → IsAlone asks i a
   pub inputs : (i : ℕ) (a : Ask) → slice_get asks i ≡ Some a → NoneWrites asks a.input
 
+-- the output of a job with this notebook, at the end of the journal
+abbrev pub output_of : Ask → Notebook → List Entry → OutputAt
+output_of a first journal = record { output = a.output; merge = a.merge; first = first; past = journal }
+
 -- a status that names a cause comes only where there are events that stop the job for it, of which as many are saves as were
--- acknowledged at its output
+-- acknowledged at its output, and where a crash leaves there what that cause asks for
 abbrev pub IsCountedIn : Ask → Notebook → ℕ → List Entry → Type 0
-IsCountedIn a first status journal = (task : Task) → counted_task a first ≡ Some task → IsCausedAfter (save_count a.output journal) task status
+IsCountedIn a first status journal = (task : Task) → counted_task a first ≡ Some task → IsCausedAfter (output_of a first journal) task status
+
+-- What a crash leaves at the output of a job that executed cells and ended with this status: just one text, that of its last save.
+pub record IsLeftAs (a : Ask) (first : Notebook) (status : ℕ) (journal : List Entry) : Type 0 where
+  -- with 0 that of the notebook with each of its cells settled, which names no cell at which the run stopped
+  pub done : status ≡ 0 → ∥ IsLeft (output_of a first journal) (length first.cells) None ∥₁
+  -- with 1, 9 and 13 that of the notebook with the cells settled up to one that was to be executed, at which the run stopped
+  pub failed : (status ≡ 1) ⊎ (status ≡ 9) ⊎ (status ≡ 13) → ∥ NamesFailed (output_of a first journal) (task_for a first) ∥₁
+  -- with 8 and 15 the same, or, as long as no request was sent, that of the notebook with no cell settled
+  pub broken : (status ≡ 8) ⊎ (status ≡ 15) → ∥ IsLeft (output_of a first journal) 0 None ⊎ NamesFailed (output_of a first journal) (task_for a first) ∥₁
+  -- with 7 that of the notebook with no cell settled
+  pub not_ready : status ≡ 7 → ∥ IsLeft (output_of a first journal) 0 None ∥₁
 
 -- The output of a job that ended with this status wasn't touched; or the bytes of its input give a notebook with the
 -- parameters, nothing had touched the output before they were read, and then it was saved by prefixes of that notebook,
 -- without a failed save unless the status says so. A status that names a cause comes only where there are events that stop the job for
--- it, with as many saves as were acknowledged, and 4 and 5 only where the input gave no notebook, or 5 where no kernel was found for it.
+-- it, with as many saves as were acknowledged, and a crash then leaves just the text of the last save, which the status asks for. 4 and
+-- 5 come only where the input gave no notebook, or 5 where no kernel was found for it.
 pub data IsSavedOnly (a : Ask) (status : ℕ) (journal : List Entry) : Type 0 where
   untouched : (before : List Entry) → IsUntouched a.output journal → IsUnread a status before journal → IsSavedOnly a status journal
   saved : (bytes : List ℕ) (n : Notebook) (is_open : Bool) (before later : List Entry) → Accepts a bytes n
       → journal ≡ later ++ Read a.input 33554432 (found.Whole bytes) ∷ before → IsUntouched a.output before
       → IsSavedSo a.output a.merge (first_of a n) 0 is_open before journal → (is_open ≡ false → IsUnsaved status)
-      → IsCausedIn a (first_of a n) status → IsCountedIn a (first_of a n) status journal → HasKernel a (first_of a n) status (Read a.input 33554432 (found.Whole bytes) ∷ before) journal → IsSavedOnly a status journal
+      → IsCausedIn a (first_of a n) status → IsCountedIn a (first_of a n) status journal → (a.prepare ≡ false → IsLeftAs a (first_of a n) status journal)
+      → HasKernel a (first_of a n) status (Read a.input 33554432 (found.Whole bytes) ∷ before) journal → IsSavedOnly a status journal
 
 -- jobs have ended with these answers, one each, and no other path was written to, each input among them
 pub record HaveRun (asks : List Ask) (answers : List Answer) (journal : List Entry) : Type 0 where
