@@ -1,0 +1,7 @@
+mod Runs
+mod WordLemmas
+mod Saves
+mod Spared
+mod Crashes
+mod Ends
+mod Heard
