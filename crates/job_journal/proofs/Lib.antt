@@ -11,3 +11,5 @@ pub mod Signatures
 pub mod Saving
 pub mod Plots
 pub mod Making
+pub mod Subscribing
+pub mod Breaking

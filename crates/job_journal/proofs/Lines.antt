@@ -39,8 +39,8 @@ gives_append : (s : Speaker) (xs ys : List Queued) (h : History) → gives s (xs
 gives_append s [] ys h = refl
 gives_append s (x ∷ xs) ys h = gives_append s xs ys (given_as s x ∷ h)
 
--- one more entry
-next_history : (s : Speaker) (j : Job) (c : Chan) (entry : Entry) (past : List Entry)
+-- with one more entry
+pub next_history : (s : Speaker) (j : Job) (c : Chan) (entry : Entry) (past : List Entry)
     → history s j c (entry ∷ past) ≡ gives s (sent_on c (news j (entry ∷ past) past)) (comes j c entry (history s j c past))
 unfolding history
 next_history s j c entry past = refl

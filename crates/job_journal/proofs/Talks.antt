@@ -231,6 +231,47 @@ module _ (j : Job) (plain : j.task.times.interrupt ≡ false) where
       sums : (b m g a n f i e t p x : ℕ) → b ≡ a + i → m ≡ n + e → g ≡ f + t → p ≡ 0 → x ≡ ((i + e) + t) + p → (b + m) + g ≡ ((a + n) + f) + x
       sums b m g a n f i e t p x k l o q r = omega (arith, k, l, o, q, r)
 
+-- ---- what is queued at an entry
+
+none_grown : (a b : ℕ) (q : Queued) → b ≡ a → grown a b q ≡ []
+none_grown a b q e = cond-false (nat_lt a b) (q ∷ []) [] (le-ltb a b (omega (arith, e)))
+
+one_grown : (a b : ℕ) (q : Queued) → b ≡ a + 1 → grown a b q ≡ q ∷ []
+one_grown a b q e = cond-true (nat_lt a b) (q ∷ []) [] (lt-ltb a b (omega (arith, e)))
+
+-- the four kinds of messages, where each list is known
+four : (I E T P i e t p : List Queued) → I ≡ i → E ≡ e → T ≡ t → P ≡ p → ((I ++ E) ++ T) ++ P ≡ ((i ++ e) ++ t) ++ p
+four I E T P i e t p f g h k = cc
+
+module _ (j : Job) (plain : j.task.times.interrupt ≡ false) (entry : Entry) (past : List Entry) where
+  abbrev now : List Entry
+  now = entry ∷ past
+
+  none_flagged_now : grown (count_by (λ (r : Request). r.interrupted) (requests j past)) (count_by (λ (r : Request). r.interrupted) (requests j now))
+      (record { what = Interrupt; number = count_messages j past + 1; date = time now }) ≡ []
+  none_flagged_now = none_grown _ _ _ (no_interrupts j plain now ∙ sym (no_interrupts j plain past))
+
+  -- where neither the questions nor the requests nor the pings grow nothing is queued
+  pub news_none : length (ask_state j now).ids ≡ length (ask_state j past).ids → length (requests j now) ≡ length (requests j past)
+      → length (pings j now).queued ≡ length (pings j past).queued → news j now past ≡ []
+  news_none a r p = four _ _ _ _ [] [] [] [] (none_grown _ _ _ a) (none_grown _ _ _ r) none_flagged_now (none_grown _ _ _ p)
+
+  -- where a request comes to stand alone it is queued, with the next number
+  pub news_request : length (ask_state j now).ids ≡ length (ask_state j past).ids → length (requests j now) ≡ length (requests j past) + 1
+      → length (pings j now).queued ≡ length (pings j past).queued
+      → news j now past ≡ record { what = Execute (length (requests j past)); number = count_messages j past + 1; date = time now } ∷ []
+  news_request a r p =
+      four _ _ _ _ [] (record { what = Execute (length (requests j past)); number = count_messages j past + 1; date = time now } ∷ []) [] []
+      (none_grown _ _ _ a) (one_grown _ _ _ r) none_flagged_now (none_grown _ _ _ p)
+
+  -- where the kernel is asked alone the question is queued, with the next number
+  pub news_question : length (ask_state j now).ids ≡ length (ask_state j past).ids + 1 → length (requests j now) ≡ length (requests j past)
+      → length (pings j now).queued ≡ length (pings j past).queued
+      → news j now past ≡ record { what = Info; number = count_messages j past + 1; date = time now } ∷ []
+  news_question a r p =
+      four _ _ _ _ (record { what = Info; number = count_messages j past + 1; date = time now } ∷ []) [] [] []
+      (one_grown _ _ _ a) (none_grown _ _ _ r) none_flagged_now (none_grown _ _ _ p)
+
 -- ---- the talk
 
 -- an entry: what is queued at it is unsent

@@ -1,15 +1,18 @@
 //! What our sides of the connections stand for goes on with the journal, and what a piece brings.
-ghost use Rattle.std.specs.Prelude.{◌≡◌, true, false, ℕ, List, [], ◌∷◌, ◌++◌};
+ghost use Rattle.std.specs.Prelude.{◌≡◌, ◌⊎◌, true, false, ℕ, List, [], ◌∷◌, ◌++◌};
+ghost use Rattle.std.specs.Prelude.{Option, is_some};
 ghost use Rattle.world.specs.declared.chan.Chan as chan;
 ghost use Rattle.world.specs.declared.conn.Conn as conn;
 ghost use Rattle.world.specs.declared.entry.Entry.{Entry};
 ghost use Rattle.world.specs.declared.entry.Entry.TheVariants.{Got};
 ghost use Rattle.world.specs.Places.{is_at};
+ghost use Rattle.zmtp_wire.specs.declared.fault.WireFault as fault;
 ghost use Rattle.zmtp_wire.specs.Decoder.{Answer};
 ghost use Rattle.zmtp_wire.specs.Meaning.{answer_to};
 ghost use Rattle.zmtp_peer.specs.Peer.{Brings};
 ghost use Rattle.kernel_lines.specs.declared.line.Line as side;
 ghost use Rattle.kernel_lines.specs.Due.{sent_octets};
+ghost use Rattle.kernel_lines.specs.Ends.{answer_by};
 ghost use Rattle.kernel_lines.specs.Happened.{Came, came_in};
 ghost use Rattle.kernel_lines.specs.Line.{StandsFor, role_of};
 ghost use Rattle.kernel_lines.specs.Lines.{role_on};
@@ -18,11 +21,13 @@ ghost use Rattle.run_journal.specs.Job.{Job};
 ghost use Rattle.run_journal.specs.Jupyter.{Speaker, bodies_in, octets_of};
 ghost use Rattle.run_journal.specs.Order.{begins_unread};
 ghost use Rattle.run_journal.specs.Parts.{place, bytes_got};
+ghost use Rattle.run_journal.specs.Requests.{is_broken};
 ghost use Rattle.run_journal.specs.Agreement.{BringsNothing, is_got};
 ghost use Rattle.run_journal.specs.Queue.{Queued, channel_of, news};
+ghost use Rattle.job_journal.specs.Plot.{Plot, facts};
 ghost use Rattle.job_journal.specs.Line.{OnLine, given_as, is_got_at, is_on, parts_of};
 
-use zmtp_wire::laws::decoder_answers;
+use zmtp_wire::laws::{decoder_answers, octets_are, octets_give};
 
 /// A piece that came stands in the history; what the job queues at its entry is unsent.
 pub fn lines_get_pieces()
@@ -89,3 +94,16 @@ pub fn bytes_are_got()
     ensures none { (j : Job) (entry : Entry) (past : List Entry) → is_got j entry ≡ false →
         ((c : chan.Chan) → begins_unread j c (entry ∷ past) ≡ true) → BringsNothing j entry past }
 {}
+
+/// Where no stream was broken, one is with a piece exactly where our side answers a fault.
+pub fn pieces_break_streams()
+    ensures { (p : Plot) (c : chan.Chan) (entry : Entry) (past : List Entry)
+        (fault : Option fault.WireFault) → is_broken (facts p) past ≡ false →
+        ((d : chan.Chan) → (d ≡ c) ⊎
+        (bytes_got (facts p) d (entry ∷ past) ≡ bytes_got (facts p) d past)) →
+        answer_by fault ≡ answer_to (role_on c) (bytes_got (facts p) c (entry ∷ past)) →
+        is_broken (facts p) (entry ∷ past) ≡ is_some fault }
+{
+    octets_are();
+    octets_give();
+}

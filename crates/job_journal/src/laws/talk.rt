@@ -5,14 +5,27 @@ ghost use Rattle.world.specs.declared.chan.Chan.TheVariants.{Shell, Iopub};
 ghost use Rattle.world.specs.declared.entry.Entry.{Entry};
 ghost use Rattle.world.specs.declared.entry.Entry.TheVariants.{Moment};
 ghost use Rattle.world.specs.Waits.{moment_of};
+ghost use Rattle.world.specs.Places.{time};
+ghost use Rattle.kernel_lines.specs.declared.lines.Lines as sides;
+ghost use Rattle.kernel_lines.specs.Line.{taken_of};
+ghost use Rattle.kernel_lines.specs.Lines.{line_on};
+ghost use Rattle.kernel_lines.specs.Lines as lines;
 ghost use Rattle.kernel_talk.specs.Asking.{Asked, asks, answered_by};
 ghost use Rattle.kernel_talk.specs.Requests.{Identity};
-ghost use Rattle.run_journal.specs.Codec.{Arrival};
+ghost use Rattle.run_journal.specs.Codec.{Arrival, Info, Execute};
 ghost use Rattle.run_journal.specs.Job.{Job};
+ghost use Rattle.run_journal.specs.Looks.{pings};
+ghost use Rattle.run_journal.specs.Parts.{bytes_put};
+ghost use Rattle.run_journal.specs.Requests.{requests};
 ghost use Rattle.run_journal.specs.Arrivals.{arrive, ask_state, can_ask, is_info_reply, is_ready};
 ghost use Rattle.run_journal.specs.Queue.{Queued, count_messages, news};
+ghost use Rattle.job_journal.specs.Line.{OnLine};
+ghost use Rattle.job_journal.specs.Plot.{Plot, facts, speaker};
 ghost use Rattle.job_journal.specs.Talk.{OnTalk, has_number, heard_on_shell, heard_on_iopub};
 ghost use Rattle.job_journal.specs.Used.{anew};
+
+use zmtp_peer::laws::owed_is_given;
+use zmtp_wire::laws::{octets_give, octets_grow, ready_comes_first};
 
 /// By an entry that isn't of the clock the asking goes on by the messages that arrive; by a clock
 /// entry a kernel that can be asked is asked, where the gap has passed.
@@ -71,4 +84,50 @@ pub fn the_talk_goes_on()
     ensures ping { (j : Job) (asking : Asked) (session : Identity) (q : Queued)
         (unsent : List Queued) (now : List Entry) → has_number q ≡ false →
         OnTalk j asking session (q ∷ unsent) now → OnTalk j asking session unsent now }
+{}
+
+/// The kernel can be asked by our sides of the connections exactly where it can by the journal,
+/// once the octets that were taken on IOPub are those that were put.
+pub fn the_kernel_can_be_asked()
+    ensures { (p : Plot) (ls : sides.Lines) (shell iopub : List Queued) (now : List Entry)
+        (a : OnLine (speaker p) (facts p) Shell (line_on ls Shell) shell now)
+        (b : OnLine (speaker p) (facts p) Iopub (line_on ls Iopub) iopub now) →
+        taken_of (line_on ls Iopub) ≡ length (bytes_put (facts p) Iopub now) →
+        lines.can_ask ls a.past b.past ≡ can_ask (facts p) now }
+{
+    octets_give();
+    octets_grow();
+    ready_comes_first();
+    owed_is_given();
+}
+
+/// What is queued at an entry, where no interrupt is asked for: nothing where nothing grows, the
+/// request that comes to stand, or the question, each with the next number.
+pub fn messages_are_queued()
+    ensures none { (j : Job) (entry : Entry) (past : List Entry) →
+        j.task.times.interrupt ≡ false →
+        length (ask_state j (entry ∷ past)).ids ≡ length (ask_state j past).ids →
+        length (requests j (entry ∷ past)) ≡ length (requests j past) →
+        length (pings j (entry ∷ past)).queued ≡ length (pings j past).queued →
+        news j (entry ∷ past) past ≡ [] }
+    ensures request { (j : Job) (entry : Entry) (past : List Entry) →
+        j.task.times.interrupt ≡ false →
+        length (ask_state j (entry ∷ past)).ids ≡ length (ask_state j past).ids →
+        length (requests j (entry ∷ past)) ≡ length (requests j past) + 1 →
+        length (pings j (entry ∷ past)).queued ≡ length (pings j past).queued →
+        news j (entry ∷ past) past ≡ record {
+          what = Execute (length (requests j past));
+          number = count_messages j past + 1;
+          date = time (entry ∷ past);
+        } ∷ [] }
+    ensures question { (j : Job) (entry : Entry) (past : List Entry) →
+        j.task.times.interrupt ≡ false →
+        length (ask_state j (entry ∷ past)).ids ≡ length (ask_state j past).ids + 1 →
+        length (requests j (entry ∷ past)) ≡ length (requests j past) →
+        length (pings j (entry ∷ past)).queued ≡ length (pings j past).queued →
+        news j (entry ∷ past) past ≡ record {
+          what = Info;
+          number = count_messages j past + 1;
+          date = time (entry ∷ past);
+        } ∷ [] }
 {}
