@@ -12,6 +12,9 @@ nbrun executes Jupyter notebooks with nobody at the screen.
   nbrun IN OUT [options]          reads the notebook IN and writes OUT
   nbrun --jobs FILE [options]     runs the jobs of a file, at most 16
   nbrun --exercise N              runs N generated cells, at most 200, in memory
+  nbrun report FORM IN OUT        makes a script or a page of the notebook IN,
+                                  or a notebook of a script: FORM is script,
+                                  page or notebook
   nbrun --help | -h | --version   prints this, or the version
 
   -p, --parameters NAME VALUE     a parameter: a number of JSON, True, False,
@@ -32,15 +35,17 @@ nbrun executes Jupyter notebooks with nobody at the screen.
                                   spec with \"interrupt_mode\": \"message\"
   --no-heartbeat                  doesn't ping the kernel
 
-After -- each word is a path. Switches are off by default. A job of a file has
-its own paths, parameters, kernel and cwd: -p, -r, -k, --cwd and --prepare-only
-don't go with --jobs. --exercise goes with no other word.
+After -- each word is a path. A notebook with the name report is ./report.
+Switches are off by default. A job of a file has its own paths, parameters,
+kernel and cwd: -p, -r, -k, --cwd and --prepare-only don't go with --jobs.
+--exercise goes with no other word.
 
 Examples:
   nbrun report.ipynb out.ipynb -p year 2026 -r day 007
   nbrun report.ipynb out.ipynb -k python3 --execution-timeout 600
   nbrun --jobs jobs.json --kernel-path /usr/share/jupyter/kernels
   nbrun --exercise 8
+  nbrun report page out.ipynb out.html
 
 A jobs file:
   {\"jobs\": [{\"input\": \"a.ipynb\", \"output\": \"x.ipynb\", \"parameters\": {\"n\": 1}}]}

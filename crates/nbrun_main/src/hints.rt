@@ -3,8 +3,10 @@
 ghost use Rattle.std.specs.Prelude.{◌≡◌};
 ghost use Rattle.nbrun_main.specs.Hints as spec;
 
-use crate::same_files::output_word;
+use crate::same_files::{REPORT_OUTPUT, output_word};
 use jtext::NoMemory;
+use nbrun_top::report_words;
+use report_run::read_words;
 use std::alloc::Global;
 use std::env::{split_paths, var};
 use std::fs;
@@ -79,6 +81,12 @@ fn refused_word(alloc: Global, words: &[String]) -> Result<Option<&String>, NoMe
 }
 
 fn refused_index(alloc: Global, words: &[String]) -> Result<Option<u32>, NoMemory> {
+    if let Some(rest) = report_words(words) {
+        return Ok(match read_words(alloc, rest) {
+            Ok(_) => Some(REPORT_OUTPUT),
+            Err(usage) => refused_at(&usage),
+        });
+    }
     match read(alloc, words) {
         Ok(Command::One(ask)) => output_word(alloc, words, &ask),
         Ok(Command::Many { .. }) => Ok(None),

@@ -6,6 +6,8 @@ ghost use Rattle.nbrun_main.specs.SameFiles.{first_clash, refusal_of};
 use crate::named::Named;
 use crate::used_file::{UsedFile, first_clash};
 use jtext::{NoMemory, Text};
+use nbrun_top::report_words;
+use report_run::read_words;
 use std::alloc::Global;
 use std::fs;
 use std::rt::Files;
@@ -16,8 +18,14 @@ use world_real::FileId;
 /// The most bytes of a jobs file.
 const MOST: u64 = 1_048_576;
 
+/// The ending of the file that becomes an output.
+const TEMPORARY: &str = ".nbrun-tmp";
+
 /// The endings of the files that a run writes beside an output.
-const BESIDE: [&str; 2] = [".nbrun-tmp", ".nbrun-kernel.json"];
+const BESIDE: [&str; 2] = [TEMPORARY, ".nbrun-kernel.json"];
+
+/// The index of the word that gives the output of a report.
+pub(crate) const REPORT_OUTPUT: u32 = 3;
 
 /// The refusal of these words, where an output is the same file as an input or another output. A
 /// jobs file is read for it where it is a regular file: another one could be read only once.
@@ -27,12 +35,32 @@ pub(crate) fn refusal<R: Files, W: Disk>(
     words: &[String],
     w: &mut W,
 ) -> Result<Option<Usage>, NoMemory> {
+    if let Some(rest) = report_words(words) {
+        return refusal_of_report(files, alloc, rest);
+    }
     match read(alloc, words) {
         Ok(Command::One(ask)) => refusal_of_one(files, alloc, words, &ask),
         Ok(Command::Many { file, common }) => refusal_of_many(files, alloc, &file, &common, w),
         Ok(Command::Exercise(_)) => Ok(None),
         Err(_) => Ok(None),
     }
+}
+
+// The refusal of a report with these words after `report`.
+fn refusal_of_report<R: Files>(
+    files: &R,
+    alloc: Global,
+    words: &[String],
+) -> Result<Option<Usage>, NoMemory> {
+    let Ok(request) = read_words(alloc, words) else {
+        return Ok(None);
+    };
+    let output = Named::Word(REPORT_OUTPUT);
+    let mut used = Vec::new(alloc);
+    used.push(used_file(files, alloc, &request.input, false, output)?)?;
+    used.push(used_file(files, alloc, &request.output, true, output)?)?;
+    used.push(beside(files, alloc, &request.output, TEMPORARY, output)?)?;
+    refusal_among(alloc, used.as_slice())
 }
 
 // The refusal of the one job of these words.
@@ -109,17 +137,27 @@ fn add_output<R: Files>(
 ) -> Result<(), NoMemory> {
     used.push(used_file(files, alloc, path, true, named)?)?;
     for ending in BESIDE {
-        let name = name_in(path.as_str());
-        let name = Text::of_string(format!(in alloc; "{name}{ending}")?);
-        used.push(UsedFile {
-            file: None,
-            folder: file_at(files, folder(path.as_str())),
-            name,
-            is_written: true,
-            named,
-        })?;
+        used.push(beside(files, alloc, path, ending, named)?)?;
     }
     Ok(())
+}
+
+// The file beside an output with this ending.
+fn beside<R: Files>(
+    files: &R,
+    alloc: Global,
+    path: &Text,
+    ending: &str,
+    named: Named,
+) -> Result<UsedFile, NoMemory> {
+    let name = name_in(path.as_str());
+    Ok(UsedFile {
+        file: None,
+        folder: file_at(files, folder(path.as_str())),
+        name: Text::of_string(format!(in alloc; "{name}{ending}")?),
+        is_written: true,
+        named,
+    })
 }
 
 fn used_file<R: Files>(

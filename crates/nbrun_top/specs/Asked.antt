@@ -1,6 +1,7 @@
--- What the words ask for: jobs that execute their notebooks, the exercise, or what executes nothing.
+-- What the words ask for: a report, jobs that execute their notebooks, the exercise, or what executes nothing.
 use Rattle.std.specs.declared.string.String.{String}
-use Rattle.std.specs.Prelude.{◌≡◌, ◌⊎◌, ◌≤◌, ℕ, Bool, true, false, not, List, None, Some, map, string_bytes}
+use Rattle.std.specs.Prelude.{◌≡◌, ◌⊎◌, ◌≤◌, ℕ, Bool, true, false, not, List, [], ◌∷◌, Option, None, Some, if◌then◌else◌, codes, map, string_bytes}
+use Rattle.std.specs.Str.{bytes_eq}
 use Rattle.words.specs.declared.ask.Ask.{Ask}
 use Rattle.words.specs.declared.command.Command.{Command}
 use Rattle.words.specs.declared.command.Command.TheVariants as command
@@ -12,6 +13,17 @@ use Rattle.nbrun_top.specs.declared.plain.Plain.{Plain}
 use Rattle.nbrun_top.specs.declared.plain.Plain.TheVariants as plain
 use Rattle.nbrun_top.specs.declared.task.Task.{Task}
 use Rattle.nbrun_top.specs.declared.task.Task.TheVariants as task
+
+-- ---- words that ask for a report
+
+-- the words after `report`, where that is the first one
+abbrev pub report_words : List (List ℕ) → Option (List (List ℕ))
+report_words [] = None
+report_words (word ∷ words) = if bytes_eq word (codes "report") then Some words else None
+
+-- the words ask for no report
+abbrev pub IsNoReport : List (List ℕ) → Type 0
+IsNoReport words = report_words words ≡ None
 
 -- ---- words that execute nothing
 

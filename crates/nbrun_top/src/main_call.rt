@@ -1,8 +1,10 @@
 //! The top call.
-ghost use Rattle.std.specs.Prelude.{◌≡◌, ◌⊎◌, None, Some, ℕ};
+ghost use Rattle.std.specs.Prelude.{◌≡◌, ◌⊎◌, None, Some, ℕ, List as Seq, option_map};
 ghost use Rattle.words.specs.declared.usage.Usage as usages;
 ghost use Rattle.words.specs.Refusals.{refusal};
 ghost use Rattle.nbrun_top.specs.Asked.{IsPlain, IsExecuting, IsExercise, IsNoExercise, texts};
+ghost use Rattle.nbrun_top.specs.Asked.{IsNoReport, report_words};
+ghost use Rattle.report_run.specs.Promise as reports;
 ghost use Rattle.world.specs.Told.{Between};
 ghost use Rattle.said_lines.specs.Between.{FromStart, SayRose, SayFailed};
 ghost use Rattle.nbrun_top.specs.Ended.{Ended};
@@ -17,13 +19,38 @@ use crate::exercise_run::run_exercise;
 use crate::plain_run::run_plain;
 use crate::task::Task;
 use batch_run::Limits;
+use report_run::report;
 use std::alloc::Global;
 use world::World;
 
 /// Does what the words ask for, says how it ended, and answers the exit status. The words are the
-/// arguments without the program's name. The promise is the headline: `specs/Promise.antt` has its
-/// clauses, each with what it says.
+/// arguments without the program's name. The promises are the headline: `specs/Promise.antt` has the
+/// clauses of all words but a report's, and `report_run` those of a report, each with what it says.
 pub fn run<W: World>(alloc: Global, words: &[String], limits: &Limits, w: &mut W) -> u8
+    ensures promise { IsNoReport (texts words.now) → Promise W.journal W.counts w.old w.new
+        (texts words.now) limits.now.here limits.now.turns result }
+    // A report, by the words after the first.
+    ensures report { (rest : Seq (Seq ℕ)) → report_words (texts words.now) ≡ Some rest →
+        reports.Promise W.journal W.counts w.old w.new rest result }
+{
+    match report_words(words) {
+        Some(rest) => report(alloc, rest, w),
+        None => run_others(alloc, words, limits, w),
+    }
+}
+
+/// The words after `report`, where that is the first one: those of a report.
+pub fn report_words(words: &[String]) -> Option<&[String]>
+    ensures { option_map (λ rest. texts rest.now) result ≡ report_words (texts words.now) }
+{
+    match words.split_first() {
+        Some((first, rest)) if first.as_str() == "report" => Some(rest),
+        _ => None,
+    }
+}
+
+// All that is no report.
+fn run_others<W: World>(alloc: Global, words: &[String], limits: &Limits, w: &mut W) -> u8
     ensures promise { Promise W.journal W.counts w.old w.new
         (texts words.now) limits.now.here limits.now.turns result }
 {

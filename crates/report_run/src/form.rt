@@ -2,7 +2,7 @@
 
 /// What a report makes.
 #[derive(Clone, Copy, Debug, Drop, PartialEq, Eq)]
-pub(crate) enum Form {
+pub enum Form {
     /// A script of a notebook.
     Script,
     /// A page of a notebook.

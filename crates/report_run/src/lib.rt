@@ -15,3 +15,6 @@ mod status;
 mod words_read;
 
 pub use command::report;
+pub use form::Form;
+pub use request::Request;
+pub use words_read::read_words;

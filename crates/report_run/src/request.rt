@@ -4,7 +4,7 @@ use jtext::Text;
 
 /// What a report is asked for.
 #[derive(Debug, Drop)]
-pub(crate) struct Request {
+pub struct Request {
     /// What it makes.
     pub form: Form,
     /// The path that it reads.

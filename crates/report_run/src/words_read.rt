@@ -11,7 +11,7 @@ use words::Usage;
 
 /// What the words after `report` ask for. Their first fault is named with its index, which counts
 /// `report` as 0.
-pub(crate) fn read_words(alloc: Global, words: &[String]) -> Result<Request, Usage>
+pub fn read_words(alloc: Global, words: &[String]) -> Result<Request, Usage>
     ensures asked { IfOk result (spec.IsRequest (spec.texts words.now)) }
     ensures refused { IfErr result (λ u.
         (u ≡ usage.NoMemory) ⊎ (spec.refusal (spec.texts words.now) ≡ Some u)) }

@@ -16,6 +16,17 @@ const WORDS: &str = "\
 2|out.nbrun-kernel.json out --prepare-only|usage: same path at 1
 2|--help|usage: unknown at 0
 2|--exercise 5 --|usage: extra at 2
+2|report|usage: missing
+2|report x|usage: unknown at 1
+2|report script in|usage: missing
+2|report script -a|usage: unknown at 2
+2|report page in -- out|usage: unknown at 3
+2|report script A B -C|usage: extra at 4
+2|report notebook in in|usage: same path at 3
+2|report page out.nbrun-tmp out|usage: same path at 3
+3|report page absent out|out: cannot read absent
+4|report page in out|out: not JSON: syntax at 0
+4|report notebook in out|out: not a script at 0
 4|in out|out: not JSON: syntax at 0
 3|absent out|out: cannot read absent
 3|absent out --prepare-only|out: cannot read absent

@@ -15,6 +15,7 @@ fn a_refused_word_is_named(rt: HostRuntime) -> Result<(), Fail> {
         ("in out --foo", "usage: unknown at 2\n", "--foo"),
         ("in out more", "usage: extra at 2\n", "more"),
         ("--prepare-only in in", "usage: same path at 2\n", "in"),
+        ("report picture in out", "usage: unknown at 1\n", "picture"),
         (
             "in out --start-timeout soon",
             "usage: bad number at 3\n",

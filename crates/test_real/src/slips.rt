@@ -47,6 +47,8 @@ fn an_output_that_is_the_input_by_another_path_is_refused(rt: HostRuntime) -> Re
         ("same/in same/hard --prepare-only", 1),
         ("--prepare-only same/in -p a same/hard same/hard", 5),
         ("same/in ./same/in", 1),
+        ("report script same/in ./same/in", 3),
+        ("report page same/in same/hard", 3),
         (absolute.as_str(), 1),
     ];
     for (words, at) in rows {

@@ -8,7 +8,7 @@ use Rattle.nbrun_top.proofs.Ends.{delivered}
 use Rattle.nbrun_top.proofs.Acknowledged.{acknowledged_of}
 use Rattle.nbrun_top.proofs.Heard.{heard_lines}
 use Rattle.nbrun_top.proofs.Spared.{untouched_paths, untouched_input}
-use Rattle.nbrun_top.proofs.main_call.run.Goals as goal
+use Rattle.nbrun_top.proofs.main_call.run_others.Goals as goal
 
 pub returns : goal.returns
 returns g c = record {
