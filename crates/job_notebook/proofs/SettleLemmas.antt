@@ -1,7 +1,8 @@
 -- The next prefix, and which of its cells have the texts that are kept.
-use Rattle.std.proofs.Common.{◌≡◌, ◌⊎◌, inl, inr, ℕ, ◌<◌, ◌≤◌, List, Bool, true, false, Option, None, sym, ◌∙◌, ap, ap₂, subst, arith, option_map}
-use Rattle.std.specs.Prelude.{slice_get}
-use Rattle.std.proofs.lemmas.Bool.{cases_Bool, cases_lt}
+use Rattle.std.proofs.Common.{◌≡◌, ◌⊎◌, inl, inr, ℕ, ◌<◌, ◌≤◌, List, Bool, true, false, Option, Some, None, refl, sym, ◌∙◌, ap, ap₂, subst, arith, option_map}
+use Rattle.std.specs.Prelude.{nat_lt, slice_get}
+use Rattle.std.proofs.lemmas.Bool.{cases_Bool, cases_lt, cond-true}
+use Rattle.std.proofs.lemmas.Option.{same_Some}
 use Rattle.nb_model.specs.declared.cell.Cell.{Cell}
 use Rattle.nb_model.specs.declared.notebook.Notebook.{Notebook}
 use Rattle.out_fold.specs.declared.fold.Fold.{Fold}
@@ -9,7 +10,7 @@ use Rattle.out_fold.specs.declared.used.Used.{Used}
 use Rattle.out_fold.specs.Plans.{is_in}
 use Rattle.out_fold.specs.Stands.{StandsFor, Rested, SameCell, merge_of, next_of, touched_of}
 use Rattle.progress_save.specs.declared.progress.Progress.{Progress}
-use Rattle.progress_save.specs.Prefix.{prefix, saved_cell, stops_at}
+use Rattle.progress_save.specs.Prefix.{AreSettled, prefix, saved_cell, settled_cell, stops_at}
 use Rattle.progress_save.specs.State.{Fits, kept_text}
 use Rattle.job_notebook.specs.Kept.{IsKept, ForgetsSome}
 use Rattle.jtext.proofs.Lists.{option_map_alike}
@@ -26,16 +27,37 @@ pub record PrefixLaws : Type 0 where
 -- the notebook becomes that prefix, and the texts of the cells are forgotten that may be others in it
 pub record Settles (f : Fold) (n m : Notebook) (settled q : ℕ) (stop : Option ℕ) (p r : Progress) : Type 0 where
   pub above : settled ≤ q
-  pub made : (us : List Used) → StandsFor f us → m ≡ prefix (merge_of f) us q stop n
+  pub made : (us : List Used) → StandsFor f us → AreSettled (merge_of f) us (touched_of f) settled stop n.cells → m ≡ prefix (merge_of f) us q stop n
   pub forgets : ForgetsSome p r
   pub changed : (i : ℕ) → is_in (touched_of f) i ≡ true → kept_text r i ≡ None
   pub newly : (i : ℕ) → settled ≤ i → i < q → kept_text r i ≡ None
   pub stopped : (i : ℕ) → stops_at stop i ≡ true → kept_text r i ≡ None
 
+-- a cell below the number of those that are settled is settled
+settled_below : (merge : Bool) (us : List Used) (q : ℕ) (stop : Option ℕ) (i : ℕ) (c : Cell) → i < q → saved_cell merge us q stop i c ≡ settled_cell merge us stop i c
+settled_below merge us q stop i c lt = cond-true (nat_lt i q) _ _ (grind (arith, lt))
+
 module _ (laws : PrefixLaws) (f : Fold) (n m : Notebook) (settled q : ℕ) (stop : Option ℕ) (p r : Progress) (s : Settles f n m settled q stop p r) where
+  -- what was settled and has not changed is as it is to be saved
+  are_settled : (first : Notebook) (us : List Used) → IsKept f n settled p first us → AreSettled (merge_of f) us (touched_of f) settled stop n.cells
+  are_settled first us k i c at lt out on = by_first (slice_get first.cells i) refl
+    where
+      by_first : (o : Option Cell) → slice_get first.cells i ≡ o → settled_cell (merge_of f) us stop i c ≡ c
+      by_first None e =
+          let no : Some c ≡ None = sym at ∙ ap (λ x. slice_get x.cells i) k.is ∙ laws.each (merge_of f) k.was settled None first i ∙ ap (option_map (saved_cell (merge_of f) k.was settled None i)) e in
+          absurd (cc)
+      by_first (Some d) e =
+          let here : saved_cell (merge_of f) k.was settled None i d ≡ c = same_Some _ _ (sym (sym at ∙ ap (λ x. slice_get x.cells i) k.is ∙ laws.each (merge_of f) k.was settled None first i ∙ ap (option_map (saved_cell (merge_of f) k.was settled None i)) e)) in
+          let inner = laws.each (merge_of f) k.was settled None first i ∙ ap (option_map (saved_cell (merge_of f) k.was settled None i)) e in
+          let twice : saved_cell (merge_of f) us settled stop i (saved_cell (merge_of f) k.was settled None i d) ≡ saved_cell (merge_of f) us settled stop i d = same_Some _ _ (sym (laws.each (merge_of f) us settled stop (prefix (merge_of f) k.was settled None first) i ∙ ap (option_map (saved_cell (merge_of f) us settled stop i)) inner)
+          ∙ ap (λ x. slice_get x.cells i) (laws.again (merge_of f) k.was us settled settled stop first (omega arith))
+          ∙ laws.each (merge_of f) us settled stop first i ∙ ap (option_map (saved_cell (merge_of f) us settled stop i)) e) in
+          sym (settled_below (merge_of f) us settled stop i c lt)
+          ∙ ap (saved_cell (merge_of f) us settled stop i) (sym here) ∙ twice ∙ laws.untouched (merge_of f) k.was us settled settled stop i d (k.rested i out) lt (omega arith) on ∙ here
+
   -- it is that prefix of the first notebook
   pub settled_is : (first : Notebook) (us : List Used) → IsKept f n settled p first us → m ≡ prefix (merge_of f) us q stop first
-  settled_is first us k = s.made us k.stands ∙ ap (prefix (merge_of f) us q stop) k.is ∙ laws.again (merge_of f) k.was us settled q stop first s.above
+  settled_is first us k = s.made us k.stands (are_settled first us k) ∙ ap (prefix (merge_of f) us q stop) k.is ∙ laws.again (merge_of f) k.was us settled q stop first s.above
 
   -- each text that is still kept is that of its cell
   pub settled_fits : (first : Notebook) (us : List Used) → IsKept f n settled p first us → Fits r m.cells

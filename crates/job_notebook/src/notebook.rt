@@ -9,7 +9,7 @@ use jcontent::Content;
 use jtext::{NoMemory, Text};
 use nb_model::Notebook;
 use out_fold::Fold;
-use progress_save::{Progress, ProgressFault, laws, settle};
+use progress_save::{Progress, ProgressFault, Step, laws, settle};
 use std::alloc::Global;
 use world::{Disk, Say};
 
@@ -227,7 +227,12 @@ impl JobNotebook {
         self.is_closed = true;
         let touched = self.fold.touched().as_slice();
         forget_changed(&mut self.progress, touched, self.settled, p, stop);
-        settle(self.alloc, &mut self.notebook, &self.fold, p, stop)?;
+        let step = Step {
+            from: self.settled,
+            to: p,
+            stop,
+        };
+        settle(self.alloc, &mut self.notebook, &self.fold, step)?;
         self.fold.rest();
         self.settled = p;
         Ok(())

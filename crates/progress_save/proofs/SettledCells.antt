@@ -53,7 +53,7 @@ module _ {X : Type 0} (f : ℕ → X → X) where
   between m p i xs le = elim (cases_lt i m) [ inl lt ↦ inr (get_below m p 0 i xs (omega (arith, lt)) (omega (arith, lt, le))) | inr ge ↦ inl (get_above m 0 i xs (omega (arith, ge))) ]
 
   pub settle_more : (m : ℕ) (was now after : List X) → now ≡ changed_from m 0 was → m < length was
-      → ((x : X) → slice_get now m ≡ Some x → after ≡ set now m (f m x)) → after ≡ changed_from (m + 1) 0 was
+      → ((x : X) → slice_get was m ≡ Some x → slice_get now m ≡ Some x → after ≡ set now m (f m x)) → after ≡ changed_from (m + 1) 0 was
   settle_more m was now after e lt sets = elim (slice_get_cases was m).1 [
     | inl here ↦ step here.0 here.2
     | inr past ↦ absurd (omega (arith, lt, past.0))
@@ -61,7 +61,7 @@ module _ {X : Type 0} (f : ℕ → X → X) where
     where
       step : (x : X) → slice_get was m ≡ Some x → after ≡ changed_from (m + 1) 0 was
       step x at =
-          sets x (ap (λ l. slice_get l m) e ∙ get_above m 0 m was (omega arith) ∙ at)
+          sets x at (ap (λ l. slice_get l m) e ∙ get_above m 0 m was (omega arith) ∙ at)
           ∙ ap (λ l. set l m (f m x)) e
           ∙ one_more m 0 m was x (omega arith) at
 

@@ -1,6 +1,6 @@
 -- A prefix of a run, as it is saved: the cells before an index are settled, the others wait (Papermill, `metadata.papermill`;
 -- nbformat 4.5, `code_cell`; nbclient, `metadata.execution`).
-use Rattle.std.specs.Prelude.{◌≡◌, ◌⊎◌, ℕ, ◌==◌, nat_lt, slice_get, Bool, true, false, List, map, codes, Option, Some, None, if◌then◌else◌}
+use Rattle.std.specs.Prelude.{◌≡◌, ◌⊎◌, ◌<◌, ℕ, ◌==◌, nat_lt, slice_get, Bool, true, false, List, map, codes, Option, Some, None, if◌then◌else◌}
 use Rattle.std.specs.List.{enumerate_from}
 use Rattle.jtext.specs.declared.json.Json.{Json}
 use Rattle.jtext.specs.declared.json.Json.TheVariants as json
@@ -10,6 +10,7 @@ use Rattle.nb_model.specs.declared.notebook.Notebook.{Notebook}
 use Rattle.nb_model.specs.Planned.{is_planned}
 use Rattle.out_fold.specs.declared.used.Used.{Used}
 use Rattle.out_fold.specs.Cells.{outputs_of, count_of, dates_of}
+use Rattle.out_fold.specs.Plans.{is_in}
 
 -- the metadata of a cell with this status, and whether it failed, under `papermill`; all else in it stays
 abbrev pub with_status : List ℕ → Bool → Json → Json
@@ -72,3 +73,12 @@ prefix merge us settled stop n = record {
 pub record IsBetween (old new now : Notebook) : Type 0 where
   pub metadata : (now.metadata ≡ old.metadata) ⊎ (now.metadata ≡ new.metadata)
   pub cells : (i : ℕ) → (slice_get now.cells i ≡ slice_get old.cells i) ⊎ (slice_get now.cells i ≡ slice_get new.cells i)
+
+-- What is to be saved of a cell whose index is below this one is in it already, unless it was touched since, or the run stopped at
+-- it.
+abbrev pub IsSettled : Bool → List Used → List ℕ → ℕ → Option ℕ → ℕ → Cell → Type 0
+IsSettled merge us touched from stop i c = i < from → is_in touched i ≡ false → stops_at stop i ≡ false → settled_cell merge us stop i c ≡ c
+
+-- so it is of all cells
+abbrev pub AreSettled : Bool → List Used → List ℕ → ℕ → Option ℕ → List Cell → Type 0
+AreSettled merge us touched from stop cs = (i : ℕ) (c : Cell) → slice_get cs i ≡ Some c → IsSettled merge us touched from stop i c

@@ -10,7 +10,9 @@ mod planning;
 mod progress;
 mod progress_fault;
 mod settling;
+mod step;
 
 pub use progress::Progress;
 pub use progress_fault::ProgressFault;
 pub use settling::settle;
+pub use step::Step;

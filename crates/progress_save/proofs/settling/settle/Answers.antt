@@ -7,25 +7,25 @@ use Rattle.progress_save.proofs.settling.settle.Goals as goal
 
 pub loop-i-init : goal.loop-i-init
 loop-i-init c = record {
-  cells = λ us stands. sym (none_changed (settled_cell (merge_of c.args.f.now) us c.args.stop) 0 0 c.args.n.now.cells (omega arith));
+  cells = λ us stands are. sym (none_changed (settled_cell (merge_of c.args.f.now) us c.args.step.stop) 0 0 c.args.n.now.cells (omega arith));
   count = refl;
   metadata = refl;
 }
 
 pub loop-i-preserved : goal.loop-i-preserved
 loop-i-preserved c = record {
-  cells = λ us stands. settle_more (settled_cell (merge_of c.args.f.now) us c.args.stop) c.loop-i.i c.args.n.now.cells c.loop-i.n.cells c.settle_cell.new.cells
-      (c.loop-i.invariant.cells us stands)
+  cells = λ us stands are. settle_more (settled_cell (merge_of c.args.f.now) us c.args.step.stop) c.loop-i.i c.args.n.now.cells c.loop-i.n.cells c.settle_where.new.cells
+      (c.loop-i.invariant.cells us stands are)
       (omega (arith, c.requires.cells, c.loop-i-test.true))
-      (λ x at. c.in_ok-settle_cell.ensures.settled us x stands at);
-  count = c.in_ok-settle_cell.ensures.count ∙ c.loop-i.invariant.count;
+      (λ x was at. c.in_ok-settle_where.ensures.settled us x stands at (are c.loop-i.i x was));
+  count = c.in_ok-settle_where.ensures.count ∙ c.loop-i.invariant.count;
   metadata = c.loop-i.invariant.metadata;
 }
 
-pub returns-in_err-settle_cell-clause-refused : goal.returns-in_err-settle_cell-clause-refused
-returns-in_err-settle_cell-clause-refused c = on_err c.from_residual.result (λ us stands. record {
+pub returns-in_err-settle_where-clause-refused : goal.returns-in_err-settle_where-clause-refused
+returns-in_err-settle_where-clause-refused c = on_err c.from_residual.result (λ us stands are. record {
   metadata = inl c.loop-i.invariant.metadata;
-  cells = part_way (settled_cell (merge_of c.args.f.now) us c.args.stop) c.loop-i.i c.args.p c.args.n.now.cells c.settle_cell.new.cells
-      (c.in_err-settle_cell.ensures.refused ∙ c.loop-i.invariant.cells us stands)
+  cells = part_way (settled_cell (merge_of c.args.f.now) us c.args.step.stop) c.loop-i.i c.args.step.to c.args.n.now.cells c.settle_where.new.cells
+      (c.in_err-settle_where.ensures.refused ∙ c.loop-i.invariant.cells us stands are)
       (omega (arith, c.loop-i-test.true));
 })
