@@ -1,5 +1,5 @@
--- The disk says nothing.
-use Rattle.std.proofs.Common.{◌≡◌, ℕ, List, ◌∷◌, Result, Ok, Err, refl, ◌∙◌}
+-- What is heard of a report.
+use Rattle.std.proofs.Common.{◌≡◌, ℕ, List, [], ◌∷◌, Result, Ok, Err, refl, ◌∙◌, ap, subst}
 use Rattle.world.specs.declared.entry.Entry.{Entry}
 use Rattle.world.specs.declared.entry.Entry.TheVariants.{Said}
 use Rattle.world.specs.Moments.{Since, start, more as later}
@@ -8,6 +8,8 @@ use Rattle.save_disk.specs.declared.save_fault.SaveFault.{SaveFault}
 use Rattle.save_disk.specs.Entries.{SaveOf}
 use Rattle.save_disk.proofs.Laws.{part_of_save}
 use Rattle.said_lines.specs.Speech.{heard}
+use Rattle.said_lines.proofs.SpeechLemmas.{says_since, heard_text}
+use Rattle.report_run.specs.Ended.{Ended, IsHeard}
 use Rattle.report_run.specs.declared.end.End.{End}
 use Rattle.report_run.specs.declared.request.Request.{Request}
 use Rattle.report_run.specs.Ran.{SavesAs, Makes, Ran}
@@ -40,3 +42,14 @@ pub ran_silent : (words : List (List ℕ)) (e : End) (before after : List Entry)
 ran_silent words e before after (ran.refused u is) = refl
 ran_silent words e before after (ran.request r e_ after_ is makes) = makes_silent r e before after makes
 ran_silent words e before after ran.no_memory = refl
+
+pub heard_line : (words : List (List ℕ)) (code : ℕ) (rose cut : Type 0) (before after : List Entry) → Ended words code rose cut before after → before ≡ [] → IsHeard words code rose cut after
+heard_line words code rose cut before after ended new =
+    record {
+      end = ended.end;
+      on_disk = ended.on_disk;
+      ran = subst (λ b. Ran words b ended.end ended.on_disk) new ended.ran;
+      answers = ended.answers;
+      spoken = says_since ended.says;
+      lines = heard_text (ran_silent words ended.end before ended.on_disk ended.ran ∙ ap heard new) ended.says;
+    }

@@ -5,3 +5,4 @@ mod Spared
 mod Crashes
 mod Ends
 mod Heard
+mod Acknowledged

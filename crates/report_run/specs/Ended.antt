@@ -1,7 +1,9 @@
 -- How a report ends, as the exit status tells it, with all that it asked of the world.
-use Rattle.std.specs.Prelude.{◌≡◌, ◌⊎◌, ℕ, List, [], ◌∷◌}
+use Rattle.std.specs.Prelude.{◌≡◌, ◌⊎◌, ◌==◌, ◌||◌, ℕ, List, [], ◌∷◌, if◌then◌else◌}
 use Rattle.world.specs.declared.entry.Entry.{Entry}
-use Rattle.said_lines.specs.Speech.{Says}
+use Rattle.world.specs.Moments.{Since}
+use Rattle.world.specs.Parts.{OnSay, IsOf}
+use Rattle.said_lines.specs.Speech.{Says, heard, IsFront}
 use Rattle.report_run.specs.declared.answer.Answer.{Answer}
 use Rattle.report_run.specs.declared.end.End.{End}
 use Rattle.report_run.specs.declared.end.End.TheVariants as end
@@ -43,3 +45,17 @@ pub record Ended (words : List (List ℕ)) (code : ℕ) (rose cut : Type 0) (bef
   pub ran : Ran words before end on_disk
   pub answers : Answers rose (code_of end) code
   pub says : Says (said_of words end) cut on_disk after
+
+-- What was heard is the line of how this report ended with that status, by the first entries of its journal, or a front
+-- of it where a say had failed.
+pub record IsHeard (words : List (List ℕ)) (code : ℕ) (rose cut : Type 0) (after : List Entry) : Type 0 where
+  pub end : End
+  pub on_disk : List Entry
+  pub ran : Ran words [] end on_disk
+  pub answers : Answers rose (code_of end) code
+  pub spoken : Since (IsOf OnSay) on_disk after
+  pub lines : (heard after ≡ said_of words end) ⊎ (cut × IsFront (heard after) (said_of words end))
+
+-- how many saves a report with this status has acknowledged
+abbrev pub acks_of : ℕ → ℕ
+acks_of code = if (code == 0) || (code == 11) then 1 else 0

@@ -6,8 +6,9 @@ use Rattle.world.specs.Counts.{Counts}
 use Rattle.world.specs.Told.{Between}
 use Rattle.said_lines.specs.Between.{FromStart, DiskRose, SayRose, SayFailed}
 use Rattle.said_lines.specs.Speech.{heard}
+use Rattle.save_disk.specs.Places.{save_count}
 use Rattle.report_run.specs.declared.request.Request.{Request}
-use Rattle.report_run.specs.Ended.{Ended}
+use Rattle.report_run.specs.Ended.{Ended, IsHeard, acks_of}
 use Rattle.report_run.specs.Ran.{IsDelivered, IsSafe, IsOther, IsUntouched}
 use Rattle.report_run.specs.Words.{refusal, IsRequest}
 
@@ -21,10 +22,15 @@ pub record Promise {W : Type 0} (journal : W → Option (List Entry)) (counts : 
   pub delivered : FromStart journal old new (λ j. (result ≡ 0) ⊎ (result ≡ 11) → IsDelivered words j)
   -- at every moment a crash leaves at the output what was there before, or that whole text
   pub crash : FromStart journal old new (λ j. (r : Request) → IsRequest words r → IsSafe r j)
+  -- a save is acknowledged exactly with status 0 or 11, and then one
+  pub acknowledged : FromStart journal old new
+      (λ j. (r : Request) → IsRequest words r → save_count r.output j ≡ acks_of result)
   -- at every moment a crash leaves every other file as it was
   pub untouched : FromStart journal old new (λ j. (path : List ℕ) → IsOther words path → IsUntouched path j)
   -- at every moment a crash leaves the input as it was
   pub input : FromStart journal old new (λ j. (r : Request) → IsRequest words r → IsUntouched r.input j)
+  -- what is said is the line of how this report ended, or a front of it where a say failed
+  pub said : FromStart journal old new (IsHeard words result (SayRose counts old new) (SayFailed counts new))
   -- where a say had failed before, nothing is said
   pub silent : SayFailed counts old → Between journal old new (λ before after. heard after ≡ heard before)
   -- words that are refused have the status 2, or memory was refused

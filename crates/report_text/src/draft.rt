@@ -14,11 +14,14 @@ use nb_model::{Cell, Cells, Kind};
 use std::alloc::Global;
 use std::mem;
 
-/// The cells so far, and of the last one, while it is read, the source so far.
+/// What was made of the rows so far.
 #[derive(Debug, Drop)]
 pub(crate) struct Draft {
+    /// The cells whose source was read.
     pub(crate) cells: Cells,
+    /// The strings of the source that is read, one a row.
     pub(crate) source: Items,
+    /// Where the script stands.
     pub(crate) place: Place,
 }
 
@@ -133,7 +136,8 @@ impl Draft {
     fn add_row(&mut self, alloc: Global, row: &str) -> Result<(), NoMemory>
         ensures { OnOk result (self.new ≡ drafts.with_row row.now self.old) }
     {
-        let mut text = String::from_str(alloc, row)?;
+        let mut text = String::with_capacity(alloc, row.len().saturating_add(1))?;
+        text.push_str(row)?;
         text.push_str("\n")?;
         self.source.push(Json::Str(Text::of_string(text)))
     }

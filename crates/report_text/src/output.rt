@@ -67,8 +67,8 @@ fn put_stream(out: &mut Bytes, text: Option<&Json>) -> Result<(), NoMemory>
 }
 
 fn put_display(out: &mut Bytes, bundle: Option<&Json>) -> Result<(), NoMemory>
-    ensures { OnOk result (out.new
-        ≡ out.old ++ pages.escaped (pages.data_text (unwrap_or (option_copied bundle.entry) json.Null))) }
+    ensures { OnOk result (out.new ≡ out.old
+        ++ pages.escaped (pages.data_text (unwrap_or (option_copied bundle.entry) json.Null))) }
 {
     match bundle {
         Some(v) => put_data(out, v),
