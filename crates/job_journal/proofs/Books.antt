@@ -255,7 +255,7 @@ book_ends j given book entry past acks ready b = record {
 }
 
 -- an entry that brings no byte
-still_used : (j : Job) (entry : Entry) (past : List Entry) → BringsNothing j entry past → used_of j.task.plan (map (goes_on j entry past) (requests j past)) ≡ used_of j.task.plan (requests j past)
+pub still_used : (j : Job) (entry : Entry) (past : List Entry) → BringsNothing j entry past → used_of j.task.plan (map (goes_on j entry past) (requests j past)) ≡ used_of j.task.plan (requests j past)
 still_used j entry past none =
     used_mapped j entry past j.task.plan (requests j past)
     ∙ ap (λ ms. used_of j.task.plan (so_far j ms (arrive j Shell entry past) past)) (arrive_nothing j entry past Iopub (none Iopub))

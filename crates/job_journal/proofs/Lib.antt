@@ -13,3 +13,4 @@ pub mod Plots
 pub mod Making
 pub mod Subscribing
 pub mod Breaking
+pub mod Starting

@@ -120,6 +120,16 @@ one_counted f x = by (f x)
 first_counted : {X : Type 0} (f : X → Bool) (x : X) (xs : List X) → count_by f (x ∷ xs) ≡ cond (f x) 1 0 + count_by f xs
 first_counted f x xs = counted f (x ∷ []) xs ∙ ap (λ n. n + count_by f xs) (one_counted f x)
 
+-- with an entry at most one request comes to stand
+pub requests_grow : (j : Job) (entry : Entry) (past : List Entry)
+    → (length (requests j (entry ∷ past)) ≡ length (requests j past)) ⊎ (length (requests j (entry ∷ past)) ≡ length (requests j past) + 1)
+requests_grow j entry past =
+    let rs : List Request = map (goes_on j entry past) (requests j past) in
+    let same : length rs ≡ length (requests j past) = length-map (requests j past) (goes_on j entry past) in
+    cond_both (is_next j (is_acknowledging j (entry ∷ past)) (is_ready j (entry ∷ past)) (saves_of j (entry ∷ past)) rs)
+    (rs ++ anew j entry past ∷ []) rs (λ ss. (length ss ≡ length (requests j past)) ⊎ (length ss ≡ length (requests j past) + 1))
+    (λ e. inr (length-append rs (anew j entry past ∷ []) ∙ ap (λ n. n + 1) same)) (λ e. inl same)
+
 module _ (j : Job) (plain : j.task.times.interrupt ≡ false) where
   never : (now : List Entry) (r : Request) → is_interrupted j now r ≡ false
   unfolding is_interrupted
@@ -194,15 +204,6 @@ module _ (j : Job) (plain : j.task.times.interrupt ≡ false) where
       cond_both (is_asked can a clock) (a.ids ++ id ∷ []) a.ids (λ ids. (length ids ≡ length a.ids) ⊎ (length ids ≡ length a.ids + 1))
       (λ e. inr (length-append a.ids (id ∷ []))) (λ e. inl refl)
 
-  requests_grow : (entry : Entry) (past : List Entry)
-      → (length (requests j (entry ∷ past)) ≡ length (requests j past)) ⊎ (length (requests j (entry ∷ past)) ≡ length (requests j past) + 1)
-  requests_grow entry past =
-      let rs : List Request = map (goes_on j entry past) (requests j past) in
-      let same : length rs ≡ length (requests j past) = length-map (requests j past) (goes_on j entry past) in
-      cond_both (is_next j (is_acknowledging j (entry ∷ past)) (is_ready j (entry ∷ past)) (saves_of j (entry ∷ past)) rs)
-      (rs ++ anew j entry past ∷ []) rs (λ ss. (length ss ≡ length (requests j past)) ⊎ (length ss ≡ length (requests j past) + 1))
-      (λ e. inr (length-append rs (anew j entry past ∷ []) ∙ ap (λ n. n + 1) same)) (λ e. inl same)
-
   -- with an entry the count of messages grows by those that are queued at it
   pub counts_on : (entry : Entry) (past : List Entry) → count_messages j (entry ∷ past) ≡ count_messages j past + count_by has_number (news j (entry ∷ past) past)
   counts_on entry past =
@@ -219,7 +220,7 @@ module _ (j : Job) (plain : j.task.times.interrupt ≡ false) where
       let P : List Queued = grown (length (pings j past).queued) (length (pings j now).queued) (record { what = Ping; number = 0; date = 0 }) in
       let i : b ≡ a + count_by has_number I
       = numbered_grown a b _ refl (ids_grow (ask_state j past) (can_ask j past) (moment_of entry) (j.msg_id (a + 1)) (arrive j Shell entry past) (arrive j Iopub entry past)) in
-      let e : m ≡ n + count_by has_number E = numbered_grown n m _ refl (requests_grow entry past) in
+      let e : m ≡ n + count_by has_number E = numbered_grown n m _ refl (requests_grow j entry past) in
       let old : f ≡ 0 = no_interrupts past in
       let new : g ≡ 0 = no_interrupts now in
       let t : g ≡ f + count_by has_number T = numbered_grown f g _ refl (inl (new ∙ sym old)) in

@@ -6,3 +6,4 @@ pub mod Used
 pub mod Talk
 pub mod Saved
 pub mod Made
+pub mod Starting

@@ -6,6 +6,7 @@ pub mod lines;
 pub mod made;
 pub mod plot;
 pub mod saved;
+pub mod starting;
 pub mod talk;
 pub mod told;
 pub mod used;
