@@ -1,9 +1,9 @@
 -- What was used for the requests goes on, message after message.
-use Rattle.std.proofs.Common.{◌≡◌, ◌⊎◌, inl, inr, ℕ, suc, ◌+◌, ◌<◌, List, [], ◌∷◌, ◌++◌, length, map, Bool, true, false, ◌||◌, not, cond, Option, Some, None, refl, sym, ◌∙◌, ap, subst, arith, length-append}
+use Rattle.std.proofs.Common.{append_assoc, ◌≡◌, ◌⊎◌, inl, inr, ℕ, suc, ◌+◌, ◌<◌, List, [], ◌∷◌, ◌++◌, length, map, Bool, true, false, ◌||◌, not, cond, Option, Some, None, refl, sym, ◌∙◌, ap, subst, arith, length-append}
 use Rattle.std.specs.Prelude.{is_some, slice_index}
 use Rattle.std.specs.Str.{bytes_eq}
 use Rattle.std.proofs.lemmas.Bool.{and_parts, cond-false}
-use Rattle.std.proofs.lemmas.List.{map-append, length-map}
+use Rattle.std.proofs.lemmas.List.{append-nil, map-append, length-map}
 use Rattle.std.proofs.lemmas.Option.{same_Some}
 use Rattle.world.specs.declared.chan.Chan.TheVariants.{Shell, Iopub}
 use Rattle.world.specs.declared.entry.Entry.{Entry}
@@ -22,7 +22,7 @@ use Rattle.run_journal.specs.Arrivals.{arrive, is_ready}
 use Rattle.run_journal.specs.Requests.{Request, as_used, first, goes_on, has_idle, is_fatal, is_next, is_over, is_parent, last_request, own, reply, reply_date, requests, through_idle, use_of, used_of, with_news}
 use Rattle.run_journal.specs.Agreement.{BringsNothing}
 use Rattle.run_journal.specs.Grow.{GoesOn, ArePassed}
-use Rattle.run_journal.proofs.Growth.{through_idle_more, used_stays}
+use Rattle.run_journal.proofs.Growth.{has_idle_more, through_idle_more, used_stays}
 use Rattle.run_journal.proofs.AlikeLooks.{arrive_nothing}
 use Rattle.run_journal.proofs.Agreeing.{next_none}
 use Rattle.run_journal.proofs.Isolation.{no_next}
@@ -330,3 +330,41 @@ request_stays j sent entry past acks ready h = subst (OnRequest j sent) (sym (no
     by None [] nothing = nothing
     by None (x ∷ rs) h = elim h [ ]
     by (Some sent) rs (last k r e id cell) = last k (goes_on j entry past r) (last_mapped j entry past 0 rs k r e) id cell
+
+-- ---- what comes once a request is over
+
+still_idle : (j : Job) (r : Request) (ms : List Arrival) (m : Arrival) (clock : ℕ) → has_idle (with_news j r ms [] clock).io ≡ true
+    → has_idle (with_news j r (ms ++ m ∷ []) [] clock).io ≡ true
+still_idle j r ms m clock e = by (is_own j r m) refl
+  where
+    by : (b : Bool) → is_own j r m ≡ b → has_idle (with_news j r (ms ++ m ∷ []) [] clock).io ≡ true
+    by true f = ap (λ (s : Request). has_idle s.io) (io_adds j r ms m clock f) ∙ has_idle_more (with_news j r ms [] clock).io (m ∷ []) e
+    by false f = ap (λ (s : Request). has_idle s.io) (io_passes j r ms m clock f) ∙ e
+
+-- Once the idle has come, no further message on IOPub changes what was used.
+pub book_rests : (j : Job) (given : Notebook) (book : JobNotebook) (ms rest : List Arrival) (past : List Entry) (k : ℕ) (r : Request)
+    → last_request 0 (requests j past) ≡ Some (k, r) → has_idle (with_news j r ms [] (time past)).io ≡ true
+    → OnBook j given book (so_far j ms [] past) → OnBook j given book (so_far j (ms ++ rest) [] past)
+book_rests j given book ms [] past k r e h b = subst (λ xs. OnBook j given book (so_far j xs [] past)) (sym (append-nil ms)) b
+book_rests j given book ms (m ∷ rest) past k r e h b =
+    subst (λ xs. OnBook j given book (so_far j xs [] past)) (append_assoc ms (m ∷ []) rest)
+    (book_rests j given book (ms ++ m ∷ []) rest past k r e (still_idle j r ms m (time past) h) (book_passes j given book ms m past k r e (inr h) b))
+
+still_replied : (j : Job) (r : Request) (ms : List Arrival) (m : Arrival) (clock : ℕ) → is_some (reply (with_news j r [] ms clock)) ≡ true
+    → is_some (reply (with_news j r [] (ms ++ m ∷ []) clock)) ≡ true
+still_replied j r ms m clock e = by (is_reply j r m) refl
+  where
+    by : (b : Bool) → is_reply j r m ≡ b → is_some (reply (with_news j r [] (ms ++ m ∷ []) clock)) ≡ true
+    by true f =
+        ap (λ (s : Request). is_some (reply s)) (reply_adds j r ms m clock f)
+        ∙ ap is_some (first_still (with_news j r [] ms clock).replies (m, clock) e) ∙ e
+    by false f = ap (λ (s : Request). is_some (reply s)) (reply_passes j r ms m clock f) ∙ e
+
+-- Once the reply has come, no further message on shell changes what was used.
+pub book_replied : (j : Job) (given : Notebook) (book : JobNotebook) (ms rest : List Arrival) (past : List Entry) (k : ℕ) (r : Request)
+    → last_request 0 (requests j past) ≡ Some (k, r) → is_some (reply (with_news j r [] ms (time past))) ≡ true
+    → OnBook j given book (so_far j [] ms past) → OnBook j given book (so_far j [] (ms ++ rest) past)
+book_replied j given book ms [] past k r e h b = subst (λ xs. OnBook j given book (so_far j [] xs past)) (sym (append-nil ms)) b
+book_replied j given book ms (m ∷ rest) past k r e h b =
+    subst (λ xs. OnBook j given book (so_far j [] xs past)) (append_assoc ms (m ∷ []) rest)
+    (book_replied j given book (ms ++ m ∷ []) rest past k r e (still_replied j r ms m (time past) h) (book_ignores j given book ms m past k r e (inr h) b))

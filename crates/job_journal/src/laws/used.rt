@@ -62,6 +62,23 @@ pub fn replies_are_used()
         OnBook j first book (so_far j [] (ms ++ m ∷ []) past) }
 {}
 
+/// Once the idle of the last request has come, no further message on IOPub changes what was used,
+/// and once its reply has come, none on shell does.
+pub fn ended_requests_use_no_more()
+    ensures iopub { (j : Job) (first : notebook.Notebook) (book : book.JobNotebook)
+        (ms rest : List Arrival) (past : List Entry) (k : ℕ) (r : Request) →
+        last_request 0 (requests j past) ≡ Some (k, r) →
+        has_idle (with_news j r ms [] (time past)).io ≡ true →
+        OnBook j first book (so_far j ms [] past) →
+        OnBook j first book (so_far j (ms ++ rest) [] past) }
+    ensures shell { (j : Job) (first : notebook.Notebook) (book : book.JobNotebook)
+        (ms rest : List Arrival) (past : List Entry) (k : ℕ) (r : Request) →
+        last_request 0 (requests j past) ≡ Some (k, r) →
+        is_some (reply (with_news j r [] ms (time past))) ≡ true →
+        OnBook j first book (so_far j [] ms past) →
+        OnBook j first book (so_far j [] (ms ++ rest) past) }
+{}
+
 /// Before the first message of a piece, what was used is what was used for the requests; so it is
 /// after the last one, where no request comes to stand with the piece. An entry that brings no byte
 /// changes nothing of it, and where a request comes to stand its cell is begun.
