@@ -1,6 +1,10 @@
 # Completions of nbrun for bash. Files follow most options; a value that is no file gets none.
 _nbrun() {
     local word=$2 before=$3
+    if [[ ${COMP_WORDS[1]} == report && $COMP_CWORD == 2 ]]; then
+        COMPREPLY=($(compgen -W "script page notebook" -- "$word"))
+        return
+    fi
     case $before in
     -p | --parameters | -r | --parameters_raw | --start-timeout | --execution-timeout | --allow-error-name | --exercise) return ;;
     -k | --kernel)
