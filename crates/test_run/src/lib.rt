@@ -13,6 +13,8 @@ mod leaves;
 #[cfg(test)]
 mod notebooks;
 #[cfg(test)]
+mod numbers;
+#[cfg(test)]
 mod octets;
 #[cfg(test)]
 mod orders;
