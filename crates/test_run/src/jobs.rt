@@ -1,5 +1,5 @@
 //! Jobs over the world in memory.
-ghost use Rattle.std.specs.Prelude.{◌<◌, ◌≤◌, ◌^◌, All, IfOk, IfSome, length};
+ghost use Rattle.std.specs.Prelude.{◌<◌, ◌≤◌, ◌+◌, ◌^◌, All, IfOk, IfSome, length};
 ghost use Rattle.std.specs.List.{AllByRecursion};
 ghost use Rattle.words.specs.Runnable.{IsRunnable};
 
@@ -88,21 +88,22 @@ fn ask_of(alloc: Global, text: &str) -> Result<Option<Ask>, NoMemory>
     }
 }
 
-/// Runs these jobs side by side, with so many waits at most.
+/// Runs these jobs side by side, by their numbers from the first on, with so many waits at most.
 fn run_asks<W: World>(
     alloc: Global,
     w: &mut W,
     asks: Asks,
+    first: u8,
     turns: u64,
 ) -> Result<List<Answer>, NoMemory>
-    requires few { length asks ≤ 16 }
+    requires few { first + length asks ≤ 16 }
     requires runnable { AllByRecursion IsRunnable asks }
 {
     let limits = Limits {
         turns,
         here: Text::of(alloc, "/here")?,
     };
-    run_jobs(alloc, w, asks, &limits)
+    run_jobs(alloc, w, asks, first, &limits)
 }
 
 /// Runs the program with these words, and answers its exit status.
@@ -139,7 +140,24 @@ pub(crate) fn run_within<W: World>(
         return Ok(List::new(alloc));
     };
     asks.push(ask)?;
-    run_asks(alloc, w, asks, turns)
+    run_asks(alloc, w, asks, 0, turns)
+}
+
+/// Runs the job of these words alone, which has this number.
+pub(crate) fn run_from<W: World>(
+    alloc: Global,
+    w: &mut W,
+    words: &str,
+    number: u8,
+) -> Result<List<Answer>, NoMemory>
+    requires { number < 16 }
+{
+    let mut asks = Asks::new(alloc);
+    let Some(ask) = ask_of(alloc, words)? else {
+        return Ok(List::new(alloc));
+    };
+    asks.push(ask)?;
+    run_asks(alloc, w, asks, number, 100_000)
 }
 
 /// Runs the jobs of these words side by side.
@@ -158,5 +176,5 @@ pub(crate) fn run_two<W: World>(
     };
     asks.push(a)?;
     asks.push(b)?;
-    run_asks(alloc, w, asks, 100_000)
+    run_asks(alloc, w, asks, 0, 100_000)
 }

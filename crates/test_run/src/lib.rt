@@ -17,6 +17,8 @@ mod moments;
 #[cfg(test)]
 mod notebooks;
 #[cfg(test)]
+mod numbers;
+#[cfg(test)]
 mod octets;
 #[cfg(test)]
 mod orders;
