@@ -1,0 +1,3 @@
+pub mod WaveLemmas
+pub mod Assembly
+pub mod Least
