@@ -2,7 +2,7 @@
 use jtext::read;
 use nb_model::{Notebook, of_json, prepare};
 use out_fold::Fold;
-use progress_save::settle;
+use progress_save::{Step, settle};
 use samples::notebooks::TWO;
 use std::alloc::Global;
 use std::test::Fail;
@@ -33,7 +33,12 @@ fn stop(alloc: Global, n: &mut Notebook) -> Result<(), Fail> {
     }
     let mut fold = Fold::new(alloc, 2, false)?;
     fold.start(0);
-    let end = settle(alloc, n, &fold, 1, Some(0));
+    let first = Step {
+        from: 0,
+        to: 1,
+        stop: Some(0),
+    };
+    let end = settle(alloc, n, &fold, first);
     drop(fold);
     Ok(end?)
 }

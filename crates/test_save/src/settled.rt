@@ -8,7 +8,7 @@ use jtext::{Fields, Json, NoMemory, NumText, Text};
 use nb_model::Notebook;
 use nb_text::text;
 use out_fold::Fold;
-use progress_save::settle;
+use progress_save::{Step, settle};
 use samples::notebooks::TWO_SAVED;
 use std::alloc::Global;
 use std::test::Fail;
@@ -48,8 +48,8 @@ fn given(alloc: Global) -> Result<Content, NoMemory> {
     })
 }
 
-/// Executes the cell, which gets this count and whose request this message answers, and settles all
-/// cells up to it.
+/// Executes the cell, which gets this count and whose request this message answers, and settles it
+/// behind those before it.
 fn step(
     alloc: Global,
     n: &mut Notebook,
@@ -68,7 +68,12 @@ fn step(
 {
     fold.start(cell);
     execute(alloc, fold, count, content)?;
-    settle(alloc, n, fold, cell + 1, None)
+    let one = Step {
+        from: cell,
+        to: cell + 1,
+        stop: None,
+    };
+    settle(alloc, n, fold, one)
 }
 
 #[test]
