@@ -1,0 +1,4 @@
+pub mod MergingLemmas
+mod RowLemmas
+mod WrittenRows
+mod OnceLemmas
