@@ -16,7 +16,7 @@ use Rattle.cell_core.proofs.OverRuns.{standing_after, free_of}
 use Rattle.cell_core.proofs.Right.{act_from, act_saves}
 
 -- while the job hasn't stopped
-going : (task : Task) (event : Event) (past : List Event) → has_stopped task (heard task past) ≡ false → act_of task event past ≡ act_at task (event ∷ heard task past)
+pub going : (task : Task) (event : Event) (past : List Event) → has_stopped task (heard task past) ≡ false → act_of task event past ≡ act_at task (event ∷ heard task past)
 going task event past on = ap (λ (b : Bool). if b then Nothing else act_at task (event ∷ heard task past)) on
 
 pub save_due : (task : Task) (event : Event) (past : List Event) (n : ℕ) → has_stopped task (heard task past) ≡ false → IsAskedFor task n (event ∷ heard task past) → act_of task event past ≡ Save n
@@ -44,7 +44,7 @@ new_now event past (Some l) v e = absurd (let clash : Some (event ∷ l) ≡ Som
 new_now event past None v e = fails_before both_came refl past v
 
 -- an event by which no request comes to stand
-not_by : (task : Task) (k : ℕ) (event : Event) (past : List Event) → (event ≡ Saved → ⊥) → both_came (event ∷ past) ≡ both_came past → after task k (event ∷ past) ≡ Some [] → ⊥
+pub not_by : (task : Task) (k : ℕ) (event : Event) (past : List Event) → (event ≡ Saved → ⊥) → both_came (event ∷ past) ≡ both_came past → after task k (event ∷ past) ≡ Some [] → ⊥
 not_by task zero event past other same h = true≢false (sym (free_of task zero event past h) ∙ same ∙ new_now event past (since both_came past) refl h)
 not_by task (suc k) event past other same h = other (free_of task (suc k) event past h).0
 

@@ -14,6 +14,10 @@ pub mod OverRuns
 pub mod InOrder
 pub mod Looks
 pub mod AskedWhereDue
+pub mod Answering
+pub mod StopNames
+pub mod CauseSays
+pub mod ExampleActs
 pub mod LookTurns
 pub mod SendsLemmas
 pub mod StopsLemmas

@@ -122,18 +122,23 @@ pub free_of : (task : Task) (k : ℕ) (event : Event) (past : List Event) → af
 free_of task zero event past h = since_empty both_came event past (since both_came past) refl h
 free_of task (suc k) event past h = next_parts task k event past (since_empty (is_next task k (after task k)) event past (after task (suc k) past) refl h)
 
--- a request is sent where it comes to stand
-pub sent_where : (task : Task) (event : Event) (past : List Event) (i : ℕ) → act_of task event past ≡ Send i → IsSent task i event (heard task past)
-sent_where task event past i h =
+-- a request that is sent comes to stand as the last
+pub sent_last : (task : Task) (event : Event) (past : List Event) (i : ℕ) → act_of task event past ≡ Send i → (r : Standing) × (standing task (event ∷ heard task past) ≡ Some r) × (r.later ≡ []) × (cell_of task r.request ≡ i)
+sent_last task event past i h =
     elim (cases_Bool (has_stopped task (heard task past))) [
       | inl stopped ↦ (let clash : Nothing ≡ Send i = sym (ap (λ (b : Bool). if b then Nothing else act_at task (event ∷ heard task past)) stopped) ∙ h in absurd (cc))
       | inr on ↦
           let now = event ∷ heard task past in
           let act : act_at task now ≡ Send i = sym (ap (λ (b : Bool). if b then Nothing else act_at task now) on) ∙ h in
-          let r = answers_send task (standing task now) event (heard task past) i (act_send task now (pending_saves task now) (why task now) i act) in
-          let there : after task r.0.request now ≡ Some [] = standing_after task (length task.plan) now r.0 r.1 ∙ ap Some r.2 in
-          record { request = r.0.request; stands = there; cell_is = r.3; free = free_of task r.0.request event (heard task past) there }
+          answers_send task (standing task now) event (heard task past) i (act_send task now (pending_saves task now) (why task now) i act)
     ]
+
+-- a request is sent where it comes to stand
+pub sent_where : (task : Task) (event : Event) (past : List Event) (i : ℕ) → act_of task event past ≡ Send i → IsSent task i event (heard task past)
+sent_where task event past i h =
+    let r = sent_last task event past i h in
+    let there : after task r.0.request (event ∷ heard task past) ≡ Some [] = standing_after task (length task.plan) (event ∷ heard task past) r.0 r.1 ∙ ap Some r.2 in
+    record { request = r.0.request; stands = there; cell_is = r.3; free = free_of task r.0.request event (heard task past) there }
 
 -- Only a save that is due and a cause end the waiting.
 abbrev pub is_ending : Act → Bool

@@ -22,11 +22,11 @@ use Rattle.cell_core.specs.Stops.{asked_in, is_early, NamesCell, IsLastSave, IsE
 use Rattle.cell_core.proofs.RightClosing.{saved_is}
 
 -- the act ends the job
-abbrev ends_job : Act → Bool
+abbrev pub ends_job : Act → Bool
 ends_job (Stop why) = true
 ends_job _ = false
 
-abbrev why_of : Act → Why
+abbrev pub why_of : Act → Why
 why_of (Stop why) = why
 why_of _ = Done
 
@@ -36,7 +36,7 @@ count_of _ = 0
 
 -- ---- what is asked for is what is awaited
 
-abbrev Asks : Task → Moved → Type 0
+abbrev pub Asks : Task → Moved → Type 0
 Asks task to = (n : ℕ) → to.step.act ≡ Save n → asked_in task to.state ≡ n
 
 if_asks : (task : Task) (b : Bool) (x y : Moved) → Asks task x → Asks task y → Asks task (if b then x else y)
@@ -45,10 +45,10 @@ if_asks task false x y p q = q
 
 -- ---- a request that runs stops no job
 
-record Running_on (task : Task) (to : Moved) : Type 0 where
-  stop : ends_job to.step.act ≡ false
-  early : is_early to.state ≡ false
-  asks : Asks task to
+pub record Running_on (task : Task) (to : Moved) : Type 0 where
+  pub stop : ends_job to.step.act ≡ false
+  pub early : is_early to.state ≡ false
+  pub asks : Asks task to
 
 if_runs : (task : Task) (b : Bool) (x y : Moved) → Running_on task x → Running_on task y → Running_on task (if b then x else y)
 if_runs task true x y p q = p
@@ -74,7 +74,7 @@ late_runs task clock k None idle interrupted =
     if_runs task (task.times.interrupt && not interrupted) (move (running_state k None idle (Some (now_of clock + 10000)) true) false Interrupt) (fails task k TimedOut)
     (record { stop = refl; early = refl; asks = λ n is. absurd (cc) }) (fails_runs task k TimedOut)
 
-running_runs : (task : Task) (clock : Clock) (lost : Bool) (k : ℕ) (fatal : Option Bool) (idle : Bool) (due : Option ℕ) (interrupted : Bool) (event : Event)
+pub running_runs : (task : Task) (clock : Clock) (lost : Bool) (k : ℕ) (fatal : Option Bool) (idle : Bool) (due : Option ℕ) (interrupted : Bool) (event : Event)
     → Running_on task (in_running task clock lost k fatal idle due interrupted event)
 running_runs task clock lost k fatal true due interrupted (Io m) = stays_runs task k fatal true due interrupted false
 running_runs task clock lost k (Some f) false due interrupted (Io Idle) = ends_runs task k f

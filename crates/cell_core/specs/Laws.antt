@@ -1,14 +1,15 @@
 -- What holds of every list of events.
-use Rattle.std.specs.Prelude.{ℕ, zero, suc, List, [], ◌∷◌, ◌++◌, ◌+◌, ◌⊎◌, None, Some, true, false, ◌≡◌, map}
+use Rattle.std.specs.Prelude.{ℕ, zero, suc, List, [], ◌∷◌, ◌++◌, ◌+◌, ◌⊎◌, None, Some, is_some, IsSomeAnd, true, false, ◌≡◌, map}
 use Rattle.cell_core.specs.declared.event.Event.{Event}
 use Rattle.cell_core.specs.declared.event.Event.TheVariants.{Saved}
 use Rattle.cell_core.specs.declared.why.Why.{Why}
+use Rattle.cell_core.specs.declared.why.Why.TheVariants.{Done, CellError, NotReady, KernelLost, TimedOut, NoIdle, BadPeer}
 use Rattle.cell_core.specs.declared.act.Act.{Act}
 use Rattle.cell_core.specs.declared.act.Act.TheVariants.{Save}
 use Rattle.cell_core.specs.Task.{Task, cell_of}
-use Rattle.cell_core.specs.Requests.{after, both_came, is_over, is_passed_in, Standing, standing}
-use Rattle.cell_core.specs.Events.{ack_count}
-use Rattle.cell_core.specs.Saves.{Prefix, saves, pending_saves, why}
+use Rattle.cell_core.specs.Requests.{after, both_came, reply, is_over, is_fatal, is_passed_in, Standing, standing}
+use Rattle.cell_core.specs.Events.{is_broken, is_lost, came, look_since, ack_count}
+use Rattle.cell_core.specs.Saves.{Prefix, is_whole, saves, pending_saves, why}
 use Rattle.cell_core.specs.Acts.{act_of, heard, has_stopped}
 
 -- Request k stands and isn't over.
@@ -51,6 +52,12 @@ pub record ComesToStand (task : Task) (k : ℕ) (events : List Event) : Type 0 w
   pub request_is : last.request ≡ k
   pub new : last.later ≡ []
 
+-- the cell is that of the request that comes to stand at the newest event, the last
+pub record SendsLast (task : Task) (cell : ℕ) (events : List Event) : Type 0 where
+  pub request : ℕ
+  pub comes : ComesToStand task request events
+  pub cell_is : cell_of task request ≡ cell
+
 -- A job that goes on and awaits no save: the kernel is awaited after the first save, or the last request stands, isn't
 -- over, and each save before it is acknowledged.
 abbrev pub GoesOn : Task → List Event → Type 0
@@ -76,3 +83,15 @@ pub record IsAskedFor (task : Task) (settled : ℕ) (events : List Event) : Type
 pub record StopsBy (task : Task) (cause : Why) (events : List Event) : Type 0 where
   pub cause_is : why task events ≡ Some cause
   pub settled_all : pending_saves task events ≡ []
+
+-- What a cause says of the events that it stops. The plan is executed, a stream broke, or a look was done after a loss; no
+-- request stands at the start deadline; else the last request is over with a fatal reply, has a reply and isn't over, or has
+-- no reply.
+abbrev pub IsCausedBy : Why → Task → List Event → Type 0
+IsCausedBy Done task events = is_whole task (standing task events) ≡ true
+IsCausedBy CellError task events = IsSomeAnd (standing task events) (λ last. (is_over last.later ≡ true) × (is_fatal last.later ≡ true))
+IsCausedBy NotReady task events = standing task events ≡ None
+IsCausedBy KernelLost task events = look_since is_lost events ≡ true
+IsCausedBy TimedOut task events = IsSomeAnd (standing task events) (λ last. reply last.later ≡ None)
+IsCausedBy NoIdle task events = IsSomeAnd (standing task events) (λ last. (is_some (reply last.later) ≡ true) × (is_over last.later ≡ false))
+IsCausedBy BadPeer task events = came is_broken events ≡ true

@@ -12,3 +12,4 @@ pub mod Allowed
 pub mod LastLooks
 pub mod Sending
 pub mod Stops
+pub mod Answering

@@ -4,9 +4,10 @@ use Rattle.cell_core.specs.declared.machine.Core.{Core}
 use Rattle.cell_core.specs.declared.state.State.{State}
 use Rattle.cell_core.specs.declared.state.State.TheVariants.{Preparing, Starting, Running, Passing, Closing, Failing, Stopped}
 use Rattle.cell_core.specs.declared.why.Why.{Why}
-use Rattle.cell_core.specs.declared.why.Why.TheVariants.{Done, NotReady, KernelLost, BadPeer}
+use Rattle.cell_core.specs.declared.why.Why.TheVariants.{Done, CellError, NotReady, KernelLost, TimedOut, NoIdle, BadPeer}
 use Rattle.cell_core.specs.StandsFor.{task_of, failing_in}
 use Rattle.cell_core.specs.Task.{Task, cell_of}
+use Rattle.cell_core.specs.Requests.{Standing}
 
 -- how many cells the save settles that was asked for and isn't acknowledged
 abbrev pub asked_in : Task → State → ℕ
@@ -53,3 +54,17 @@ IsEarly NotReady = Unit {0}
 IsEarly KernelLost = Unit {0}
 IsEarly BadPeer = Unit {0}
 IsEarly _ = ⊥
+
+-- The stopping cell of a job that stops for this cause, by the last request that stands: the cell of that request. None where no
+-- request stands, or where the plan is executed.
+abbrev pub cell_at_stop : Task → Why → Option Standing → Option ℕ
+cell_at_stop task Done last = None
+cell_at_stop task cause None = None
+cell_at_stop task cause (Some last) = Some (cell_of task last.request)
+
+-- a cause that stops a job only while a request stands
+abbrev pub is_of_request : Why → Bool
+is_of_request CellError = true
+is_of_request TimedOut = true
+is_of_request NoIdle = true
+is_of_request _ = false

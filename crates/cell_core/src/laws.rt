@@ -1,15 +1,17 @@
 //! What holds of every list of events, by the definitions that the core's calls answer by.
-ghost use Rattle.std.specs.Prelude.{◌≡◌, ℕ, ◌<◌, ◌≤◌, false, None, List, [], ◌∷◌};
+ghost use Rattle.std.specs.Prelude.{◌≡◌, ℕ, ◌<◌, ◌≤◌, true, false, Some, None, List, [], ◌∷◌, ◌⊎◌};
 ghost use Rattle.std.specs.Option.{ForSome};
 ghost use Rattle.cell_core.specs.declared.event.Event.{Event};
-ghost use Rattle.cell_core.specs.declared.event.Event.TheVariants.{Lost, Moment};
-ghost use Rattle.cell_core.specs.Events.{time};
+ghost use Rattle.cell_core.specs.declared.event.Event.TheVariants.{Saved, Ready, Lost, Moment};
+ghost use Rattle.cell_core.specs.Events.{is_saved, time};
+ghost use Rattle.cell_core.specs.Requests.{is_over, Standing, standing};
 ghost use Rattle.cell_core.specs.declared.why.Why.{Why};
-ghost use Rattle.cell_core.specs.declared.act.Act.TheVariants.{Send, Save, Stop};
+ghost use Rattle.cell_core.specs.declared.act.Act.TheVariants.{Send, Interrupt, Save, Stop};
 ghost use Rattle.cell_core.specs.Task.{Task, cell_of};
 ghost use Rattle.cell_core.specs.Acts.{act_of, heard, has_stopped, awaits_saved, wants_look_of, IsTimely, Meets};
+ghost use Rattle.cell_core.specs.Answering.{is_message, can_answer, save_at_end};
 ghost use Rattle.cell_core.specs.LastLooks.{TakesTurns};
-ghost use Rattle.cell_core.specs.Laws.{IsOpen, IsSent, IsAskedFor, StopsBy, ComesToStand, GoesOn, AsksInOrder};
+ghost use Rattle.cell_core.specs.Laws.{IsOpen, IsSent, SendsLast, IsAskedFor, StopsBy, IsCausedBy, ComesToStand, GoesOn, AsksInOrder};
 ghost use Rattle.cell_core.specs.Saves.{pending_saves, why};
 ghost use Rattle.cell_core.specs.StandsFor.{StandsFor, awaits_saved_of, task_of};
 
@@ -26,6 +28,12 @@ pub fn one_request_at_a_time()
 pub fn sent_where_it_stands()
     ensures { (task : Task) (event : Event) (past : List Event) (cell : ℕ)
         → act_of task event past ≡ Send cell → IsSent task cell event (heard task past) }
+{}
+
+/// A request that is sent comes to stand as the last.
+pub fn the_last_is_sent()
+    ensures { (task : Task) (event : Event) (past : List Event) (cell : ℕ)
+        → act_of task event past ≡ Send cell → SendsLast task cell (event ∷ heard task past) }
 {}
 
 /// A save is asked for only where it is the first that is due, and the job stops only by its cause,
@@ -97,4 +105,62 @@ pub fn in_time_by_turns()
 pub fn saves_in_order()
     ensures { (task : Task) (events : List Event) → Meets task events
         → ForSome task.times.limit_ms (λ limit. 0 < limit) → AsksInOrder task events }
+{}
+
+/// While nothing has stopped the job, each event was heard.
+pub fn all_are_heard()
+    ensures { (task : Task) (told : List Event) → has_stopped task (heard task told) ≡ false
+        → heard task told ≡ told }
+{}
+
+/// While a job runs, a message or a reply asks for the save after the last request exactly where
+/// the request is over by it, and else for nothing.
+pub fn messages_end_requests(core: &Core)
+    ensures { (event : Event) (told : List Event) → StandsFor core.now told
+        → awaits_saved_of core.now ≡ false
+        → has_stopped (task_of core.now) (heard (task_of core.now) told) ≡ false
+        → is_message event ≡ true
+        → act_of (task_of core.now) event told
+        ≡ save_at_end (task_of core.now) (standing (task_of core.now) (event ∷ told)) }
+{
+    let _ = core;
+}
+
+/// While a job runs, the last request that stands isn't over.
+pub fn running_requests_go_on(core: &Core)
+    ensures { (told : List Event) (last : Standing) → StandsFor core.now told
+        → awaits_saved_of core.now ≡ false
+        → has_stopped (task_of core.now) (heard (task_of core.now) told) ≡ false
+        → standing (task_of core.now) told ≡ Some last → is_over last.later ≡ false }
+{
+    let _ = core;
+}
+
+/// A job that wants no interrupts is never answered by one.
+pub fn interrupts_are_asked_for()
+    ensures { (task : Task) (event : Event) (past : List Event) → task.times.interrupt ≡ false
+        → act_of task event past ≡ Interrupt → ⊥ }
+{}
+
+/// A request is sent only at an acknowledged save or as the kernel becomes ready.
+pub fn only_starts_send()
+    ensures { (task : Task) (event : Event) (past : List Event) (cell : ℕ)
+        → act_of task event past ≡ Send cell → (event ≡ Saved) ⊎ (event ≡ Ready) }
+{}
+
+/// While nothing has stopped the job, an event that comes where it may, and in time, is answered by
+/// an act of its kind.
+pub fn events_have_their_acts(core: &Core)
+    ensures { (event : Event) (told : List Event) → StandsFor core.now told
+        → is_saved event ≡ awaits_saved_of core.now → IsTimely (task_of core.now) event told
+        → has_stopped (task_of core.now) (heard (task_of core.now) told) ≡ false
+        → can_answer event (act_of (task_of core.now) event told) ≡ true }
+{
+    let _ = core;
+}
+
+/// A cause of a stop says what stands of the last request, or what came.
+pub fn causes_say()
+    ensures { (task : Task) (events : List Event) (cause : Why) → why task events ≡ Some cause
+        → IsCausedBy cause task events }
 {}

@@ -43,9 +43,10 @@ impl Core {
     ghost use Rattle.cell_core.specs.Task.{cell_of};
     ghost use Rattle.cell_core.specs.Sending.{next_of, saves_ahead, IsInOrder, SendsOn};
     ghost use Rattle.cell_core.specs.StandsFor.{StandsFor, task_of, failing_in, awaits_saved_of};
-    ghost use Rattle.cell_core.specs.Acts.{act_of, takes_of, failing_of, due_of, wants_look_of, IsTimely};
+    ghost use Rattle.cell_core.specs.Acts.{act_of, takes_of, failing_of, due_of, wants_look_of, heard, IsTimely};
     ghost use Rattle.cell_core.specs.Events.{is_saved};
-    ghost use Rattle.cell_core.specs.Stops.{asked_of, stopping_of, is_starting, IsLastSave, IsEarly};
+    ghost use Rattle.cell_core.specs.Stops.{asked_of, stopping_of, cell_at_stop, is_of_request, is_starting, NamesCell, IsLastSave, IsEarly};
+    ghost use Rattle.cell_core.specs.Requests.{standing};
     ghost use Rattle.std.specs.Prelude.{◌⊎◌};
     ghost use Rattle.cell_core.specs.declared.act.Act.TheVariants as act;
     ghost use Rattle.cell_core.specs.declared.why.Why.{Why as TheCause};
@@ -112,6 +113,20 @@ impl Core {
             → result.act ≡ act.Stop why → (IsEarly why × (is_starting self.old ≡ true))
             ⊎ ((e ≡ event.Saved)
             × IsLastSave (task_of self.old) why (asked_of self.old) (stopping_of self.old)) }
+
+        // A save that answers the acknowledgement of another names no stopping cell.
+        ensures closes { is_saved e ≡ true → is_save result.act ≡ true
+            → stopping_of self.new ≡ None }
+
+        // Only a save changes the stopping cell. That of a stop is the cell of the request that
+        // stands last: none where none stands, or where the plan is executed.
+        ensures keeps { is_save result.act ≡ false → stopping_of self.new ≡ stopping_of self.old }
+        ensures names { (events : List TheEvent) → StandsFor self.old events → (why : TheCause)
+            → result.act ≡ act.Stop why → stopping_of self.new ≡ cell_at_stop
+            (task_of self.old) why (standing (task_of self.old) (heard (task_of self.old) events)) }
+        ensures cell { (why : TheCause) → result.act ≡ act.Stop why → is_of_request why ≡ true
+            → (e ≡ event.Saved)
+            × NamesCell (task_of self.old) (asked_of self.old) (stopping_of self.old) }
 
         // The kernel is awaited from the first save on, which settles no cell.
         ensures starts { is_starting self.new ≡ true → (is_starting self.old ≡ true)

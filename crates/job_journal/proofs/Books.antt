@@ -92,7 +92,7 @@ has_last n (x ∷ y ∷ rs) k r e =
     record { front = x ∷ h.front; split = ap (λ v. x ∷ v) h.split; count = omega (arith, c) }
 
 -- what is used for requests, and for one more
-used_append : (plan : List ℕ) (front : List Request) (r : Request) → length front < length plan
+pub used_append : (plan : List ℕ) (front : List Request) (r : Request) → length front < length plan
     → used_of plan (front ++ r ∷ []) ≡ used_of plan front ++ use_of (slice_index plan (length front)) r ∷ []
 used_append [] front r h = absurd (omega (arith, h))
 used_append (i ∷ []) [] r h = refl
@@ -237,7 +237,7 @@ pub book_begins : (j : Job) (given : Notebook) (book : JobNotebook) (past : List
 book_begins j given book past b = subst (OnBook j given book) (sym (same_messages j (time past) (requests j past))) b
 
 -- no request comes to stand with an entry by which no save is acknowledged and no kernel becomes ready
-none_anew : (j : Job) (entry : Entry) (past : List Entry) → is_acknowledging j (entry ∷ past) ≡ false → is_ready j (entry ∷ past) ≡ is_ready j past
+pub none_anew : (j : Job) (entry : Entry) (past : List Entry) → is_acknowledging j (entry ∷ past) ≡ false → is_ready j (entry ∷ past) ≡ is_ready j past
     → requests j (entry ∷ past) ≡ map (goes_on j entry past) (requests j past)
 none_anew j entry past acks ready =
     cond-false (is_next j (is_acknowledging j (entry ∷ past)) (is_ready j (entry ∷ past)) (saves_of j (entry ∷ past)) (map (goes_on j entry past) (requests j past))) _ _
@@ -296,7 +296,7 @@ parent_is j sent rs k r parent (last n q e id cell) f =
     let same : (n, q) ≡ (k, r) = same_Some _ _ (sym e ∙ f) in
     ap (λ i. bytes_eq i parent) id ∙ ap (λ (p : ℕ × Request). bytes_eq (j.msg_id p.1.number) parent) same
 
-last_after : (n : ℕ) (rs : List Request) (r : Request) → last_request n (rs ++ r ∷ []) ≡ Some (n + length rs, r)
+pub last_after : (n : ℕ) (rs : List Request) (r : Request) → last_request n (rs ++ r ∷ []) ≡ Some (n + length rs, r)
 last_after n [] r = let z : n ≡ n + 0 = omega arith in ap (λ i. Some (i, r)) z
 last_after n (x ∷ []) r = let z : n + 1 ≡ n + suc 0 = omega arith in ap (λ i. Some (i, r)) z
 last_after n (x ∷ y ∷ rs) r =

@@ -46,7 +46,7 @@ unfolding history
 next_history s j c entry past = refl
 
 -- no bytes come on a connection by an entry that isn't of bytes got on it
-comes_none : (j : Job) (c : Chan) (entry : Entry) (h : History) → is_got_at (place j c) entry ≡ false → comes j c entry h ≡ h
+pub comes_none : (j : Job) (c : Chan) (entry : Entry) (h : History) → is_got_at (place j c) entry ≡ false → comes j c entry h ≡ h
 comes_none j c (made.Got conn room bytes) h e = cond-false (is_at (place j c) conn) _ _ e
 comes_none j c _ h e = refl
 

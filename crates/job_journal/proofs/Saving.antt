@@ -4,7 +4,7 @@ use Rattle.std.specs.Prelude.{◌==◌, nat_lt, slice_get, slice_index, drop}
 use Rattle.std.proofs.Math.Bool.{true≢false, and-true}
 use Rattle.std.proofs.lemmas.Bool.{and_parts, cond-true, cond-false, cond_both, cases_Bool, eqb-true, lt-ltb, false_from_ne_true}
 use Rattle.std.proofs.lemmas.Option.{same_Some}
-use Rattle.std.proofs.lemmas.List.{nil_from_length}
+use Rattle.std.proofs.lemmas.List.{length-map, nil_from_length}
 use Rattle.world.specs.declared.entry.Entry.{Entry}
 use Rattle.cell_core.specs.declared.event.Event.{Event}
 use Rattle.cell_core.specs.declared.act.Act.{Act}
@@ -283,6 +283,36 @@ module _ (j : Job) (told : List Event) (past : List Entry) (a : Agrees j told pa
   pub next_save : 0 < length j.task.plan → (p : core_saves.Prefix) → slice_get (core_saves.saves j.task told) (events.ack_count told) ≡ Some p
       → slice_get (run_saves j (requests j past) (core_saves.why j.task told)) (saves_of j past) ≡ Some (save_of j us p)
   next_save plan p e = saves_are plan (saves_of j past) p (few_requests j past).0 (ap (slice_get (core_saves.saves j.task told)) (sym a.acked) ∙ e)
+
+  -- The saves of the prepared notebook and of passed requests name no stopping cell.
+  pub unnamed : (i : ℕ) (p : core_saves.Prefix) → i < length (save j [] 0 None ∷ Q) → slice_get (core_saves.saves j.task told) i ≡ Some p → p.stopping_cell ≡ None
+  unnamed i p h e =
+      let front : List core_saves.Prefix = core_saves.after_preparation ∷ P in
+      let stops : List core_saves.Prefix = core_saves.stopping j.task (core.standing j.task told) (core_saves.why j.task told) in
+      let same : length P ≡ length Q
+      = sym (ap (λ (v : List core_saves.Prefix). length v) passed_is) ∙ length-map (settled_by Q) plain ∙ length-map Q (λ (s : Save). s.settled) in
+      let short : i < length front = omega (arith, h, same) in
+      let longer = length-append front stops in
+      plain_at front i p (ap (λ v. core_saves.after_preparation ∷ v) (all_plain j.task (length j.task.plan) told))
+      (sym (get_front front stops i short) ∙ sym (get_front (front ++ stops) (core_saves.closing j.task told) i (omega (arith, short, longer))) ∙ e)
+    where
+      get_front : (xs ys : List core_saves.Prefix) (i : ℕ) → i < length xs → slice_get (xs ++ ys) i ≡ slice_get xs i
+      get_front [] ys i h = absurd (omega (arith, h))
+      get_front (x ∷ xs) ys zero h = refl
+      get_front (x ∷ xs) ys (suc i) h = get_front xs ys i (omega (arith, h))
+
+      first_is : {x y : core_saves.Prefix} {xs ys : List core_saves.Prefix} → x ∷ xs ≡ y ∷ ys → x ≡ y
+      first_is e = cc
+
+      rest_is : {x y : core_saves.Prefix} {xs ys : List core_saves.Prefix} → x ∷ xs ≡ y ∷ ys → xs ≡ ys
+      rest_is e = cc
+
+      plain_at : (xs : List core_saves.Prefix) (i : ℕ) (p : core_saves.Prefix) → map plain (settles xs) ≡ xs → slice_get xs i ≡ Some p → p.stopping_cell ≡ None
+      plain_at [] i p e f = cc
+      plain_at (x ∷ xs) zero p e f =
+          let one : plain x.settled ≡ x = first_is e in
+          ap (λ (q : core_saves.Prefix). q.stopping_cell) (sym (same_Some _ _ f)) ∙ ap (λ (q : core_saves.Prefix). q.stopping_cell) (sym one)
+      plain_at (x ∷ xs) (suc i) p e f = plain_at xs i p (rest_is e) f
 
 -- ---- what the core asks for
 

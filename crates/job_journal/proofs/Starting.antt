@@ -98,7 +98,7 @@ sends_by task e told cell m [] None f = by m (core.standing task (e ∷ told)) r
     by ready (Some s) g h = sends_if task (event.Ready ∷ told) s cell g h
 
 -- the act, while nothing has stopped the job
-act_is : (j : Job) (told : List Event) (e : Event) → has_stopped j.task (heard j.task told) ≡ false → act_of j.task e told ≡ act_at j.task (e ∷ told)
+pub act_is : (j : Job) (told : List Event) (e : Event) → has_stopped j.task (heard j.task told) ≡ false → act_of j.task e told ≡ act_at j.task (e ∷ told)
 act_is j told e on =
     cond-false (has_stopped j.task (heard j.task told)) act.Nothing (act_at j.task (e ∷ heard j.task told)) on
     ∙ ap (λ es. act_at j.task (e ∷ es)) (unstopped_heard j told on)

@@ -107,7 +107,7 @@ asks_at j ms past =
 
 -- ---- numbers, where no interrupt is asked for
 
-counted : {X : Type 0} (f : X → Bool) (xs ys : List X) → count_by f (xs ++ ys) ≡ count_by f xs + count_by f ys
+pub counted : {X : Type 0} (f : X → Bool) (xs ys : List X) → count_by f (xs ++ ys) ≡ count_by f xs + count_by f ys
 counted f xs ys = sum_by-append (λ x. cond (f x) 1 0) xs ys
 
 one_counted : {X : Type 0} (f : X → Bool) (x : X) → count_by f (x ∷ []) ≡ cond (f x) 1 0
@@ -131,7 +131,7 @@ requests_grow j entry past =
     (λ e. inr (length-append rs (anew j entry past ∷ []) ∙ ap (λ n. n + 1) same)) (λ e. inl same)
 
 module _ (j : Job) (plain : j.task.times.interrupt ≡ false) where
-  never : (now : List Entry) (r : Request) → is_interrupted j now r ≡ false
+  pub never : (now : List Entry) (r : Request) → is_interrupted j now r ≡ false
   unfolding is_interrupted
   never now r =
       and_left (((j.task.times.interrupt && not (is_some (reply r))) && is_just_out j now (deadline j r)) && not (is_broken j now)) (not (is_lost j now))
@@ -194,7 +194,7 @@ module _ (j : Job) (plain : j.task.times.interrupt ≡ false) where
       let one : grown a b q ≡ q ∷ [] = cond-true (nat_lt a b) (q ∷ []) [] (lt-ltb a b (omega (arith, e))) in
       e ∙ sym (ap (λ qs. a + count_by has_number qs) one ∙ ap (λ n. a + n) (one_counted has_number q ∙ ap (λ x. cond x 1 0) h))
 
-  unnumbered : (a b : ℕ) (q : Queued) → has_number q ≡ false → count_by has_number (grown a b q) ≡ 0
+  pub unnumbered : (a b : ℕ) (q : Queued) → has_number q ≡ false → count_by has_number (grown a b q) ≡ 0
   unnumbered a b q h = cond_both (nat_lt a b) (q ∷ []) [] (λ qs. count_by has_number qs ≡ 0) (λ e. one_counted has_number q ∙ ap (λ x. cond x 1 0) h) (λ e. refl)
 
   ids_grow : (a : Asked) (can : Bool) (clock : Option ℕ) (id : List ℕ) (shell iopub : List Arrival)
@@ -234,14 +234,14 @@ module _ (j : Job) (plain : j.task.times.interrupt ≡ false) where
 
 -- ---- what is queued at an entry
 
-none_grown : (a b : ℕ) (q : Queued) → b ≡ a → grown a b q ≡ []
+pub none_grown : (a b : ℕ) (q : Queued) → b ≡ a → grown a b q ≡ []
 none_grown a b q e = cond-false (nat_lt a b) (q ∷ []) [] (le-ltb a b (omega (arith, e)))
 
-one_grown : (a b : ℕ) (q : Queued) → b ≡ a + 1 → grown a b q ≡ q ∷ []
+pub one_grown : (a b : ℕ) (q : Queued) → b ≡ a + 1 → grown a b q ≡ q ∷ []
 one_grown a b q e = cond-true (nat_lt a b) (q ∷ []) [] (lt-ltb a b (omega (arith, e)))
 
 -- the four kinds of messages, where each list is known
-four : (I E T P i e t p : List Queued) → I ≡ i → E ≡ e → T ≡ t → P ≡ p → ((I ++ E) ++ T) ++ P ≡ ((i ++ e) ++ t) ++ p
+pub four : (I E T P i e t p : List Queued) → I ≡ i → E ≡ e → T ≡ t → P ≡ p → ((I ++ E) ++ T) ++ P ≡ ((i ++ e) ++ t) ++ p
 four I E T P i e t p f g h k = cc
 
 module _ (j : Job) (plain : j.task.times.interrupt ≡ false) (entry : Entry) (past : List Entry) where

@@ -7,3 +7,6 @@ pub mod Talk
 pub mod Saved
 pub mod Made
 pub mod Starting
+pub mod Standing
+pub mod Quiet
+pub mod Piece

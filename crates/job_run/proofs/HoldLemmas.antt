@@ -34,6 +34,7 @@ holds_told x core act h same sends heard =
       begun = begun;
       settled = settled;
       asked = h.asked;
+      sent = h.sent;
       early = h.early;
       heard = heard;
     }

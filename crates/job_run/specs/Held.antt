@@ -14,13 +14,15 @@ use Rattle.job_run.specs.Told.{Hears, StopsFor}
 use Rattle.job_run.specs.Counted.{IsCounted}
 use Rattle.job_run.specs.declared.execution.Execution.{Execution}
 
--- the cells to run are in order, no cell has begun or is settled beyond those of the core, and the core was told what came
+-- the cells to run are in order, no cell has begun or is settled beyond those of the core, no more requests were sent than cells begun,
+-- and the core was told what came
 pub record Holds (x : Execution) : Type 0 where
   pub ordered : IsInOrder (task_of x.core)
   pub cells : length (notebook_of x.book).cells ≡ (task_of x.core).cells
   pub begun : begun_of x.book ≤ next_of x.core
   pub settled : settled_of x.book ≤ next_of x.core
   pub asked : is_some x.request ≡ true → 0 < begun_of x.book
+  pub sent : x.sent ≤ begun_of x.book
   pub early : x.clock < 2 ^ 47
   pub heard : Hears x.core x.clock (is_some x.broken)
 

@@ -6,6 +6,9 @@ pub mod Left
 pub mod Pings
 pub mod Queues
 pub mod Run
+pub mod Said
+pub mod Standing
 pub mod Steps
 pub mod Task
 pub mod Told
+pub mod Used

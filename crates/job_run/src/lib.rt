@@ -6,6 +6,7 @@
 
 mod agenda;
 mod execution;
+mod fresh;
 mod hearing;
 mod histories;
 mod job;
@@ -18,6 +19,7 @@ mod stepping;
 mod telling;
 mod terms;
 mod turning;
+mod using;
 
 pub use agenda::Agenda;
 pub use execution::earlier;

@@ -37,6 +37,29 @@ impl Execution {
     ghost use Rattle.job_saves.specs.Course.{stays_open, keeps_open};
     ghost use Rattle.cell_core.specs.declared.act.Act.TheVariants.{Nothing};
     ghost use Rattle.job_run.specs.Steps.{Proceeds, OnlySaves};
+    ghost use Rattle.job_run.specs.Used.{TakesEvent};
+    ghost use Rattle.world.specs.declared.entry.Entry.{Entry};
+    ghost use Rattle.cell_core.specs.Answering.{can_answer};
+    ghost use Rattle.job_journal.specs.Plot.{Plot};
+    ghost use Rattle.job_run.specs.Standing.{DoesAct, IsToSave, StandsToOrEnds, StaysStill};
+    ghost use Rattle.std.specs.Prelude.{List as Bytes, Some, slice_get, codes, not, ◌||◌};
+    ghost use Rattle.world.specs.declared.chan.Chan.TheVariants as channel;
+    ghost use Rattle.zmtp_wire.specs.Meaning.{is_shaken};
+    ghost use Rattle.nb_model.specs.declared.cell.Cell.{Cell};
+    ghost use Rattle.jcontent.specs.Requests.{empty};
+    ghost use Rattle.kernel_lines.specs.Happened.{History, came_in};
+    ghost use Rattle.kernel_lines.specs.Line.{StandsFor, role_of};
+    ghost use Rattle.kernel_lines.specs.Lines.{line_on};
+    ghost use Rattle.std.specs.Prelude.{None};
+    ghost use Rattle.nb_model.specs.declared.notebook.Notebook.{Notebook};
+    ghost use Rattle.nb_text.specs.Notebooks.{text_of};
+    ghost use Rattle.said_lines.specs.Between.{SayFailed};
+    ghost use Rattle.out_fold.specs.declared.used.Used.{Used};
+    ghost use Rattle.progress_save.specs.Prefix.{prefix};
+    ghost use Rattle.progress_save.specs.Saved.{line_of};
+    ghost use Rattle.job_notebook.specs.State.{Keeps, merge_of, notebook_of};
+    ghost use Rattle.job_saves.specs.Saving.{OnTried, SavesOrEnds, SavesOrEndsSilently};
+    ghost use Rattle.job_run.specs.Said.{IsRequestOf, QueuesNext, SendsCell, ShutsDown, asks_for};
 
     /// Tells the core of one event, and does what it answers. `Err` where the job ends so.
     pub(crate) fn step<W: Disk + Say>(&mut self, w: &mut W, e: Event) -> Result<(), End>
@@ -69,6 +92,8 @@ impl Execution {
         ensures task { task_of self.new.core ≡ task_of self.old.core }
         ensures counts { (n : OutputAt) → IsCounted self.old Act.Nothing n →
             IsCounted self.new result.act n }
+        ensures rest { self.new ≡ record self.old { core = self.new.core } }
+        ensures takes { TakesEvent e result self.old.core self.new.core }
     {
         self.core.step(e)
     }
@@ -80,6 +105,12 @@ impl Execution {
         ensures goes { Proceeds W.journal W.counts w.old w.new self.old self.new act result }
         ensures saves { OnlySaves W.journal w.old w.new self.old.book }
         ensures asks { OnOk result (AsksOnce self.old self.new) }
+        // Where what the act is for is due by the journal, the execution stands for the journal
+        // again. Behind a save a further request was sent, or none was yet.
+        ensures stands { (p : Plot) (number : ℕ) → Told (W.journal w.old) (W.journal w.new)
+            (DoesAct p number self.old act self.new result) }
+        ensures still { act ≡ Nothing → StaysStill self.old self.new result ×
+            (W.journal w.new ≡ W.journal w.old) }
     {
         let mut act = act;
         while let Act::Save(settled) = act {
@@ -108,6 +139,11 @@ impl Execution {
             IsCountedAt o self.old Act.Nothing (W.journal w.old) →
             CountsFor o self.new result (W.journal w.new) }
         ensures asks { self.new.session ≡ self.old.session }
+        ensures sent { self.new.sent ≡ self.old.sent }
+        ensures kind { IfOk result (λ act. can_answer Event.Saved act ≡ true) }
+        ensures stands { (p : Plot) (number : ℕ) → Told (W.journal w.old) (W.journal w.new)
+            (λ before after. IsToSave p number self.old settled before →
+            StandsToOrEnds p number self.new result after) }
     {
         self.save(w, settled)?;
         Ok(self.core.step(Event::Saved).act)
@@ -128,6 +164,9 @@ impl Execution {
         ensures own { IfErr result (EndsBy (task_of self.new.core)) }
         ensures counts { (n : OutputAt) → IsCounted self.old act n → IsCountedOn self.new result n }
         ensures asks { OnOk result (Asks (requests_of act) self.old self.new) }
+        ensures stands { (p : Plot) (number : ℕ) (now : Bytes Entry) →
+            DoesAct p number self.old act self.new result now now }
+        ensures still { act ≡ Nothing → StaysStill self.old self.new result }
     {
         match act {
             Act::Send(cell) => self.send(cell),
@@ -167,6 +206,22 @@ impl Execution {
             IfSome (W.journal w.new) (λ past.
             IsLeft (output_at o past) settled (stopping_of self.old.core))) }
         ensures asks { self.new.session ≡ self.old.session }
+        // What it saves: that prefix of the notebook, for just what was used. What it adds to the
+        // journal, by its answer.
+        ensures prefix { OnTried result ((first : Notebook) (us : Bytes Used) →
+            Keeps self.old.book first us → notebook_of self.new.book ≡
+            prefix (merge_of self.old.book) us settled (stopping_of self.old.core) first) }
+        ensures keeps { OnOk result (stopping_of self.old.core ≡ None → (first : Notebook)
+            (us : Bytes Used) → Keeps self.old.book first us → Keeps self.new.book first us) }
+        ensures entries { Told (W.journal w.old) (W.journal w.new)
+            (SavesOrEnds (output_of self.old.book) (text_of (notebook_of self.new.book))
+            (line_of (output_of self.old.book) settled (notebook_of self.new.book))
+            (SayFailed W.counts w.new) result) }
+        ensures silent { SayFailed W.counts w.old → Told (W.journal w.old) (W.journal w.new)
+            (SavesOrEndsSilently (output_of self.old.book) (text_of (notebook_of self.new.book))
+            result) }
+        ensures merge { merge_of self.new.book ≡ merge_of self.old.book }
+        ensures rest { self.new ≡ record self.old { book = self.new.book } }
     {
         let stop = self.core.failing();
         save_next(w, &mut self.book, settled, stop)
@@ -189,11 +244,13 @@ impl Execution {
         ensures counts { (n : OutputAt) → IsCounted self.old Act.Nothing n →
             IsCountedOn self.new result n }
         ensures asks { OnOk result (Asks 1 self.old self.new) }
+        ensures sends { OnOk result ((c : Cell) → slice_get (notebook_of self.old.book).cells cell ≡
+            Some c → SendsCell cell c self.old self.new) }
     {
         laws::messages_stay_on_course();
         let request = self.request_of(cell)?;
         self.book.start(cell);
-        self.sent = self.sent.saturating_add(1);
+        self.sent += 1;
         self.request = Some(request);
         Ok(())
     }
@@ -206,11 +263,18 @@ impl Execution {
         ensures book { self.new.book ≡ self.old.book }
         ensures told { KeepsTold self.old self.new }
         ensures asks { OnOk result (Asks 1 self.old self.new) }
+        ensures said { IsSaid self.old self.new }
+        ensures queues { OnOk result ((c : Cell) → slice_get (notebook_of self.old.book).cells cell ≡
+            Some c → QueuesNext channel.Shell (codes "execute_request")
+            (asks_for self.old.terms c) self.old self.new) }
+        ensures request { IfOk result (λ r. (c : Cell) →
+            slice_get (notebook_of self.old.book).cells cell ≡ Some c →
+            IsRequestOf cell c self.old r) }
     {
         let source = &self.book.notebook().cells.as_slice()[cell as usize];
         let text = code(self.alloc, source)?;
         let is_tagged = tagged(source, RAISES);
-        let stops = !(self.terms.all_errors || is_tagged);
+        let stops = self.stops_kernel(is_tagged);
         let content = execute_content(self.alloc, &text, stops)?;
         self.say(Chan::Shell, "execute_request", content)?;
         let id = self.session.id(self.session.made())?;
@@ -222,21 +286,32 @@ impl Execution {
         })
     }
 
+    // Whether the kernel is to drop what is queued behind a cell that raises.
+    fn stops_kernel(&self, is_tagged: bool) -> bool
+        ensures { result ≡ not (self.now.terms.all_errors || is_tagged) }
+    {
+        !(self.terms.all_errors || is_tagged)
+    }
+
     // Queues a request of this kind on the channel.
     pub(crate) fn say(&mut self, chan: Chan, kind: &str, content: Json) -> Result<(), NoMemory>
         requires { self.old.clock < 2 ^ 47 }
         ensures said { IsSaid self.old self.new }
         ensures asks { OnOk result (Asks 1 self.old self.new) }
         ensures once { AsksOnce self.old self.new }
+        ensures queues { OnOk result (QueuesNext chan kind.now content self.old self.new) }
     {
         let parts = self.session.request(self.clock, kind, content)?;
         self.lines.send(chan, &parts)
     }
 
+    // Asks the kernel on control to interrupt what it executes.
     fn interrupt(&mut self) -> Result<(), NoMemory>
         requires { self.old.clock < 2 ^ 47 }
         ensures said { IsSaid self.old self.new }
         ensures asks { OnOk result (Asks 1 self.old self.new) }
+        ensures queues { OnOk result (QueuesNext channel.Control (codes "interrupt_request") empty
+            self.old self.new) }
     {
         let content = empty_content(self.alloc);
         self.say(Chan::Control, "interrupt_request", content)
@@ -247,6 +322,10 @@ impl Execution {
         requires { self.old.clock < 2 ^ 47 }
         ensures said { IsSaid self.old self.new }
         ensures once { AsksOnce self.old self.new }
+        ensures queues { OnOk result ((h : History) (out : Bytes ℕ) →
+            StandsFor (line_on self.old.lines channel.Control) h out →
+            ShutsDown (is_shaken (role_of (line_on self.old.lines channel.Control)) (came_in h))
+            self.old self.new) }
     {
         if !self.lines.of(Chan::Control).is_shaken() {
             return Ok(());

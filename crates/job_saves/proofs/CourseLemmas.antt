@@ -336,12 +336,6 @@ job_ends o b is_open j c s = record {
 
 -- ---- what a save leaves, by its answer
 
-on_saved : (r : Result (Unit {0}) ProgressFault) (A : Type 0) → OnCall r A → OnOk (answer_of r) A
-on_saved (Ok u) A h = h
-on_saved (Err (fault.Save f)) A h = tt
-on_saved (Err fault.Closed) A h = tt
-on_saved (Err fault.NoMemory) A h = tt
-
 made_durable : (r : Result (Unit {0}) ProgressFault) (output text : List ℕ) (j k : Option (List Entry)) → Told j k (EndsAs output text r)
     → OnOk (answer_of r) (Told j k (λ before after. place after output ≡ durable_place text))
 made_durable (Ok u) output text j k told = moments_as told (λ x y e. e.place_is)
@@ -350,9 +344,6 @@ made_durable (Err fault.Closed) output text j k told = tt
 made_durable (Err fault.NoMemory) output text j k told = tt
 
 -- the same by the answer of the job's save
-pub on_answer : (r : Result (Unit {0}) ProgressFault) (q : Result (Unit {0}) End) (A : Type 0) → q ≡ answer_of r → OnCall r A → OnOk q A
-on_answer r q A is h = subst (λ s. OnOk s A) (sym is) (on_saved r A h)
-
 pub durable_answer : (r : Result (Unit {0}) ProgressFault) (q : Result (Unit {0}) End) (output text : List ℕ) (j k : Option (List Entry)) → q ≡ answer_of r
     → Told j k (EndsAs output text r) → OnOk q (Told j k (λ before after. place after output ≡ durable_place text))
 durable_answer r q output text j k is told = subst (λ s. OnOk s (Told j k (λ before after. place after output ≡ durable_place text))) (sym is) (made_durable r output text j k told)

@@ -5,6 +5,7 @@ pub mod KeptLemmas
 pub mod LaunchLemmas
 pub mod LeftLemmas
 pub mod ReadLemmas
+pub mod SavingLemmas
 pub mod SessionLemmas
 pub mod SpeakingLemmas
 pub mod TellingLemmas

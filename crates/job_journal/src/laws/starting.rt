@@ -1,6 +1,9 @@
-//! A request comes to stand by the journal where the core's act sends it.
-ghost use Rattle.std.specs.Prelude.{◌≡◌, ℕ, List, [], ◌∷◌, true, false, length, map};
+//! A request comes to stand by the journal where the core's act sends it, and its cell is as it was
+//! read.
+ghost use Rattle.std.specs.Prelude.{◌≡◌, ◌≤◌, ℕ, List, [], ◌∷◌, true, false, length, map};
+ghost use Rattle.std.specs.Prelude.{Some, slice_get};
 ghost use Rattle.world.specs.declared.entry.Entry.{Entry};
+ghost use Rattle.nb_model.specs.declared.cell.Cell as cell;
 ghost use Rattle.cell_core.specs.declared.act.Act.{Act};
 ghost use Rattle.cell_core.specs.declared.act.Act.TheVariants.{Send};
 ghost use Rattle.cell_core.specs.declared.event.Event.{Event};
@@ -8,9 +11,15 @@ ghost use Rattle.cell_core.specs.Acts.{act_of, has_stopped, heard};
 ghost use Rattle.cell_core.specs.Task.{cell_of};
 ghost use Rattle.run_journal.specs.Job.{Job};
 ghost use Rattle.run_journal.specs.Arrivals.{is_ready};
-ghost use Rattle.run_journal.specs.Requests.{goes_on, requests, used_of};
+ghost use Rattle.run_journal.specs.Requests.{Request, goes_on, requests, used_of};
 ghost use Rattle.run_journal.specs.Agreement.{Agrees, BringsNothing};
-ghost use Rattle.job_journal.specs.Starting.{MayStart, StandsAnew, is_calm};
+ghost use Rattle.job_notebook.specs.declared.notebook.JobNotebook as book;
+ghost use Rattle.job_notebook.specs.State.{notebook_of, settled_of};
+ghost use Rattle.job_journal.specs.Plot.{Plot, facts, first};
+ghost use Rattle.job_journal.specs.Starting.{IsAsRead, MayStart, StandsAnew, is_calm};
+ghost use Rattle.job_journal.specs.Used.{OnBook};
+
+use progress_save::laws::cells_of_prefixes;
 
 /// At an acknowledgement or at readiness: a request that is sent comes to stand with the entry, and
 /// the cell is its own; where the core neither sends nor saves nor stops, none comes to stand.
@@ -34,3 +43,14 @@ pub fn earlier_requests_stay()
         used_of j.task.plan (map (goes_on j entry past) (requests j past)) ≡
         used_of j.task.plan (requests j past) }
 {}
+
+/// A cell that waits in the notebook of a job has the code that is sent for its request, and the
+/// tag by which its errors don't stop the run.
+pub fn cells_are_as_read()
+    ensures { (p : Plot) (book : book.JobNotebook) (rs : List Request) (k : ℕ) (c : cell.Cell) →
+        OnBook (facts p) (first p) book rs →
+        slice_get (notebook_of book).cells (cell_of (facts p).task k) ≡ Some c →
+        settled_of book ≤ cell_of (facts p).task k → IsAsRead p k c }
+{
+    cells_of_prefixes();
+}

@@ -12,6 +12,7 @@ returns-in-Ok-clause-first c =
     let rises : AllPairs (λ i j. i < j) c.args.agenda.cells = subst (λ (p : _). AllPairs (λ i j. i < j) p) (sym c.args.agenda.plan) (c.plan_in_order.ensures.increasing c.args.agenda.notebook) in
     let begun : begun_of book ≤ next_of core = omega (arith, c.in_ok-book.ensures.begun, c.new-core.ensures.first) in
     let settled : settled_of book ≤ next_of core = omega (arith, c.in_ok-book.ensures.settled, c.new-core.ensures.first) in
+    let least : 0 ≤ begun_of book = omega arith in
     let early : 0 < 2 ^ 47 = omega arith in
     let timed : 0 ≤ 0 = omega arith in
     let told : Tells core 0 false = record { events = []; stands = c.new-core.ensures.stands; meets = tt; timed = timed; named = λ e. absurd (cc) } in
@@ -22,6 +23,7 @@ returns-in-Ok-clause-first c =
         begun = begun;
         settled = settled;
         asked = λ e. absurd (cc);
+        sent = least;
         early = early;
         heard = ∣ told ∣₁;
       };

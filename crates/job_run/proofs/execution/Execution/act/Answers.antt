@@ -1,6 +1,6 @@
 use Rattle.std.proofs.Common.{refl, sym, subst, ◌∙◌}
 use Rattle.world.specs.Moments.{start}
-use Rattle.world.proofs.MomentsLemmas.{told_start}
+use Rattle.world.proofs.MomentsLemmas.{told_as, told_start, told_then}
 use Rattle.job_saves.specs.Course.{Stands}
 use Rattle.job_run.proofs.AskLemmas.{acts_once}
 use Rattle.job_run.proofs.CountLemmas.{counts_on, quiet_at}
@@ -8,6 +8,8 @@ use Rattle.job_run.proofs.CauseLemmas.{calls_output}
 use Rattle.job_run.proofs.StepLemmas.{goes_err}
 use Rattle.job_saves.proofs.SessionLemmas.{saves_then}
 use Rattle.job_notebook.specs.State.{output_of}
+use Rattle.job_run.specs.Standing.{StandsTo}
+use Rattle.job_run.proofs.ActLemmas.{acts_on, ended_does, not_save, stays_from}
 use Rattle.job_run.proofs.execution.Execution.act.Goals as goal
 
 pub loop-act-init : goal.loop-act-init
@@ -21,6 +23,10 @@ loop-act-init g c = record {
   terms = refl;
   session = refl;
   counts = λ o on s h. h;
+  stands = λ p number. told_start (λ before t. t);
+  sent = refl;
+  kind = λ e. e;
+  still = λ e. (refl, e, refl);
 }
 
 pub loop-act-preserved : goal.loop-act-preserved
@@ -39,6 +45,11 @@ loop-act-preserved g c =
       terms = e.terms ∙ i.terms;
       session = e.asks ∙ i.session;
       counts = λ o on s h. e.counts o on (i.course o s) (quiet_at o c.loop-act.self c.loop-act.act (g.W.Journal.journal c.loop-act.w) (i.counts o on s h));
+      stands = λ p number. told_then (i.stands p number) (e.stands p number)
+          (λ x y z first then t. then (subst (λ act. StandsTo p number c.loop-act.self act y) c.in-Save.is (first t)));
+      sent = e.sent ∙ i.sent;
+      kind = λ k. e.kind;
+      still = λ k. absurd (not_save (sym (i.still k).1 ∙ c.in-Save.is));
     }
 
 pub returns : goal.returns
@@ -59,6 +70,9 @@ returns g c =
       };
       saves = i.saves;
       asks = acts_once c.perform.result c.loop-act.act c.args.self.now c.loop-act.self c.perform.new.self i.session p.asks;
+      stands = λ q number. told_as (i.stands q number)
+          (λ before after so. acts_on q number c.args.self.now c.loop-act.self c.perform.new.self c.args.act c.loop-act.act c.perform.result before after so i.sent i.kind (p.stands q number after));
+      still = λ e. (stays_from c.args.self.now c.loop-act.self c.perform.new.self c.perform.result (i.still e).0 (p.still (i.still e).1), (i.still e).2);
     }
 
 pub returns-in_err-act-clause-saves : goal.returns-in_err-act-clause-saves
@@ -82,3 +96,12 @@ returns-in_err-act-clause-goes g c =
       own = e.own;
       counts = λ o on s h. e.counts o on (i.course o s) (quiet_at o c.loop-act.self c.loop-act.act (g.W.Journal.journal c.loop-act.w) (i.counts o on s h));
     })
+
+pub returns-in_err-act-clause-stands : goal.returns-in_err-act-clause-stands
+returns-in_err-act-clause-stands g c p number =
+    told_then (c.loop-act.invariant.stands p number) (c.in_err-act.ensures.stands p number)
+    (λ x y z first then t. ended_does p number c.args.self.now c.save_on.new.self c.save_on.new.self c.args.act c.from_residual.result _ x z c.from_residual.ensures.1
+    (then (subst (λ act. StandsTo p number c.loop-act.self act y) c.in-Save.is (first t))) t)
+
+pub returns-in_err-act-clause-still : goal.returns-in_err-act-clause-still
+returns-in_err-act-clause-still g c e = absurd (not_save (sym (c.loop-act.invariant.still e).1 ∙ c.in-Save.is))

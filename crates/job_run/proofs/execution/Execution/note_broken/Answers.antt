@@ -10,6 +10,7 @@ returns-clause-holds c =
       begun = h.begun;
       settled = h.settled;
       asked = h.asked;
+      sent = h.sent;
       early = h.early;
       heard = hears_named _ _ _ h.heard;
     }

@@ -1,11 +1,27 @@
-use Rattle.std.proofs.Common.{ap}
-use Rattle.cell_core.specs.StandsFor.{task_of}
+use Rattle.std.proofs.Common.{ap, sym, ◌∙◌}
+use Rattle.cell_core.specs.StandsFor.{awaits_saved_of, task_of}
 use Rattle.job_run.proofs.CountLemmas.{named_counts}
 use Rattle.job_run.proofs.StepLemmas.{goes_told}
+use Rattle.cell_core.specs.declared.event.Event.TheVariants.{Broken}
+use Rattle.world.proofs.MomentsLemmas.{told_as}
+use Rattle.run_journal.specs.Agreement.{broken}
+use Rattle.job_run.proofs.StandingLemmas.{broken_stands, told_other}
 use Rattle.job_run.proofs.execution.Execution.on_broken.Goals as goal
 
-pub returns : goal.returns
-returns g c =
+pub returns-clause-goes : goal.returns-clause-goes
+returns-clause-goes g c =
     let x = c.args.self.now in
     let b = c.note_broken in
-    goes_told b.ensures.book (ap task_of b.ensures.core) b.ensures.terms (λ n i. named_counts x b.new.self n b.ensures.core b.ensures.clock b.ensures.named i) c.step.ensures.goes
+    let t = c.tell-step.ensures in
+    goes_told {y = b.new.self} b.ensures.book (ap task_of b.ensures.core) b.ensures.terms (λ n i. named_counts x b.new.self n b.ensures.core b.ensures.clock b.ensures.named i)
+    (goes_told t.book t.task t.terms t.counts c.act.ensures.goes)
+
+pub returns-clause-stands : goal.returns-clause-stands
+returns-clause-stands g c p number =
+    let b = c.note_broken in
+    let t = c.tell-step in
+    told_as (c.act.ensures.stands p number)
+    (λ before after does s.
+    (does
+    (told_other p number b.new.self t.new.self.core Broken t.result before (broken_stands p number c.args.self.now b.new.self before b.ensures.rest s) t.ensures.takes
+    (sym (ap awaits_saved_of b.ensures.core ∙ c.requires.calm)) tt t.new.self t.ensures.rest broken)).0)

@@ -10,6 +10,17 @@ use Rattle.cell_core.specs.StandsFor.{awaits_saved_of}
 use Rattle.job_run.proofs.HoldLemmas.{holds_told}
 use Rattle.job_run.proofs.ToldLemmas.{Steps, hears_more, stops_more, names_more}
 use Rattle.job_run.proofs.CountLemmas.{counts_saved, residual_for, unsaved_for, saved_event, told_counted}
+use Rattle.world.proofs.MomentsLemmas.{told_as}
+use Rattle.job_journal.specs.Plot.{facts}
+use Rattle.job_notebook.specs.State.{notebook_of, output_of}
+use Rattle.progress_save.specs.Saved.{line_of}
+use Rattle.said_lines.specs.Between.{SayFailed}
+use Rattle.job_run.specs.declared.execution.Execution.{Execution}
+use Rattle.job_run.specs.Standing.{StandsTo}
+use Rattle.job_run.specs.Used.{TakesEvent}
+use Rattle.job_run.proofs.ActLemmas.{kind_saved}
+use Rattle.job_run.proofs.SaveLemmas.{saved_to, says_quiet, unsaved_ends}
+use Rattle.job_run.proofs.StandingLemmas.{ended_to}
 use Rattle.job_run.proofs.execution.Execution.save_on.Goals as goal
 
 pub returns-clause-holds : goal.returns-clause-holds
@@ -64,3 +75,30 @@ returns-in_err-save-clause-counts g c o on stands h =
     let e = c.in_err-save.field-0.0 in
     let k = g.W.Journal.journal c.save.new.w in
     residual_for o c.save.new.self c.from_residual.result e k c.from_residual.ensures.1 (unsaved_for o c.save.new.self e k c.in_err-save.ensures.kind)
+
+pub returns-clause-stands : goal.returns-clause-stands
+returns-clause-stands g c p number =
+    let x = c.args.self.now in
+    let y = c.save.new.self in
+    let s = c.step in
+    let took : TakesEvent Saved s.result y.core s.new.self = record { stands = s.ensures.stands; act = s.ensures.act; takes = s.ensures.takes; same = s.ensures.same } in
+    told_as c.in_ok-save.ensures.entries
+    (λ before after so t.
+    subst (λ (k : Execution). StandsTo p number (record k { core = s.new.self }) s.result.act after) (sym c.save.ensures.rest)
+    (saved_to p number x c.args.settled before t y.book c.in_ok-save.ensures.prefix s.new.self s.result c.save.ensures.output c.save.ensures.merge c.in_ok-save.ensures.keeps
+    c.requires.todo.awaits (subst (λ (k : Core). TakesEvent Saved s.result k s.new.self) c.save.ensures.core took) s.ensures.next (s.ensures.closes refl) so.past after so.saves
+    (says_quiet (facts p) _ _ so.past after so.says)))
+
+pub returns-in_err-save-clause-stands : goal.returns-in_err-save-clause-stands
+returns-in_err-save-clause-stands g c p number =
+    let e = c.in_err-save.field-0.0 in
+    told_as c.in_err-save.ensures.entries
+    (λ before after so t.
+    ended_to p number c.save.new.self c.from_residual.result e after c.from_residual.ensures.1
+    (unsaved_ends p number c.args.self.now c.args.settled before after c.save.new.self.book
+    (line_of (output_of c.args.self.now.book) c.args.settled (notebook_of c.save.new.self.book)) (SayFailed g.W.Journal.counts c.save.new.w) e t c.in_err-save.ensures.prefix so))
+
+pub returns-clause-kind : goal.returns-clause-kind
+returns-clause-kind g c =
+    let y = c.save.new.self in
+    kind_saved y.core y.clock (is_some y.broken) c.step.result.act (ap awaits_saved_of c.save.ensures.core ∙ c.requires.todo.awaits) c.step.ensures.act c.save.ensures.holds.heard

@@ -38,3 +38,8 @@ returns-clause-counts c n i =
     let s = c.step in
     let steps : Steps x.core s.new.self c.args.e s.result.act = record { order = c.requires.other ∙ sym c.requires.calm; stands = s.ensures.stands; act_is = s.ensures.act; same = s.ensures.same; stops_so = s.ensures.stops; starts = s.ensures.starts } in
     other_event x s.new.self c.args.e s.result.act n steps c.requires.may c.requires.other i
+
+pub returns-clause-takes : goal.returns-clause-takes
+returns-clause-takes c =
+    let s = c.step.ensures in
+    record { stands = s.stands; act = s.act; takes = s.takes; same = s.same }

@@ -13,6 +13,7 @@ returns-clause-holds c =
       begun = h.begun;
       settled = h.settled;
       asked = h.asked;
+      sent = h.sent;
       early = c.requires.early;
       heard = hears_later x.core x.clock c.args.ms (is_some x.broken) (omega (arith, c.if-ms-self.false)) h.heard;
     }

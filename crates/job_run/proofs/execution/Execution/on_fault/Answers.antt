@@ -1,0 +1,5 @@
+use Rattle.world.proofs.MomentsLemmas.{told_start}
+use Rattle.job_run.proofs.execution.Execution.on_fault.Goals as goal
+
+pub returns-in-None-clause-stands : goal.returns-in-None-clause-stands
+returns-in-None-clause-stands g c p number = told_start (λ before s. s)

@@ -1,0 +1,180 @@
+-- What an execution stands for, by the journal of its world, and what each of its steps makes of that (Jupyter messaging 5.3; nbclient,
+-- `async_execute_cell`; papermill, which saves after each cell). It holds of jobs that want no interrupts.
+use Rattle.std.specs.Prelude.{◌≡◌, ◌≢◌, ◌⊎◌, ◌∷◌, ◌++◌, ◌+◌, ℕ, true, List, [], Option, Some, None, Result, Ok, Err, IfErr, OnOk, slice_get}
+use Rattle.world.specs.declared.chan.Chan.{Chan}
+use Rattle.world.specs.declared.conn.Conn.{Conn}
+use Rattle.world.specs.declared.entry.Entry.{Entry}
+use Rattle.world.specs.declared.entry.Entry.TheVariants.{Got}
+use Rattle.world.specs.Places.{is_at}
+use Rattle.zmtp_wire.specs.Decoder.{Answer}
+use Rattle.zmtp_peer.specs.Peer.{Brings}
+use Rattle.kernel_lines.specs.Happened.{History, Came, came_in}
+use Rattle.kernel_lines.specs.Line.{StandsFor, role_of}
+use Rattle.kernel_lines.specs.Lines.{OthersStay, line_on}
+use Rattle.jcontent.specs.declared.content.Content.{Content}
+use Rattle.cell_core.specs.declared.act.Act.{Act}
+use Rattle.cell_core.specs.declared.act.Act.TheVariants.{Start, Send, Save, Stop, Interrupt}
+use Rattle.cell_core.specs.declared.event.Event.TheVariants.{Saved}
+use Rattle.cell_core.specs.Answering.{can_answer}
+use Rattle.job_end.specs.declared.end.End.{End}
+use Rattle.run_journal.specs.Asked.{may_raise}
+use Rattle.run_journal.specs.Codec.{Arrival}
+use Rattle.run_journal.specs.Parts.{place}
+use Rattle.job_journal.specs.Piece.{HasCome, Within}
+use Rattle.job_journal.specs.Plot.{Plot, facts}
+use Rattle.job_journal.specs.Saved.{IsAsked}
+use Rattle.job_journal.specs.Standing.{Parts, StandsBy, IsToSend, HasEndedAs}
+use Rattle.job_journal.specs.Used.{Sent}
+use Rattle.job_run.specs.Heard.{is_parent_of}
+use Rattle.job_run.specs.Task.{AreTermsOf}
+use Rattle.job_run.specs.declared.execution.Execution.{Execution}
+use Rattle.job_run.specs.declared.request.Request.{Request}
+
+-- ---- an execution between its steps
+
+-- a request by its id and its cell
+abbrev pub sent_of : Option Request → Option Sent
+sent_of None = None
+sent_of (Some r) = Some (record { id = r.id; cell = r.cell })
+
+-- the parts of an execution
+abbrev pub parts_of : Execution → Parts
+parts_of x = record {
+  lines = x.lines;
+  session = x.session;
+  asking = x.asking;
+  shell_seen = x.seen.shell;
+  iopub_seen = x.seen.iopub;
+  book = x.book;
+  core = x.core;
+  request = sent_of x.request;
+  sent = x.sent;
+  is_ready = x.is_ready;
+  clock = x.clock;
+}
+
+-- An execution does what its job asks: its terms are those that were asked for, and the request that stands is noted as tagged exactly
+-- where its cell is, by the notebook as it was read.
+pub record IsAskedFor (p : Plot) (x : Execution) : Type 0 where
+  pub terms : AreTermsOf p.ask x.terms
+  pub tagged : (r : Request) → x.request ≡ Some r → r.is_tagged ≡ may_raise (slice_get p.given.cells r.cell)
+
+-- An execution stands for the journal: all messages were sent that the job has queued, and all events were told.
+pub record Stands (p : Plot) (number : ℕ) (x : Execution) (now : List Entry) : Type 0 where
+  pub parts : StandsBy p number (parts_of x) [] [] now
+  pub asked : IsAskedFor p x
+
+-- ---- an execution whose core has answered
+
+-- a request of this cell stands by the journal, and is still to be sent
+pub record IsToSendCell (p : Plot) (number : ℕ) (x : Execution) (cell : ℕ) (now : List Entry) : Type 0 where
+  pub parts : IsToSend p number (parts_of x) cell now
+  pub asked : IsAskedFor p x
+
+-- a save that settles so many cells is due, and is still to be made
+pub record IsToSave (p : Plot) (number : ℕ) (x : Execution) (settled : ℕ) (now : List Entry) : Type 0 where
+  pub stands : Stands p number x now
+  pub due : IsAsked (facts p).task stands.parts.core.told settled
+
+-- What stands of an execution whose core has answered this act last, which is still to be done. Where it stops the job, what was saved
+-- are the first of the saves that are due.
+abbrev pub StandsTo : Plot → ℕ → Execution → Act → List Entry → Type 0
+StandsTo p number x (Send cell) now = IsToSendCell p number x cell now
+StandsTo p number x (Save settled) now = IsToSave p number x settled now
+StandsTo p number x (Stop cause) now = HasEndedAs p now
+StandsTo p number x Start now = Stands p number x now × (x.request ≡ None)
+StandsTo p number x Interrupt now = ⊥
+StandsTo p number x _ now = Stands p number x now
+
+-- ---- what a step leaves
+
+-- the execution stands for the journal, or it has ended and what was saved are the first of the saves that are due
+abbrev pub StandsOrEnds : {U : Type 0} → Plot → ℕ → Execution → Result U End → List Entry → Type 0
+StandsOrEnds p number x (Ok u) now = Stands p number x now
+StandsOrEnds p number x (Err e) now = HasEndedAs p now
+
+-- the same where the next act is still to be done
+abbrev pub StandsToOrEnds : Plot → ℕ → Execution → Result Act End → List Entry → Type 0
+StandsToOrEnds p number x (Ok act) now = StandsTo p number x act now
+StandsToOrEnds p number x (Err e) now = HasEndedAs p now
+
+-- no request was sent yet, or one more was sent than before
+abbrev pub MovesOn : Execution → Execution → Type 0
+MovesOn x y = (y.request ≡ None) ⊎ (y.sent ≡ x.sent + 1)
+
+-- An execution did this act, which was due by the journal: it stands for the journal again. After an act that answers the acknowledgement
+-- of a save a further request was sent, or none was yet.
+abbrev pub DoesAct : {U : Type 0} → Plot → ℕ → Execution → Act → Execution → Result U End → List Entry → List Entry → Type 0
+DoesAct p number x act y result before after = StandsTo p number x act before
+    → StandsOrEnds p number y result after × (can_answer Saved act ≡ true → OnOk result (MovesOn x y))
+
+-- nothing was to be done, and nothing was
+pub record StaysStill {U : Type 0} (x y : Execution) (result : Result U End) : Type 0 where
+  pub same : y ≡ x
+  pub no_end : IfErr result (λ e. ⊥)
+
+-- ---- a piece, as it is heard
+
+-- The newest entry is a piece that was got on this connection of the job, and the execution stood for the journal before it.
+pub record IsGot (p : Plot) (number : ℕ) (x : Execution) (c : Chan) (bytes : List ℕ) (now : List Entry) : Type 0 where
+  pub conn : Conn
+  pub room : ℕ
+  pub past : List Entry
+  pub is : now ≡ Got conn room bytes ∷ past
+  pub at : is_at (place (facts p) c) conn ≡ true
+  pub stands : Stands p number x past
+
+-- A piece came to the connection of this channel with the newest entry, and these bodies end in it. Nothing else has changed since the
+-- execution stood for the journal before it.
+pub record HasFed (p : Plot) (number : ℕ) (x : Execution) (c : Chan) (bodies : List (List (List ℕ))) (now : List Entry) : Type 0 where
+  pub before : Parts
+  pub past : List Entry
+  pub stands : StandsBy p number before [] [] past
+  pub asked : IsAskedFor p x
+  pub rest : parts_of x ≡ record before { lines = x.lines }
+  pub conn : Conn
+  pub room : ℕ
+  pub bytes : List ℕ
+  pub is : now ≡ Got conn room bytes ∷ past
+  pub at : is_at (place (facts p) c) conn ≡ true
+  pub others : OthersStay c before.lines x.lines
+  pub role : role_of (line_on x.lines c) ≡ role_of (line_on before.lines c)
+  pub line : (h : History) (out : List ℕ) → StandsFor (line_on before.lines c) h out → StandsFor (line_on x.lines c) (Came bytes ∷ h) out
+  pub answer : Answer
+  pub brings : (h : History) (out : List ℕ) → StandsFor (line_on before.lines c) h out
+      → Brings (role_of (line_on before.lines c)) (came_in h) bytes [] bodies answer
+
+-- All bodies of the piece that came with the newest entry on this channel were heard, and these messages in them. The kernel's readiness
+-- isn't noted yet.
+pub record HasListened (p : Plot) (number : ℕ) (x : Execution) (c : Chan) (ms : List Arrival) (now : List Entry) : Type 0 where
+  pub entry : Entry
+  pub past : List Entry
+  pub is : now ≡ entry ∷ past
+  pub parts : HasCome p number (parts_of x) c ms entry past
+  pub asked : IsAskedFor p x
+
+-- ---- a piece, message after message
+
+-- Of the messages of a piece that came on this channel these first were dealt with, and these rest weren't. So many requests had been sent
+-- when it came. Either the request that stood then is open, or what the journal has is used, and no further message of the piece is.
+pub data Uses (p : Plot) (number : ℕ) (x : Execution) (standing : ℕ) (c : Chan) (done rest : List Arrival) : List Entry → Type 0 where
+  open_request : {entry : Entry} {past : List Entry} → x.sent ≡ standing → Within p number (parts_of x) c done rest entry past → IsAskedFor p x
+      → Uses p number x standing c done rest (entry ∷ past)
+  all_used : {now : List Entry} → Stands p number x now → (x.request ≡ None) ⊎ (x.sent ≢ standing) → Uses p number x standing c done rest now
+
+-- a message was dealt with, or the job has ended and what was saved are the first of the saves that are due
+abbrev pub UsesOrEnds : {U : Type 0} → Plot → ℕ → Execution → Result U End → ℕ → Chan → List Arrival → List Arrival → List Entry → Type 0
+UsesOrEnds p number x (Ok u) standing c done rest now = Uses p number x standing c done rest now
+UsesOrEnds p number x (Err e) standing c done rest now = HasEndedAs p now
+
+-- a message with this content and this date is of the request that stands, which is the one that stood when its piece came
+pub record IsOwn (m : Arrival) (standing : ℕ) (content : Content) (date : Option (List ℕ)) (x : Execution) : Type 0 where
+  pub sent : x.sent ≡ standing
+  pub parent : is_parent_of x.request m.parent ≡ true
+  pub content_is : content ≡ m.content
+  pub date_is : date ≡ m.date
+
+-- An execution dealt with one message more of the piece: it is used where it is of the request that stood, and what stood so stands.
+abbrev pub DealsWith : {U : Type 0} → Plot → ℕ → Execution → ℕ → Chan → List Arrival → Arrival → List Arrival → Execution → Result U End → List Entry → List Entry → Type 0
+DealsWith p number x standing c done m rest y result before after = Uses p number x standing c done (m ∷ rest) before
+    → UsesOrEnds p number y result standing c (done ++ m ∷ []) rest after
