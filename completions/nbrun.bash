@@ -5,6 +5,10 @@ _nbrun() {
         COMPREPLY=($(compgen -W "script page notebook" -- "$word"))
         return
     fi
+    if [[ $COMP_CWORD == 1 && -n $word && graph == "$word"* ]]; then
+        COMPREPLY=(graph)
+        return
+    fi
     case $before in
     -p | --parameters | -r | --parameters_raw | --start-timeout | --execution-timeout | --allow-error-name | --exercise) return ;;
     -k | --kernel)

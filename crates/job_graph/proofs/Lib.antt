@@ -1,3 +1,5 @@
 pub mod WaveLemmas
 pub mod Assembly
 pub mod Least
+pub mod CountLemmas
+pub mod RestLemmas

@@ -12,6 +12,11 @@ pub data HasWave (needs : List (List ℕ)) : ℕ → ℕ → Type 0 where
   wave : {i : ℕ} (list waves : List ℕ) → slice_get needs i ≡ Some list → length waves ≡ length list
       → ((k : ℕ) → k < length list → HasWave needs (slice_index list k) (slice_index waves k)) → HasWave needs i (above waves)
 
+-- how many jobs stand in these waves
+abbrev pub job_count : List (List ℕ) → ℕ
+job_count [] = 0
+job_count (jobs ∷ waves) = length jobs + job_count waves
+
 -- a wave of these has the job
 pub record IsIn (waves : List (List ℕ)) (w i : ℕ) : Type 0 where
   pub jobs : List ℕ

@@ -1,5 +1,9 @@
 //! Laws of waves. The functions do nothing: their contracts are the laws.
-ghost use Rattle.std.specs.Prelude.{◌≡◌, ◌<◌, ◌≤◌, ◌+◌, ℕ, List, Some, Contains, slice_get};
+ghost use Rattle.std.specs.Prelude.{◌≡◌, ◌<◌, ◌≤◌, ◌+◌, ℕ, List, Some, Contains, length, slice_get};
+ghost use Rattle.jtext.specs.Keyed.{Keyed};
+ghost use Rattle.jtext.specs.declared.json.Json as tree;
+ghost use Rattle.job_graph.specs.Given.{rest_of};
+ghost use Rattle.job_graph.specs.Shape.{jobs_of};
 ghost use Rattle.job_graph.specs.Waves.{HasWave, IsOrder};
 
 /// No order in which each job comes after all that it needs has fewer turns than there are waves: a
@@ -20,4 +24,10 @@ pub fn waves_follow_needs()
     ensures before { (needs : List (List ℕ)) (i w : ℕ) → HasWave needs i (w + 1) →
         (list : List ℕ) × (slice_get needs i ≡ Some list)
         × ((j : ℕ) × Contains list j × HasWave needs j w) }
+{}
+
+/// The jobs file that stays of a graph has as many jobs, and no key twice in an object.
+pub fn rest_has_all_jobs()
+    ensures keyed { (t : tree.Json) → Keyed t → Keyed (rest_of t) }
+    ensures jobs { (t : tree.Json) → length (jobs_of (rest_of t)) ≡ length (jobs_of t) }
 {}

@@ -20,6 +20,8 @@ pub type Waves = List<List<u32>>;
 pub fn waves(alloc: Global, needs: &Needs) -> Result<Waves, WaveFault>
     requires few { length needs.now < 2 ^ 32 }
     ensures waves { IfOk result (spec.AreWaves needs.now) }
+    // They have no more jobs than there are: each stands once.
+    ensures few { IfOk result (λ waves. spec.job_count waves ≤ length needs.now) }
     ensures cycle { IfErr result (λ f. (job : ℕ) → f ≡ fault.Cycle job →
         spec.IsFirstInCycle needs.now job) }
 {

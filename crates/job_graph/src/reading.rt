@@ -25,6 +25,7 @@ const DEEP: u32 = 100;
 /// with the `job` that is needed and the `scrap` in its output. Other members are a jobs file's.
 pub fn graph(alloc: Global, bytes: &[u8]) -> Result<Graph, GraphFault>
     ensures given { IfOk result (IsGraphOf bytes.now) }
+    ensures few { IfOk result (λ g. length g.needs ≤ 16) }
     ensures refused { IfErr result (Refuses bytes.now) }
 {
     let Some(tree) = read_within(alloc, bytes, LARGEST, DEEP)? else {
@@ -44,6 +45,7 @@ pub fn graph(alloc: Global, bytes: &[u8]) -> Result<Graph, GraphFault>
 fn sound_graph(alloc: Global, tree: Json) -> Result<Graph, GraphFault>
     requires { faults.fault tree ≡ None }
     ensures given { IfOk result (λ g. (g ≡ graph_of tree) × HasWaves g.needs) }
+    ensures few { IfOk result (λ g. length g.needs ≤ 16) }
     ensures refused { IfErr result (λ f. (f ≡ fault.NoMemory)
         ⊎ ((job : ℕ) × (f ≡ fault.Cycle job) × IsFirstInCycle (graph_of tree).needs job)) }
 {
@@ -58,7 +60,7 @@ fn sound_graph(alloc: Global, tree: Json) -> Result<Graph, GraphFault>
 fn graph_of(alloc: Global, tree: Json) -> Result<Graph, NoMemory>
     requires { faults.fault tree ≡ None }
     ensures given { IfOk result (λ g. g ≡ graph_of tree) }
-    ensures few { IfOk result (λ g. length g.needs < 2 ^ 32) }
+    ensures few { IfOk result (λ g. length g.needs ≤ 16) }
 {
     Ok(Graph {
         names: names_of(alloc, &tree)?,

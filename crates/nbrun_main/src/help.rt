@@ -11,6 +11,7 @@ nbrun executes Jupyter notebooks with nobody at the screen.
 
   nbrun IN OUT [options]          reads the notebook IN and writes OUT
   nbrun --jobs FILE [options]     runs the jobs of a file, at most 16
+  nbrun graph FILE [options]      runs jobs that need each other, in waves
   nbrun --exercise N              runs N generated cells, at most 200, in memory
   nbrun report FORM IN OUT        makes a script or a page of the notebook IN,
                                   or a notebook of a script: FORM is script,
@@ -35,26 +36,32 @@ nbrun executes Jupyter notebooks with nobody at the screen.
                                   spec with \"interrupt_mode\": \"message\"
   --no-heartbeat                  doesn't ping the kernel
 
-After -- each word is a path. A notebook with the name report is ./report.
-Switches are off by default. A job of a file has its own paths, parameters,
-kernel and cwd: -p, -r, -k, --cwd and --prepare-only don't go with --jobs.
---exercise goes with no other word.
+After -- each word is a path. A notebook with the name report is ./report, one
+with the name graph ./graph. Switches are off by default. A job of a file has
+its own paths, parameters, kernel and cwd: -p, -r, -k, --cwd and --prepare-only
+don't go with --jobs or graph. --exercise goes with no other word.
 
 Examples:
   nbrun report.ipynb out.ipynb -p year 2026 -r day 007
   nbrun report.ipynb out.ipynb -k python3 --execution-timeout 600
   nbrun --jobs jobs.json --kernel-path /usr/share/jupyter/kernels
+  nbrun graph night.json --kernel-path /usr/share/jupyter/kernels
   nbrun --exercise 8
   nbrun report page out.ipynb out.html
 
 A jobs file:
   {\"jobs\": [{\"input\": \"a.ipynb\", \"output\": \"x.ipynb\", \"parameters\": {\"n\": 1}}]}
 
+A job of a graph has also a \"name\", and may have
+  \"needs\": [\"extract\"], \"take\": {\"rows\": {\"job\": \"extract\", \"scrap\": \"rows\"}}
+where the notebook of extract prints the row: scrap rows = 7
+
 Status: 0 done, 1 a cell raised an error, 2 wrong words or jobs file, 3 a file
 not read, 4 no notebook, 5 kernel spec refused or no translator for parameters,
 6 kernel not started, 7 not ready in time, 8 kernel lost, 9 a cell timed out,
 10 not saved, 11 done but not said, 12 no memory, 13 a cell's end not seen,
 14 network fault, 15 the kernel's bytes are broken, 16 too many waits,
+17 not run since a job that it needs failed, 18 a scrap is missing,
 20 arguments or folder not read.
 ";
 

@@ -4,8 +4,9 @@ ghost use Rattle.std.specs.Prelude.{◌≡◌};
 ghost use Rattle.nbrun_main.specs.Hints as spec;
 
 use crate::same_files::{REPORT_OUTPUT, output_word};
+use graph_run::read_graph_words;
 use jtext::NoMemory;
-use nbrun_top::report_words;
+use nbrun_top::{graph_words, report_words};
 use report_run::read_words;
 use std::alloc::Global;
 use std::env::{split_paths, var};
@@ -84,6 +85,12 @@ fn refused_index(alloc: Global, words: &[String]) -> Result<Option<u32>, NoMemor
     if let Some(rest) = report_words(words) {
         return Ok(match read_words(alloc, rest) {
             Ok(_) => Some(REPORT_OUTPUT),
+            Err(usage) => refused_at(&usage),
+        });
+    }
+    if let Some(rest) = graph_words(words) {
+        return Ok(match read_graph_words(alloc, rest) {
+            Ok(_) => None,
             Err(usage) => refused_at(&usage),
         });
     }

@@ -1,8 +1,10 @@
 //! The start of the program, and what it does with its words.
 ghost use Rattle.std.specs.Prelude.{◌≡◌, ◌<◌, ◌⊎◌, ◌^◌, None, Some, List as Plain, ℕ, length};
 ghost use Rattle.words.specs.Refusals.{refusal};
-ghost use Rattle.nbrun_top.specs.Asked.{IsNoReport, IsPlain, report_words, texts};
+ghost use Rattle.nbrun_top.specs.Asked.{IsNoReport, IsNoGraph, IsPlain};
+ghost use Rattle.nbrun_top.specs.Asked.{report_words, graph_words, texts};
 ghost use Rattle.report_run.specs.Promise as reports;
+ghost use Rattle.graph_run.specs.Promise as graphs;
 ghost use Rattle.nbrun_top.specs.Promise.{Promise};
 ghost use Rattle.world.specs.Told.{Between};
 ghost use Rattle.said_lines.specs.Between.{SayRose};
@@ -119,16 +121,21 @@ pub fn run_words<W: World>(alloc: Global, words: &[String], here: Text, w: &mut 
     ensures printed_fault { (text : Plain ℕ) → text_for_words (texts words.now) ≡ Some text →
         result ≡ 11 → SayRose W.counts w.old w.new }
     // The status is 2 only where the words are refused.
-    ensures refused { IsNoReport (texts words.now) → IsPlain (texts words.now) → result ≡ 2 →
-        refusal (texts words.now) ≡ None → ⊥ }
+    ensures refused { IsNoReport (texts words.now) → IsNoGraph (texts words.now) →
+        IsPlain (texts words.now) → result ≡ 2 → refusal (texts words.now) ≡ None → ⊥ }
 
     // All other words are those of a run, which keeps its promise with at most 2^40 waits.
     ensures promise { IsRun (texts words.now) → IsNoReport (texts words.now) →
+        IsNoGraph (texts words.now) →
         Promise W.journal W.counts w.old w.new (texts words.now) here (2 ^ 40) result }
     // A report keeps its own promise, by the words after the first.
     ensures report { (rest : Plain (Plain ℕ)) → IsRun (texts words.now) →
         report_words (texts words.now) ≡ Some rest →
         reports.Promise W.journal W.counts w.old w.new rest result }
+    // And so does a graph.
+    ensures graph { (rest : Plain (Plain ℕ)) → IsRun (texts words.now) →
+        graph_words (texts words.now) ≡ Some rest →
+        graphs.Promise W.journal W.counts w.old w.new rest here (2 ^ 40) result }
 {
     match text_to_print(words) {
         Some(text) if words.is_empty() => print(w, text.as_bytes(), REFUSED, REFUSED),

@@ -5,8 +5,9 @@ ghost use Rattle.nbrun_main.specs.SameFiles.{first_clash, refusal_of};
 
 use crate::named::Named;
 use crate::used_file::{UsedFile, first_clash};
-use jtext::{NoMemory, Text};
-use nbrun_top::report_words;
+use graph_run::{read_graph_words, workflow_of};
+use jtext::{Bytes, NoMemory, Text};
+use nbrun_top::{graph_words, report_words};
 use report_run::read_words;
 use std::alloc::Global;
 use std::fs;
@@ -38,9 +39,15 @@ pub(crate) fn refusal<R: Files, W: Disk>(
     if let Some(rest) = report_words(words) {
         return refusal_of_report(files, alloc, rest);
     }
+    if let Some(rest) = graph_words(words) {
+        return refusal_of_graph(files, alloc, rest, w);
+    }
     match read(alloc, words) {
         Ok(Command::One(ask)) => refusal_of_one(files, alloc, words, &ask),
-        Ok(Command::Many { file, common }) => refusal_of_many(files, alloc, &file, &common, w),
+        Ok(Command::Many { file, common }) => {
+            let asks = asks_in(files, alloc, &file, &common, w);
+            refusal_of_many(files, alloc, &file, asks)
+        }
         Ok(Command::Exercise(_)) => Ok(None),
         Err(_) => Ok(None),
     }
@@ -79,16 +86,35 @@ fn refusal_of_one<R: Files>(
     refusal_among(alloc, used.as_slice())
 }
 
-// The refusal of a jobs file with these jobs in common.
-fn refusal_of_many<R: Files, W: Disk>(
+// The refusal of a graph with these words after `graph`.
+fn refusal_of_graph<R: Files, W: Disk>(
+    files: &R,
+    alloc: Global,
+    words: &[String],
+    w: &mut W,
+) -> Result<Option<Usage>, NoMemory> {
+    let Ok((file, common)) = read_graph_words(alloc, words) else {
+        return Ok(None);
+    };
+    let asks = match bytes_in(files, alloc, &file, w) {
+        Some(bytes) => match workflow_of(alloc, bytes.bytes(), &file, &common) {
+            Ok(flow) => Some(flow.asks),
+            Err(_) => None,
+        },
+        None => None,
+    };
+    refusal_of_many(files, alloc, &file, asks)
+}
+
+// The refusal of a jobs file with these jobs, where there are any.
+fn refusal_of_many<R: Files>(
     files: &R,
     alloc: Global,
     file: &Text,
-    common: &Ask,
-    w: &mut W,
+    asks: Option<Asks>,
 ) -> Result<Option<Usage>, NoMemory> {
     let mut used = Vec::new(alloc);
-    if let Some(asks) = asks_in(files, alloc, file, common, w) {
+    if let Some(asks) = asks {
         used.push(used_file(files, alloc, file, false, Named::JobsFile)?)?;
         for (i, ask) in asks.as_slice().iter().enumerate() {
             used.push(used_file(files, alloc, &ask.input, false, Named::Input(i))?)?;
@@ -116,12 +142,18 @@ fn asks_in<R: Files, W: Disk>(
     common: &Ask,
     w: &mut W,
 ) -> Option<Asks> {
+    let bytes = bytes_in(files, alloc, file, w)?;
+    jobs(alloc, bytes.bytes(), file, common).ok()
+}
+
+// The bytes of a jobs file that can be read again.
+fn bytes_in<R: Files, W: Disk>(files: &R, alloc: Global, file: &Text, w: &mut W) -> Option<Bytes> {
     match fs::metadata(files, file.as_str()) {
         Ok(there) if there.is_file() => {}
         _ => return None,
     }
     match w.read_file(alloc, file, MOST) {
-        ReadFile::Whole(bytes) => jobs(alloc, bytes.bytes(), file, common).ok(),
+        ReadFile::Whole(bytes) => Some(bytes),
         _ => None,
     }
 }

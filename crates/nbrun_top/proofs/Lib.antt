@@ -5,6 +5,7 @@ pub mod Ends
 pub mod Crashes
 pub mod Acknowledged
 pub mod Runs
+mod FirstWords
 mod CodeLemmas
 mod Statuses
 mod Executions

@@ -1,4 +1,4 @@
--- What the words ask for: a report, jobs that execute their notebooks, the exercise, or what executes nothing.
+-- What the words ask for: a report, a graph, jobs that execute their notebooks, the exercise, or what executes nothing.
 use Rattle.std.specs.declared.string.String.{String}
 use Rattle.std.specs.Prelude.{◌≡◌, ◌⊎◌, ◌≤◌, ℕ, Bool, true, false, not, List, [], ◌∷◌, Option, None, Some, if◌then◌else◌, codes, map, string_bytes}
 use Rattle.std.specs.Str.{bytes_eq}
@@ -14,16 +14,28 @@ use Rattle.nbrun_top.specs.declared.plain.Plain.TheVariants as plain
 use Rattle.nbrun_top.specs.declared.task.Task.{Task}
 use Rattle.nbrun_top.specs.declared.task.Task.TheVariants as task
 
--- ---- words that ask for a report
+-- ---- words whose first one names a command
 
--- the words after `report`, where that is the first one
+-- the words after this one, where it is the first
+abbrev pub words_after : List ℕ → List (List ℕ) → Option (List (List ℕ))
+words_after name [] = None
+words_after name (word ∷ words) = if bytes_eq word name then Some words else None
+
+-- the words of a report, after the first
 abbrev pub report_words : List (List ℕ) → Option (List (List ℕ))
-report_words [] = None
-report_words (word ∷ words) = if bytes_eq word (codes "report") then Some words else None
+report_words words = words_after (codes "report") words
 
 -- the words ask for no report
 abbrev pub IsNoReport : List (List ℕ) → Type 0
 IsNoReport words = report_words words ≡ None
+
+-- the words of a graph, after the first
+abbrev pub graph_words : List (List ℕ) → Option (List (List ℕ))
+graph_words words = words_after (codes "graph") words
+
+-- the words ask for no graph
+abbrev pub IsNoGraph : List (List ℕ) → Type 0
+IsNoGraph words = graph_words words ≡ None
 
 -- ---- words that execute nothing
 

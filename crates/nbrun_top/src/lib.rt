@@ -27,5 +27,5 @@ mod task;
 
 pub use exercise_job::exercise;
 pub use exercise_opening::exercise_world;
-pub use main_call::{report_words, run};
+pub use main_call::{graph_words, report_words, run};
 pub use tally::Tally;

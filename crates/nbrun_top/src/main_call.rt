@@ -3,8 +3,10 @@ ghost use Rattle.std.specs.Prelude.{◌≡◌, ◌⊎◌, None, Some, ℕ, List 
 ghost use Rattle.words.specs.declared.usage.Usage as usages;
 ghost use Rattle.words.specs.Refusals.{refusal};
 ghost use Rattle.nbrun_top.specs.Asked.{IsPlain, IsExecuting, IsExercise, IsNoExercise, texts};
-ghost use Rattle.nbrun_top.specs.Asked.{IsNoReport, report_words};
+ghost use Rattle.nbrun_top.specs.Asked.{IsNoReport, IsNoGraph, report_words, graph_words};
+ghost use Rattle.nbrun_top.specs.Asked.{words_after};
 ghost use Rattle.report_run.specs.Promise as reports;
+ghost use Rattle.graph_run.specs.Promise as graphs;
 ghost use Rattle.world.specs.Told.{Between};
 ghost use Rattle.said_lines.specs.Between.{FromStart, SayRose, SayFailed};
 ghost use Rattle.nbrun_top.specs.Ended.{Ended};
@@ -19,23 +21,30 @@ use crate::exercise_run::run_exercise;
 use crate::plain_run::run_plain;
 use crate::task::Task;
 use batch_run::Limits;
+use graph_run::graph;
 use report_run::report;
 use std::alloc::Global;
 use world::World;
 
 /// Does what the words ask for, says how it ended, and answers the exit status. The words are the
 /// arguments without the program's name. The promises are the headline: `specs/Promise.antt` has the
-/// clauses of all words but a report's, and `report_run` those of a report, each with what it says.
+/// clauses of all words but a report's and a graph's, `report_run` those of a report and `graph_run`
+/// those of a graph, each with what it says.
 pub fn run<W: World>(alloc: Global, words: &[String], limits: &Limits, w: &mut W) -> u8
-    ensures promise { IsNoReport (texts words.now) → Promise W.journal W.counts w.old w.new
+    ensures promise { IsNoReport (texts words.now) → IsNoGraph (texts words.now) →
+        Promise W.journal W.counts w.old w.new
         (texts words.now) limits.now.here limits.now.turns result }
     // A report, by the words after the first.
     ensures report { (rest : Seq (Seq ℕ)) → report_words (texts words.now) ≡ Some rest →
         reports.Promise W.journal W.counts w.old w.new rest result }
+    // A graph, by the words after the first.
+    ensures graph { (rest : Seq (Seq ℕ)) → graph_words (texts words.now) ≡ Some rest →
+        graphs.Promise W.journal W.counts w.old w.new
+        rest limits.now.here limits.now.turns result }
 {
     match report_words(words) {
         Some(rest) => report(alloc, rest, w),
-        None => run_others(alloc, words, limits, w),
+        None => run_unreported(alloc, words, limits, w),
     }
 }
 
@@ -43,13 +52,42 @@ pub fn run<W: World>(alloc: Global, words: &[String], limits: &Limits, w: &mut W
 pub fn report_words(words: &[String]) -> Option<&[String]>
     ensures { option_map (λ rest. texts rest.now) result ≡ report_words (texts words.now) }
 {
+    words_after(words, "report")
+}
+
+/// The words after `graph`, where that is the first one: those of a graph.
+pub fn graph_words(words: &[String]) -> Option<&[String]>
+    ensures { option_map (λ rest. texts rest.now) result ≡ graph_words (texts words.now) }
+{
+    words_after(words, "graph")
+}
+
+// The words after this one, where it is the first.
+fn words_after<'a>(words: &'a [String], name: &str) -> Option<&'a [String]>
+    ensures { option_map (λ rest. texts rest.now) result
+        ≡ words_after name.now (texts words.now) }
+{
     match words.split_first() {
-        Some((first, rest)) if first.as_str() == "report" => Some(rest),
+        Some((first, rest)) if first.as_str() == name => Some(rest),
         _ => None,
     }
 }
 
 // All that is no report.
+fn run_unreported<W: World>(alloc: Global, words: &[String], limits: &Limits, w: &mut W) -> u8
+    ensures promise { IsNoGraph (texts words.now) → Promise W.journal W.counts w.old w.new
+        (texts words.now) limits.now.here limits.now.turns result }
+    ensures graph { (rest : Seq (Seq ℕ)) → graph_words (texts words.now) ≡ Some rest →
+        graphs.Promise W.journal W.counts w.old w.new
+        rest limits.now.here limits.now.turns result }
+{
+    match graph_words(words) {
+        Some(rest) => graph(alloc, rest, limits, w),
+        None => run_others(alloc, words, limits, w),
+    }
+}
+
+// All that is neither a report nor a graph.
 fn run_others<W: World>(alloc: Global, words: &[String], limits: &Limits, w: &mut W) -> u8
     ensures promise { Promise W.journal W.counts w.old w.new
         (texts words.now) limits.now.here limits.now.turns result }

@@ -2,3 +2,4 @@ pub mod MergingLemmas
 mod RowLemmas
 mod WrittenRows
 mod OnceLemmas
+pub mod ParameterLemmas

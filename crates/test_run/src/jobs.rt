@@ -18,7 +18,13 @@ const SPEC: &str =
 const JOBS: &str =
     "{\"jobs\":[{\"input\":\"in.ipynb\",\"output\":\"a.ipynb\"},{\"input\":\"in-2.ipynb\",\"output\":\"b.ipynb\"}]}";
 
-fn add(alloc: Global, files: &mut Files, path: &str, text: &str) -> Result<(), NoMemory> {
+/// Adds a file.
+pub(crate) fn add(
+    alloc: Global,
+    files: &mut Files,
+    path: &str,
+    text: &str,
+) -> Result<(), NoMemory> {
     files.push((Text::of(alloc, path)?, Bytes::of(alloc, text.as_bytes())?))?;
     Ok(())
 }
@@ -57,13 +63,18 @@ pub(crate) fn world_by<K: KernelSide>(
     add(alloc, &mut files, "in.ipynb", input)?;
     add(alloc, &mut files, "in-2.ipynb", input)?;
     add(alloc, &mut files, "jobs.json", JOBS)?;
+    spec_file(alloc, &mut files)?;
+    MemWorld::new(alloc, files, kernels, script)
+}
+
+/// Adds the toy kernel's spec.
+pub(crate) fn spec_file(alloc: Global, files: &mut Files) -> Result<(), NoMemory> {
     add(
         alloc,
-        &mut files,
+        files,
         "/usr/local/share/jupyter/kernels/toy/kernel.json",
         SPEC,
-    )?;
-    MemWorld::new(alloc, files, kernels, script)
+    )
 }
 
 fn sizes(alloc: Global, numbers: &[u64]) -> Result<Sizes, NoMemory> {

@@ -7,6 +7,8 @@ mod channels;
 #[cfg(test)]
 mod checks;
 #[cfg(test)]
+mod graphs;
+#[cfg(test)]
 mod jobs;
 #[cfg(test)]
 mod leaves;

@@ -5,6 +5,7 @@ use Rattle.job_graph.specs.Waves as spec
 use Rattle.job_graph.specs.declared.wave_fault.WaveFault.{WaveFault}
 use Rattle.job_graph.specs.declared.wave_fault.WaveFault.TheVariants as fault
 use Rattle.job_graph.proofs.Assembly.{next_made, next_placed, next_fewer, cycle_found, waves_found, some_left}
+use Rattle.job_graph.proofs.CountLemmas.{few_waves}
 use Rattle.job_graph.proofs.layers.waves.Goals as goal
 
 pub loop-alloc-smaller : goal.loop-alloc-smaller
@@ -33,3 +34,6 @@ returns-then-is_empty-clause-cycle c job is =
 
 pub returns-clause-waves : goal.returns-clause-waves
 returns-clause-waves c = waves_found c.args.needs.now c.loop-alloc.waves c.loop-alloc.placed c.loop-alloc.invariant.made c.loop-alloc.invariant.placed (search rules)
+
+pub returns-clause-few : goal.returns-clause-few
+returns-clause-few c = few_waves c.args.needs.now c.loop-alloc.waves c.loop-alloc.invariant.made
