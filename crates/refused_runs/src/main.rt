@@ -70,11 +70,24 @@ fn row_of(rt: &HostRuntime) -> io::Result<Option<Row>> {
 
 fn judge(alloc: Global, row: Row) -> Result<Verdict, NoMemory> {
     let reference = Reference::of(alloc, row)?;
-    let mut w = world(alloc, row, None)?;
-    let verdict = judge_by(alloc, row, &reference, &mut w);
-    drop(w);
+    let verdict = judge_beside(alloc, row, &reference);
     drop(reference);
     verdict
+}
+
+fn judge_beside(alloc: Global, row: Row, reference: &Reference) -> Result<Verdict, NoMemory> {
+    if !is_whole(reference) {
+        return Ok(Verdict::NotSeen);
+    }
+    let mut w = world(alloc, row, None)?;
+    let verdict = judge_by(alloc, row, reference, &mut w);
+    drop(w);
+    verdict
+}
+
+// Whether the reference ran to its end and its journal was told: memory may have been refused to it too.
+fn is_whole(reference: &Reference) -> bool {
+    reference.status == 0 && !reference.statuses.is_empty()
 }
 
 fn judge_by(

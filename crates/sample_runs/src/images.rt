@@ -1,4 +1,5 @@
 //! What a crash may leave at each moment of a run.
+use crate::kinds::is_of_disk;
 use crate::row::Row;
 use crate::worlds::{SPEC, SPEC_PATH};
 use jtext::{Bytes, List, NoMemory, Text};
@@ -140,9 +141,12 @@ pub fn each_image_is_safe(
     let mut saves: usize = 0;
     let mut renamed = false;
     for entry in entries.iter() {
-        let near = Near::of(row, output, texts, saves);
-        if !is_safe_at(w, row, moment, &near)? {
-            return Ok(false);
+        // Nothing else changes what a crash leaves: the moments between two of these calls are as the second one's.
+        if is_of_disk(entry) {
+            let near = Near::of(row, output, texts, saves);
+            if !is_safe_at(w, row, moment, &near)? {
+                return Ok(false);
+            }
         }
         moment = moment.saturating_add(1);
         if renamed && is_done_sync(entry) {

@@ -276,6 +276,33 @@ fn dates_are_those_of_the_last_messages(rt: HostRuntime) -> Result<(), Fail> {
     Ok(())
 }
 
+/// The dates of a cell whose second idle and whose reply have none.
+fn dates_without_a_last(alloc: Global, fold: &mut Fold) -> Result<Bytes, NoMemory>
+    requires cells { cells_of fold.old ≡ 1 }
+    requires fresh { next_of fold.old ≡ 0 }
+{
+    fold.start(0);
+    give(alloc, fold, "input 7;status idle")?;
+    fold.take(&Content::Status(State::Idle), None)?;
+    fold.reply(None)?;
+    tree_text(alloc, Json::Obj(fold.dates(0)?))
+}
+
+fn dates_of_an_undated_one(alloc: Global) -> Result<Bytes, NoMemory> {
+    let mut fold = Fold::new(alloc, 1, false)?;
+    let said = dates_without_a_last(alloc, &mut fold);
+    drop(fold);
+    said
+}
+
+#[test]
+fn a_last_message_without_a_date_leaves_no_key(rt: HostRuntime) -> Result<(), Fail> {
+    let said = dates_of_an_undated_one(rt.alloc())?;
+    let dates = r#"{"iopub.execute_input":"2026-11-27T09:00:00.123456Z"}"#;
+    assert!(rt; said.bytes() == dates.as_bytes());
+    Ok(())
+}
+
 /// Whether a cell that updates an output of the first one touches these two of four, and nothing
 /// was touched before.
 fn touches_both(alloc: Global, fold: &mut Fold) -> Result<bool, NoMemory>

@@ -4,7 +4,7 @@ use crate::worlds::{plain_script, world};
 use jtext::{NoMemory, Text};
 use std::alloc::Global;
 use std::test::Fail;
-use world::{Did, Disk};
+use world::{Did, Disk, Wrote};
 use world_mem::{Files, ImageFault};
 
 /// Whether the file at a path has these bytes, or there is none.
@@ -73,5 +73,76 @@ fn digits_pick_options_in_the_order_of_paths(rt: HostRuntime) -> Result<(), Fail
     let picks = picks_by_digits(&mut w, alloc);
     drop(w);
     assert!(rt; picks?);
+    Ok(())
+}
+
+// Whether after so many entries one of the first 64 images has these bytes at a path.
+fn may_be<W: SeenCrash>(
+    w: &W,
+    t: u64,
+    path: &str,
+    wanted: Option<&[u8]>,
+) -> Result<bool, ImageFault> {
+    for choice in 0..64 {
+        if stands(&w.left(t, choice)?, path, wanted) {
+            return Ok(true);
+        }
+    }
+    Ok(false)
+}
+
+// A file is removed: a crash leaves it or takes it away.
+fn removes<W: SeenCrash>(w: &mut W, alloc: Global) -> Result<bool, Fail> {
+    let is_done = w.remove(&Text::of(alloc, "a")?) == Did::Done;
+    Ok(
+        is_done
+            && may_be(w, 1, "a", Some(b"old"))?
+            && may_be(w, 1, "a", None)?
+            && always(w, 1, "a", Some(b"old"), None)?,
+    )
+}
+
+#[test]
+fn a_removed_file_may_stand_after_a_crash(rt: HostRuntime) -> Result<(), Fail> {
+    let alloc = rt.alloc();
+    let mut w = world(alloc, &[("a", "old")], 0, plain_script(alloc, &[])?)?;
+    let is_so = removes(&mut w, alloc);
+    drop(w);
+    assert!(rt; is_so?);
+    Ok(())
+}
+
+// Makes a file, and syncs it under the name that it has then.
+fn sync_the_new_name<W: Disk>(w: &mut W, alloc: Global) -> Result<bool, NoMemory> {
+    let a = Text::of(alloc, "a")?;
+    let b = Text::of(alloc, "b")?;
+    Ok(
+        w.create(&a) == Did::Done
+            && w.write(&a, b"x") == Wrote::Took(1)
+            && w.rename(&a, &b) == Did::Done
+            && w.sync(&b) == Did::Done,
+    )
+}
+
+// The sync tells nothing of what was written under the other name.
+fn opens_the_new_name<W: SeenCrash>(w: &mut W, alloc: Global) -> Result<bool, Fail> {
+    let is_done = sync_the_new_name(w, alloc)?;
+    Ok(
+        is_done
+            && may_be(w, 4, "b", None)?
+            && may_be(w, 4, "b", Some(b""))?
+            && may_be(w, 4, "b", Some(b"X"))?,
+    )
+}
+
+#[test]
+fn a_file_that_is_synced_under_its_new_name_alone_may_be_anything(
+    rt: HostRuntime,
+) -> Result<(), Fail> {
+    let alloc = rt.alloc();
+    let mut w = world(alloc, &[], 0, plain_script(alloc, &[])?)?;
+    let is_so = opens_the_new_name(&mut w, alloc);
+    drop(w);
+    assert!(rt; is_so?);
     Ok(())
 }

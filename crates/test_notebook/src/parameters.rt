@@ -7,6 +7,7 @@ use std::test::Fail;
 /// A line an object of parameters: the object, and its source, a `|` for each line end.
 const SOURCES: &str = r#"{} => # Parameters|
 {"s":"a\"b\\\n\t\r\u00e9\u007f\u2028\ud83d\ude00"} => # Parameters|s = "a\"b\\\n\t\r\xe9\x7f\u2028\U0001f600"|
+{"s":"a\"b\\\n\u00e9\ud83d\ude00"} => # Parameters|s = "a\"b\\\n\xe9\U0001f600"|
 {"l":[1e2,true,null],"d":{"k":false,"l":[]},"e":{}} => # Parameters|l = [1e2, True, None]|d = {"k": False, "l": []}|e = {}|"#;
 
 #[test]
@@ -46,7 +47,9 @@ const INJECTIONS: &str = r#"{} {"a":1} => r a injected-parameters  <= r: a:param
 {} {"a":1} => r injected-parameters a  <= r: q:injected-parameters a:parameters
 {"kernelspec":{"display_name":"R","name":"ir","language":"R"}} {"a":1} => R <= r:
 {"kernelspec":{"display_name":"R","name":"ir","language":"R"}} {} => r  <= r:
-{"kernelspec":{"display_name":"Toy","name":"toy"},"language_info":{"name":"toy"}} {"a":1} => injected-parameters r  <= r:"#;
+{"kernelspec":{"display_name":"Toy","name":"toy"},"language_info":{"name":"toy"}} {"a":1} => injected-parameters r  <= r:
+{"kernelspec":{"display_name":"P","name":"p","language":"python"},"language_info":{"name":"R"}} {"a":1} => injected-parameters r  <= r:
+{"kernelspec":{"display_name":"P","name":"p","language":1},"language_info":{"name":"R"}} {"a":1} => R <= r:"#;
 
 /// The text of a notebook with these metadata and these cells.
 fn text_of(rt: &HostRuntime, metadata: &str, cells: &str) -> Result<String, Fail> {

@@ -18,3 +18,5 @@ mod reports;
 mod runs;
 #[cfg(test)]
 mod saves;
+#[cfg(test)]
+mod starts;

@@ -129,3 +129,12 @@ fn fails(rt: &HostRuntime, number: u64, code: u8, output: &str, said: &str) -> R
         output,
     )
 }
+
+#[test]
+fn a_line_that_is_not_said_leaves_a_refusal_its_status(rt: HostRuntime) -> Result<(), Fail> {
+    let mut w = world(&rt, b"[]", Some(1))?;
+    let is_so = gives(&rt, "in out --prepare-only", &mut w, 4, "", None);
+    drop(w);
+    assert!(rt; is_so?);
+    Ok(())
+}

@@ -152,3 +152,23 @@ fn a_jobs_file_with_one_file_by_two_paths_is_refused(rt: HostRuntime) -> Result<
     remove(&rt, &["batch-jobs"])?;
     remove_folder(&rt, "batch")
 }
+
+#[test]
+fn a_graph_with_one_file_by_two_paths_is_refused(rt: HostRuntime) -> Result<(), Fail> {
+    make_folder(&rt, "waves")?;
+    let graph =
+        r#"{"jobs":[{"name":"a","input":"waves/in","output":"waves/o"},{"name":"b","input":"waves/x","output":"waves/linked/o","needs":["a"]}]}"#;
+    fs::write(&rt, "waves-graph", graph.as_bytes())?;
+    let none = Fields::new(rt.alloc());
+    let ran = run(&rt, "same-graph", "", "graph waves-graph", &none)?;
+    assert_eq!(rt; ran.status, 2);
+    assert!(rt;
+        ran.said
+            .as_str()
+            .contains("usage: bad jobs at /jobs/1/output\n"),
+        "{}",
+        ran.said
+    );
+    remove(&rt, &["waves-graph"])?;
+    remove_folder(&rt, "waves")
+}

@@ -188,6 +188,22 @@ fn bytes_that_no_text_has_are_refused(rt: HostRuntime) -> Result<(), Fail> {
 }
 
 #[test]
+fn a_level_too_many_is_refused_at_its_bracket(rt: HostRuntime) -> Result<(), Fail> {
+    let rows: [(&[u8], u32, &str, u64); 5] = [
+        (b"[[1]]", 1, "deep", 1),
+        (b"[[1]]", 2, "ok", 0),
+        (b"{\"a\":{}}", 1, "deep", 5),
+        (b"[]", 0, "deep", 0),
+        (b"1", 0, "ok", 0),
+    ];
+    for (bytes, levels, kind, at) in rows {
+        let (found, n) = answer_to(rt.alloc(), bytes, levels);
+        assert!(rt; found == kind && n == at, "{kind} {at}");
+    }
+    Ok(())
+}
+
+#[test]
 fn brackets_without_end_are_too_deep(rt: HostRuntime) -> Result<(), Fail> {
     let brackets = vec![in rt.alloc(); b'['; 33_554_432]?;
     let (found, n) = answer_to(rt.alloc(), &brackets, 128);
