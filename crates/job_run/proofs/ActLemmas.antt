@@ -1,5 +1,5 @@
 -- An act of the core is done, behind the saves that it asked for before.
-use Rattle.std.proofs.Common.{◌≡◌, ◌+◌, inl, inr, ℕ, Bool, true, false, ◌&&◌, not, List, Result, Ok, Err, refl, sym, ◌∙◌, ap, subst}
+use Rattle.std.proofs.Common.{◌≡◌, ◌+◌, inl, inr, ℕ, Bool, true, false, ◌&&◌, not, List, [], ◌∷◌, ◌++◌, Result, Ok, Err, refl, sym, ◌∙◌, ap, subst}
 use Rattle.std.specs.Prelude.{Option, Some, None, IfSome, IsSomeAnd, OnOk, is_some}
 use Rattle.std.proofs.Math.Logic.{∥∥₁_elim}
 use Rattle.std.specs.Result.{IsErrAnd}
@@ -7,7 +7,7 @@ use Rattle.std.proofs.Math.Bool.{Bool-set, true≢false}
 use Rattle.world.specs.declared.entry.Entry.{Entry}
 use Rattle.world.specs.Moments.{Told}
 use Rattle.cell_core.specs.declared.act.Act.{Act}
-use Rattle.cell_core.specs.declared.act.Act.TheVariants.{Nothing, Start, Look, Save, Stop}
+use Rattle.cell_core.specs.declared.act.Act.TheVariants.{Nothing, Start, Send, Look, Interrupt, Save, Stop}
 use Rattle.cell_core.specs.declared.event.Event.TheVariants.{Saved}
 use Rattle.cell_core.specs.declared.why.Why.{Why}
 use Rattle.cell_core.specs.declared.event.Event.{Event}
@@ -18,14 +18,15 @@ use Rattle.cell_core.specs.Saves.{pending_saves, why}
 use Rattle.cell_core.specs.StandsFor.{StandsFor, awaits_saved_of, task_of}
 use Rattle.cell_core.proofs.Answering.{answers_kind}
 use Rattle.job_end.specs.declared.end.End.{End}
-use Rattle.job_journal.specs.Plot.{Plot}
+use Rattle.run_journal.specs.Requests.{requests}
+use Rattle.job_journal.specs.Plot.{Plot, facts}
 use Rattle.job_run.specs.Told.{Hears}
 use Rattle.job_run.specs.declared.execution.Execution.{Execution}
-use Rattle.job_run.specs.Standing.{DoesAct, MovesOn, StandsTo, StandsToOrEnds, StaysStill}
+use Rattle.job_run.specs.Standing.{DoesAct, IsToSendCell, MovesOn, Stands, StandsTo, StandsToOrEnds, StaysStill, is_idle}
 
--- doing nothing is no save
-pub not_save : {n : ℕ} → Nothing ≡ Save n → ⊥
-not_save e = cc
+-- there is something to do for a save
+pub busy_save : {act : Act} {n : ℕ} → is_idle act ≡ true → act ≡ Save n → ⊥
+busy_save idle e = true≢false (sym idle ∙ ap is_idle e)
 
 moves : {U : Type 0} (x y z : Execution) (r : Result U End) → y.sent ≡ x.sent → OnOk r (MovesOn y z) → OnOk r (MovesOn x z)
 moves x y z (Err e) same m = tt
@@ -99,3 +100,23 @@ pub kind_saved : (core : Core) (clock : ℕ) (is_named : Bool) (answer : Act) �
 kind_saved core clock is_named answer awaited acts h = ∥∥₁_elim h (Bool-set (can_answer Saved answer) true) (λ t.
     subst (λ (act : Act). can_answer Saved act ≡ true) (sym (acts t.events t.stands tt))
     (answers_kind (task_of core) core.clock core.lost core.state Saved t.events t.stands.so (sym awaited) tt (still_going core t.events t.stands awaited) core.later))
+
+-- ---- where no request stands by the journal
+
+not_one : {A : Type 0} (earlier : List A) (r : A) → [] ≡ earlier ++ r ∷ [] → ⊥
+not_one [] r e = absurd (cc)
+not_one (x ∷ xs) r e = absurd (cc)
+
+-- none is to be sent
+pub none_to_send : (p : Plot) (number : ℕ) (x : Execution) (cell : ℕ) (now : List Entry) → requests (facts p) now ≡ [] → IsToSendCell p number x cell now → ⊥
+none_to_send p number x cell now none t = not_one t.parts.earlier t.parts.newest (sym none ∙ t.parts.next.stands)
+
+-- an act for which there is nothing to do
+pub idle_stands : (p : Plot) (number : ℕ) (x : Execution) (act : Act) (now : List Entry) → is_idle act ≡ true → StandsTo p number x act now → Stands p number x now
+idle_stands p number x Nothing now q s = s
+idle_stands p number x Start now q s = s.0
+idle_stands p number x Look now q s = s
+idle_stands p number x (Send cell) now q s = absurd (true≢false (sym q))
+idle_stands p number x Interrupt now q s = absurd (true≢false (sym q))
+idle_stands p number x (Save n) now q s = absurd (true≢false (sym q))
+idle_stands p number x (Stop cause) now q s = absurd (true≢false (sym q))

@@ -3,9 +3,11 @@ pub mod AskLemmas
 pub mod BeginLemmas
 pub mod CauseLemmas
 pub mod CellLemmas
+pub mod ClockLemmas
 pub mod CountLemmas
 pub mod HeardLemmas
 pub mod HoldLemmas
+pub mod JobLemmas
 pub mod LaunchLemmas
 pub mod ListenLemmas
 pub mod MessageLemmas
@@ -18,6 +20,7 @@ pub mod RunLemmas
 pub mod SaveLemmas
 pub mod SendLemmas
 pub mod StandingLemmas
+pub mod StartLemmas
 pub mod StepLemmas
 pub mod StopLemmas
 pub mod ToldLemmas

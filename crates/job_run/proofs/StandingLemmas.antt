@@ -76,6 +76,10 @@ module _ (p : Plot) (number : ℕ) (x : Execution) (core : Core) (e : Event) (an
   kind = answers_kind (task_of x.core) x.core.clock x.core.lost x.core.state e told s.parts.core.hears.stands.so order timely
       (subst (λ task. has_stopped task (heard task told) ≡ false) (sym task_is) s.parts.core.hears.goes_on) x.core.later
 
+  -- what is answered is of the kind of the event
+  pub answered_kind : can_answer e answer.act ≡ true
+  answered_kind = subst (λ (act : Act). can_answer e act ≡ true) (sym (t.act told s.parts.core.hears.stands timely)) kind
+
   other_by : IsOther e → (act : Act) → answer.act ≡ act → StandsTo p number (record x { core = core }) act now
   other_by o Nothing is = other_stands o (ap is_stop is)
   other_by o Look is = other_stands o (ap is_stop is)

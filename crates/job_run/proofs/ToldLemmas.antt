@@ -31,7 +31,8 @@ time_heard : (b : Bool) (e : Event) (hs : List Event) (clock : ℕ) → time (e 
 time_heard true e hs clock new old = old
 time_heard false e hs clock new old = new
 
-timely_by : (core : Core) (clock : ℕ) (is_named : Bool) (e : Event) (past : List Event) → MayCome core clock is_named e → StandsFor core past
+-- an event that may come does so in time
+pub timely_by : (core : Core) (clock : ℕ) (is_named : Bool) (e : Event) (past : List Event) → MayCome core clock is_named e → StandsFor core past
     → time (heard (task_of core) past) ≤ clock → IsTimely (task_of core) e past
 timely_by core clock is_named (Moment t) past may stands timed = may.1 past stands (subst (λ n. time (heard (task_of core) past) ≤ n) (sym may.0) timed)
 timely_by core clock is_named Saved past may stands timed = tt

@@ -54,8 +54,9 @@ IsAsked old new = new ≡ record old { session = new.session; lines = new.lines;
 abbrev pub Asks : ℕ → Execution → Execution → Type 0
 Asks n old new = new.session ≡ record old.session { made = old.session.made + n }
 
--- at most one request was made, under the same key
+-- at most one request was made, in the same session and under the same key
 pub record AsksOnce (old new : Execution) : Type 0 where
+  pub name : new.session.name ≡ old.session.name
   pub key : new.session.key ≡ old.session.key
   pub made : new.session.made ≤ old.session.made + 1
 

@@ -1,7 +1,9 @@
+pub mod Beginning
 pub mod Counted
 pub mod Due
 pub mod Heard
 pub mod Held
+pub mod JobStanding
 pub mod Left
 pub mod Pings
 pub mod Queues

@@ -1,27 +1,32 @@
 -- What an execution stands for, by the journal of its world, and what each of its steps makes of that (Jupyter messaging 5.3; nbclient,
 -- `async_execute_cell`; papermill, which saves after each cell). It holds of jobs that want no interrupts.
-use Rattle.std.specs.Prelude.{◌≡◌, ◌≢◌, ◌⊎◌, ◌∷◌, ◌++◌, ◌+◌, ℕ, true, List, [], Option, Some, None, Result, Ok, Err, IfErr, OnOk, slice_get}
+use Rattle.std.specs.Prelude.{◌≡◌, ◌≢◌, ◌⊎◌, ◌∷◌, ◌++◌, ◌+◌, ◌≤◌, ℕ, Bool, true, false, List, [], Option, Some, None, Result, Ok, Err, IfErr, OnOk, length, slice_get}
 use Rattle.world.specs.declared.chan.Chan.{Chan}
+use Rattle.world.specs.declared.chan.Chan.TheVariants.{Iopub}
 use Rattle.world.specs.declared.conn.Conn.{Conn}
 use Rattle.world.specs.declared.entry.Entry.{Entry}
-use Rattle.world.specs.declared.entry.Entry.TheVariants.{Got}
-use Rattle.world.specs.Places.{is_at}
+use Rattle.world.specs.declared.entry.Entry.TheVariants.{Got, Moment}
+use Rattle.world.specs.Moments.{Since}
+use Rattle.world.specs.Places.{is_at, time}
 use Rattle.zmtp_wire.specs.Decoder.{Answer}
 use Rattle.zmtp_peer.specs.Peer.{Brings}
 use Rattle.kernel_lines.specs.Happened.{History, Came, came_in}
-use Rattle.kernel_lines.specs.Line.{StandsFor, role_of}
+use Rattle.kernel_lines.specs.Line.{StandsFor, role_of, taken_of}
 use Rattle.kernel_lines.specs.Lines.{OthersStay, line_on}
 use Rattle.jcontent.specs.declared.content.Content.{Content}
 use Rattle.cell_core.specs.declared.act.Act.{Act}
-use Rattle.cell_core.specs.declared.act.Act.TheVariants.{Start, Send, Save, Stop, Interrupt}
+use Rattle.cell_core.specs.declared.act.Act.TheVariants.{Nothing, Start, Send, Look, Save, Stop, Interrupt}
+use Rattle.cell_core.specs.declared.event.Event.{Event}
+use Rattle.cell_core.specs.declared.event.Event.TheVariants as event
 use Rattle.cell_core.specs.declared.event.Event.TheVariants.{Saved}
 use Rattle.cell_core.specs.Answering.{can_answer}
 use Rattle.job_end.specs.declared.end.End.{End}
 use Rattle.run_journal.specs.Asked.{may_raise}
 use Rattle.run_journal.specs.Codec.{Arrival}
-use Rattle.run_journal.specs.Parts.{place}
+use Rattle.run_journal.specs.Parts.{place, bytes_put}
 use Rattle.job_journal.specs.Piece.{HasCome, Within}
 use Rattle.job_journal.specs.Plot.{Plot, facts}
+use Rattle.job_journal.specs.Quiet.{IsQuietNow}
 use Rattle.job_journal.specs.Saved.{IsAsked}
 use Rattle.job_journal.specs.Standing.{Parts, StandsBy, IsToSend, HasEndedAs}
 use Rattle.job_journal.specs.Used.{Sent}
@@ -63,6 +68,12 @@ pub record IsAskedFor (p : Plot) (x : Execution) : Type 0 where
 pub record Stands (p : Plot) (number : ℕ) (x : Execution) (now : List Entry) : Type 0 where
   pub parts : StandsBy p number (parts_of x) [] [] now
   pub asked : IsAskedFor p x
+
+-- An execution stands for the journal but for its clock: it may still have to be told the last clock entries. So an execution stands once
+-- a job has begun behind it and has read the clock.
+pub record StandsUntold (p : Plot) (number : ℕ) (x : Execution) (now : List Entry) : Type 0 where
+  pub stands : Stands p number (record x { clock = time now }) now
+  pub earlier : x.clock ≤ time now
 
 -- ---- an execution whose core has answered
 
@@ -112,6 +123,47 @@ DoesAct p number x act y result before after = StandsTo p number x act before
 pub record StaysStill {U : Type 0} (x y : Execution) (result : Result U End) : Type 0 where
   pub same : y ≡ x
   pub no_end : IfErr result (λ e. ⊥)
+
+-- an act for which an execution has nothing to do
+abbrev pub is_idle : Act → Bool
+is_idle Nothing = true
+is_idle Start = true
+is_idle Look = true
+is_idle _ = false
+
+-- ---- the clock
+
+-- The clock was read in a turn with this moment, and since then only entries were made that are quiet for the job. Before it the execution
+-- stood for the journal but for its clock, and knew how many octets were put on IOPub.
+pub record IsTurned (p : Plot) (number : ℕ) (x : Execution) (ms : ℕ) (now : List Entry) : Type 0 where
+  pub past : List Entry
+  pub stands : StandsUntold p number x past
+  pub taken : taken_of (line_on x.lines Iopub) ≡ length (bytes_put (facts p) Iopub past)
+  pub rises : time past ≤ ms
+  pub since : Since (IsQuietNow (facts p)) (Moment ms ∷ past) now
+
+-- The same where the execution has noted the moment as its clock. It has not asked its kernel anything by it yet.
+pub record HasTurned (p : Plot) (number : ℕ) (x : Execution) (now : List Entry) : Type 0 where
+  pub past : List Entry
+  pub stands : Stands p number (record x { clock = time past }) past
+  pub taken : taken_of (line_on x.lines Iopub) ≡ length (bytes_put (facts p) Iopub past)
+  pub since : Since (IsQuietNow (facts p)) (Moment x.clock ∷ past) now
+
+-- an event of the clock, or a loss: the core answers it by a look at most
+abbrev pub is_passing : Event → Bool
+is_passing (event.Moment ms) = true
+is_passing event.Lost = true
+is_passing _ = false
+
+-- Nothing but the core of an execution has changed, and under this clock it stands for the journal.
+pub record GoesBy (p : Plot) (number clock : ℕ) (x y : Execution) (now : List Entry) : Type 0 where
+  pub rest : y ≡ record x { core = y.core }
+  pub stands : Stands p number (record y { clock = clock }) now
+
+-- An execution that stood for a journal under some clock still does. Nothing but its core has changed, it goes on, and no call was made.
+abbrev pub PassesBy : {U : Type 0} → Plot → ℕ → Execution → Execution → Result U End → List Entry → List Entry → Type 0
+PassesBy p number x y result before after = (clock : ℕ) (now : List Entry) → Stands p number (record x { clock = clock }) now
+    → GoesBy p number clock x y now × IfErr result (λ e. ⊥) × (after ≡ before)
 
 -- ---- a piece, as it is heard
 

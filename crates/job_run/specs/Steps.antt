@@ -12,6 +12,7 @@ use Rattle.job_saves.specs.Course.{Origin, Stands, GoesOn, CallsOwn, stays_open}
 use Rattle.job_saves.specs.Sessions.{IsSaveCall}
 use Rattle.job_run.specs.Counted.{IsCountedAt, CountsOn}
 use Rattle.job_run.specs.Held.{Holds, IsCalm}
+use Rattle.job_run.specs.JobStanding.{KeepsStanding}
 use Rattle.job_run.specs.Run.{KeepsRun, KeepsRole, RunsOn, CallsInRole, EndsNot, EndsOnce, outcome_of}
 use Rattle.job_run.specs.Task.{task_of_job, output_of_job, pings_kernel}
 use Rattle.job_run.specs.Told.{EndsBy}
@@ -62,6 +63,8 @@ pub record JobStays (was now : Job) : Type 0 where
   pub keeps : JobKeeps was now
   -- it has ended as it had, or goes on
   pub outcome : outcome_of now ≡ outcome_of was
+  -- it stands for each journal for which it stood
+  pub stands : KeepsStanding was now
 
 -- what a job is told with calls of the world, and is answered so, goes on with what stood of it
 pub record JobGoesOn {W U E : Type 0} (journal : W → Option (List Entry)) (tally : W → Counts) (old new : W) (was now : Job) (result : Result U E) : Type 0 where

@@ -10,6 +10,7 @@ mod fresh;
 mod hearing;
 mod histories;
 mod job;
+pub mod laws;
 mod look;
 mod outcome;
 mod paths;

@@ -1,5 +1,5 @@
 //! How a job has ended.
-ghost use Rattle.std.specs.Prelude.{◌≡◌, ◌==◌, ℕ, List, true, false, is_some, Ok, Err, IfOk, IfErr, IfSome, OnOk};
+ghost use Rattle.std.specs.Prelude.{◌≡◌, ◌==◌, ℕ, List, true, false, is_some, None, Ok, Err, IfOk, IfErr, IfSome, OnOk};
 ghost use Rattle.cell_core.specs.StandsFor.{task_of};
 ghost use Rattle.cell_core.specs.Task.{Task};
 ghost use Rattle.job_saves.specs.Course.{StaysOn, KeepsPart, stays_open, keeps_open};
@@ -45,6 +45,9 @@ pub(crate) fn outcome_of(
     ensures once { AsksOnce run.old run.new }
     ensures counts { (n : OutputAt) → IsCountedBy run.old done n → IsCountedIn result run.new n }
     ensures saves { output_of run.new.book ≡ output_of run.old.book }
+    // It ends just where what was done ended it; else the execution is as it was.
+    ensures goes { IfOk done (λ u. (run.new ≡ run.old) × (result ≡ None)) }
+    ensures ends { IfErr done (λ e. is_some result ≡ true) }
 {
     match done {
         Ok(()) => None,

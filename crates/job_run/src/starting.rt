@@ -22,6 +22,17 @@ ghost use Rattle.job_run.specs.Task.{task_for, task_in, terms_of_job, AreTermsOf
 ghost use Rattle.job_run.specs.Run.{Runs, IsRole, HasRole, MayStart, StartsAs, StartsInRole};
 ghost use Rattle.job_run.specs.Run.{BeginsNew, StartsCounted, HasPorts, HasNoPorts, EndCause};
 ghost use Rattle.job_run.specs.Run.{number_of, outcome_of};
+ghost use Rattle.std.specs.Prelude.{[]};
+ghost use Rattle.world.specs.declared.chan.Chan.{Chan as Channel};
+ghost use Rattle.jsign.specs.History.{StandsFor as SeenFor};
+ghost use Rattle.kernel_lines.specs.Line.{StandsFor as LineStandsFor, role_of};
+ghost use Rattle.kernel_lines.specs.Lines.{line_on, role_on};
+ghost use Rattle.run_journal.specs.Job.{Job as Facts};
+ghost use Rattle.run_journal.specs.Requests.{requests};
+ghost use Rattle.job_journal.specs.Plot.{Plot, facts};
+ghost use Rattle.job_journal.specs.Quiet.{IsQuietNow};
+ghost use Rattle.job_run.specs.Beginning.{BeginsOrEnds, IsFresh, IsToBegin, IsUnbegun, SpeaksOn};
+ghost use Rattle.job_run.specs.JobStanding.{JobStands};
 
 use crate::execution::Execution;
 use crate::histories::Histories;
@@ -60,6 +71,12 @@ impl Job {
     ghost use Rattle.job_run.specs.Task.{task_of_job, output_of_job, ports_of_job, task_for};
     ghost use Rattle.job_run.specs.Task.{pings_kernel, terms_of_job, AreTermsOf};
     ghost use Rattle.job_run.specs.Told.{StartsBy};
+    ghost use Rattle.world.specs.Moments.{Since, Told};
+    ghost use Rattle.run_journal.specs.Job.{Job as Facts};
+    ghost use Rattle.job_journal.specs.Plot.{Plot};
+    ghost use Rattle.job_journal.specs.Quiet.{IsQuietNow};
+    ghost use Rattle.job_run.specs.Beginning.{IsFresh, IsPlotOf, StartsOrEnds};
+    ghost use Rattle.job_run.specs.JobStanding.{KeepsStanding};
 
     /// Saves the notebook with no cell settled and starts the kernel that was found for it. Where
     /// the start fails nothing is left of the kernel. `here` is the working folder.
@@ -103,6 +120,12 @@ impl Job {
         ensures fresh { IfOk result (λ j. outcome_of j ≡ None) }
         ensures pings { IfOk result (λ j. pings_kernel j ≡ ask.heartbeat) }
         ensures terms { IfOk result (λ j. AreTermsOf ask (terms_of_job j)) }
+        // Where nothing had happened to the job of a plot, and it is this one, the job stands for
+        // the journal in the plot's session. Where it ends, the texts that were saved are the first
+        // of the saves that are due, in whichever session.
+        ensures stands { (p : Plot) → Told (W.journal w.old) (W.journal w.new) (λ before after.
+            IsPlotOf p number ask agenda.notebook → IsFresh p before →
+            StartsOrEnds p result after) }
         ensures ports { IfOk result (λ j. HasPorts number (ports_of_job j) (W.journal w.new)) }
         // Where events brought its end, as many of them are saves as were acknowledged.
         ensures counted { (o : Origin) → IsFor ask.output ask.merge agenda.notebook o →
@@ -151,6 +174,9 @@ impl Job {
         ensures pings { IfOk result (λ j. pings_kernel j ≡ ask.heartbeat) }
         ensures terms { IfOk result (λ j. AreTermsOf ask (terms_of_job j)) }
         ensures ports { IfOk result (λ j. HasPorts number (ports_of_job j) (W.journal w.new)) }
+        ensures stands { (p : Plot) → Told (W.journal w.old) (W.journal w.new) (λ before after.
+            IsPlotOf p number ask agenda.notebook → IsFresh p before →
+            StartsOrEnds p result after) }
     {
         match parts_of(alloc, ask, agenda, pairs) {
             Ok((paths, run)) => start_saved(alloc, w, number, paths, run, kernel, here),
@@ -172,6 +198,10 @@ impl Job {
         ensures ports { IfOk result (λ _.
             HasPorts (number_of self.new) (ports_of_job self.new) (W.journal w.new)) }
         ensures ends { EndsLaunch (W.counts w.old) (W.counts w.new) result }
+        ensures run { self.new.run ≡ self.old.run }
+        ensures keeps { KeepsStanding self.old self.new }
+        ensures quiet { (facts : Facts) →
+            Told (W.journal w.old) (W.journal w.new) (Since (IsQuietNow facts)) }
     {
         match w.free_ports(self.number) {
             Some(ports) => {
@@ -189,6 +219,8 @@ impl Job {
             self.now }
         ensures given { KeepsPorts W.journal w.old w.new }
         ensures ends { EndsLaunch (W.counts w.old) (W.counts w.new) result }
+        ensures quiet { (facts : Facts) →
+            Told (W.journal w.old) (W.journal w.new) (Since (IsQuietNow facts)) }
     {
         match self.write_file(w) {
             Ok(()) => self.start_child(w, kernel, here),
@@ -203,6 +235,8 @@ impl Job {
         ensures left { KeepsEnd (number_of self.now) (W.journal w.old) (W.journal w.new) }
         ensures given { KeepsPorts W.journal w.old w.new }
         ensures ends { EndsLaunch (W.counts w.old) (W.counts w.new) result }
+        ensures quiet { (facts : Facts) →
+            Told (W.journal w.old) (W.journal w.new) (Since (IsQuietNow facts)) }
     {
         let key = self.run.session.key();
         let path = &self.paths.connection;
@@ -214,6 +248,8 @@ impl Job {
         ensures calls { RunsInRole W.journal W.counts w.old w.new kernel.now here.now self.now }
         ensures given { KeepsPorts W.journal w.old w.new }
         ensures ends { EndsLaunch (W.counts w.old) (W.counts w.new) result }
+        ensures quiet { (facts : Facts) →
+            Told (W.journal w.old) (W.journal w.new) (Since (IsQuietNow facts)) }
     {
         let path = &self.paths.connection;
         end_of_start(kernel.start(self.alloc, w, self.number, here, path, &self.paths.cwd))
@@ -225,6 +261,11 @@ impl Execution {
     ghost use Rattle.job_run.specs.Held.{Holds, IsCalm, IsFirst};
     ghost use Rattle.cell_core.specs.declared.act.Act.TheVariants.{Nothing};
     ghost use Rattle.job_run.specs.Steps.{Proceeds, OnlySaves};
+    ghost use Rattle.std.specs.Prelude.{ℕ};
+    ghost use Rattle.job_journal.specs.Plot.{Plot};
+    ghost use Rattle.world.specs.Moments.{Told};
+    ghost use Rattle.job_run.specs.Beginning.{HasSavedFirst, IsToBegin};
+    ghost use Rattle.job_run.specs.Standing.{StandsOrEnds};
 
     /// Saves the notebook with no cell settled, and reads the clock once.
     fn save_first<W: World>(&mut self, w: &mut W) -> Result<(), End>
@@ -232,6 +273,11 @@ impl Execution {
         ensures goes { Proceeds W.journal W.counts w.old w.new self.old self.new Nothing result }
         ensures saves { OnlySaves W.journal w.old w.new self.old.book }
         ensures key { OnOk result (self.new.session.key ≡ self.old.session.key) }
+        ensures name { OnOk result (self.new.session.name ≡ self.old.session.name) }
+        // Where nothing had happened before, the execution stands for the journal.
+        ensures stands { (p : Plot) (number : ℕ) → Told (W.journal w.old) (W.journal w.new)
+            (λ before after. IsToBegin p number self.old before →
+            StandsOrEnds p number self.new result after) }
     {
         self.act(w, Act::Save(0))?;
         self.read_clock(w)
@@ -243,6 +289,10 @@ impl Execution {
         ensures goes { Proceeds W.journal W.counts w.old w.new self.old self.new Nothing result }
         ensures saves { OnlySaves W.journal w.old w.new self.old.book }
         ensures key { OnOk result (self.new.session.key ≡ self.old.session.key) }
+        ensures name { OnOk result (self.new.session.name ≡ self.old.session.name) }
+        ensures stands { (p : Plot) (number : ℕ) → Told (W.journal w.old) (W.journal w.new)
+            (λ before after. HasSavedFirst p number self.old before →
+            StandsOrEnds p number self.new result after) }
     {
         laws::other_calls_pass();
         let ms = w.now();
@@ -283,6 +333,11 @@ fn start_saved<W: World>(
     ensures pings { IfOk result (λ j. pings_kernel j ≡ run.terms.heartbeat) }
     ensures terms { IfOk result (λ j. terms_of_job j ≡ run.terms) }
     ensures ports { IfOk result (λ j. HasPorts number (ports_of_job j) (W.journal w.new)) }
+    ensures stands { (p : Plot) → Told (W.journal w.old) (W.journal w.new) (λ before after.
+        IsToBegin p number run before → BeginsOrEnds p result after) }
+    ensures unsent { (p : Plot) → Told (W.journal w.old) (W.journal w.new) (λ before after.
+        IsFresh p before → requests (facts p) after ≡ []) }
+    ensures speaks { IfOk result (SpeaksOn run) }
 {
     laws::jobs_begin_and_end();
     let mut run = run;
@@ -337,6 +392,11 @@ fn with_kernel<W: World>(job: Job, w: &mut W, kernel: &Kernel, here: &Text) -> R
     ensures terms { IfOk result (λ j. terms_of_job j ≡ terms_of_job job) }
     ensures ports { IfOk result (λ j.
         HasPorts (number_of job) (ports_of_job j) (W.journal w.new)) }
+    ensures stands { (p : Plot) → Told (W.journal w.old) (W.journal w.new) (λ before after.
+        JobStands p job before → BeginsOrEnds p result after) }
+    ensures quiet { (facts : Facts) →
+        Told (W.journal w.old) (W.journal w.new) (Since (IsQuietNow facts)) }
+    ensures speaks { IfOk result (SpeaksOn job.run) }
 {
     laws::jobs_begin_and_end();
     let mut job = job;
@@ -386,6 +446,7 @@ fn parts_of(
     ensures terms { IfOk result (λ p. AreTermsOf ask p.1.terms) }
     ensures key { IfOk result (λ p. p.1.session.key ≡ key_of pairs) }
     ensures paths { IfOk result (λ p. p.0.output ≡ ask.output) }
+    ensures unbegun { IfOk result (λ p. IsUnbegun agenda.notebook p.1) }
 {
     let paths = paths_of(alloc, &ask)?;
     let run = execution_of(alloc, terms_of(ask), &paths.output, agenda, pairs)?;
@@ -449,6 +510,7 @@ fn execution_of(
     ensures task { IfOk result (λ x. task_of x.core ≡
         task_in terms.times agenda.notebook) }
     ensures key { IfOk result (λ x. x.session.key ≡ key_of pairs) }
+    ensures unbegun { IfOk result (IsUnbegun agenda.notebook) }
 {
     nb_model::laws::plan_in_order();
     let Agenda { notebook, cells } = agenda;
@@ -483,7 +545,12 @@ fn execution_of(
 
 /// What an execution speaks with its kernel by, under the key of these random words.
 fn talk_of(alloc: Global, pairs: RandomPairs) -> Result<(Lines, Session, Histories), NoMemory>
-    ensures { IfOk result (λ t. t.1.key ≡ key_of pairs) }
+    ensures key { IfOk result (λ t. t.1.key ≡ key_of pairs) }
+    ensures made { IfOk result (λ t. t.1.made ≡ 0) }
+    ensures roles { IfOk result (λ t. (c : Channel) → role_of (line_on t.0 c) ≡ role_on c) }
+    ensures lines { IfOk result (λ t. (c : Channel) → LineStandsFor (line_on t.0 c) [] []) }
+    ensures shell { IfOk result (λ t. SeenFor t.2.shell []) }
+    ensures iopub { IfOk result (λ t. SeenFor t.2.iopub []) }
 {
     let seen = Histories::new(alloc)?;
     let session = Session::new(alloc, pairs.name, pairs.key)?;

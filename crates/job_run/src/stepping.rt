@@ -40,9 +40,13 @@ impl Execution {
     ghost use Rattle.job_run.specs.Used.{TakesEvent};
     ghost use Rattle.world.specs.declared.entry.Entry.{Entry};
     ghost use Rattle.cell_core.specs.Answering.{can_answer};
-    ghost use Rattle.job_journal.specs.Plot.{Plot};
+    ghost use Rattle.job_journal.specs.Plot.{Plot, facts};
+    ghost use Rattle.run_journal.specs.Agreement.{IsOther};
+    ghost use Rattle.run_journal.specs.Requests.{requests};
     ghost use Rattle.job_run.specs.Standing.{DoesAct, IsToSave, StandsToOrEnds, StaysStill};
-    ghost use Rattle.std.specs.Prelude.{List as Bytes, Some, slice_get, codes, not, ◌||◌};
+    ghost use Rattle.job_run.specs.Standing.{PassesBy, Stands as ExecutionStands, StandsOrEnds};
+    ghost use Rattle.job_run.specs.Standing.{StandsTo, is_idle, is_passing};
+    ghost use Rattle.std.specs.Prelude.{List as Bytes, [], Some, slice_get, codes, not, ◌||◌};
     ghost use Rattle.world.specs.declared.chan.Chan.TheVariants as channel;
     ghost use Rattle.zmtp_wire.specs.Meaning.{is_shaken};
     ghost use Rattle.nb_model.specs.declared.cell.Cell.{Cell};
@@ -71,6 +75,14 @@ impl Execution {
         ensures goes { Proceeds W.journal W.counts w.old w.new self.old self.new Nothing result }
         ensures saves { OnlySaves W.journal w.old w.new self.old.book }
         ensures asks { OnOk result (AsksOnce self.old self.new) }
+        // Where the execution stood for the journal, it stands for the journal again. An event of
+        // the clock and a loss bring no call.
+        ensures stands { IsOther e → (p : Plot) (number : ℕ) →
+            Told (W.journal w.old) (W.journal w.new) (λ before after.
+            ExecutionStands p number self.old before →
+            StandsOrEnds p number self.new result after) }
+        ensures passes { is_passing e ≡ true → (p : Plot) (number : ℕ) →
+            Told (W.journal w.old) (W.journal w.new) (PassesBy p number self.old self.new result) }
     {
         let step = self.tell(e);
         self.act(w, step.act)
@@ -105,11 +117,17 @@ impl Execution {
         ensures goes { Proceeds W.journal W.counts w.old w.new self.old self.new act result }
         ensures saves { OnlySaves W.journal w.old w.new self.old.book }
         ensures asks { OnOk result (AsksOnce self.old self.new) }
+        ensures clock { self.new.clock ≡ self.old.clock }
         // Where what the act is for is due by the journal, the execution stands for the journal
         // again. Behind a save a further request was sent, or none was yet.
         ensures stands { (p : Plot) (number : ℕ) → Told (W.journal w.old) (W.journal w.new)
             (DoesAct p number self.old act self.new result) }
-        ensures still { act ≡ Nothing → StaysStill self.old self.new result ×
+        // Where no request stands by the journal then, none was sent: so whatever the clock is.
+        ensures unsent { (p : Plot) (number : ℕ) → Told (W.journal w.old) (W.journal w.new)
+            (λ before after. requests (facts p) after ≡ [] → (clock : ℕ) →
+            StandsTo p number (record self.old { clock = clock }) act before →
+            StandsOrEnds p number (record self.new { clock = clock }) result after) }
+        ensures still { is_idle act ≡ true → StaysStill self.old self.new result ×
             (W.journal w.new ≡ W.journal w.old) }
     {
         let mut act = act;
@@ -141,9 +159,12 @@ impl Execution {
         ensures asks { self.new.session ≡ self.old.session }
         ensures sent { self.new.sent ≡ self.old.sent }
         ensures kind { IfOk result (λ act. can_answer Event.Saved act ≡ true) }
+        ensures clock { self.new.clock ≡ self.old.clock }
+        // Whatever the clock is.
         ensures stands { (p : Plot) (number : ℕ) → Told (W.journal w.old) (W.journal w.new)
-            (λ before after. IsToSave p number self.old settled before →
-            StandsToOrEnds p number self.new result after) }
+            (λ before after. (clock : ℕ) →
+            IsToSave p number (record self.old { clock = clock }) settled before →
+            StandsToOrEnds p number (record self.new { clock = clock }) result after) }
     {
         self.save(w, settled)?;
         Ok(self.core.step(Event::Saved).act)
@@ -164,9 +185,14 @@ impl Execution {
         ensures own { IfErr result (EndsBy (task_of self.new.core)) }
         ensures counts { (n : OutputAt) → IsCounted self.old act n → IsCountedOn self.new result n }
         ensures asks { OnOk result (Asks (requests_of act) self.old self.new) }
+        ensures clock { self.new.clock ≡ self.old.clock }
         ensures stands { (p : Plot) (number : ℕ) (now : Bytes Entry) →
             DoesAct p number self.old act self.new result now now }
-        ensures still { act ≡ Nothing → StaysStill self.old self.new result }
+        ensures unsent { (p : Plot) (number clock : ℕ) (now : Bytes Entry) →
+            requests (facts p) now ≡ [] →
+            StandsTo p number (record self.old { clock = clock }) act now →
+            StandsOrEnds p number (record self.new { clock = clock }) result now }
+        ensures still { is_idle act ≡ true → StaysStill self.old self.new result }
     {
         match act {
             Act::Send(cell) => self.send(cell),
@@ -244,8 +270,10 @@ impl Execution {
         ensures counts { (n : OutputAt) → IsCounted self.old Act.Nothing n →
             IsCountedOn self.new result n }
         ensures asks { OnOk result (Asks 1 self.old self.new) }
-        ensures sends { OnOk result ((c : Cell) → slice_get (notebook_of self.old.book).cells cell ≡
-            Some c → SendsCell cell c self.old self.new) }
+        ensures clock { self.new.clock ≡ self.old.clock }
+        ensures sends { OnOk result ((c : Cell) →
+            slice_get (notebook_of self.old.book).cells cell ≡ Some c →
+            SendsCell cell c self.old self.new) }
     {
         laws::messages_stay_on_course();
         let request = self.request_of(cell)?;
@@ -264,8 +292,9 @@ impl Execution {
         ensures told { KeepsTold self.old self.new }
         ensures asks { OnOk result (Asks 1 self.old self.new) }
         ensures said { IsSaid self.old self.new }
-        ensures queues { OnOk result ((c : Cell) → slice_get (notebook_of self.old.book).cells cell ≡
-            Some c → QueuesNext channel.Shell (codes "execute_request")
+        ensures queues { OnOk result ((c : Cell) →
+            slice_get (notebook_of self.old.book).cells cell ≡ Some c →
+            QueuesNext channel.Shell (codes "execute_request")
             (asks_for self.old.terms c) self.old self.new) }
         ensures request { IfOk result (λ r. (c : Cell) →
             slice_get (notebook_of self.old.book).cells cell ≡ Some c →

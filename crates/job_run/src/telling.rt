@@ -26,6 +26,13 @@ impl Job {
     ghost use Rattle.job_run.specs.Steps.{JobKeeps, JobStays, JobGoesOn};
     ghost use Rattle.job_run.specs.Due.{IsDue, WantsLook};
     ghost use Rattle.job_run.specs.Queues.{HandsOutOn, NotesTaken};
+    ghost use Rattle.world.specs.Moments.{Since, Told};
+    ghost use Rattle.run_journal.specs.Job.{Job as Facts};
+    ghost use Rattle.job_journal.specs.Plot.{Plot};
+    ghost use Rattle.job_journal.specs.Quiet.{IsQuietNow};
+    ghost use Rattle.job_journal.specs.Standing.{HasEndedAs};
+    ghost use Rattle.job_run.specs.JobStanding.{IsGotFor, IsTurnedFor, JobStands};
+    ghost use Rattle.job_run.specs.JobStanding.{JobStandsUntold, KeepsStanding};
 
     /// Its number among the jobs of the run.
     pub fn number(&self) -> u8
@@ -75,6 +82,7 @@ impl Job {
         ensures calls { KeepsRole self.old self.new }
         ensures keeps { JobKeeps self.old self.new }
         ensures outcome { outcome self.new ≡ outcome self.old }
+        ensures stands { KeepsStanding self.old self.new }
         ensures notes { NotesTaken chan taken self.old self.new }
     {
         self.run.lines.on_taken(chan, taken);
@@ -104,7 +112,11 @@ impl Job {
         chan: Chan,
         piece: &[u8],
     ) -> Result<(), NoMemory>
-        ensures { JobGoesOn W.journal W.counts w.old w.new self.old self.new result }
+        ensures goes { JobGoesOn W.journal W.counts w.old w.new self.old self.new result }
+        // Where the piece was just got on this connection of the job, which ran and stood for the
+        // journal before, the job stands for the journal again.
+        ensures stands { (p : Plot) → Told (W.journal w.old) (W.journal w.new) (λ before after.
+            IsGotFor p self.old chan piece.now before → JobStands p self.new after) }
     {
         if self.is_over() {
             return Ok(());
@@ -130,7 +142,11 @@ impl Job {
     /// The clock of a turn was read; the child is looked at.
     pub fn on_moment<W: Disk + Kids + Say>(&mut self, w: &mut W, ms: u64) -> Result<(), NoMemory>
         requires { ms < 2 ^ 47 }
-        ensures { JobGoesOn W.journal W.counts w.old w.new self.old self.new result }
+        ensures goes { JobGoesOn W.journal W.counts w.old w.new self.old self.new result }
+        // Where the clock was just read with this moment, and the job ran and stood for the journal
+        // before, it stands for the journal again.
+        ensures stands { (p : Plot) → Told (W.journal w.old) (W.journal w.new) (λ before after.
+            IsTurnedFor p self.old ms before → JobStands p self.new after) }
     {
         if self.is_over() {
             return Ok(());
@@ -151,7 +167,10 @@ impl Job {
 
     /// The reads of a last look are done.
     pub fn on_looked<W: Disk + Say>(&mut self, w: &mut W) -> Result<(), NoMemory>
-        ensures { JobGoesOn W.journal W.counts w.old w.new self.old self.new result }
+        ensures goes { JobGoesOn W.journal W.counts w.old w.new self.old self.new result }
+        // Where the job stood for the journal, it stands for the journal again.
+        ensures stands { (p : Plot) → Told (W.journal w.old) (W.journal w.new) (λ before after.
+            JobStands p self.old before → JobStands p self.new after) }
     {
         let late = self.is_late();
         self.look = Look::Still;
@@ -179,6 +198,7 @@ impl Job {
         ensures pings { pings_kernel self.new ≡ pings_kernel self.old }
         ensures output { output_of_job self.new ≡ output_of_job self.old }
         ensures still { IsSpent (outcome self.new) → IsSpent (outcome self.old) }
+        ensures stands { KeepsStanding self.old self.new }
         ensures ends { EndsOnce (outcome self.old) (outcome self.new) result }
     {
         if self.is_over() {
@@ -195,6 +215,7 @@ impl Job {
         ensures pings { pings_kernel self.new ≡ pings_kernel self.old }
         ensures output { output_of_job self.new ≡ output_of_job self.old }
         ensures still { IsLost (outcome self.new) → IsLost (outcome self.old) }
+        ensures stands { KeepsStanding self.old self.new }
         ensures ends { EndsOnce (outcome self.old) (outcome self.new) result }
     {
         if self.is_over() {
@@ -209,6 +230,8 @@ impl Job {
         ensures calls { CallsInRole W.journal W.counts w.old w.new self.now self.now }
         ensures grow { CountsGrow (W.counts w.old) (W.counts w.new) }
         ensures left { HasEnd (number_of self.now) (W.journal w.new) }
+        ensures quiet { (facts : Facts) →
+            Told (W.journal w.old) (W.journal w.new) (Since (IsQuietNow facts)) }
     {
         laws::other_calls_pass();
         w.end(self.number);
@@ -224,6 +247,10 @@ impl Job {
             HasCalled c since from (W.journal w.new) (W.counts w.new) }
         // Its child has its end.
         ensures left { HasEnd (number_of self) (W.journal w.new) }
+        // Where it stood for the journal, the texts that were saved are the first of the saves
+        // that are due.
+        ensures stands { (p : Plot) → Told (W.journal w.old) (W.journal w.new) (λ before after.
+            JobStandsUntold p self before → HasEndedAs p after) }
         // It is the answer of an end of its run, by a cause for which such a core may stop, or of
         // one from outside.
         ensures end { IsEnding (output_of_job self) (task_of_job self) result }
@@ -260,6 +287,7 @@ impl Job {
         ensures output { output_of_job self.new ≡ output_of_job self.old }
         ensures lost { IsLost (outcome self.new) → end ≡ ending.NetFault }
         ensures spent { IsSpent (outcome self.new) → end ≡ ending.Spent }
+        ensures stands { KeepsStanding self.old self.new }
         ensures ends { EndsOnce (outcome self.old) (outcome self.new) result }
     {
         self.outcome = outcome_of(self.alloc, &self.paths.output, &mut self.run, Err(end));

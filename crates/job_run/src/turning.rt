@@ -21,6 +21,12 @@ impl Execution {
     ghost use Rattle.job_saves.specs.Course.{stays_open};
     ghost use Rattle.job_saves.specs.Left.{OutputAt};
     ghost use Rattle.job_run.specs.Steps.{Proceeds, OnlySaves};
+    ghost use Rattle.std.specs.Prelude.{List};
+    ghost use Rattle.world.specs.declared.entry.Entry.{Entry};
+    ghost use Rattle.world.specs.Moments.{Told};
+    ghost use Rattle.job_journal.specs.Plot.{Plot};
+    ghost use Rattle.job_run.specs.Standing.{GoesBy, HasTurned, IsTurned, PassesBy};
+    ghost use Rattle.job_run.specs.Standing.{Stands, StandsOrEnds};
 
     /// The clock was read in a turn, and the child was found ended or not.
     pub(crate) fn on_moment<W: Disk + Say>(
@@ -32,7 +38,12 @@ impl Execution {
         requires early { ms < 2 ^ 47 }
         requires holds { Holds self.old }
         requires calm { IsCalm self.old }
-        ensures { Proceeds W.journal W.counts w.old w.new self.old self.new Nothing result }
+        ensures goes { Proceeds W.journal W.counts w.old w.new self.old self.new Nothing result }
+        // Where the clock was just read with this moment, and the execution stood for the journal
+        // before, it stands for the journal again.
+        ensures stands { (p : Plot) (number : ℕ) → Told (W.journal w.old) (W.journal w.new)
+            (λ before after. IsTurned p number self.old ms before →
+            StandsOrEnds p number self.new result after) }
     {
         self.turn_clock(ms);
         match self.hear_clock(w) {
@@ -45,7 +56,10 @@ impl Execution {
     fn lose_or_ask<W: Disk + Say>(&mut self, w: &mut W, ms: u64, has_ended: bool) -> Result<(), End>
         requires holds { Holds self.old }
         requires calm { IsCalm self.old }
-        ensures { Proceeds W.journal W.counts w.old w.new self.old self.new Nothing result }
+        ensures goes { Proceeds W.journal W.counts w.old w.new self.old self.new Nothing result }
+        ensures stands { (p : Plot) (number : ℕ) → Told (W.journal w.old) (W.journal w.new)
+            (λ before after. HasTurned p number self.old before →
+            StandsOrEnds p number self.new result after) }
     {
         let is_lost = self.is_lost(ms, has_ended);
         match self.lose(w, is_lost) {
@@ -66,6 +80,8 @@ impl Execution {
         ensures own { IfErr result (EndsBy (task_of self.new.core)) }
         ensures counts { (n : OutputAt) → IsCounted self.old Nothing n →
             IsCountedOn self.new result n }
+        ensures stands { (p : Plot) (number : ℕ) (now : List Entry) →
+            HasTurned p number self.old now → StandsOrEnds p number self.new result now }
     {
         match self.ask_and_ping() {
             Ok(()) => Ok(()),
@@ -84,6 +100,8 @@ impl Execution {
         ensures terms { self.new.terms ≡ self.old.terms }
         ensures book { self.new.book ≡ self.old.book }
         ensures session { self.new.session ≡ self.old.session }
+        ensures rest { self.new ≡ record self.old { clock = self.new.clock } }
+        ensures turns { self.old.clock ≤ ms → self.new.clock ≡ ms }
     {
         if ms <= self.clock {
             return;
@@ -98,6 +116,9 @@ impl Execution {
         ensures goes { Proceeds W.journal W.counts w.old w.new self.old self.new Nothing result }
         ensures saves { OnlySaves W.journal w.old w.new self.old.book }
         ensures key { OnOk result (self.new.session.key ≡ self.old.session.key) }
+        ensures name { OnOk result (self.new.session.name ≡ self.old.session.name) }
+        ensures passes { (p : Plot) (number : ℕ) → Told (W.journal w.old) (W.journal w.new)
+            (PassesBy p number self.old self.new result) }
     {
         if self.core.wants_look() {
             return Ok(());
@@ -114,7 +135,13 @@ impl Execution {
         ensures book { self.new.book ≡ self.old.book }
         ensures terms { self.new.terms ≡ self.old.terms }
         ensures task { task_of self.new.core ≡ task_of self.old.core }
-        ensures counts { (n : OutputAt) → IsCounted self.old Nothing n → IsCounted self.new Nothing n }
+        ensures counts { (n : OutputAt) → IsCounted self.old Nothing n →
+            IsCounted self.new Nothing n }
+        ensures rest { self.new ≡ record self.old { core = self.new.core } }
+        // Whatever the execution stood for, it stands for with its core told.
+        ensures stands { (p : Plot) (number clock : ℕ) (now : List Entry) →
+            Stands p number (record self.old { clock = clock }) now →
+            GoesBy p number clock self.old self.new now }
     {
         self.core.step(Event::Lost);
     }
@@ -123,7 +150,9 @@ impl Execution {
     fn lose<W: Disk + Say>(&mut self, w: &mut W, is_lost: bool) -> Result<(), End>
         requires holds { Holds self.old }
         requires calm { IsCalm self.old }
-        ensures { Proceeds W.journal W.counts w.old w.new self.old self.new Nothing result }
+        ensures goes { Proceeds W.journal W.counts w.old w.new self.old self.new Nothing result }
+        ensures passes { (p : Plot) (number : ℕ) → Told (W.journal w.old) (W.journal w.new)
+            (PassesBy p number self.old self.new result) }
     {
         if is_lost {
             self.step(w, Event::Lost)
@@ -135,7 +164,9 @@ impl Execution {
     // Asks and pings the kernel, where that is due.
     fn ask_and_ping(&mut self) -> Result<(), NoMemory>
         requires { self.old.clock < 2 ^ 47 }
-        ensures { IsAsked self.old self.new }
+        ensures asked { IsAsked self.old self.new }
+        ensures stands { OnOk result ((p : Plot) (number : ℕ) (now : List Entry) →
+            HasTurned p number self.old now → Stands p number self.new now) }
     {
         self.ask()?;
         self.ping()
@@ -148,7 +179,9 @@ impl Execution {
     // Asks the kernel whether it is ready, where that is due.
     fn ask(&mut self) -> Result<(), NoMemory>
         requires { self.old.clock < 2 ^ 47 }
-        ensures { IsAsked self.old self.new }
+        ensures asked { IsAsked self.old self.new }
+        ensures stands { OnOk result ((p : Plot) (number : ℕ) (now : List Entry) →
+            HasTurned p number self.old now → Stands p number self.new now) }
     {
         if !self.asking.is_due(self.lines.can_ask(), self.clock) {
             return Ok(());
@@ -161,7 +194,9 @@ impl Execution {
 
     fn ping(&mut self) -> Result<(), NoMemory>
         requires { self.old.clock < 2 ^ 47 }
-        ensures { IsAsked self.old self.new }
+        ensures asked { IsAsked self.old self.new }
+        ensures stands { (p : Plot) (number : ℕ) (now : List Entry) →
+            Stands p number self.old now → OnOk result (Stands p number self.new now) }
     {
         if !self.pings.is_due(self.can_ping(), self.clock) {
             return Ok(());
@@ -177,7 +212,11 @@ impl Execution {
     pub(crate) fn on_looked<W: Disk + Say>(&mut self, w: &mut W, late: bool) -> Result<(), End>
         requires holds { Holds self.old }
         requires calm { IsCalm self.old }
-        ensures { Proceeds W.journal W.counts w.old w.new self.old self.new Nothing result }
+        ensures goes { Proceeds W.journal W.counts w.old w.new self.old self.new Nothing result }
+        // Where the execution stood for the journal, it stands for the journal again.
+        ensures stands { (p : Plot) (number : ℕ) → Told (W.journal w.old) (W.journal w.new)
+            (λ before after. Stands p number self.old before →
+            StandsOrEnds p number self.new result after) }
     {
         self.step(w, Event::Looked)?;
         self.lose(w, late)

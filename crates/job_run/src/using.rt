@@ -143,8 +143,8 @@ impl Execution {
         ensures goes { Proceeds W.journal W.counts w.old w.new self.old self.new Nothing result }
         ensures uses { (p : Plot) (number standing : ℕ) (done rest : Plain Arrival) (m : Arrival) →
             IsOwn m standing content.now (option_copied date.entry) self.old →
-            Told (W.journal w.old) (W.journal w.new) (DealsWith p number self.old standing Iopub done
-            m rest self.new result) }
+            Told (W.journal w.old) (W.journal w.new) (DealsWith p number self.old standing Iopub
+            done m rest self.new result) }
     {
         let step = self.tell(Event::Io(brief_of(content)));
         match self.take(step.takes, content, date) {
@@ -189,8 +189,8 @@ impl Execution {
         ensures goes { Proceeds W.journal W.counts w.old w.new self.old self.new Nothing result }
         ensures uses { (p : Plot) (number standing : ℕ) (done rest : Plain Arrival) (m : Arrival) →
             IsOwn m standing (ExecReply reply) (option_copied date.entry) self.old →
-            Told (W.journal w.old) (W.journal w.new) (DealsWith p number self.old standing Shell done
-            m rest self.new result) }
+            Told (W.journal w.old) (W.journal w.new) (DealsWith p number self.old standing Shell
+            done m rest self.new result) }
     {
         let fatal = !allowed(
             &reply,

@@ -36,7 +36,7 @@ returns-in-Ok-clause-first c =
     }
 
 pub returns-in-Ok-clause-key : goal.returns-in-Ok-clause-key
-returns-in-Ok-clause-key c = c.in-Ok.ensures
+returns-in-Ok-clause-key c = c.in-Ok.ensures.key
 
 pub returns-in-Ok-clause-output : goal.returns-in-Ok-clause-output
 returns-in-Ok-clause-output c = c.in_ok-book.ensures.output
@@ -55,3 +55,23 @@ returns-in-Ok-clause-task c =
 
 pub returns-in-Ok-clause-terms : goal.returns-in-Ok-clause-terms
 returns-in-Ok-clause-terms c = refl
+
+pub returns-in-Ok-clause-unbegun : goal.returns-in-Ok-clause-unbegun
+returns-in-Ok-clause-unbegun c =
+    let t = c.in-Ok.ensures in
+    record {
+      parts = record {
+        roles = t.roles;
+        lines = t.lines;
+        asking = c.new-in-Ok.ensures;
+        made = t.made;
+        shell_seen = t.shell;
+        iopub_seen = t.iopub;
+        request = refl;
+        sent = refl;
+        ready = refl;
+      };
+      core = c.new-core.ensures.stands;
+      keeps = c.in_ok-book.ensures.keeps;
+      clock = refl;
+    }

@@ -14,3 +14,6 @@ returns-clause-paths c = c.in_ok-paths.ensures.output
 
 pub returns-clause-terms : goal.returns-clause-terms
 returns-clause-terms c = subst (AreTermsOf c.args.ask) (sym c.in_ok-run.ensures.terms) c.terms_of.ensures
+
+pub returns-clause-unbegun : goal.returns-clause-unbegun
+returns-clause-unbegun c = c.in_ok-run.ensures.unbegun

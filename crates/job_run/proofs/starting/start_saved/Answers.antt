@@ -15,6 +15,13 @@ use Rattle.job_run.proofs.StopLemmas.{starts_by, launches, of_run, at_paths}
 use Rattle.cell_core.specs.StandsFor.{task_of}
 use Rattle.job_run.specs.Told.{EndsBy}
 use Rattle.job_run.proofs.starting.start_saved.Goals as goal
+use Rattle.world.proofs.MomentsLemmas.{told_as, told_then}
+use Rattle.std.proofs.lemmas.Result.{IfOk-weaker}
+use Rattle.job_notebook.specs.State.{output_of}
+use Rattle.job_journal.specs.Plot.{facts}
+use Rattle.job_journal.proofs.Acking.{requests_on}
+use Rattle.job_run.specs.Beginning.{SpeaksOn}
+use Rattle.job_run.proofs.StartLemmas.{job_begun, none_requested, saves_unread}
 
 pub returns-in-Ok-clause-course : goal.returns-in-Ok-clause-course
 returns-in-Ok-clause-course g c o s apart fresh =
@@ -97,3 +104,29 @@ pub returns-in-Ok-clause-terms : goal.returns-in-Ok-clause-terms
 returns-in-Ok-clause-terms g c =
     subst (λ t. IfOk c.with_kernel.result (λ j. terms_of_job j ≡ t))
     (ap (λ (x : Execution). x.terms) c.job_of.ensures.run ∙ c.save_first.ensures.goes.terms) c.with_kernel.ensures.terms
+
+pub returns-in-Ok-clause-stands : goal.returns-in-Ok-clause-stands
+returns-in-Ok-clause-stands g c p =
+    told_then (c.in-Ok.ensures.stands p c.args.number) (c.with_kernel.ensures.stands p)
+    (λ x y z first then b.
+    then (job_begun p c.job_of.result c.args.number c.save_first.new.self y c.job_of.ensures.run c.job_of.ensures.number c.job_of.ensures.outcome b.is_for.number_is b.fresh.undated (first b)))
+
+pub returns-in-Err-clause-stands : goal.returns-in-Err-clause-stands
+returns-in-Err-clause-stands g c p = told_as (c.in-Err.ensures.stands p c.args.number) (λ x y first b. first b)
+
+pub returns-in-Ok-clause-unsent : goal.returns-in-Ok-clause-unsent
+returns-in-Ok-clause-unsent g c p =
+    told_then c.save_first.ensures.saves (c.with_kernel.ensures.quiet (facts p))
+    (λ x y z w v f. requests_on (facts p) y z f.undated v ∙ none_requested p y (saves_unread (facts p) (output_of c.args.run.book) x y w f.unread))
+
+pub returns-in-Err-clause-unsent : goal.returns-in-Err-clause-unsent
+returns-in-Err-clause-unsent g c p =
+    told_as c.save_first.ensures.saves (λ x y w f. none_requested p y (saves_unread (facts p) (output_of c.args.run.book) x y w f.unread))
+
+pub returns-in-Ok-clause-speaks : goal.returns-in-Ok-clause-speaks
+returns-in-Ok-clause-speaks g c =
+    IfOk-weaker c.with_kernel.result (SpeaksOn c.job_of.result.run) (SpeaksOn c.args.run)
+    (λ j on. record {
+      name = on.name ∙ ap (λ (x : Execution). x.session.name) c.job_of.ensures.run ∙ c.in-Ok.ensures.name;
+      key = on.key ∙ ap (λ (x : Execution). x.session.key) c.job_of.ensures.run ∙ c.in-Ok.ensures.key;
+    }) c.with_kernel.ensures.speaks

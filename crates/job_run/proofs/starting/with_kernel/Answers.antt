@@ -7,6 +7,11 @@ use Rattle.job_run.proofs.RunLemmas.{unstarted}
 use Rattle.world.proofs.CountsLemmas.{grow_start}
 use Rattle.job_run.proofs.CauseLemmas.{cause_within}
 use Rattle.job_run.proofs.starting.with_kernel.Goals as goal
+use Rattle.world.proofs.MomentsLemmas.{since_then, told_as, told_then}
+use Rattle.std.proofs.Common.{ap}
+use Rattle.job_journal.specs.Plot.{facts}
+use Rattle.job_run.specs.declared.execution.Execution.{Execution}
+use Rattle.job_run.proofs.JobLemmas.{job_quiet, job_saved, job_untold}
 
 pub returns-in-Ok-clause-course : goal.returns-in-Ok-clause-course
 returns-in-Ok-clause-course g c o r = c.launch.ensures.course o r
@@ -36,3 +41,21 @@ returns-in-Ok-clause-fresh g c = c.launch.ensures.outcome ∙ c.requires
 pub returns-in-Ok-clause-ports : goal.returns-in-Ok-clause-ports
 returns-in-Ok-clause-ports g c =
     subst (λ n. HasPorts n (ports_of_job c.launch.new.self) (g.W.Journal.journal c.launch.new.w)) c.launch.ensures.number c.in-Ok.ensures.ports
+
+pub returns-in-Ok-clause-stands : goal.returns-in-Ok-clause-stands
+returns-in-Ok-clause-stands g c p = told_as (c.launch.ensures.quiet (facts p)) (λ x y w s. job_quiet p c.launch.new.self x y w (c.launch.ensures.keeps.stands p x s))
+
+pub returns-in-Err-clause-stands : goal.returns-in-Err-clause-stands
+returns-in-Err-clause-stands g c p =
+    let j = c.launch.new.self in
+    told_then (c.launch.ensures.quiet (facts p)) (c.end_child.ensures.quiet (facts p))
+    (λ x y z w v s. job_saved p j z (job_untold p j z (job_quiet p j y z v (job_quiet p j x y w (c.launch.ensures.keeps.stands p x s)))))
+
+pub returns-in-Ok-clause-quiet : goal.returns-in-Ok-clause-quiet
+returns-in-Ok-clause-quiet g c facts = c.launch.ensures.quiet facts
+
+pub returns-in-Err-clause-quiet : goal.returns-in-Err-clause-quiet
+returns-in-Err-clause-quiet g c facts = told_then (c.launch.ensures.quiet facts) (c.end_child.ensures.quiet facts) (λ x y z w v. since_then w v)
+
+pub returns-in-Ok-clause-speaks : goal.returns-in-Ok-clause-speaks
+returns-in-Ok-clause-speaks g c = record { name = ap (λ (x : Execution). x.session.name) c.launch.ensures.run; key = ap (λ (x : Execution). x.session.key) c.launch.ensures.run }

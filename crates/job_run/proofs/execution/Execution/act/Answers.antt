@@ -1,15 +1,16 @@
-use Rattle.std.proofs.Common.{refl, sym, subst, ◌∙◌}
+use Rattle.std.proofs.Common.{refl, sym, ap, subst, ◌∙◌}
 use Rattle.world.specs.Moments.{start}
 use Rattle.world.proofs.MomentsLemmas.{told_as, told_start, told_then}
 use Rattle.job_saves.specs.Course.{Stands}
 use Rattle.job_run.proofs.AskLemmas.{acts_once}
 use Rattle.job_run.proofs.CountLemmas.{counts_on, quiet_at}
 use Rattle.job_run.proofs.CauseLemmas.{calls_output}
+use Rattle.job_run.proofs.StandingLemmas.{ended_so}
 use Rattle.job_run.proofs.StepLemmas.{goes_err}
 use Rattle.job_saves.proofs.SessionLemmas.{saves_then}
 use Rattle.job_notebook.specs.State.{output_of}
-use Rattle.job_run.specs.Standing.{StandsTo}
-use Rattle.job_run.proofs.ActLemmas.{acts_on, ended_does, not_save, stays_from}
+use Rattle.job_run.specs.Standing.{StandsTo, is_idle}
+use Rattle.job_run.proofs.ActLemmas.{acts_on, busy_save, ended_does, stays_from}
 use Rattle.job_run.proofs.execution.Execution.act.Goals as goal
 
 pub loop-act-init : goal.loop-act-init
@@ -23,10 +24,11 @@ loop-act-init g c = record {
   terms = refl;
   session = refl;
   counts = λ o on s h. h;
-  stands = λ p number. told_start (λ before t. t);
+  stands = λ p number. told_start (λ before clock t. t);
+  clock = refl;
   sent = refl;
   kind = λ e. e;
-  still = λ e. (refl, e, refl);
+  still = λ e. (refl, refl, refl);
 }
 
 pub loop-act-preserved : goal.loop-act-preserved
@@ -46,10 +48,11 @@ loop-act-preserved g c =
       session = e.asks ∙ i.session;
       counts = λ o on s h. e.counts o on (i.course o s) (quiet_at o c.loop-act.self c.loop-act.act (g.W.Journal.journal c.loop-act.w) (i.counts o on s h));
       stands = λ p number. told_then (i.stands p number) (e.stands p number)
-          (λ x y z first then t. then (subst (λ act. StandsTo p number c.loop-act.self act y) c.in-Save.is (first t)));
+          (λ x y z first then clock t. then clock (subst (λ act. StandsTo p number (record c.loop-act.self { clock = clock }) act y) c.in-Save.is (first clock t)));
+      clock = e.clock ∙ i.clock;
       sent = e.sent ∙ i.sent;
       kind = λ k. e.kind;
-      still = λ k. absurd (not_save (sym (i.still k).1 ∙ c.in-Save.is));
+      still = λ k. absurd (busy_save k (sym (i.still k).1 ∙ c.in-Save.is));
     }
 
 pub returns : goal.returns
@@ -71,8 +74,11 @@ returns g c =
       saves = i.saves;
       asks = acts_once c.perform.result c.loop-act.act c.args.self.now c.loop-act.self c.perform.new.self i.session p.asks;
       stands = λ q number. told_as (i.stands q number)
-          (λ before after so. acts_on q number c.args.self.now c.loop-act.self c.perform.new.self c.args.act c.loop-act.act c.perform.result before after so i.sent i.kind (p.stands q number after));
-      still = λ e. (stays_from c.args.self.now c.loop-act.self c.perform.new.self c.perform.result (i.still e).0 (p.still (i.still e).1), (i.still e).2);
+          (λ before after so. acts_on q number c.args.self.now c.loop-act.self c.perform.new.self c.args.act c.loop-act.act c.perform.result before after
+          (λ t. subst (λ clock. StandsTo q number (record c.loop-act.self { clock = clock }) c.loop-act.act after) (sym i.clock) (so c.args.self.now.clock t)) i.sent i.kind (p.stands q number after));
+      clock = p.clock ∙ i.clock;
+      unsent = λ q number. told_as (i.stands q number) (λ before after so none clock t. p.unsent q number clock after none (so clock t));
+      still = λ e. (stays_from c.args.self.now c.loop-act.self c.perform.new.self c.perform.result (i.still e).0 (p.still (ap is_idle (i.still e).1 ∙ e)), (i.still e).2);
     }
 
 pub returns-in_err-act-clause-saves : goal.returns-in_err-act-clause-saves
@@ -99,9 +105,19 @@ returns-in_err-act-clause-goes g c =
 
 pub returns-in_err-act-clause-stands : goal.returns-in_err-act-clause-stands
 returns-in_err-act-clause-stands g c p number =
+    let clock = c.args.self.now.clock in
     told_then (c.loop-act.invariant.stands p number) (c.in_err-act.ensures.stands p number)
     (λ x y z first then t. ended_does p number c.args.self.now c.save_on.new.self c.save_on.new.self c.args.act c.from_residual.result _ x z c.from_residual.ensures.1
-    (then (subst (λ act. StandsTo p number c.loop-act.self act y) c.in-Save.is (first t))) t)
+    (then clock (subst (λ act. StandsTo p number (record c.loop-act.self { clock = clock }) act y) c.in-Save.is (first clock t))) t)
+
+pub returns-in_err-act-clause-unsent : goal.returns-in_err-act-clause-unsent
+returns-in_err-act-clause-unsent g c p number =
+    told_then (c.loop-act.invariant.stands p number) (c.in_err-act.ensures.stands p number)
+    (λ x y z first then none clock t. ended_so p number (record c.save_on.new.self { clock = clock }) c.from_residual.result _ z c.from_residual.ensures.1
+    (then clock (subst (λ act. StandsTo p number (record c.loop-act.self { clock = clock }) act y) c.in-Save.is (first clock t))))
 
 pub returns-in_err-act-clause-still : goal.returns-in_err-act-clause-still
-returns-in_err-act-clause-still g c e = absurd (not_save (sym (c.loop-act.invariant.still e).1 ∙ c.in-Save.is))
+returns-in_err-act-clause-still g c e = absurd (busy_save e (sym (c.loop-act.invariant.still e).1 ∙ c.in-Save.is))
+
+pub returns-in_err-act-clause-clock : goal.returns-in_err-act-clause-clock
+returns-in_err-act-clause-clock g c = c.in_err-act.ensures.clock ∙ c.loop-act.invariant.clock

@@ -1,9 +1,8 @@
 use Rattle.std.proofs.Common.{true, ◌≡◌, ℕ}
-use Rattle.cell_core.specs.declared.act.Act.TheVariants.{Nothing}
 use Rattle.cell_core.specs.declared.event.Event.TheVariants.{Saved}
 use Rattle.cell_core.specs.Answering.{can_answer}
 use Rattle.job_journal.specs.Plot.{Plot}
-use Rattle.job_run.specs.Standing.{StandsTo}
+use Rattle.job_run.specs.Standing.{StandsTo, is_idle}
 use Rattle.cell_core.specs.StandsFor.{task_of}
 use Rattle.cell_core.specs.Sending.{saves_ahead}
 use Rattle.world.specs.Moments.{Told, Since}
@@ -27,11 +26,12 @@ invariant-loop-act g l =
       session : l.self.session ≡ l.fn.self.session;
       counts : (o : Origin) → o.is_watched ≡ true → Stands o l.fn.self.book true (g.W.Journal.journal l.fn.w) (g.W.Journal.counts l.fn.w) → IsCountedAt o l.fn.self l.fn.act (g.W.Journal.journal l.fn.w)
           → IsCountedAt o l.self l.act (g.W.Journal.journal l.w);
-      stands : (p : Plot) (number : ℕ) → Told (g.W.Journal.journal l.fn.w) (g.W.Journal.journal l.w) (λ before after. StandsTo p number l.fn.self l.fn.act before
-          → StandsTo p number l.self l.act after);
+      stands : (p : Plot) (number : ℕ) → Told (g.W.Journal.journal l.fn.w) (g.W.Journal.journal l.w) (λ before after. (clock : ℕ) → StandsTo p number (record l.fn.self { clock = clock }) l.fn.act before
+          → StandsTo p number (record l.self { clock = clock }) l.act after);
+      clock : l.self.clock ≡ l.fn.self.clock;
       sent : l.self.sent ≡ l.fn.self.sent;
       kind : can_answer Saved l.fn.act ≡ true → can_answer Saved l.act ≡ true;
-      still : l.fn.act ≡ Nothing → (l.self ≡ l.fn.self) × (l.act ≡ Nothing) × (g.W.Journal.journal l.w ≡ g.W.Journal.journal l.fn.w);
+      still : is_idle l.fn.act ≡ true → (l.self ≡ l.fn.self) × (l.act ≡ l.fn.act) × (g.W.Journal.journal l.w ≡ g.W.Journal.journal l.fn.w);
     }
 
 abbrev pub decreases-loop-act : goal.decreases-loop-act

@@ -1,8 +1,9 @@
 use Rattle.std.proofs.Common.{refl, sym, ◌∙◌}
 use Rattle.world.specs.Moments.{start}
 use Rattle.world.proofs.MomentsLemmas.{told_start}
-use Rattle.job_run.proofs.AskLemmas.{once_keyed}
+use Rattle.job_run.proofs.AskLemmas.{once_keyed, once_named}
 use Rattle.std.specs.Prelude.{is_some}
+use Rattle.job_run.proofs.ClockLemmas.{passes_still}
 use Rattle.job_run.proofs.ToldLemmas.{moment_may}
 use Rattle.job_run.proofs.execution.Execution.hear_clock.Goals as goal
 
@@ -20,3 +21,15 @@ returns-clause-key g c = once_keyed c.step.result c.args.self.now c.step.new.sel
 
 pub step-requires-clause-may : goal.step-requires-clause-may
 step-requires-clause-may g c = moment_may c.args.self.now.core c.args.self.now.clock (is_some c.args.self.now.broken) c.requires.calm (λ events stands. sym c.if-wants_look.false ∙ c.wants_look.ensures events stands)
+
+pub returns-then-wants_look-clause-passes : goal.returns-then-wants_look-clause-passes
+returns-then-wants_look-clause-passes g c p number = told_start (λ now. passes_still p number c.args.self.now now)
+
+pub returns-clause-passes : goal.returns-clause-passes
+returns-clause-passes g c p number = c.step.ensures.passes refl p number
+
+pub returns-then-wants_look-clause-name : goal.returns-then-wants_look-clause-name
+returns-then-wants_look-clause-name g c = refl
+
+pub returns-clause-name : goal.returns-clause-name
+returns-clause-name g c = once_named c.step.result c.args.self.now c.step.new.self c.step.ensures.asks

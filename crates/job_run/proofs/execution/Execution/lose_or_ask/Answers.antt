@@ -1,14 +1,16 @@
-use Rattle.std.proofs.Common.{rules, ◌≡◌, ap, subst, sym, ◌∙◌}
+use Rattle.std.proofs.Common.{Ok, rules, ◌≡◌, ap, subst, sym, ◌∙◌}
 use Rattle.cell_core.specs.declared.act.Act.TheVariants.{Nothing}
 use Rattle.cell_core.specs.StandsFor.{task_of}
 use Rattle.job_saves.specs.Course.{Stands, HasPart, stays_open}
 use Rattle.job_run.specs.declared.execution.Execution.{Execution}
+use Rattle.world.proofs.MomentsLemmas.{told_as}
+use Rattle.job_run.proofs.ClockLemmas.{turned_goes, turned_on}
 use Rattle.job_run.proofs.CountLemmas.{counts_on}
 use Rattle.job_run.proofs.execution.Execution.lose_or_ask.Goals as goal
 
-pub returns-in-Ok : goal.returns-in-Ok
-returns-in-Ok g c =
-    let l = c.in-Ok.ensures in
+pub returns-in-Ok-clause-goes : goal.returns-in-Ok-clause-goes
+returns-in-Ok-clause-goes g c =
+    let l = c.in-Ok.ensures.goes in
     let x = c.lose.new.self in
     let y = c.ask_or_end.new.self in
     let e = c.ask_or_end.ensures in
@@ -25,3 +27,13 @@ returns-in-Ok g c =
       own = e.own;
       counts = λ o on s h. counts_on o x y Nothing c.ask_or_end.result j e.counts (l.counts o on s h);
     }
+
+pub returns-in-Ok-clause-stands : goal.returns-in-Ok-clause-stands
+returns-in-Ok-clause-stands g c p number =
+    told_as (c.in-Ok.ensures.passes p number)
+    (λ before after pass h. c.ask_or_end.ensures.stands p number after (turned_on {U = Unit {0}} p number c.args.self.now c.lose.new.self (Ok tt) before after pass h))
+
+pub returns-in-Err-clause-stands : goal.returns-in-Err-clause-stands
+returns-in-Err-clause-stands g c p number =
+    told_as (c.in-Err.ensures.passes p number)
+    (λ before after pass h. absurd (turned_goes p number c.args.self.now c.lose.new.self c.in-Err.end before after pass h))

@@ -1,10 +1,10 @@
 use Rattle.std.proofs.Common.{refl, true}
 use Rattle.job_run.proofs.StepLemmas.{goes_kept, goes_told}
-use Rattle.std.proofs.Common.{◌≡◌, inl, inr, subst, sym, ◌∙◌}
+use Rattle.std.proofs.Common.{◌≡◌, ap, inl, inr, subst, sym, ◌∙◌}
 use Rattle.world.proofs.MomentsLemmas.{told_as, told_start}
 use Rattle.cell_core.specs.declared.act.Act.TheVariants.{Nothing}
 use Rattle.job_run.specs.declared.execution.Execution.{Execution}
-use Rattle.job_run.specs.Standing.{DoesAct, StaysStill}
+use Rattle.job_run.specs.Standing.{DoesAct, StaysStill, is_idle}
 use Rattle.job_run.proofs.ActLemmas.{told_while}
 use Rattle.job_run.proofs.ReadyLemmas.{ready_does, unready_uses}
 use Rattle.job_run.proofs.execution.Execution.note_ready.Goals.{then-self-via-then-self, then-self-via-else-self+then-not-is_ready}
@@ -19,11 +19,11 @@ pub returns-clause-uses : goal.returns-clause-uses
 returns-clause-uses g c p number chan ms =
     let x = c.args.self.now in
     let t = c.tell-step in
-    told_as (told_while (t.result.act ≡ Nothing) (c.act.ensures.stands p number) (λ e. (c.act.ensures.still e).1))
+    told_as (told_while (t.result.act ≡ Nothing) (c.act.ensures.stands p number) (λ e. (c.act.ensures.still (ap is_idle e)).1))
     (λ before after does h.
     ready_does p number x chan ms before h c.requires.calm c.if-self.false (sym c.is_ready.ensures ∙ c.if-not-is_ready.false) t.new.self.core t.result t.ensures.takes c.act.result c.act.new.self after
     (subst (λ (e : Execution). DoesAct p number e t.result.act c.act.new.self c.act.result before after) t.ensures.rest does.0)
-    (λ e. subst (λ (d : Execution). StaysStill d c.act.new.self c.act.result) t.ensures.rest (c.act.ensures.still e).0))
+    (λ e. subst (λ (d : Execution). StaysStill d c.act.new.self c.act.result) t.ensures.rest (c.act.ensures.still (ap is_idle e)).0))
 
 pub returns-then-self-clause-uses : goal.returns-then-self-clause-uses
 returns-then-self-clause-uses g c p number chan ms = told_start (λ now h.

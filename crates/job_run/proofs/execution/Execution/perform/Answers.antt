@@ -1,9 +1,10 @@
-use Rattle.std.proofs.Common.{◌≡◌, ◌+◌, ◌<◌, ◌≤◌, arith, Ok, subst, sym}
+use Rattle.std.proofs.Common.{◌≡◌, ◌+◌, ◌<◌, ◌≤◌, ◌∙◌, ap, arith, Ok, subst, sym, true≢false}
 use Rattle.cell_core.specs.Sending.{SendsOn, next_of}
 use Rattle.cell_core.specs.StandsFor.{task_of}
 use Rattle.job_notebook.specs.State.{settled_of}
-use Rattle.job_run.specs.Standing.{DoesAct}
-use Rattle.job_run.proofs.ActLemmas.{does_look, does_nothing, does_start}
+use Rattle.job_run.specs.declared.execution.Execution.{Execution}
+use Rattle.job_run.specs.Standing.{DoesAct, StandsTo, is_idle}
+use Rattle.job_run.proofs.ActLemmas.{does_look, does_nothing, does_start, idle_stands, none_to_send}
 use Rattle.job_run.proofs.SendLemmas.{does_send}
 use Rattle.job_run.proofs.execution.Execution.perform.Goals as goal
 
@@ -28,3 +29,26 @@ returns-in-Start-clause-stands c p number now =
 pub returns-in-Look-clause-stands : goal.returns-in-Look-clause-stands
 returns-in-Look-clause-stands c p number now =
     subst (λ act. DoesAct {U = Unit {0}} p number c.args.self.now act c.args.self.now (Ok tt) now now) (sym c.in-Look.is) (does_look p number c.args.self.now now)
+
+pub returns-in-Nothing-clause-unsent : goal.returns-in-Nothing-clause-unsent
+returns-in-Nothing-clause-unsent c p number clock now none t =
+    let x : Execution = record c.args.self.now { clock = clock } in
+    idle_stands p number x c.args.act now (ap is_idle c.in-Nothing.is) t
+
+pub returns-in-Start-clause-unsent : goal.returns-in-Start-clause-unsent
+returns-in-Start-clause-unsent c p number clock now none t =
+    let x : Execution = record c.args.self.now { clock = clock } in
+    idle_stands p number x c.args.act now (ap is_idle c.in-Start.is) t
+
+pub returns-in-Look-clause-unsent : goal.returns-in-Look-clause-unsent
+returns-in-Look-clause-unsent c p number clock now none t =
+    let x : Execution = record c.args.self.now { clock = clock } in
+    idle_stands p number x c.args.act now (ap is_idle c.in-Look.is) t
+
+pub returns-in-Send-clause-unsent : goal.returns-in-Send-clause-unsent
+returns-in-Send-clause-unsent c p number clock now none t =
+    let x : Execution = record c.args.self.now { clock = clock } in
+    absurd (none_to_send p number x c.in-Send.cell now none (subst (λ act. StandsTo p number x act now) c.in-Send.is t))
+
+pub returns-in-Send-clause-still : goal.returns-in-Send-clause-still
+returns-in-Send-clause-still c idle = absurd (true≢false (sym idle ∙ ap is_idle c.in-Send.is))

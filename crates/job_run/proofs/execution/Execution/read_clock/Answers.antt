@@ -1,9 +1,12 @@
-use Rattle.std.proofs.Common.{true, refl, ap}
+use Rattle.std.proofs.Common.{true, refl, ap, subst, sym}
 use Rattle.world.proofs.CountsLemmas.{moment_grows}
-use Rattle.world.proofs.MomentsLemmas.{tells_as}
+use Rattle.world.proofs.MomentsLemmas.{tells_as, told_then}
+use Rattle.job_run.specs.Standing.{Stands}
+use Rattle.job_run.proofs.ClockLemmas.{passes_on}
+use Rattle.job_run.proofs.StartLemmas.{clock_read}
 use Rattle.world.specs.Moments.{start, more as later}
 use Rattle.job_saves.proofs.SessionLemmas.{saves_then}
-use Rattle.job_run.proofs.AskLemmas.{keyed_then}
+use Rattle.job_run.proofs.AskLemmas.{keyed_then, named_then}
 use Rattle.job_saves.proofs.CourseLemmas.{others_pass}
 use Rattle.job_run.proofs.RunLemmas.{told_spares, entry_called}
 use Rattle.job_run.proofs.WorkLemmas.{moment_works}
@@ -42,3 +45,15 @@ returns-clause-saves g c =
 pub returns-clause-key : goal.returns-clause-key
 returns-clause-key g c =
     keyed_then c.hear_clock.result c.args.self.now c.turn_clock.new.self c.hear_clock.new.self (ap (λ s. s.key) c.turn_clock.ensures.session) c.hear_clock.ensures.key
+
+pub returns-clause-name : goal.returns-clause-name
+returns-clause-name g c =
+    named_then c.hear_clock.result c.args.self.now c.turn_clock.new.self c.hear_clock.new.self (ap (λ s. s.name) c.turn_clock.ensures.session) c.hear_clock.ensures.name
+
+pub returns-clause-stands : goal.returns-clause-stands
+returns-clause-stands g c p number =
+    let t = c.turn_clock in
+    told_then c.now-ms.ensures.tells (c.hear_clock.ensures.passes p number)
+    (λ x y z is pass h.
+    passes_on p number t.new.self c.hear_clock.new.self c.hear_clock.result y z pass
+    (subst (Stands p number t.new.self) (sym is) (clock_read p number c.args.self.now t.new.self c.now-ms.result x h t.ensures.rest t.ensures.turns)))

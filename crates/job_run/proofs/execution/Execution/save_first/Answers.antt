@@ -1,7 +1,12 @@
 use Rattle.std.proofs.Common.{◌≡◌, refl, arith, ◌∙◌}
 use Rattle.job_notebook.specs.State.{output_of}
 use Rattle.job_saves.proofs.SessionLemmas.{saves_then}
-use Rattle.job_run.proofs.AskLemmas.{keyed_then}
+use Rattle.world.specs.Places.{time}
+use Rattle.world.proofs.MomentsLemmas.{told_as, told_both, told_then}
+use Rattle.job_journal.specs.Plot.{facts}
+use Rattle.job_run.proofs.AskLemmas.{keyed_then, named_then}
+use Rattle.job_run.proofs.StandingLemmas.{ended_so}
+use Rattle.job_run.proofs.StartLemmas.{begin_saves, none_requested, saved_first, saves_unread}
 use Rattle.job_run.proofs.CauseLemmas.{calls_output}
 use Rattle.job_run.proofs.CountLemmas.{to_save}
 use Rattle.job_run.proofs.StepLemmas.{goes_err, goes_then, goes_told}
@@ -38,3 +43,24 @@ act-requires-clause-todo g c =
       named = λ is. absurd (cc);
       settles = λ settled is. let same : 0 ≡ settled = cc in f.asks ∙ same;
     }
+
+pub returns-clause-name : goal.returns-clause-name
+returns-clause-name g c = named_then c.read_clock.result c.args.self.now c.act.new.self c.read_clock.new.self c.in_ok-act.ensures.asks.name c.read_clock.ensures.name
+
+pub returns-clause-stands : goal.returns-clause-stands
+returns-clause-stands g c p number =
+    let x = c.args.self.now in
+    told_then (told_both c.act.ensures.saves (c.in_ok-act.ensures.unsent p number)) (c.read_clock.ensures.stands p number)
+    (λ before mid after so then b.
+    let unread = saves_unread (facts p) (output_of x.book) before mid so.0 b.fresh.unread in
+    then (saved_first p number x c.act.new.self (output_of x.book) before mid b so.0 c.act.ensures.clock
+    (so.1 (none_requested p mid unread) (time before) (begin_saves p number x before b))))
+
+pub returns-in_err-act-clause-stands : goal.returns-in_err-act-clause-stands
+returns-in_err-act-clause-stands g c p number =
+    let x = c.args.self.now in
+    told_as (told_both c.act.ensures.saves (c.in_err-act.ensures.unsent p number))
+    (λ before after so b.
+    let unread = saves_unread (facts p) (output_of x.book) before after so.0 b.fresh.unread in
+    ended_so p number c.act.new.self c.from_residual.result _ after c.from_residual.ensures.1
+    (so.1 (none_requested p after unread) (time before) (begin_saves p number x before b)))

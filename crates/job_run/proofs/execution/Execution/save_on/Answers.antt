@@ -76,16 +76,21 @@ returns-in_err-save-clause-counts g c o on stands h =
     let k = g.W.Journal.journal c.save.new.w in
     residual_for o c.save.new.self c.from_residual.result e k c.from_residual.ensures.1 (unsaved_for o c.save.new.self e k c.in_err-save.ensures.kind)
 
+pub returns-clause-clock : goal.returns-clause-clock
+returns-clause-clock g c = ap (λ (k : Execution). k.clock) c.save.ensures.rest
+
+pub returns-in_err-save-clause-clock : goal.returns-in_err-save-clause-clock
+returns-in_err-save-clause-clock g c = ap (λ (k : Execution). k.clock) c.save.ensures.rest
+
 pub returns-clause-stands : goal.returns-clause-stands
 returns-clause-stands g c p number =
-    let x = c.args.self.now in
     let y = c.save.new.self in
     let s = c.step in
     let took : TakesEvent Saved s.result y.core s.new.self = record { stands = s.ensures.stands; act = s.ensures.act; takes = s.ensures.takes; same = s.ensures.same } in
     told_as c.in_ok-save.ensures.entries
-    (λ before after so t.
-    subst (λ (k : Execution). StandsTo p number (record k { core = s.new.self }) s.result.act after) (sym c.save.ensures.rest)
-    (saved_to p number x c.args.settled before t y.book c.in_ok-save.ensures.prefix s.new.self s.result c.save.ensures.output c.save.ensures.merge c.in_ok-save.ensures.keeps
+    (λ before after so clock t.
+    subst (λ (k : Execution). StandsTo p number (record (record k { core = s.new.self }) { clock = clock }) s.result.act after) (sym c.save.ensures.rest)
+    (saved_to p number (record c.args.self.now { clock = clock }) c.args.settled before t y.book c.in_ok-save.ensures.prefix s.new.self s.result c.save.ensures.output c.save.ensures.merge c.in_ok-save.ensures.keeps
     c.requires.todo.awaits (subst (λ (k : Core). TakesEvent Saved s.result k s.new.self) c.save.ensures.core took) s.ensures.next (s.ensures.closes refl) so.past after so.saves
     (says_quiet (facts p) _ _ so.past after so.says)))
 
@@ -93,9 +98,9 @@ pub returns-in_err-save-clause-stands : goal.returns-in_err-save-clause-stands
 returns-in_err-save-clause-stands g c p number =
     let e = c.in_err-save.field-0.0 in
     told_as c.in_err-save.ensures.entries
-    (λ before after so t.
-    ended_to p number c.save.new.self c.from_residual.result e after c.from_residual.ensures.1
-    (unsaved_ends p number c.args.self.now c.args.settled before after c.save.new.self.book
+    (λ before after so clock t.
+    ended_to p number (record c.save.new.self { clock = clock }) c.from_residual.result e after c.from_residual.ensures.1
+    (unsaved_ends p number (record c.args.self.now { clock = clock }) c.args.settled before after c.save.new.self.book
     (line_of (output_of c.args.self.now.book) c.args.settled (notebook_of c.save.new.self.book)) (SayFailed g.W.Journal.counts c.save.new.w) e t c.in_err-save.ensures.prefix so))
 
 pub returns-clause-kind : goal.returns-clause-kind

@@ -1,6 +1,11 @@
-use Rattle.std.proofs.Common.{subst}
+use Rattle.std.proofs.Common.{subst, true, ◌≡◌}
+use Rattle.std.specs.Prelude.{is_some}
+use Rattle.world.proofs.MomentsLemmas.{told_as}
+use Rattle.job_run.specs.Standing.{is_idle}
 use Rattle.job_run.specs.Steps.{OnlySaves}
+use Rattle.job_run.proofs.ActLemmas.{told_while}
 use Rattle.job_run.proofs.AskLemmas.{once_from}
+use Rattle.job_run.proofs.ClockLemmas.{step_passes, step_stands}
 use Rattle.job_run.proofs.StepLemmas.{goes_told}
 use Rattle.job_run.proofs.execution.Execution.step.Goals as goal
 
@@ -13,3 +18,20 @@ returns-clause-saves g c =
 
 pub returns-clause-asks : goal.returns-clause-asks
 returns-clause-asks g c = once_from c.act.result c.args.self.now c.tell-step.new.self c.act.new.self c.tell-step.ensures.session c.act.ensures.asks
+
+pub returns-clause-stands : goal.returns-clause-stands
+returns-clause-stands g c o p number =
+    let x = c.args.self.now in
+    let t = c.tell-step in
+    told_as (c.act.ensures.stands p number)
+    (λ before after does s.
+    (does (step_stands p number x t.new.self c.args.e t.result (is_some x.broken) t.ensures.rest t.ensures.takes c.requires.holds.heard c.requires.may c.requires.calm c.requires.other before o s)).0)
+
+pub returns-clause-passes : goal.returns-clause-passes
+returns-clause-passes g c q p number =
+    let x = c.args.self.now in
+    let t = c.tell-step in
+    told_as (told_while (is_idle t.result.act ≡ true) (c.act.ensures.stands p number) (λ k. (c.act.ensures.still k).1))
+    (λ before after so.
+    step_passes p number x t.new.self c.args.e t.result (is_some x.broken) t.ensures.rest t.ensures.takes c.requires.holds.heard c.requires.may c.requires.calm c.requires.other c.act.new.self c.act.result before after q
+    (λ k. (c.act.ensures.still k).0) so.1)

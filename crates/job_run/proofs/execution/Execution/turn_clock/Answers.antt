@@ -17,3 +17,6 @@ returns-clause-holds c =
       early = c.requires.early;
       heard = hears_later x.core x.clock c.args.ms (is_some x.broken) (omega (arith, c.if-ms-self.false)) h.heard;
     }
+
+pub returns-then-ms-self-clause-turns : goal.returns-then-ms-self-clause-turns
+returns-then-ms-self-clause-turns c within = omega (arith, within, c.if-ms-self.true)

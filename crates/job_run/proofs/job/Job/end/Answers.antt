@@ -4,6 +4,7 @@ use Rattle.job_saves.specs.Course.{Stands, keeps_open}
 use Rattle.cell_core.specs.StandsFor.{task_of}
 use Rattle.job_run.proofs.TurnLemmas.{end_counts, outside_job}
 use Rattle.job_run.proofs.OutcomeLemmas.{err_same}
+use Rattle.job_run.proofs.JobLemmas.{keeps_ended}
 use Rattle.job_run.proofs.RunLemmas.{ends_told, turns, plays_on}
 use Rattle.job_run.specs.declared.terms.Terms.{Terms}
 use Rattle.job_run.proofs.job.Job.end.Goals as goal
@@ -34,3 +35,9 @@ returns-clause-pings c = ap (λ (t : Terms). t.heartbeat) c.outcome_of.ensures.t
 
 pub returns-clause-ends : goal.returns-clause-ends
 returns-clause-ends c = ends_told c.args.self.now.outcome c.outcome_of.result c.unless_starved.result c.requires.running c.unless_starved.ensures.starved c.unless_starved.ensures.fed
+
+pub returns-clause-stands : goal.returns-clause-stands
+returns-clause-stands c =
+    let j = c.args.self.now in
+    let e = c.outcome_of in
+    keeps_ended j _ refl c.requires.running e.ensures.ends

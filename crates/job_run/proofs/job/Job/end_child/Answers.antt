@@ -1,4 +1,8 @@
 use Rattle.std.proofs.Common.{refl}
+use Rattle.world.specs.Moments.{more}
+use Rattle.world.proofs.MomentsLemmas.{tells_as, told_one}
+use Rattle.job_journal.proofs.Quiet.{quiet_kind}
+use Rattle.world.specs.Moments.{start}
 use Rattle.world.proofs.CountsLemmas.{grow_same, disk_grows, grow_then}
 use Rattle.job_run.proofs.RunLemmas.{passes_one, entry_called}
 use Rattle.job_run.proofs.WorkLemmas.{same_works, disk_works}
@@ -26,3 +30,7 @@ returns-clause-grow g c = grow_then (grow_same c.end.ensures.same) (disk_grows c
 
 pub returns-clause-left : goal.returns-clause-left
 returns-clause-left g c = removed_after c.args.self.now.number c.end.ensures.tells c.remove.ensures.tells
+
+pub returns-clause-quiet : goal.returns-clause-quiet
+returns-clause-quiet g c facts =
+    told_one (tells_as c.end.ensures.tells (λ past. more start (quiet_kind facts _ past refl))) c.remove.ensures.tells (λ x y w. more w (quiet_kind facts _ y refl))

@@ -1,4 +1,7 @@
 use Rattle.std.proofs.Common.{sym, subst, ap}
+use Rattle.world.proofs.MomentsLemmas.{told_as}
+use Rattle.job_journal.specs.Plot.{facts}
+use Rattle.job_run.proofs.JobLemmas.{job_quiet_untold, job_saved}
 use Rattle.job_run.proofs.OutcomeLemmas.{starved_lost, starved_spent}
 use Rattle.job_run.specs.Run.{IsLost, IsSpent}
 use Rattle.job_run.proofs.RunLemmas.{ends_with, ends_starved}
@@ -35,3 +38,9 @@ returns-in-Some-clause-spent g c h = subst IsSpent (sym c.in-Some.is) h
 
 pub returns-clause-spent : goal.returns-clause-spent
 returns-clause-spent g c h = absurd (starved_spent c.starved.result (ap (λ a. a.status) c.starved.ensures) h)
+
+pub returns-in-Some-clause-stands : goal.returns-in-Some-clause-stands
+returns-in-Some-clause-stands g c p = told_as (c.end_child.ensures.quiet (facts p)) (λ x y w s. job_saved p c.args.self y (job_quiet_untold p c.args.self x y w s))
+
+pub returns-clause-stands : goal.returns-clause-stands
+returns-clause-stands g c p = told_as (c.end_child.ensures.quiet (facts p)) (λ x y w s. job_saved p c.args.self y (job_quiet_untold p c.args.self x y w s))

@@ -9,6 +9,10 @@ use Rattle.job_run.proofs.WorkLemmas.{net_works}
 use Rattle.job_run.proofs.CauseLemmas.{causes_stay}
 use Rattle.job_run.proofs.PartLemmas.{wire_quiet, wire_childless}
 use Rattle.job_run.proofs.job.Job.launch.Goals as goal
+use Rattle.world.proofs.MomentsLemmas.{since_then, tells_as, told_then}
+use Rattle.world.specs.Moments.{more, start}
+use Rattle.job_journal.proofs.Quiet.{quiet_kind}
+use Rattle.job_run.proofs.JobLemmas.{keeps_still}
 
 pub returns-in-Some-clause-course : goal.returns-in-Some-clause-course
 returns-in-Some-clause-course g c o r =
@@ -62,3 +66,16 @@ pub returns-in-None-clause-ends : goal.returns-in-None-clause-ends
 returns-in-None-clause-ends g c =
     let net = c.free_ports.ensures.cause in
     record { saved = refl; grow = net_grows net; cause = net.net.cause c.in-None.is; own = tt }
+
+pub returns-in-Some-clause-quiet : goal.returns-in-Some-clause-quiet
+returns-in-Some-clause-quiet g c facts =
+    told_then (tells_as c.free_ports.ensures.tells (λ past. more start (quiet_kind facts _ past refl))) (c.start_on_ports.ensures.quiet facts) (λ x y z w v. since_then w v)
+
+pub returns-in-None-clause-quiet : goal.returns-in-None-clause-quiet
+returns-in-None-clause-quiet g c facts = tells_as c.free_ports.ensures.tells (λ past. more start (quiet_kind facts _ past refl))
+
+pub returns-in-Some-clause-keeps : goal.returns-in-Some-clause-keeps
+returns-in-Some-clause-keeps g c = keeps_still c.args.self.now _ refl refl refl
+
+pub returns-in-None-clause-keeps : goal.returns-in-None-clause-keeps
+returns-in-None-clause-keeps g c = keeps_still c.args.self.now _ refl refl refl

@@ -1,4 +1,6 @@
 use Rattle.std.proofs.Common.{refl, sym, ◌∙◌}
+use Rattle.world.proofs.MomentsLemmas.{told_as, told_start}
+use Rattle.job_run.proofs.JobLemmas.{job_stands}
 use Rattle.job_saves.specs.Course.{stays_open}
 use Rattle.cell_core.specs.StandsFor.{task_of}
 use Rattle.job_run.proofs.StopLemmas.{job_ends}
@@ -7,19 +9,32 @@ use Rattle.job_run.proofs.RunLemmas.{ends_told, keeps_on, turns, plays_on}
 use Rattle.job_run.proofs.job.Job.on_looked.Goals as goal
 
 pub outcome_of-requires-clause-own : goal.outcome_of-requires-clause-own
-outcome_of-requires-clause-own g c = job_ends (task_of c.on_looked-looked.new.self.core) c.on_looked-looked.result c.on_looked-looked.ensures.own
+outcome_of-requires-clause-own g c = job_ends (task_of c.on_looked-looked.new.self.core) c.on_looked-looked.result c.on_looked-looked.ensures.goes.own
 
-pub returns : goal.returns
-returns g c =
+pub returns-clause-goes : goal.returns-clause-goes
+returns-clause-goes g c =
     let e = c.outcome_of.ensures in
     let t = c.on_looked-looked in
     record {
       course = λ o r.
-          turns o c.args.self.now _ t.new.self.book _ _ _ _ (stays_open t.result) (sym c.is_over.ensures ∙ c.if-is_over.false) (t.ensures.course o) e.course refl e.shut e.fails
+          turns o c.args.self.now _ t.new.self.book _ _ _ _ (stays_open t.result) (sym c.is_over.ensures ∙ c.if-is_over.false) (t.ensures.goes.course o) e.course refl e.shut e.fails
           (λ fresh s h. turn_counts o c.args.self.now.run t.new.self c.outcome_of.new.run t.result c.outcome_of.result
-          (g.W.Journal.journal c.args.w.now) (g.W.Journal.journal t.new.w) (t.ensures.counts o fresh.watched s) e.counts h) r;
+          (g.W.Journal.journal c.args.w.now) (g.W.Journal.journal t.new.w) (t.ensures.goes.counts o fresh.watched s) e.counts h) r;
       calls = λ cast since from r.
-          plays_on cast since from c.args.self.now _ t.new.self.book _ _ _ _ (t.ensures.calls cast since from) e.calls refl refl r;
-      keeps = keeps_on t.new.self t.result e.task t.ensures.task e.terms t.ensures.terms refl t.ensures.own e.lost e.spent;
+          plays_on cast since from c.args.self.now _ t.new.self.book _ _ _ _ (t.ensures.goes.calls cast since from) e.calls refl refl r;
+      keeps = keeps_on t.new.self t.result e.task t.ensures.goes.task e.terms t.ensures.goes.terms refl t.ensures.goes.own e.lost e.spent;
       ends = ends_told c.args.self.now.outcome c.outcome_of.result c.unless_starved.result (sym c.is_over.ensures ∙ c.if-is_over.false) c.unless_starved.ensures.starved c.unless_starved.ensures.fed;
     }
+
+pub returns-clause-stands : goal.returns-clause-stands
+returns-clause-stands g c p =
+    let j = c.args.self.now in
+    let e = c.outcome_of in
+    let t = c.on_looked-looked in
+    told_as (t.ensures.stands p j.number)
+    (λ before after so s.
+    job_stands p _ t.new.self t.result after s.number_is s.undated e.ensures.goes e.ensures.ends
+    (so (s.runs (sym c.is_over.ensures ∙ c.if-is_over.false))))
+
+pub returns-then-is_over-clause-stands : goal.returns-then-is_over-clause-stands
+returns-then-is_over-clause-stands g c p = told_start (λ now s. record { number_is = s.number_is; undated = s.undated; runs = s.runs; ended = s.ended })

@@ -1,4 +1,9 @@
-use Rattle.std.proofs.Common.{true, refl, sym, ◌∙◌}
+use Rattle.std.proofs.Common.{true, refl, sym, subst, ◌∙◌}
+use Rattle.std.proofs.Math.Bool.{true≢false}
+use Rattle.world.specs.declared.entry.Entry.TheVariants.{Looked}
+use Rattle.world.proofs.MomentsLemmas.{told_start, told_then}
+use Rattle.job_run.specs.Standing.{IsTurned}
+use Rattle.job_run.proofs.JobLemmas.{job_stands, turned_run}
 use Rattle.world.proofs.CountsLemmas.{grow_same}
 use Rattle.job_saves.specs.Course.{stays_open}
 use Rattle.cell_core.specs.StandsFor.{task_of}
@@ -13,23 +18,36 @@ use Rattle.job_run.proofs.PartLemmas.{kids_quiet}
 use Rattle.job_run.proofs.job.Job.on_moment.Goals as goal
 
 pub outcome_of-requires-clause-own : goal.outcome_of-requires-clause-own
-outcome_of-requires-clause-own g c = job_ends (task_of c.on_moment-turned.new.self.core) c.on_moment-turned.result c.on_moment-turned.ensures.own
+outcome_of-requires-clause-own g c = job_ends (task_of c.on_moment-turned.new.self.core) c.on_moment-turned.result c.on_moment-turned.ensures.goes.own
 
-pub returns : goal.returns
-returns g c =
+pub returns-clause-goes : goal.returns-clause-goes
+returns-clause-goes g c =
     let e = c.outcome_of.ensures in
     let t = c.on_moment-turned in
     record {
       course = λ o r.
           turns o c.args.self.now _ t.new.self.book _ _ _ _ (stays_open t.result) (sym c.is_over.ensures ∙ c.if-is_over.false)
-          (λ s. t.ensures.course o (others_pass o _ true _ _ _ _ (told_spares o.output _ _ _ refl c.look.ensures.tells) (grow_same c.look.ensures.same) s)) e.course refl e.shut e.fails
+          (λ s. t.ensures.goes.course o (others_pass o _ true _ _ _ _ (told_spares o.output _ _ _ refl c.look.ensures.tells) (grow_same c.look.ensures.same) s)) e.course refl e.shut e.fails
           (λ fresh s h. turn_counts o c.args.self.now.run t.new.self c.outcome_of.new.run t.result c.outcome_of.result
           (g.W.Journal.journal c.args.w.now) (g.W.Journal.journal t.new.w)
-          (λ at. t.ensures.counts o fresh.watched (others_pass o _ true _ _ _ _ (told_spares o.output _ _ _ refl c.look.ensures.tells) (grow_same c.look.ensures.same) s)
+          (λ at. t.ensures.goes.counts o fresh.watched (others_pass o _ true _ _ _ _ (told_spares o.output _ _ _ refl c.look.ensures.tells) (grow_same c.look.ensures.same) s)
           (counts_passed o c.args.self.now.run Nothing _ _ _ (λ past. refl) (λ past. refl) c.look.ensures.tells at)) e.counts h) r;
       calls = λ cast since from r.
           plays_on cast since from c.args.self.now _ t.new.self.book _ _ _ _
-          (λ s. t.ensures.calls cast since from (entry_called cast since from _ _ _ _ _ _ (λ past. record { number = c.args.self.now.number; ask = r.role.ask; has = r.role.has; is = refl }) kids_quiet (λ past. tt) c.look.ensures.tells (same_works c.look.ensures.same) s)) e.calls refl refl r;
-      keeps = keeps_on t.new.self t.result e.task t.ensures.task e.terms t.ensures.terms refl t.ensures.own e.lost e.spent;
+          (λ s. t.ensures.goes.calls cast since from (entry_called cast since from _ _ _ _ _ _ (λ past. record { number = c.args.self.now.number; ask = r.role.ask; has = r.role.has; is = refl }) kids_quiet (λ past. tt) c.look.ensures.tells (same_works c.look.ensures.same) s)) e.calls refl refl r;
+      keeps = keeps_on t.new.self t.result e.task t.ensures.goes.task e.terms t.ensures.goes.terms refl t.ensures.goes.own e.lost e.spent;
       ends = ends_told c.args.self.now.outcome c.outcome_of.result c.unless_starved.result (sym c.is_over.ensures ∙ c.if-is_over.false) c.unless_starved.ensures.starved c.unless_starved.ensures.fed;
     }
+
+pub returns-clause-stands : goal.returns-clause-stands
+returns-clause-stands g c p =
+    let j = c.args.self.now in
+    let e = c.outcome_of in
+    let t = c.on_moment-turned in
+    told_then c.look.ensures.tells (t.ensures.stands p j.number)
+    (λ x y z is so turned.
+    job_stands p _ t.new.self t.result z turned.stands.number_is turned.stands.undated e.ensures.goes e.ensures.ends
+    (so (subst (IsTurned p j.number j.run c.args.ms) (sym is) (turned_run p j c.args.ms (Looked j.number c.look.result) x refl turned))))
+
+pub returns-then-is_over-clause-stands : goal.returns-then-is_over-clause-stands
+returns-then-is_over-clause-stands g c p = told_start (λ now turned. absurd (true≢false (sym (sym c.is_over.ensures ∙ c.if-is_over.true) ∙ turned.running)))

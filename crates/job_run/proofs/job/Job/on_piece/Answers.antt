@@ -1,4 +1,7 @@
 use Rattle.std.proofs.Common.{refl, sym, ◌∙◌}
+use Rattle.std.proofs.Math.Bool.{true≢false}
+use Rattle.world.proofs.MomentsLemmas.{told_as, told_start}
+use Rattle.job_run.proofs.JobLemmas.{got_run, job_stands}
 use Rattle.job_saves.specs.Course.{stays_open}
 use Rattle.cell_core.specs.StandsFor.{task_of}
 use Rattle.job_run.proofs.StopLemmas.{job_ends}
@@ -9,8 +12,8 @@ use Rattle.job_run.proofs.job.Job.on_piece.Goals as goal
 pub outcome_of-requires-clause-own : goal.outcome_of-requires-clause-own
 outcome_of-requires-clause-own g c = job_ends (task_of c.on_piece-heard.new.self.core) c.on_piece-heard.result c.on_piece-heard.ensures.goes.own
 
-pub returns : goal.returns
-returns g c =
+pub returns-clause-goes : goal.returns-clause-goes
+returns-clause-goes g c =
     let e = c.outcome_of.ensures in
     let t = c.on_piece-heard in
     record {
@@ -24,3 +27,15 @@ returns g c =
       keeps = keeps_on t.new.self t.result e.task t.ensures.goes.task e.terms t.ensures.goes.terms refl t.ensures.goes.own e.lost e.spent;
       ends = ends_told c.args.self.now.outcome c.outcome_of.result c.unless_starved.result (sym c.is_over.ensures ∙ c.if-is_over.false) c.unless_starved.ensures.starved c.unless_starved.ensures.fed;
     }
+
+pub returns-clause-stands : goal.returns-clause-stands
+returns-clause-stands g c p =
+    let j = c.args.self.now in
+    let e = c.outcome_of in
+    told_as (c.on_piece-heard.ensures.stands p j.number)
+    (λ before after so got.
+    job_stands p _ c.on_piece-heard.new.self c.on_piece-heard.result after got.stands.number_is got.stands.undated e.ensures.goes e.ensures.ends
+    (so (got_run p j c.args.chan c.args.piece.now before got)))
+
+pub returns-then-is_over-clause-stands : goal.returns-then-is_over-clause-stands
+returns-then-is_over-clause-stands g c p = told_start (λ now got. absurd (true≢false (sym (sym c.is_over.ensures ∙ c.if-is_over.true) ∙ got.running)))

@@ -14,6 +14,8 @@ use Rattle.job_run.proofs.CauseLemmas.{causes_stay}
 use Rattle.job_run.specs.Task.{task_for}
 use Rattle.job_run.proofs.PartLemmas.{rand_quiet, rand_childless, rand_portless}
 use Rattle.job_run.proofs.job.Job.start.Goals as goal
+use Rattle.world.proofs.MomentsLemmas.{told_as, told_then}
+use Rattle.job_run.proofs.StartLemmas.{fresh_ends, fresh_on}
 
 pub returns-in-Ok-clause-course : goal.returns-in-Ok-clause-course
 returns-in-Ok-clause-course g c o for b fresh =
@@ -68,3 +70,10 @@ returns-in-Err-clause-counted g c o for b fresh =
 
 pub returns-in-Ok-clause-ports : goal.returns-in-Ok-clause-ports
 returns-in-Ok-clause-ports g c = c.start_session.ensures.ports
+
+pub returns-in-Ok-clause-stands : goal.returns-in-Ok-clause-stands
+returns-in-Ok-clause-stands g c p =
+    told_then c.draw_pairs.ensures.part (c.start_session.ensures.stands p) (λ x y z w so plot fresh. so plot (fresh_on p x y w fresh))
+
+pub returns-in-Err-clause-stands : goal.returns-in-Err-clause-stands
+returns-in-Err-clause-stands g c p = told_as c.draw_pairs.ensures.part (λ x y w plot fresh. fresh_ends p y (fresh_on p x y w fresh))

@@ -9,6 +9,8 @@ use Rattle.job_run.proofs.LaunchLemmas.{role_of}
 use Rattle.job_saves.proofs.TellingLemmas.{part_saves_none}
 use Rattle.job_run.proofs.PartLemmas.{kids_quiet, kids_portless, kids_diskless}
 use Rattle.job_run.proofs.job.Job.start_child.Goals as goal
+use Rattle.world.proofs.MomentsLemmas.{told_as}
+use Rattle.job_run.proofs.StartLemmas.{kids_are_quiet}
 
 pub returns-clause-course : goal.returns-clause-course
 returns-clause-course g c o r =
@@ -37,3 +39,6 @@ returns-clause-ends g c =
       cause = e.cause (g.W.Journal.counts c.args.w.now) (g.W.Journal.counts c.start.new.w) (λ is. s.child.cause is);
       own = e.own;
     }
+
+pub returns-clause-quiet : goal.returns-clause-quiet
+returns-clause-quiet g c facts = told_as c.start.ensures.part (λ x y w. kids_are_quiet facts x y w)

@@ -2,6 +2,7 @@ use Rattle.world.proofs.CountsLemmas.{grow_then}
 use Rattle.job_run.proofs.CauseLemmas.{causes_stay}
 use Rattle.job_run.proofs.LaunchLemmas.{role_of}
 use Rattle.job_run.proofs.job.Job.start_on_ports.Goals as goal
+use Rattle.world.proofs.MomentsLemmas.{since_then, told_then}
 
 pub returns-in-Ok-clause-course : goal.returns-in-Ok-clause-course
 returns-in-Ok-clause-course g c o r = c.start_child.ensures.course o (c.write_file.ensures.course o r)
@@ -42,3 +43,9 @@ returns-in-Ok-clause-ends g c =
 
 pub returns-in-Err-clause-ends : goal.returns-in-Err-clause-ends
 returns-in-Err-clause-ends g c = c.in-Err.ensures.ends
+
+pub returns-in-Ok-clause-quiet : goal.returns-in-Ok-clause-quiet
+returns-in-Ok-clause-quiet g c facts = told_then (c.write_file.ensures.quiet facts) (c.start_child.ensures.quiet facts) (λ x y z w v. since_then w v)
+
+pub returns-in-Err-clause-quiet : goal.returns-in-Err-clause-quiet
+returns-in-Err-clause-quiet g c facts = c.write_file.ensures.quiet facts

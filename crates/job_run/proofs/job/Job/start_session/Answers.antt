@@ -8,6 +8,8 @@ use Rattle.job_run.specs.Run.{StartsCounted}
 use Rattle.job_run.specs.Told.{StartsBy}
 use Rattle.job_run.proofs.TurnLemmas.{launch_counted}
 use Rattle.job_run.proofs.job.Job.start_session.Goals as goal
+use Rattle.world.proofs.MomentsLemmas.{told_as, told_both, told_start}
+use Rattle.job_run.proofs.StartLemmas.{fresh_ends, in_session, starts_as}
 
 pub returns-in-Ok-clause-course : goal.returns-in-Ok-clause-course
 returns-in-Ok-clause-course g c o for b fresh =
@@ -83,3 +85,17 @@ returns-in-Ok-clause-pings g c = subst (λ b. IfOk c.start_saved.result (λ j. p
 pub returns-in-Ok-clause-terms : goal.returns-in-Ok-clause-terms
 returns-in-Ok-clause-terms g c =
     IfOk-weaker c.start_saved.result _ _ (λ j is. subst (AreTermsOf c.args.ask) (sym is) (IfOk-at_ok _ c.in-Ok.is c.parts_of.ensures.terms)) c.start_saved.ensures.terms
+
+pub returns-in-Ok-clause-stands : goal.returns-in-Ok-clause-stands
+returns-in-Ok-clause-stands g c p =
+    let e = c.parts_of.ensures in
+    let is = c.in-Ok.is in
+    let x = c.in-Ok.run' in
+    let s = c.start_saved in
+    told_as (told_both (told_both (s.ensures.stands p) (s.ensures.stands (in_session p x))) (told_both (s.ensures.unsent p) (s.ensures.unsent (in_session p x))))
+    (λ before after so plot fresh.
+    starts_as p c.args.number c.args.ask c.args.agenda.notebook x before after s.result plot fresh (IfOk-at_ok _ is e.unbegun) (IfOk-at_ok _ is e.output) (IfOk-at_ok _ is e.merge) (IfOk-at_ok _ is e.task)
+    (IfOk-at_ok _ is e.terms) s.ensures.speaks so.0.0 so.0.1 so.1.0 so.1.1)
+
+pub returns-in-Err-clause-stands : goal.returns-in-Err-clause-stands
+returns-in-Err-clause-stands g c p = told_start (λ now plot fresh. fresh_ends p now fresh)

@@ -10,6 +10,8 @@ use Rattle.job_saves.proofs.LaunchLemmas.{file_called, file_ready}
 use Rattle.job_saves.proofs.TellingLemmas.{file_saves_none}
 use Rattle.job_run.proofs.PartLemmas.{disk_quiet, disk_childless, disk_portless}
 use Rattle.job_run.proofs.job.Job.write_file.Goals as goal
+use Rattle.world.proofs.MomentsLemmas.{told_as}
+use Rattle.job_run.proofs.StartLemmas.{file_quiet}
 
 pub returns-clause-course : goal.returns-clause-course
 returns-clause-course g c o r =
@@ -47,3 +49,6 @@ returns-clause-ends g c =
       cause = e.cause (g.W.Journal.counts c.args.w.now) (g.W.Journal.counts c.write_connection.new.w) (λ is. w.disk.cause is);
       own = e.own;
     }
+
+pub returns-clause-quiet : goal.returns-clause-quiet
+returns-clause-quiet g c facts = told_as c.write_connection.ensures.entries (λ x y w. file_quiet facts _ _ c.write_connection.result x y w)

@@ -1,0 +1,311 @@
+-- What the clock, a loss and a last look make of what an execution stands for.
+use Rattle.std.proofs.Common.{◌≡◌, ◌⊎◌, inl, inr, ◌+◌, ◌≤◌, arith, ℕ, Bool, true, false, List, [], ◌∷◌, ◌++◌, length, Some, Result, Ok, Err, refl, sym, ◌∙◌, ap, subst}
+use Rattle.std.specs.Prelude.{codes, OnOk}
+use Rattle.std.proofs.Math.Bool.{true≢false}
+use Rattle.std.proofs.Math.Bridge.{le_prop}
+use Rattle.std.proofs.Math.Logic.{∥∥₁_elim}
+use Rattle.std.proofs.lemmas.Bool.{cases_Bool}
+use Rattle.world.specs.declared.chan.Chan.TheVariants.{Shell, Iopub, Heart}
+use Rattle.world.specs.declared.entry.Entry.{Entry}
+use Rattle.world.specs.declared.entry.Entry.TheVariants as made
+use Rattle.world.specs.Moments.{Since}
+use Rattle.world.specs.Places as places
+use Rattle.zmtp_wire.proofs.MeaningLemmas.{meant, newer_grows, shaken_grows, shaken_meant}
+use Rattle.zmtp_wire.proofs.ShakenLemmas.{none_before}
+use Rattle.zmtp_wire.specs.Meaning.{messages_in, contexts_in, answer_to}
+use Rattle.zmtp_peer.proofs.OwedLemmas.{owed_grows, owed_none}
+use Rattle.jmsg.specs.Encoded.{encode}
+use Rattle.jcontent.specs.Requests.{empty}
+use Rattle.kernel_talk.specs.Asking.{Asked, asks}
+use Rattle.kernel_talk.specs.Pinging.{Pinged}
+use Rattle.kernel_talk.specs.Requests.{Identity, message_id, request}
+use Rattle.kernel_lines.specs.Happened.{Given, History}
+use Rattle.kernel_lines.specs.Line.{StandsFor as LineStandsFor, role_of, taken_of}
+use Rattle.kernel_lines.specs.Lines.{OthersStay, line_on}
+use Rattle.kernel_lines.specs.Lines as sides
+use Rattle.kernel_lines.specs.declared.lines.Lines.{Lines}
+use Rattle.cell_core.specs.declared.act.Act.{Act}
+use Rattle.cell_core.specs.declared.act.Act.TheVariants.{Nothing, Start, Send, Look, Interrupt, Save, Stop}
+use Rattle.cell_core.specs.declared.clock.Clock.{Clock}
+use Rattle.cell_core.specs.declared.event.Event.{Event}
+use Rattle.cell_core.specs.declared.event.Event.TheVariants.{Saved, Ready, Io, Reply, Moment, Looked, Lost, Broken}
+use Rattle.cell_core.specs.declared.state.State.{State}
+use Rattle.cell_core.specs.declared.state.State.TheVariants.{Preparing, Starting, Running, Passing, Closing, Failing, Stopped}
+use Rattle.cell_core.specs.declared.step.Step.{Step}
+use Rattle.cell_core.specs.Acts.{IsTimely, has_stopped, heard}
+use Rattle.cell_core.specs.Answering.{can_answer}
+use Rattle.cell_core.specs.Events.{is_saved, time}
+use Rattle.cell_core.specs.Holds.{awaits, now_of}
+use Rattle.cell_core.specs.StandsFor.{IsAt, StandsFor, awaits_saved_of, task_of}
+use Rattle.cell_core.specs.Task.{Task}
+use Rattle.cell_core.proofs.Moving.{is_stopped}
+use Rattle.job_end.specs.declared.end.End.{End}
+use Rattle.run_journal.specs.Agreement.{IsOther, moment, lost}
+use Rattle.run_journal.specs.Arrivals.{can_ask}
+use Rattle.run_journal.specs.Codec.{Info}
+use Rattle.run_journal.specs.Job.{Job}
+use Rattle.run_journal.specs.Parts.{bytes_put}
+use Rattle.job_journal.specs.Line.{parts_of as message_of}
+use Rattle.job_journal.specs.Plot.{Plot, IsFor, facts, speaker}
+use Rattle.job_journal.specs.Quiet.{IsQuietNow}
+use Rattle.job_journal.specs.Standing.{HasEndedAs, Sends, StandsBy, question}
+use Rattle.job_journal.proofs.Clocked.{clock_asks, clock_passes, question_sent}
+use Rattle.job_journal.proofs.Ending.{ends_standing}
+use Rattle.job_journal.proofs.Handing.{sends_ping}
+use Rattle.job_journal.proofs.Plots.{for_still}
+use Rattle.job_journal.proofs.Quiet.{stands_on}
+use Rattle.job_journal.proofs.Subscribing.{OwedLaws, asks_by_lines}
+use Rattle.job_run.specs.declared.execution.Execution.{Execution}
+use Rattle.job_run.specs.Held.{IsSaid}
+use Rattle.job_run.specs.Said.{QueuesNext, next_message}
+use Rattle.job_run.specs.Standing.{GoesBy, HasTurned, IsTurned, PassesBy, Stands, StandsOrEnds, StandsTo, StaysStill, is_idle, is_passing, parts_of}
+use Rattle.job_run.specs.Told.{Hears, MayCome}
+use Rattle.job_run.specs.Used.{TakesEvent}
+use Rattle.job_run.proofs.ActLemmas.{idle_stands}
+use Rattle.job_run.proofs.StandingLemmas.{answered_kind, told_other}
+use Rattle.job_run.proofs.ToldLemmas.{timely_by}
+
+-- ---- an event that is told comes in time
+
+live_at : (task : Task) (clock : Clock) (is_lost : Bool) (state : State) (events : List Event) → IsAt task clock is_lost state events → has_stopped task events ≡ false → is_stopped state ≡ false
+live_at task clock is_lost (Stopped failing) events a on = absurd (true≢false (sym a.stopped ∙ on))
+live_at task clock is_lost Preparing events a on = refl
+live_at task clock is_lost (Starting due) events a on = refl
+live_at task clock is_lost (Running r) events a on = refl
+live_at task clock is_lost (Passing k) events a on = refl
+live_at task clock is_lost Closing events a on = refl
+live_at task clock is_lost (Failing k w) events a on = refl
+
+-- while no save is awaited, and the job hasn't stopped, the core knows the last clock entry
+time_at : (task : Task) (clock : Clock) (is_lost : Bool) (state : State) (events : List Event) → IsAt task clock is_lost state events → awaits state ≡ false → is_stopped state ≡ false → time events ≡ now_of clock
+time_at task clock is_lost Preparing events a calm live = absurd (true≢false calm)
+time_at task clock is_lost (Starting due) events a calm live = a.hears.now
+time_at task clock is_lost (Running r) events a calm live = a.hears.now
+time_at task clock is_lost (Passing k) events a calm live = absurd (true≢false calm)
+time_at task clock is_lost Closing events a calm live = absurd (true≢false calm)
+time_at task clock is_lost (Failing k w) events a calm live = absurd (true≢false calm)
+time_at task clock is_lost (Stopped failing) events a calm live = absurd (true≢false live)
+
+pub timely_told : (x : Execution) (named : Bool) (e : Event) (told : List Event) → Hears x.core x.clock named → MayCome x.core x.clock named e → awaits_saved_of x.core ≡ false → StandsFor x.core told
+    → has_stopped (task_of x.core) (heard (task_of x.core) told) ≡ false → IsTimely (task_of x.core) e told
+timely_told x named e told hears may calm stands on =
+    let task : Task = task_of x.core in
+    let live : is_stopped x.core.state ≡ false = live_at task x.core.clock x.core.lost x.core.state (heard task told) stands.so on in
+    let now : time (heard task told) ≡ now_of x.core.clock = time_at task x.core.clock x.core.lost x.core.state (heard task told) stands.so calm live in
+    timely_by x.core x.clock named e told may stands
+    (∥∥₁_elim hears le_prop (λ t.
+    subst (λ n. n ≤ x.clock) (time_at task x.core.clock x.core.lost x.core.state (heard task t.events) t.stands.so calm live ∙ sym now) t.timed))
+
+-- ---- an event of the clock, or a loss
+
+passing_other : (e : Event) → is_passing e ≡ true → IsOther e
+passing_other (Moment ms) q = moment ms
+passing_other Lost q = lost
+passing_other Saved q = absurd (true≢false (sym q))
+passing_other Ready q = absurd (true≢false (sym q))
+passing_other (Io m) q = absurd (true≢false (sym q))
+passing_other (Reply f) q = absurd (true≢false (sym q))
+passing_other Looked q = absurd (true≢false (sym q))
+passing_other Broken q = absurd (true≢false (sym q))
+
+-- it is answered by a look at most
+passing_idle : (e : Event) (act : Act) → IsOther e → is_passing e ≡ true → can_answer e act ≡ true → is_idle act ≡ true
+passing_idle e Nothing o q k = refl
+passing_idle e Start o q k = refl
+passing_idle e Look o q k = refl
+passing_idle _ (Send cell) (moment ms) q k = absurd (true≢false (sym k))
+passing_idle _ Interrupt (moment ms) q k = absurd (true≢false (sym k))
+passing_idle _ (Save n) (moment ms) q k = absurd (true≢false (sym k))
+passing_idle _ (Stop cause) (moment ms) q k = absurd (true≢false (sym k))
+passing_idle _ (Send cell) lost q k = absurd (true≢false (sym k))
+passing_idle _ Interrupt lost q k = absurd (true≢false (sym k))
+passing_idle _ (Save n) lost q k = absurd (true≢false (sym k))
+passing_idle _ (Stop cause) lost q k = absurd (true≢false (sym k))
+passing_idle Looked act o q k = absurd (true≢false (sym q))
+passing_idle Broken act o q k = absurd (true≢false (sym q))
+
+module _ (p : Plot) (number : ℕ) (x z : Execution) (e : Event) (answer : Step) (named : Bool) (rest : z ≡ record x { core = z.core }) (took : TakesEvent e answer x.core z.core)
+    (hears : Hears x.core x.clock named) (may : MayCome x.core x.clock named e) (calm : awaits_saved_of x.core ≡ false) (other : is_saved e ≡ false) where
+  timely_by_stands : (clock : ℕ) (now : List Entry) (s : Stands p number (record x { clock = clock }) now) → IsTimely (task_of x.core) e s.parts.core.told
+  timely_by_stands clock now s =
+      timely_told x named e s.parts.core.told hears may calm s.parts.core.hears.stands
+      (subst (λ task. has_stopped task (heard task s.parts.core.told) ≡ false) (sym s.parts.is_for.task_is) s.parts.core.hears.goes_on)
+
+  idle_by : (clock : ℕ) (now : List Entry) → Stands p number (record x { clock = clock }) now → is_passing e ≡ true → is_idle answer.act ≡ true
+  idle_by clock now s q =
+      passing_idle e answer.act (passing_other e q) q
+      (answered_kind p number (record x { clock = clock }) z.core e answer now s took (other ∙ sym calm) (timely_by_stands clock now s))
+
+  -- nothing is to be done, and nothing but the core has changed
+  pub told_goes_by : (clock : ℕ) (now : List Entry) → is_passing e ≡ true → Stands p number (record x { clock = clock }) now → GoesBy p number clock x z now
+  told_goes_by clock now q s =
+      let k : Execution = record x { clock = clock } in
+      let to : StandsTo p number (record k { core = z.core }) answer.act now
+      = told_other p number k z.core e answer now s took (other ∙ sym calm) (timely_by_stands clock now s) (record k { core = z.core }) refl (passing_other e q) in
+      let so : Stands p number (record (record x { core = z.core }) { clock = clock }) now = idle_stands p number (record k { core = z.core }) answer.act now (idle_by clock now s q) to in
+      record { rest = rest; stands = subst (λ (v : Execution). Stands p number (record v { clock = clock }) now) (sym rest) so }
+
+  pub step_passes : {U : Type 0} (y : Execution) (r : Result U End) (before after : List Entry) → is_passing e ≡ true → (is_idle answer.act ≡ true → StaysStill z y r)
+      → (is_idle answer.act ≡ true → after ≡ before) → PassesBy p number x y r before after
+  step_passes y r before after q still same clock now s =
+      let idle : is_idle answer.act ≡ true = idle_by clock now s q in
+      let stays : StaysStill z y r = still idle in
+      (subst (λ (v : Execution). GoesBy p number clock x v now) (sym stays.same) (told_goes_by clock now q s), stays.no_end, same idle)
+
+  -- another event that changes no request: what its act is for is due by the journal
+  pub step_stands : (now : List Entry) → IsOther e → Stands p number x now → StandsTo p number z answer.act now
+  step_stands now o s = told_other p number x z.core e answer now s took (other ∙ sym calm) (timely_by_stands x.clock now s) z rest o
+
+-- nothing was told
+pub passes_still : (p : Plot) (number : ℕ) (x : Execution) (now : List Entry) → PassesBy {U = Unit {0}} p number x x (Ok tt) now now
+passes_still p number x now clock at s = (record { rest = refl; stands = s }, tt, refl)
+
+-- where the execution stood for the journal, it does again
+pub passes_on : {U : Type 0} (p : Plot) (number : ℕ) (x y : Execution) (r : Result U End) (before after : List Entry) → PassesBy p number x y r before after → Stands p number x before
+    → StandsOrEnds p number y r after
+passes_on p number x y (Err e) before after pass s = absurd (pass x.clock before s).1
+passes_on p number x y (Ok u) before after pass s =
+    let g = pass x.clock before s in
+    let clock_is : y.clock ≡ x.clock = ap (λ (v : Execution). v.clock) g.0.rest in
+    subst (λ now. Stands p number y now) (sym g.2) (subst (λ c. Stands p number (record y { clock = c }) before) (sym clock_is) g.0.stands)
+
+-- ---- a turn
+
+-- the execution has noted the moment
+pub has_turned : (p : Plot) (number : ℕ) (x y : Execution) (ms : ℕ) (now : List Entry) → y ≡ record x { clock = y.clock } → (x.clock ≤ ms → y.clock ≡ ms) → IsTurned p number x ms now
+    → HasTurned p number y now
+has_turned p number x y ms now rest turns t =
+    let within : x.clock ≤ ms = omega (arith, t.stands.earlier, t.rises) in
+    record {
+      past = t.past;
+      stands = subst (λ (v : Execution). Stands p number (record v { clock = places.time t.past }) t.past) (sym rest) t.stands.stands;
+      taken = subst (λ (v : Execution). taken_of (line_on v.lines Iopub) ≡ length (bytes_put (facts p) Iopub t.past)) (sym rest) t.taken;
+      since = subst (λ n. Since (IsQuietNow (facts p)) (made.Moment n ∷ t.past) now) (sym (turns within)) t.since;
+    }
+
+pub turned_on : {U : Type 0} (p : Plot) (number : ℕ) (x y : Execution) (r : Result U End) (before after : List Entry) → PassesBy p number x y r before after → HasTurned p number x before
+    → HasTurned p number y after
+turned_on p number x y r before after pass h =
+    let g = pass (places.time h.past) h.past h.stands in
+    record {
+      past = h.past;
+      stands = g.0.stands;
+      taken = subst (λ (v : Execution). taken_of (line_on v.lines Iopub) ≡ length (bytes_put (facts p) Iopub h.past)) (sym g.0.rest) h.taken;
+      since = subst (λ now. Since (IsQuietNow (facts p)) (made.Moment y.clock ∷ h.past) now) (sym g.2)
+          (subst (λ (v : Execution). Since (IsQuietNow (facts p)) (made.Moment v.clock ∷ h.past) before) (sym g.0.rest) h.since);
+    }
+
+pub turned_goes : (p : Plot) (number : ℕ) (x y : Execution) (e : End) (before after : List Entry) → PassesBy {U = Unit {0}} p number x y (Err e) before after → HasTurned p number x before → ⊥
+turned_goes p number x y e before after pass h = (pass (places.time h.past) h.past h.stands).1
+
+-- ---- the kernel is asked
+
+-- what the wire promises
+wire_laws : OwedLaws
+wire_laws = record {
+  grows = owed_grows;
+  none = owed_none;
+  first = λ r b e. (none_before b r (messages_in r b) (contexts_in r b) (answer_to r b) (meant r b) (λ s. true≢false (sym ((shaken_meant r b).1 s) ∙ e))).1;
+  shaken = λ r b e. (shaken_meant r b).0 e;
+  stays = shaken_grows;
+  newer = newer_grows;
+}
+
+module _ (p : Plot) (number : ℕ) (x : Execution) (now : List Entry) (h : HasTurned p number x now) where
+  abbrev j : Job
+  j = facts p
+
+  -- the kernel can be asked where it can by the journal
+  pub can_by_lines : (can : Bool)
+      → ((shell iopub : History) (out given : List ℕ) → LineStandsFor (line_on x.lines Shell) shell out → LineStandsFor (line_on x.lines Iopub) iopub given → can ≡ sides.can_ask x.lines shell iopub)
+      → can ≡ can_ask j h.past
+  can_by_lines can is =
+      let ls = h.stands.parts.lines in
+      is ls.shell.past ls.iopub.past ls.shell.out ls.iopub.out ls.shell.stands ls.iopub.stands
+      ∙ asks_by_lines wire_laws p x.lines [] [] h.past ls.shell ls.iopub h.taken
+
+  -- it isn't asked
+  pub unasked_stands : (can : Bool) → can ≡ can_ask j h.past → asks x.asking can x.clock ≡ false → Stands p number x now
+  unasked_stands can is e = record {
+    parts = stands_on p number (parts_of x) [] [] (made.Moment x.clock ∷ h.past) now h.since
+        (clock_passes p number (parts_of (record x { clock = places.time h.past })) h.past x.clock h.stands.parts can is e);
+    asked = record { terms = h.stands.asked.terms; tagged = h.stands.asked.tagged };
+  }
+
+  -- the asking with one question more
+  abbrev more : Asked
+  more = record { ids = x.asking.ids ++ message_id p.setting.session (x.session.made + 1) ∷ []; at = Some x.clock; told = x.asking.told; heard = x.asking.heard }
+
+  -- it is asked: the question is to be sent
+  asked_parts : (can : Bool) → can ≡ can_ask j h.past → asks x.asking can x.clock ≡ true
+      → StandsBy p number (parts_of (record x { asking = more })) (question (x.session.made + 1) x.clock ∷ []) [] now
+  asked_parts can is e =
+      stands_on p number (parts_of (record x { asking = more })) (question (x.session.made + 1) x.clock ∷ []) [] (made.Moment x.clock ∷ h.past) now h.since
+      (clock_asks p number (parts_of (record x { clock = places.time h.past })) h.past x.clock h.stands.parts can is e)
+
+  -- wherever a job ends then, the saves that were made are the first that are due
+  pub turned_ends : HasEndedAs p now
+  turned_ends = by (cases_Bool (asks x.asking (can_ask j h.past) x.clock))
+    where
+      by : (asks x.asking (can_ask j h.past) x.clock ≡ true) ⊎ (asks x.asking (can_ask j h.past) x.clock ≡ false) → HasEndedAs p now
+      by (inl e) =
+          ends_standing p number (parts_of (record x { asking = more })) (question (x.session.made + 1) x.clock ∷ []) [] now (asked_parts (can_ask j h.past) refl e)
+      by (inr e) = ends_standing p number (parts_of x) [] [] now (unasked_stands (can_ask j h.past) refl e).parts
+
+  module _ (z : Execution) (said : IsSaid x z) (q : QueuesNext Shell (codes "kernel_info_request") empty x z) where
+    made_is : z.session.made ≡ x.session.made + 1
+    made_is = ap (λ (i : Identity). i.made) q.made
+
+    name_is : z.session.name ≡ x.session.name
+    name_is = ap (λ (i : Identity). i.name) q.made
+
+    message_is : next_message x (codes "kernel_info_request") empty ≡ message_of (speaker p) Info z.session.made x.clock
+    message_is =
+        ap (λ key. encode key (request x.session.name (x.session.made + 1) x.clock (codes "kernel_info_request") empty)) h.stands.parts.is_for.key_is
+        ∙ ap (λ name. encode p.setting.key (request name (x.session.made + 1) x.clock (codes "kernel_info_request") empty)) h.stands.parts.is_for.session_is
+        ∙ ap (λ n. encode p.setting.key (request p.setting.session n x.clock (codes "kernel_info_request") empty)) (sym made_is)
+
+    sends : Sends x.lines z.lines (message_of (speaker p) Info z.session.made x.clock)
+    sends = record {
+      others = q.others;
+      role = q.role;
+      stands = λ past out st. subst (λ v. LineStandsFor (line_on z.lines Shell) (Given v ∷ past) out) message_is (q.line past out st);
+    }
+
+    is_for : IsFor p number z.session x.core x.book
+    is_for = for_still p number x.session z.session x.core x.core x.book x.book h.stands.parts.is_for name_is (ap (λ (i : Identity). i.key) q.made) refl refl refl
+
+    id_is : message_id z.session.name z.session.made ≡ message_id p.setting.session (x.session.made + 1)
+    id_is = ap (λ (i : Identity). message_id i.name i.made) q.made ∙ ap (λ name. message_id name (x.session.made + 1)) h.stands.parts.is_for.session_is
+
+    -- the question was queued
+    pub asked_stands : (can : Bool) → can ≡ can_ask j h.past → asks x.asking can x.clock ≡ true → (id : List ℕ) → id ≡ message_id z.session.name z.session.made → (asking : Asked)
+        → asking ≡ record { ids = z.asking.ids ++ id ∷ []; at = Some z.clock; told = z.asking.told; heard = z.asking.heard } → Stands p number (record z { asking = asking }) now
+    asked_stands can is e id own asking asking_is =
+        let full : record z { asking = asking } ≡ record x { session = z.session; lines = z.lines; asking = more }
+        = ap (λ (a : Asked). record z { asking = a }) asking_is
+        ∙ ap (λ (v : Execution). record v { asking = record { ids = v.asking.ids ++ id ∷ []; at = Some v.clock; told = v.asking.told; heard = v.asking.heard } }) said
+        ∙ ap (λ i. record x { session = z.session; lines = z.lines; asking = record { ids = x.asking.ids ++ i ∷ []; at = Some x.clock; told = x.asking.told; heard = x.asking.heard } }) (own ∙ id_is) in
+        subst (λ (v : Execution). Stands p number v now) (sym full) (record {
+          parts = question_sent p number (parts_of (record x { asking = more })) now z.lines z.session (asked_parts can is e) is_for sends made_is;
+          asked = record { terms = h.stands.asked.terms; tagged = h.stands.asked.tagged };
+        })
+
+-- ---- the kernel is pinged
+
+pub pinged_stands : (p : Plot) (number : ℕ) (x : Execution) (now : List Entry) (lines : Lines) (pings : Pinged) (parts : List (List ℕ)) → OthersStay Heart x.lines lines
+    → role_of (line_on lines Heart) ≡ role_of (line_on x.lines Heart)
+    → ((past : History) (out : List ℕ) → LineStandsFor (line_on x.lines Heart) past out → LineStandsFor (line_on lines Heart) (Given parts ∷ past) out) → Stands p number x now
+    → Stands p number (record x { lines = lines; pings = pings }) now
+pinged_stands p number x now lines pings parts others role stands s = record {
+  parts = sends_ping p number (parts_of x) [] [] now lines parts others role stands s.parts;
+  asked = record { terms = s.asked.terms; tagged = s.asked.tagged };
+}
+
+-- ---- asked, and then pinged
+
+pub asked_then : {U E : Type 0} (r : Result U E) (x y z : Execution) → ((p : Plot) (number : ℕ) (now : List Entry) → HasTurned p number x now → Stands p number y now)
+    → ((p : Plot) (number : ℕ) (now : List Entry) → Stands p number y now → OnOk r (Stands p number z now))
+    → OnOk r ((p : Plot) (number : ℕ) (now : List Entry) → HasTurned p number x now → Stands p number z now)
+asked_then (Ok u) x y z first then_ = λ p number now h. then_ p number now (first p number now h)
+asked_then (Err e) x y z first then_ = tt

@@ -1,0 +1,178 @@
+-- What a job stands for, by its execution and its end.
+use Rattle.std.proofs.Common.{◌≡◌, ◌⊎◌, inl, inr, ◌≤◌, arith, ℕ, true, false, List, ◌∷◌, [], Option, None, Result, Ok, Err, sym, ◌∙◌, ap, subst}
+use Rattle.std.specs.Prelude.{is_some, IfOk, IfErr}
+use Rattle.std.proofs.Math.Bool.{true≢false}
+use Rattle.std.proofs.lemmas.Bool.{cases_Bool}
+use Rattle.world.specs.declared.chan.Chan.{Chan}
+use Rattle.world.specs.declared.entry.Entry.{Entry}
+use Rattle.world.specs.Moments.{Since, more}
+use Rattle.world.specs.Places.{time}
+use Rattle.kernel_lines.specs.declared.lines.Lines.{Lines}
+use Rattle.job_end.specs.declared.answer.Answer.{Answer}
+use Rattle.job_end.specs.declared.end.End.{End}
+use Rattle.job_journal.specs.Plot.{Plot, facts}
+use Rattle.job_journal.specs.Quiet.{IsQuietNow, is_quiet}
+use Rattle.job_journal.specs.Standing.{Hands, HasEndedAs}
+use Rattle.job_journal.proofs.Ending.{ends_standing}
+use Rattle.job_journal.proofs.Handing.{hands_out}
+use Rattle.job_journal.proofs.Quiet.{ended_on, quiet_kind, stands_on}
+use Rattle.job_run.specs.declared.execution.Execution.{Execution}
+use Rattle.job_run.specs.declared.job.Job.{Job}
+use Rattle.job_run.specs.JobStanding.{IsGotFor, IsTurnedFor, JobStands, JobStandsAs, JobStandsUntold, KeepsStanding}
+use Rattle.job_run.specs.Standing.{IsGot, IsTurned, Stands, StandsOrEnds, StandsUntold, parts_of}
+
+-- ---- executions
+
+pub stands_quiet : (p : Plot) (number : ℕ) (x : Execution) (before now : List Entry) → Since (IsQuietNow (facts p)) before now → Stands p number x before → Stands p number x now
+stands_quiet p number x before now w s = record { parts = stands_on p number (parts_of x) [] [] before now w s.parts; asked = s.asked }
+
+pub untold_quiet : (p : Plot) (number : ℕ) (x : Execution) (before now : List Entry) → Since (IsQuietNow (facts p)) before now → StandsUntold p number x before → StandsUntold p number x now
+untold_quiet p number x before now w u =
+    let s : Stands p number (record x { clock = time before }) now = stands_quiet p number (record x { clock = time before }) before now w u.stands in
+    let same : time before ≡ time now = s.parts.clock in
+    record { stands = subst (λ c. Stands p number (record x { clock = c }) now) same s; earlier = omega (arith, u.earlier, same) }
+
+-- what stands for the journal also does where its clock is left open
+pub untold_of : (p : Plot) (number : ℕ) (x : Execution) (now : List Entry) → Stands p number x now → StandsUntold p number x now
+untold_of p number x now s =
+    let same : x.clock ≡ time now = s.parts.clock in
+    record { stands = subst (λ c. Stands p number (record x { clock = c }) now) same s; earlier = omega (arith, same) }
+
+pub untold_ends : (p : Plot) (number : ℕ) (x : Execution) (now : List Entry) → StandsUntold p number x now → HasEndedAs p now
+untold_ends p number x now u = ends_standing p number (parts_of (record x { clock = time now })) [] [] now u.stands.parts
+
+-- a connection is served
+pub served_stands : (p : Plot) (number : ℕ) (x : Execution) (c : Chan) (lines : Lines) (now : List Entry) → Hands c x.lines lines → Stands p number x now → Stands p number (record x { lines = lines }) now
+served_stands p number x c lines now g s = record {
+  parts = hands_out p number (parts_of x) [] [] now c lines g s.parts;
+  asked = record { terms = s.asked.terms; tagged = s.asked.tagged };
+}
+
+-- ---- jobs
+
+-- quiet entries change nothing, as they do of its execution
+job_on : (R : Plot → ℕ → Execution → List Entry → Type 0) (p : Plot) (j : Job) (before now : List Entry) → (R p j.number j.run before → R p j.number j.run now)
+    → Since (IsQuietNow (facts p)) before now → JobStandsAs R p j before → JobStandsAs R p j now
+job_on R p j before now turns w s = record {
+  number_is = s.number_is;
+  undated = s.undated;
+  runs = λ e. turns (s.runs e);
+  ended = λ e. ended_on p before now s.undated w (s.ended e);
+}
+
+pub job_quiet : (p : Plot) (j : Job) (before now : List Entry) → Since (IsQuietNow (facts p)) before now → JobStands p j before → JobStands p j now
+job_quiet p j before now w s = job_on Stands p j before now (stands_quiet p j.number j.run before now w) w s
+
+pub job_quiet_untold : (p : Plot) (j : Job) (before now : List Entry) → Since (IsQuietNow (facts p)) before now → JobStandsUntold p j before → JobStandsUntold p j now
+job_quiet_untold p j before now w s = job_on StandsUntold p j before now (untold_quiet p j.number j.run before now w) w s
+
+pub job_untold : (p : Plot) (j : Job) (now : List Entry) → JobStands p j now → JobStandsUntold p j now
+job_untold p j now s = record { number_is = s.number_is; undated = s.undated; runs = λ e. untold_of p j.number j.run now (s.runs e); ended = s.ended }
+
+-- the texts that were saved are the first of the saves that are due
+pub job_saved : (p : Plot) (j : Job) (now : List Entry) → JobStandsUntold p j now → HasEndedAs p now
+job_saved p j now s = by (cases_Bool (is_some j.outcome))
+  where
+    by : (is_some j.outcome ≡ true) ⊎ (is_some j.outcome ≡ false) → HasEndedAs p now
+    by (inl e) = s.ended e
+    by (inr e) = untold_ends p j.number j.run now (s.runs e)
+
+-- ---- what a job is told without a call of the world
+
+-- a change of its execution alone
+pub keeps_standing : (was now : Job) → now.number ≡ was.number → now.outcome ≡ was.outcome → now.run.clock ≡ was.run.clock
+    → ((p : Plot) (number clock : ℕ) (journal : List Entry) → Stands p number (record was.run { clock = clock }) journal → Stands p number (record now.run { clock = clock }) journal)
+    → KeepsStanding was now
+keeps_standing was now number outcome clock turns = record { stands = told; untold = unclocked }
+  where
+    running : is_some now.outcome ≡ false → is_some was.outcome ≡ false
+    running e = ap (λ (a : Option Answer). is_some a) (sym outcome) ∙ e
+
+    over : is_some now.outcome ≡ true → is_some was.outcome ≡ true
+    over e = ap (λ (a : Option Answer). is_some a) (sym outcome) ∙ e
+
+    told : (p : Plot) (journal : List Entry) → JobStands p was journal → JobStands p now journal
+    told p journal s = record {
+      number_is = number ∙ s.number_is;
+      undated = s.undated;
+      runs = λ e.
+          subst (λ n. Stands p n now.run journal) (sym number)
+          (subst (λ c. Stands p was.number (record now.run { clock = c }) journal) (sym clock) (turns p was.number was.run.clock journal (s.runs (running e))));
+      ended = λ e. s.ended (over e);
+    }
+
+    unclocked_run : (p : Plot) (journal : List Entry) → StandsUntold p was.number was.run journal → StandsUntold p was.number now.run journal
+    unclocked_run p journal u = record {
+      stands = turns p was.number (time journal) journal u.stands;
+      earlier = subst (λ c. c ≤ time journal) (sym clock) u.earlier;
+    }
+
+    unclocked : (p : Plot) (journal : List Entry) → JobStandsUntold p was journal → JobStandsUntold p now journal
+    unclocked p journal s = record {
+      number_is = number ∙ s.number_is;
+      undated = s.undated;
+      runs = λ e. subst (λ n. StandsUntold p n now.run journal) (sym number) (unclocked_run p journal (s.runs (running e)));
+      ended = λ e. s.ended (over e);
+    }
+
+-- nothing that it stands for was touched
+pub keeps_still : (was now : Job) → now.number ≡ was.number → now.outcome ≡ was.outcome → now.run ≡ was.run → KeepsStanding was now
+keeps_still was now number outcome run =
+    keeps_standing was now number outcome (ap (λ (x : Execution). x.clock) run)
+    (λ p n clock journal s. subst (λ (x : Execution). Stands p n (record x { clock = clock }) journal) (sym run) s)
+
+-- a connection of its is served
+pub keeps_served : (was now : Job) (c : Chan) (lines : Lines) → now.number ≡ was.number → now.outcome ≡ was.outcome → now.run ≡ record was.run { lines = lines } → Hands c was.run.lines lines
+    → KeepsStanding was now
+keeps_served was now c lines number outcome run g =
+    keeps_standing was now number outcome (ap (λ (x : Execution). x.clock) run)
+    (λ p n clock journal s.
+    subst (λ (x : Execution). Stands p n (record x { clock = clock }) journal) (sym run) (served_stands p n (record was.run { clock = clock }) c lines journal g s))
+
+-- a job that ran has ended
+pub keeps_ended : (was now : Job) → now.number ≡ was.number → is_some was.outcome ≡ false → is_some now.outcome ≡ true → KeepsStanding was now
+keeps_ended was now number running over = record {
+  stands = λ p journal s. record {
+    number_is = number ∙ s.number_is;
+    undated = s.undated;
+    runs = λ e. absurd (true≢false (sym over ∙ e));
+    ended = λ e. job_saved p was journal (job_untold p was journal s);
+  };
+  untold = λ p journal s. record {
+    number_is = number ∙ s.number_is;
+    undated = s.undated;
+    runs = λ e. absurd (true≢false (sym over ∙ e));
+    ended = λ e. job_saved p was journal s;
+  };
+}
+
+-- ---- what a call of its execution leaves
+
+pub job_stands : (p : Plot) (j : Job) (mid : Execution) (done : Result (Unit {0}) End) (now : List Entry) → j.number ≡ p.setting.number → (facts p).task.times.interrupt ≡ false
+    → IfOk done (λ u. (j.run ≡ mid) × (j.outcome ≡ None)) → IfErr done (λ e. is_some j.outcome ≡ true) → StandsOrEnds p j.number mid done now → JobStands p j now
+job_stands p j mid (Ok u) now number undated goes ends s = record {
+  number_is = number;
+  undated = undated;
+  runs = λ e. subst (λ (x : Execution). Stands p j.number x now) (sym goes.0) s;
+  ended = λ e. absurd (true≢false (sym e ∙ ap (λ (a : Option Answer). is_some a) goes.1));
+}
+job_stands p j mid (Err k) now number undated goes ends s = record {
+  number_is = number;
+  undated = undated;
+  runs = λ e. absurd (true≢false (sym ends ∙ e));
+  ended = λ e. s;
+}
+
+-- a piece that was got for a job was got for its execution
+pub got_run : (p : Plot) (j : Job) (c : Chan) (bytes : List ℕ) (now : List Entry) → IsGotFor p j c bytes now → IsGot p j.number j.run c bytes now
+got_run p j c bytes now g = record { conn = g.conn; room = g.room; past = g.past; is = g.is; at = g.at; stands = g.stands.runs g.running }
+
+-- a turn of a job is one of its execution, behind one quiet entry more
+pub turned_run : (p : Plot) (j : Job) (ms : ℕ) (entry : Entry) (now : List Entry) → is_quiet (facts p) entry ≡ true → IsTurnedFor p j ms now → IsTurned p j.number j.run ms (entry ∷ now)
+turned_run p j ms entry now quiet t = record {
+  past = t.past;
+  stands = t.stands.runs t.running;
+  taken = t.taken;
+  rises = t.rises;
+  since = more t.since (quiet_kind (facts p) entry now quiet);
+}

@@ -1,0 +1,10 @@
+use Rattle.std.proofs.Common.{refl}
+use Rattle.world.proofs.MomentsLemmas.{told_start}
+use Rattle.job_run.proofs.ClockLemmas.{passes_still}
+use Rattle.job_run.proofs.execution.Execution.lose.Goals as goal
+
+pub returns-then-is_lost-clause-passes : goal.returns-then-is_lost-clause-passes
+returns-then-is_lost-clause-passes g c p number = c.step.ensures.passes refl p number
+
+pub returns-else-is_lost-clause-passes : goal.returns-else-is_lost-clause-passes
+returns-else-is_lost-clause-passes g c p number = told_start (λ now. passes_still p number c.args.self.now now)
