@@ -42,7 +42,8 @@ pub fn run_jobs<W: World>(
         (MakesEach asks result (W.counts w.old) (W.counts w.new)) }
     // Each call is one of the loop or of one of the jobs: none reads or writes another file, starts
     // another program than the kernel that is asked for, or says another line.
-    ensures calls { Between W.journal w.old w.new (CallsOfRun (numbered first asks) limits.now.here) }
+    ensures calls { Between W.journal w.old w.new
+        (CallsOfRun (numbered first asks) limits.now.here) }
     // In the end each child that was started has its end.
     ensures children { Between W.journal w.old w.new (EndsChildren (numbered first asks)) }
     // All other paths are left alone, and no count falls.
@@ -83,7 +84,8 @@ fn answers_of<W: World>(
     requires left { waits_of running.lines ≡ limits.now.turns }
     ensures jobs { Between W.journal w.old w.new
         (MakesEach asks result (W.counts w.old) (W.counts w.new)) }
-    ensures calls { Between W.journal w.old w.new (CallsOfRun (numbered first asks) limits.now.here) }
+    ensures calls { Between W.journal w.old w.new
+        (CallsOfRun (numbered first asks) limits.now.here) }
     ensures children { Between W.journal w.old w.new (EndsChildren (numbered first asks)) }
     ensures others { Between W.journal w.old w.new (LeavesOthers asks) }
     ensures counts { CountsGrow (W.counts w.old) (W.counts w.new) }

@@ -194,7 +194,8 @@ impl Lines {
         ensures left { IsLeft job self.old.connections self.new.connections }
         ensures sound { IsSoundBut job self.old.connections → IsSound self.new.connections }
         ensures linked { (conn : Wired) → conn.job ≡ job →
-            begun_at self.old.connections (place_of conn) ≡ true → open_of self.new < open_of self.old }
+            begun_at self.old.connections (place_of conn) ≡ true →
+            open_of self.new < open_of self.old }
     {
         let _ = self.connections.offer_job(w, job);
         self.connections.close(w, job);

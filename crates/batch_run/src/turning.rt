@@ -342,7 +342,8 @@ impl Running {
         ensures stands { KeepsLines W.journal W.counts w.old w.new self.old.lines.connections
             self.new.lines.connections self.old.jobs.slots.items self.new.jobs.slots.items }
         ensures left { waits_of self.new.lines ≡ waits_of self.old.lines }
-        ensures reads { result ≡ Ok reading.GoesOn → reads_of self.new.lines < reads_of self.old.lines }
+        ensures reads { result ≡ Ok reading.GoesOn →
+            reads_of self.new.lines < reads_of self.old.lines }
         ensures one { OnOk result
             (ChangesOne self.old.jobs.slots.items self.new.jobs.slots.items) }
         ensures over { OnOk result (NoneOver self.old.jobs.slots.items →
