@@ -55,7 +55,7 @@ all_at : {A : Type 0} {P : A → Type 0} (xs : List A) → ((k : ℕ) (x : A) �
 all_at [] each = tt
 all_at (x ∷ xs) each = (each 0 x refl, all_at xs (λ k y at. each (suc k) y at))
 
-has_job : (needs : List (List ℕ)) (i w : ℕ) → HasWave needs i w → i < length needs
+pub has_job : (needs : List (List ℕ)) (i w : ℕ) → HasWave needs i w → i < length needs
 has_job needs i w (HasWave.wave list waves is size have) = slice_get_within needs i list is
 
 pub waves_within : (needs waves : List (List ℕ)) (n : ℕ) → AreWaves needs waves → length needs ≡ n → AllByRecursion (AllByRecursion (λ job. job < n)) waves

@@ -1,13 +1,16 @@
 -- Laws of waves: who runs, who doesn't, and what is left alone.
-use Rattle.std.proofs.Common.{◌≡◌, ◌⊎◌, inl, inr, ℕ, zero, suc, Bool, true, false, cond, List, [], ◌∷◌, ◌++◌, length, Option, Some, None, refl, sym, ◌∙◌, ap, subst, arith, true≢false}
-use Rattle.std.specs.Prelude.{Result, Ok, Err, Contains, slice_get, unwrap_or, ◌==◌}
+use Rattle.std.proofs.Common.{◌≡◌, ◌<◌, ◌⊎◌, inl, inr, ℕ, zero, suc, Bool, true, false, cond, List, [], ◌∷◌, ◌++◌, length, take, Option, Some, None, refl, sym, ◌∙◌, ap, subst, arith, true≢false}
+use Rattle.std.specs.Prelude.{Result, Ok, Err, Contains, slice_get, slice_index_or, unwrap_or, ◌==◌}
 use Rattle.std.specs.List.{list_all, AllByRecursion}
 use Rattle.std.specs.Cmp.{first_so, second_so}
-use Rattle.std.proofs.lemmas.Option.{none-some}
+use Rattle.std.proofs.lemmas.Option.{none-some, same_Some}
 use Rattle.jtext.specs.declared.json.Json.{Json}
 use Rattle.job_graph.specs.declared.take.Take.{Take}
 use Rattle.words.specs.declared.ask.Ask.{Ask}
+use Rattle.world.specs.declared.did.Did.{Did}
+use Rattle.world.specs.declared.did.Did.TheVariants.{Done, Failed}
 use Rattle.world.specs.declared.entry.Entry.{Entry}
+use Rattle.world.specs.declared.entry.Entry.TheVariants.{Said}
 use Rattle.world.specs.Counts.{Counts}
 use Rattle.world.specs.Moments.{Since, start, more as later}
 use Rattle.world.specs.Touched.{Spares}
@@ -28,20 +31,30 @@ use Rattle.graph_run.proofs.TestLemmas.{test_reads}
 
 -- ---- lists
 
-last_cases : {A : Type 0} (xs : List A) (y z : A) (k : ℕ) → slice_get (xs ++ y ∷ []) k ≡ Some z → (slice_get xs k ≡ Some z) ⊎ ((k ≡ length xs) × (y ≡ z))
+pub last_cases : {A : Type 0} (xs : List A) (y z : A) (k : ℕ) → slice_get (xs ++ y ∷ []) k ≡ Some z → (slice_get xs k ≡ Some z) ⊎ ((k ≡ length xs) × (y ≡ z))
 last_cases [] y z zero is = inr (refl, ap (λ o. unwrap_or o y) is)
 last_cases [] y z (suc k) is = absurd (none-some z is)
 last_cases (x ∷ xs) y z zero is = inl is
 last_cases (x ∷ xs) y z (suc k) is = elim (last_cases xs y z k is) [ inl e ↦ inl e | inr h ↦ inr (ap suc h.0, h.1) ]
 
-at_front : {A : Type 0} (xs : List A) (y z : A) (k : ℕ) → slice_get xs k ≡ Some z → slice_get (xs ++ y ∷ []) k ≡ Some z
+pub at_front : {A : Type 0} (xs : List A) (y z : A) (k : ℕ) → slice_get xs k ≡ Some z → slice_get (xs ++ y ∷ []) k ≡ Some z
 at_front [] y z k is = absurd (none-some z is)
 at_front (x ∷ xs) y z zero is = is
 at_front (x ∷ xs) y z (suc k) is = at_front xs y z k is
 
-at_last : {A : Type 0} (xs : List A) (y : A) → slice_get (xs ++ y ∷ []) (length xs) ≡ Some y
-at_last [] y = refl
-at_last (x ∷ xs) y = at_last xs y
+pub in_place : {A : Type 0} (xs ys : List A) (k : ℕ) (y : A) → k < length xs → slice_index_or xs k y ≡ y → slice_get (xs ++ ys) k ≡ Some y
+in_place [] ys k y below is = absurd (omega (arith, below))
+in_place (x ∷ xs) ys zero y below is = ap (λ z. Some z) is
+in_place (x ∷ xs) ys (suc k) y below is = in_place xs ys k y (omega (arith, below)) is
+
+pub next_place : {A : Type 0} (xs : List A) (y : A) (ys : List A) → slice_get (xs ++ y ∷ ys) (length xs) ≡ Some y
+next_place [] y ys = refl
+next_place (x ∷ xs) y ys = next_place xs y ys
+
+pub all_get : {A : Type 0} (P : A → Type 0) (xs : List A) → AllByRecursion P xs → (k : ℕ) (x : A) → slice_get xs k ≡ Some x → P x
+all_get P [] all k x at = absurd (none-some x at)
+all_get P (y ∷ ys) all zero x at = subst P (same_Some y x at) all.0
+all_get P (y ∷ ys) all (suc k) x at = all_get P ys all.1 k x at
 
 -- ---- a job that passes
 
@@ -71,10 +84,10 @@ test_passes f ended job before _ _ (Tests.skipped fails) = tt
 test_passes f ended job before after _ (Tests.tested a params needed at takes) = given_passes f ended job a before after params needed at takes
 test_passes f ended job before _ _ (Tests.no_memory a params needed at takes) = tt
 
-abbrev Passed : Workflow → List Ended → Tested → ℕ → Ask → Type 0
+abbrev pub Passed : Workflow → List Ended → Tested → ℕ → Ask → Type 0
 Passed f ended t k a = (job : ℕ) × (slice_get t.jobs k ≡ Some job) × HasPassed f ended job a
 
-passed_count : {f : Workflow} {ended : List Ended} {before after : List Entry} {wave : List ℕ} {t : Tested} → TestsWave f ended before wave t after → length t.jobs ≡ length t.asks
+pub passed_count : {f : Workflow} {ended : List Ended} {before after : List Entry} {wave : List ℕ} {t : Tested} → TestsWave f ended before wave t after → length t.jobs ≡ length t.asks
 passed_count TestsWave.none = refl
 passed_count (TestsWave.passes {t = t} job a h test) = let e = passed_count h in count_last t.jobs t.asks job a e
   where
@@ -85,14 +98,14 @@ passed_count (TestsWave.passes {t = t} job a h test) = let e = passed_count h in
     count_last (a ∷ xs) (b ∷ ys) x y e = ap suc (count_last xs ys x y (omega (arith, e)))
 passed_count (TestsWave.refuses job why h test some) = passed_count h
 
-wave_passes : {f : Workflow} {ended : List Ended} {before after : List Entry} {wave : List ℕ} {t : Tested} → TestsWave f ended before wave t after → (k : ℕ) (a : Ask) → slice_get t.asks k ≡ Some a → Passed f ended t k a
+pub wave_passes : {f : Workflow} {ended : List Ended} {before after : List Entry} {wave : List ℕ} {t : Tested} → TestsWave f ended before wave t after → (k : ℕ) (a : Ask) → slice_get t.asks k ≡ Some a → Passed f ended t k a
 wave_passes TestsWave.none k a at = absurd (none-some a at)
 wave_passes {f} {ended} (TestsWave.passes {t = t} {past = past} {after = after} job b h test) k a at =
     elim (last_cases t.asks b a k at) [
       | inl e ↦ let p = wave_passes h k a e in (p.0, at_front t.jobs job p.0 k p.1, p.2)
       | inr e ↦ (
         job,
-        subst (λ n. slice_get (t.jobs ++ job ∷ []) n ≡ Some job) (passed_count h ∙ sym e.0) (at_last t.jobs job),
+        subst (λ n. slice_get (t.jobs ++ job ∷ []) n ≡ Some job) (passed_count h ∙ sym e.0) (next_place t.jobs job []),
         subst (λ x. HasPassed f ended job x) e.1 (test_passes f ended job past after (Ok b) test),
       )
     ]
@@ -159,19 +172,23 @@ skipped_all f ended job before after _ (Tests.no_memory a params needed at takes
 
 -- ---- paths that are left alone
 
-speech_spares : (path : List ℕ) {text : List ℕ} {before after : List Entry} {rest : List ℕ} → Speech text before rest after → Since (Spares path) before after
-speech_spares path Speech.none = start
-speech_spares path (Speech.more n h) = later (speech_spares path h) refl
+speech_as : (P : List Entry → Type 0) → ((bytes : List ℕ) (d : Did) (past : List Entry) → P (Said bytes d ∷ past)) → {text : List ℕ} {before after : List Entry} {rest : List ℕ} → Speech text before rest after → Since P before after
+speech_as P said Speech.none = start
+speech_as P said (Speech.more {rest = rest} {past = past} n h) = later (speech_as P said h) (said (take n rest) Done past)
 
-says_spare : (path : List ℕ) {text : List ℕ} {cut : Type 0} {before after : List Entry} → Says text cut before after → Since (Spares path) before after
-says_spare path (Says.whole h) = speech_spares path h
-says_spare path (Says.cut f h) = speech_spares path h
-says_spare path (Says.refused f h) = later (speech_spares path h) refl
+-- what holds wherever something was said holds at each moment of a line
+pub says_as : (P : List Entry → Type 0) → ((bytes : List ℕ) (d : Did) (past : List Entry) → P (Said bytes d ∷ past)) → {text : List ℕ} {cut : Type 0} {before after : List Entry} → Says text cut before after → Since P before after
+says_as P said (Says.whole h) = speech_as P said h
+says_as P said (Says.cut f h) = speech_as P said h
+says_as P said (Says.refused {rest = rest} {past = past} f h) = later (speech_as P said h) (said rest Failed past)
 
-reads_spare : (path : List ℕ) (f : Workflow) (now : List Entry) → IsTakeRead f now → Spares path now
+pub says_spare : (path : List ℕ) {text : List ℕ} {cut : Type 0} {before after : List Entry} → Says text cut before after → Since (Spares path) before after
+says_spare path says = says_as (Spares path) (λ bytes d past. refl) says
+
+pub reads_spare : (path : List ℕ) (f : Workflow) (now : List Entry) → IsTakeRead f now → Spares path now
 reads_spare path f now (job, (answer, (past, is))) = subst (Spares path) (sym is) refl
 
-wave_reads : {f : Workflow} {ended : List Ended} {before after : List Entry} {wave : List ℕ} {t : Tested} → TestsWave f ended before wave t after → Since (IsTakeRead f) before after
+pub wave_reads : {f : Workflow} {ended : List Ended} {before after : List Entry} {wave : List ℕ} {t : Tested} → TestsWave f ended before wave t after → Since (IsTakeRead f) before after
 wave_reads TestsWave.none = start
 wave_reads (TestsWave.passes job a h test) = since_then (wave_reads h) (test_reads test)
 wave_reads (TestsWave.refuses job why h test some) = since_then (wave_reads h) (test_reads test)
@@ -206,14 +223,14 @@ all_then P [] ys p q = q
 all_then P (x ∷ xs) ys p q = (p.0, all_then P xs ys p.1 q)
 
 -- the job that has ended is one of those
-abbrev Of : (ℕ → Type 0) → Ended → Type 0
+abbrev pub Of : (ℕ → Type 0) → Ended → Type 0
 Of P e = P e.job
 
 -- each of these jobs that have ended is one of those
-abbrev AllOf : (ℕ → Type 0) → List Ended → Type 0
+abbrev pub AllOf : (ℕ → Type 0) → List Ended → Type 0
 AllOf P ended = AllByRecursion (Of P) ended
 
-tested_in : {f : Workflow} {ended : List Ended} {before after : List Entry} {wave : List ℕ} {t : Tested} → TestsWave f ended before wave t after
+pub tested_in : {f : Workflow} {ended : List Ended} {before after : List Entry} {wave : List ℕ} {t : Tested} → TestsWave f ended before wave t after
     → AllByRecursion (Contains wave) t.jobs × AllOf (Contains wave) t.refused
 tested_in TestsWave.none = (tt, tt)
 tested_in (TestsWave.passes {wave = wave} {t = t} job a h test) =
@@ -241,16 +258,16 @@ run_in P {t} {s = s} p q r (RunsTested.none_passes is) = all_then (Of P) s.ended
 run_in P {t} {s = s} p q r (RunsTested.runs new after answers ran) = all_then (Of P) (s.ended ++ t.refused) (ends_of t.jobs answers) (all_then (Of P) s.ended t.refused r q) (ends_in P t.jobs answers p)
 
 -- the job is one of these waves'
-abbrev InWaves : List (List ℕ) → ℕ → Type 0
+abbrev pub InWaves : List (List ℕ) → ℕ → Type 0
 InWaves all job = (wave : List ℕ) × Contains all wave × Contains wave job
 
 in_last : (all : List (List ℕ)) (wave : List ℕ) (j : ℕ) → Contains wave j → InWaves (all ++ wave ∷ []) j
 in_last all wave j c = (wave, contained_last all wave, c)
 
-in_first : (all : List (List ℕ)) (wave : List ℕ) (j : ℕ) → InWaves all j → InWaves (all ++ wave ∷ []) j
+pub in_first : (all : List (List ℕ)) (wave : List ℕ) (j : ℕ) → InWaves all j → InWaves (all ++ wave ∷ []) j
 in_first all wave j c = (c.0, contained_first all wave c.0 c.1, c.2)
 
-runs_in : {f : Workflow} {here : List ℕ} {turns : ℕ} {from : Counts} {before : List Entry} {all : List (List ℕ)} {s : Standing} {new : Counts} {after : List Entry} → Runs f here turns from before all s new after → AllOf (InWaves all) s.ended
+pub runs_in : {f : Workflow} {here : List ℕ} {turns : ℕ} {from : Counts} {before : List Entry} {all : List (List ℕ)} {s : Standing} {new : Counts} {after : List Entry} → Runs f here turns from before all s new after → AllOf (InWaves all) s.ended
 runs_in Runs.none = tt
 runs_in (Runs.more {waves = all} {s = s} left wave h waits one) =
     let p = tested_in one.tests.tests in
@@ -259,7 +276,7 @@ runs_in (Runs.more {waves = all} {s = s} left wave h waits one) =
     run_in whole (all_as (Contains wave) whole one.tested.jobs (in_last all wave) p.0) (all_as (Of (Contains wave)) (Of whole) one.tested.refused (λ e c. in_last all wave e.job c) p.1)
     (all_as (Of old) (Of whole) s.ended (λ e c. in_first all wave e.job c) (runs_in h)) one.run
 
-status_in : (P : ℕ → Type 0) (job status : ℕ) (ended : List Ended) → AllOf P ended → status_of job ended ≡ Some status → P job
+pub status_in : (P : ℕ → Type 0) (job status : ℕ) (ended : List Ended) → AllOf P ended → status_of job ended ≡ Some status → P job
 status_in P job status [] all at = absurd (none-some status at)
 status_in P job status (e ∷ es) all at = by (status_in P job status es all.1) (e.job == job) refl
   where

@@ -5,4 +5,7 @@ pub mod RunLemmas
 mod WaveTests
 mod LawLemmas
 mod FileLemmas
+mod ApartLemmas
+mod RestedLemmas
+mod WaitLemmas
 mod RanLemmas

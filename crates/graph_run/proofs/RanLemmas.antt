@@ -22,6 +22,8 @@ use Rattle.graph_run.specs.File.{GivesNone, GivesWorkflow, IsRefused, IsWorkflow
 use Rattle.graph_run.specs.Lines.{code_of, end_line}
 use Rattle.graph_run.specs.Ran.{IsSaid, Ran, RanOn}
 use Rattle.graph_run.specs.Words.{IsAsked, batch_words}
+use Rattle.graph_run.proofs.ApartLemmas.{keeps_apart}
+use Rattle.graph_run.proofs.WaitLemmas.{waves_wait}
 
 -- ---- the file
 
@@ -85,8 +87,9 @@ pub file_ran : (words : List (List ℕ)) (here : List ℕ) (turns : ℕ) (first 
     → IsAsked words file common → first ≡ rose → CountsGrow old from → GivesWorkflow file common before (Ok f) past → RanOn f here turns first cut from new past code after
     → Ran words here turns rose cut old new before code after
 file_ran words here turns first rose cut old from new before past after file common f code asked same grow given on =
-    Ran.ran file common given.0 f from code after asked given.1 grow
-    (subst (λ x. RanOn f here turns rose cut from new x code after) given.2 (subst (λ x. RanOn f here turns x cut from new past code after) same on))
+    let read : RanOn f here turns rose cut from new (file_read file (found.Whole given.0) before) code after =
+    subst (λ x. RanOn f here turns rose cut from new x code after) given.2 (subst (λ x. RanOn f here turns x cut from new past code after) same on) in
+    Ran.ran file common given.0 f from code after asked given.1 grow read (waves_wait f (keeps_apart file common given.0 f given.1) read (λ job a at. refl))
 
 -- ---- the jobs
 

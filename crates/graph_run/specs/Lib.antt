@@ -3,6 +3,7 @@ pub mod Lines
 pub mod File
 pub mod Tests
 pub mod Waves
+pub mod Waits
 pub mod Answers
 pub mod Ran
 pub mod Promise

@@ -24,7 +24,8 @@ pub record Kept {W : Type 0} (counts : W → Counts) (old new : W) (turns result
 -- A graph with these words in this working folder, with at most so many waits, answered `result`. `journal` and `counts` are what a
 -- world tells of itself. A clause over the journal holds where it is told.
 pub record Promise {W : Type 0} (journal : W → Option (List Entry)) (counts : W → Counts) (old new : W) (words : List (List ℕ)) (here : List ℕ) (turns result : ℕ) : Type 0 where
-  -- its jobs ran in waves, each after all that it needs and with what it takes from these; or why they did not is said
+  -- Its jobs ran in waves, each after all that it needs and with what it takes from these; or why they did not is said. A child starts only
+  -- behind the last acknowledged save of each job that its own job needs, and later waves leave the outputs of earlier ones alone.
   pub ran : Between journal old new (λ before after. Ran words here turns (SayRose counts old new) (SayFailed counts new) (counts old) (counts new) before result after)
   -- words that are refused have the status 2, or memory was refused
   pub usage : (u : Usage) → refusal (batch_words words) ≡ Some u → (result ≡ 2) ⊎ (result ≡ 12)

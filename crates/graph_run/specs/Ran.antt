@@ -18,6 +18,7 @@ use Rattle.graph_run.specs.declared.workflow.Workflow.{Workflow}
 use Rattle.graph_run.specs.Answers.{Answers, FirstFault}
 use Rattle.graph_run.specs.File.{GivesNone, IsWorkflowOf, file_read}
 use Rattle.graph_run.specs.Lines.{code_of, end_line}
+use Rattle.graph_run.specs.Waits.{EachWaits, StopsWait}
 use Rattle.graph_run.specs.Waves.{Runs, Stops}
 use Rattle.graph_run.specs.Words.{IsAsked, batch_words}
 
@@ -48,6 +49,13 @@ pub data RanOn (f : Workflow) (here : List ℕ) (turns : ℕ) (rose cut : Type 0
   stopped : (then : Counts) (past after : List Entry) → Stops f here turns old before then past → CountsGrow then new → IsSaid [] end.NoMemory cut past after
       → RanOn f here turns rose cut old new before 12 after
 
+-- Every wave of a graph starts its children behind the last acknowledged saves of the jobs that theirs need. From a wave's begin to the
+-- graph's end, no entry touches the output of a job that ended before the wave.
+abbrev pub WavesWait : {f : Workflow} {here : List ℕ} {turns : ℕ} {rose cut : Type 0} {old new : Counts} {before : List Entry} {code : ℕ} {after : List Entry}
+    → RanOn f here turns rose cut old new before code after → Type 0
+WavesWait (RanOn.ran s fault code after runs status answers) = EachWaits after runs
+WavesWait (RanOn.stopped then past after stops grow says) = StopsWait after stops
+
 -- A graph with these words ended with that status.
 pub data Ran (words : List (List ℕ)) (here : List ℕ) (turns : ℕ) (rose cut : Type 0) (old new : Counts) (before : List Entry) : ℕ → List Entry → Type 0 where
   -- the words are refused
@@ -55,9 +63,10 @@ pub data Ran (words : List (List ℕ)) (here : List ℕ) (turns : ℕ) (rose cut
   -- the file gives no jobs
   none : (file : List ℕ) (common : Ask) (e : End) (on_disk after : List Entry) → IsAsked words file common → GivesNone file before e on_disk
       → IsSaid file e cut on_disk after → Ran words here turns rose cut old new before (code_of e) after
-  -- the jobs of the file ran, wave after wave
+  -- The jobs of the file ran, wave after wave. Every child started behind the saves of what its job needs, and later waves left earlier
+  -- outputs alone.
   ran : (file : List ℕ) (common : Ask) (bytes : List ℕ) (f : Workflow) (from : Counts) (code : ℕ) (after : List Entry) → IsAsked words file common
-      → IsWorkflowOf file common bytes f → CountsGrow old from → RanOn f here turns rose cut from new (file_read file (found.Whole bytes) before) code after
-      → Ran words here turns rose cut old new before code after
+      → IsWorkflowOf file common bytes f → CountsGrow old from → (on : RanOn f here turns rose cut from new (file_read file (found.Whole bytes) before) code after)
+      → WavesWait on → Ran words here turns rose cut old new before code after
   -- memory was refused before anything was asked of the disk
   starved : (after : List Entry) → IsSaid [] end.NoMemory cut before after → Ran words here turns rose cut old new before 12 after
