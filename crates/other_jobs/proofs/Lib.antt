@@ -1,0 +1,13 @@
+pub mod Moments
+pub mod Places
+pub mod Calling
+pub mod Clocks
+pub mod Loops
+pub mod Refusals
+pub mod Connecting
+pub mod Firsts
+pub mod Reading
+pub mod Turning
+pub mod Shutting
+pub mod Ended
+pub mod Puts
