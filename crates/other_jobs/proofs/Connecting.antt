@@ -26,8 +26,7 @@ use Rattle.run_journal.specs.Parts.{bytes_got, connection, place}
 use Rattle.job_journal.specs.Quiet.{IsQuiet, IsQuietNow, is_unread}
 use Rattle.job_journal.proofs.Quiet.{quiet_connect, quiet_kind}
 use Rattle.job_journal.proofs.Unread.{unread_bytes}
-use Rattle.other_jobs.specs.Refused.{RefusedUnread, RefusesUnused}
-use Rattle.other_jobs.proofs.Moments.{since_both}
+use Rattle.other_jobs.specs.Refused.{RefusedUnread}
 use Rattle.other_jobs.proofs.Places.{chosen, named, place_low}
 use Rattle.other_jobs.proofs.Refusals.{job_offer, offer_rightly, unread_next}
 
@@ -137,7 +136,7 @@ module _ (j : Job) where
       → IsQuiet j entry past × Lately t (entry ∷ past)
   offer_lately t h past conn entry (again port how r) was =
       (connect_quiet conn port how past (again_unread t conn port past r was), again_lately t conn port how past was)
-  offer_lately t h past conn entry (writes answer piece r) was = (write_quiet j conn answer piece past, write_lately t conn answer piece past was)
+  offer_lately t h past conn entry (writes answer piece r unused) was = (write_quiet j conn answer piece past, write_lately t conn answer piece past was)
 
   offers_lately : (h : History) {before after : List Entry} → Since (OfferMoment false h) before after → Lately (time before) before
       → Since (IsQuietNow j) before after × Lately (time before) after
@@ -162,18 +161,15 @@ module _ (j : Job) where
       → IsQuiet j entry past
   look_quiet h past conn entry low (again port how r) was =
       connect_quiet conn port how past (λ c at. was.each (place j c) r.at (place_low j c low) (was_refused conn port past r c at))
-  look_quiet h past conn entry low (writes answer piece r) was = write_quiet j conn answer piece past
+  look_quiet h past conn entry low (writes answer piece r unused) was = write_quiet j conn answer piece past
 
-  both_looks : (jobs : List Bool) (h : History) {before after : List Entry} → j.number < 16 → Since (λ now. LookMoment jobs h now × RefusesUnused now) before after
-      → RefusedUnread before → Since (IsQuietNow j) before after × RefusedUnread after
-  both_looks jobs h low start was = (start, was)
-  both_looks jobs h low (more {past} {entry} since both) was =
-      let then = both_looks jobs h low since was in
-      let offer = both.0.2 in (
-        more then.0 (look_quiet h past both.0.0 entry low offer then.1),
-        unread_next entry past (offer_rightly true h past both.0.0 entry offer both.1) then.1,
-      )
+  looks_on : (jobs : List Bool) (h : History) {before after : List Entry} → j.number < 16 → Since (LookMoment jobs h) before after → RefusedUnread before
+      → Since (IsQuietNow j) before after × RefusedUnread after
+  looks_on jobs h low start was = (start, was)
+  looks_on jobs h low (more {past} {entry} since o) was =
+      let then = looks_on jobs h low since was in
+      (more then.0 (look_quiet h past o.0 entry low o.2 then.1), unread_next entry past (offer_rightly true h past o.0 entry o.2) then.1)
 
-  pub looks_quiet : (jobs : List Bool) (h : History) (before after : List Entry) → j.number < 16 → RefusedUnread before → Since RefusesUnused before after
-      → Since (LookMoment jobs h) before after → Since (IsQuietNow j) before after
-  looks_quiet jobs h before after low unread unused since = (both_looks jobs h low (since_both since unused) unread).0
+  pub looks_quiet : (jobs : List Bool) (h : History) (before after : List Entry) → j.number < 16 → RefusedUnread before → Since (LookMoment jobs h) before after
+      → Since (IsQuietNow j) before after
+  looks_quiet jobs h before after low unread since = (looks_on jobs h low since unread).0

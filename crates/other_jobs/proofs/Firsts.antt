@@ -103,7 +103,7 @@ module _ (j : Job) where
   offer_elsewhere : (h : History) (past : List Entry) (conn : Conn) (entry : Entry) → (conn.job == j.number) ≡ false → Offers false h past conn entry
       → is_put j entry ≡ false
   offer_elsewhere h past conn entry e (again port how r) = refl
-  offer_elsewhere h past conn entry e (writes answer piece r) = write_elsewhere conn answer piece e
+  offer_elsewhere h past conn entry e (writes answer piece r unused) = write_elsewhere conn answer piece e
 
   offers_elsewhere : (job : ℕ) (h : History) → (job == j.number) ≡ false → (now : List Entry) → JobMoment job h now → Fails (is_put j) now
   offers_elsewhere job h e [] o = absurd o

@@ -1,5 +1,5 @@
 -- The moments of calls.
-use Rattle.std.proofs.Common.{◌≡◌, List, ◌∷◌, refl, sym, subst}
+use Rattle.std.proofs.Common.{◌≡◌, List, refl, sym, subst}
 use Rattle.world.specs.declared.entry.Entry.{Entry}
 use Rattle.world.specs.Moments.{Since, start, more}
 use Rattle.job_saves.proofs.ToldLemmas.{too_long}
@@ -13,8 +13,3 @@ both_from e (more s p) (more t q) = more (both_from e s t) (p, q)
 
 pub since_both : {P Q : List Entry → Type 0} {x y : List Entry} → Since P x y → Since Q x y → Since (λ now. P now × Q now) x y
 since_both s t = both_from refl s t
-
--- what holds at each moment holds before the newest
-pub earlier : {P Q : List Entry → Type 0} {before past : List Entry} {entry : Entry} → Since Q before past → Since P before (entry ∷ past) → Since P before past
-earlier since start = absurd (too_long since)
-earlier since (more s p) = s

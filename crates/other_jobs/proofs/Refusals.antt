@@ -24,9 +24,9 @@ use Rattle.ready_loop.specs.Begins.{Begins, CloseMoment, done, more as later, fa
 use Rattle.ready_loop.specs.History.{History}
 use Rattle.ready_loop.specs.Offers.{JobMoment, LookMoment, OfferMoment, Offers, again, writes}
 use Rattle.ready_loop.specs.Reads.{IsReadOf, ReadMoment}
+use Rattle.ready_loop.specs.Refusals.{RefusesUnused}
 use Rattle.ready_loop.specs.Standing.{AllShut, StandsFor}
-use Rattle.other_jobs.specs.Refused.{RefusedUnread, RefusesUnused}
-use Rattle.other_jobs.proofs.Moments.{since_both}
+use Rattle.other_jobs.specs.Refused.{RefusedUnread}
 use Rattle.other_jobs.proofs.Places.{chosen, named}
 
 -- ---- one entry
@@ -129,14 +129,13 @@ write_rightly conn put.Ended piece past unused = tt
 write_rightly conn put.Refused piece past unused = unused
 write_rightly conn put.Failed piece past unused = tt
 
-pub offer_rightly : (forced : Bool) (h : History) (past : List Entry) (conn : Conn) (entry : Entry) → Offers forced h past conn entry → RefusesUnused (entry ∷ past)
-    → RefusesRightly (entry ∷ past)
-offer_rightly forced h past conn entry (again port how r) unused = tt
-offer_rightly forced h past conn entry (writes answer piece r) unused = write_rightly conn answer piece past unused
+pub offer_rightly : (forced : Bool) (h : History) (past : List Entry) (conn : Conn) (entry : Entry) → Offers forced h past conn entry → RefusesRightly (entry ∷ past)
+offer_rightly forced h past conn entry (again port how r) = tt
+offer_rightly forced h past conn entry (writes answer piece r unused) = write_rightly conn answer piece past unused
 
-offers_rightly : (forced : Bool) (h : History) (now : List Entry) → OfferMoment forced h now × RefusesUnused now → RefusesRightly now
-offers_rightly forced h [] both = absurd both.0
-offers_rightly forced h (entry ∷ past) both = offer_rightly forced h past both.0.0 entry both.0.1 both.1
+offers_rightly : (forced : Bool) (h : History) (now : List Entry) → OfferMoment forced h now → RefusesRightly now
+offers_rightly forced h [] o = absurd o
+offers_rightly forced h (entry ∷ past) o = offer_rightly forced h past o.0 entry o.1
 
 -- what is offered to one job, or in a last look, is offered
 pub job_offer : (job : ℕ) (h : History) (now : List Entry) → JobMoment job h now → OfferMoment false h now
@@ -147,13 +146,13 @@ pub look_offer : (jobs : List Bool) (h : History) (now : List Entry) → LookMom
 look_offer jobs h [] o = absurd o
 look_offer jobs h (entry ∷ past) o = (o.0, o.2)
 
-pub offers_unread : (forced : Bool) (h : History) (before now : List Entry) → Since (OfferMoment forced h) before now → Since RefusesUnused before now
+pub offers_unread : (forced : Bool) (h : History) (before now : List Entry) → Since (OfferMoment forced h) before now
     → RefusedUnread before → RefusedUnread now
-offers_unread forced h before now since unused was = unread_stays (since_as (offers_rightly forced h) (since_both since unused)) was
+offers_unread forced h before now since was = unread_stays (since_as (offers_rightly forced h) since) was
 
-pub job_offers_unread : (job : ℕ) (h : History) (before now : List Entry) → Since (JobMoment job h) before now → Since RefusesUnused before now
+pub job_offers_unread : (job : ℕ) (h : History) (before now : List Entry) → Since (JobMoment job h) before now
     → RefusedUnread before → RefusedUnread now
-job_offers_unread job h before now since unused was = offers_unread false h before now (since_as (job_offer job h) since) unused was
+job_offers_unread job h before now since was = offers_unread false h before now (since_as (job_offer job h) since) was
 
 -- ---- reads
 
@@ -176,20 +175,17 @@ one_read p conn (made.Refused other by) past is was =
 one_read p conn (made.ReadFailed other) past is was = chosen AwakeAt (is_at p other) (status p past) _ (λ at. record { calm = λ e. absurd (false≢true e) }) was
 one_read p conn _ past is was = absurd (false≢true is.read)
 
-read_rightly : (conn : Conn) (entry : Entry) (past : List Entry) → IsReadOf conn past entry → RefusesUnused (entry ∷ past) → AllAwake past
-    → RefusesRightly (entry ∷ past)
-read_rightly conn (made.Got other room bytes) past is unused all = λ low.
+read_rightly : (conn : Conn) (entry : Entry) (past : List Entry) → IsReadOf conn past entry → AllAwake past → RefusesRightly (entry ∷ past)
+read_rightly conn (made.Got other room bytes) past is all = λ low.
     (all (place_of other) low).calm (subst (λ q. (status q past).awake ≡ true) (eqb-true (place_of conn) (place_of other) is.read) is.awake)
-read_rightly conn (made.Refused other by) past is unused all = unused
-read_rightly conn _ past is unused all = tt
+read_rightly conn (made.Refused other by) past is all = is.unused
+read_rightly conn _ past is all = tt
 
-reads_rightly : (h : History) {before now : List Entry} → Since (λ x. ReadMoment h x × RefusesUnused x) before now → AllAwake before
-    → Since RefusesRightly before now × AllAwake now
+reads_rightly : (h : History) {before now : List Entry} → Since (ReadMoment h) before now → AllAwake before → Since RefusesRightly before now × AllAwake now
 reads_rightly h start all = (start, all)
-reads_rightly h (more {past} {entry} since both) all =
+reads_rightly h (more {past} {entry} since is) all =
     let then = reads_rightly h since all in
-    let is = both.0.1 in
-    (more then.0 (read_rightly both.0.0 entry past is both.1 then.1), λ p low. one_read p both.0.0 entry past is (then.1 p low))
+    (more then.0 (read_rightly is.0 entry past is.1 then.1), λ p low. one_read p is.0 entry past is.1 (then.1 p low))
 
 -- where the loop stands for the journal, a connection that is awake is up
 stands_awake : (l : Loop) (h : History) (past : List Entry) → StandsFor l h past → AllAwake past
@@ -198,6 +194,6 @@ stands_awake l h past stand p low =
     let m = stand.each p link found in
     record { calm = λ e. m.up_calm (m.reported e) }
 
-pub reads_unread : (l : Loop) (h : History) (before now : List Entry) → StandsFor l h before → Since (ReadMoment h) before now → Since RefusesUnused before now
+pub reads_unread : (l : Loop) (h : History) (before now : List Entry) → StandsFor l h before → Since (ReadMoment h) before now
     → RefusedUnread before → RefusedUnread now
-reads_unread l h before now stand reads unused was = unread_stays (reads_rightly h (since_both reads unused) (stands_awake l h before stand)).0 was
+reads_unread l h before now stand reads was = unread_stays (reads_rightly h reads (stands_awake l h before stand)).0 was

@@ -120,7 +120,7 @@ module _ (j : Job) where
       none : (c : Chan) → is_at (place j c) conn ≡ false
       none c = false_from_ne_true (is_at (place j c) conn)
           (λ here. none-some _ (sym (shut c).refused ∙ subst (λ p. (status p past).refused ≡ Some r.at) (sym (named (place j c) conn here)) r.refused))
-  one_offer forced h past conn entry (writes answer piece r) shut =
+  one_offer forced h past conn entry (writes answer piece r unused) shut =
       (write_quiet j conn answer piece past, λ c. written_elsewhere conn answer piece (place j c) (none c))
     where
       none : (c : Chan) → is_at (place j c) conn ≡ false

@@ -18,10 +18,9 @@ use Rattle.run_journal.specs.Job.{Job}
 use Rattle.run_journal.specs.Parts.{bytes_put}
 use Rattle.job_journal.specs.Quiet.{IsQuietNow}
 use Rattle.job_journal.proofs.Quiet.{quiet_kind}
-use Rattle.other_jobs.specs.Refused.{RefusedUnread, RefusesUnused}
+use Rattle.other_jobs.specs.Refused.{RefusedUnread}
 use Rattle.other_jobs.specs.Turns.{TurnBrings}
 use Rattle.other_jobs.proofs.Connecting.{looks_quiet}
-use Rattle.other_jobs.proofs.Moments.{earlier}
 use Rattle.other_jobs.proofs.Refusals.{look_offer, offers_unread, unread_next}
 
 -- ---- a turn
@@ -50,24 +49,23 @@ turn_brings due result last old new h before after stand turned = turn_by due re
 
 -- ---- a last look
 
-module _ (j : Job) (low : j.number < 16) (jobs : List Bool) (h : History) (before after : List Entry) (unread : RefusedUnread before) (unused : Since RefusesUnused before after) where
+module _ (j : Job) (low : j.number < 16) (jobs : List Bool) (h : History) (before after : List Entry) (unread : RefusedUnread before) where
   wait_behind : (calm : Type 0) (how : Did) → LooksThenWaits jobs calm h how before after → Since (IsQuietNow j) before after
   wait_behind calm how came =
-      let first = earlier came.looks (subst (Since RefusesUnused before) came.is unused) in
       subst (Since (IsQuietNow j) before) (sym came.is)
-      (more (looks_quiet j jobs h before came.past low unread first came.looks) (quiet_kind j (made.Waited 0 came.reports how) came.past refl))
+      (more (looks_quiet j jobs h before came.past low unread came.looks) (quiet_kind j (made.Waited 0 came.reports how) came.past refl))
 
   look_by : (calm : Type 0) (result : Result (List Bool) LoopFault) → LookCame jobs calm result h before after → Since (IsQuietNow j) before after
   look_by calm (Ok names) came = wait_behind calm _ came
   look_by calm (Err (NetFault None)) came = wait_behind calm _ came
-  look_by calm (Err (NetFault (Some conn))) came = looks_quiet j jobs h before after low unread unused came.looks
+  look_by calm (Err (NetFault (Some conn))) came = looks_quiet j jobs h before after low unread came.looks
   look_by calm (Err Spent) came = subst (Since (IsQuietNow j) before) (sym came) start
 
 pub look_brings : (j : Job) (jobs : List Bool) (result : Result (List Bool) LoopFault) (last : ℕ) (old new : Loop) (h : History) (before after : List Entry)
-    → j.number < 16 → StandsFor old h before → Looked jobs result last old new before after → RefusedUnread before → Since RefusesUnused before after
+    → j.number < 16 → StandsFor old h before → Looked jobs result last old new before after → RefusedUnread before
     → Since (IsQuietNow j) before after
-look_brings j jobs result last old new h before after low stand looked unread unused =
-    look_by j low jobs h before after unread unused (IsCalm last old) result (looked.so h stand).1
+look_brings j jobs result last old new h before after low stand looked unread =
+    look_by j low jobs h before after unread (IsCalm last old) result (looked.so h stand).1
 
 -- ---- refused connections
 
@@ -86,20 +84,19 @@ pub turns_unread : (due : Option ℕ) (result : Result ℕ LoopFault) (last : �
     → Turned due result last old new before after → RefusedUnread before → RefusedUnread after
 turns_unread due result last old new h before after stand turned was = turn_unread due result h before after (turned.so h stand).1 was
 
-module _ (jobs : List Bool) (h : History) (before after : List Entry) (unused : Since RefusesUnused before after) (was : RefusedUnread before) where
+module _ (jobs : List Bool) (h : History) (before after : List Entry) (was : RefusedUnread before) where
   unread_behind : (calm : Type 0) (how : Did) → LooksThenWaits jobs calm h how before after → RefusedUnread after
   unread_behind calm how came =
-      let first = earlier came.looks (subst (Since RefusesUnused before) came.is unused) in
       subst RefusedUnread (sym came.is)
-      (unread_next (made.Waited 0 came.reports how) came.past tt (offers_unread true h before came.past (since_as (look_offer jobs h) came.looks) first was))
+      (unread_next (made.Waited 0 came.reports how) came.past tt (offers_unread true h before came.past (since_as (look_offer jobs h) came.looks) was))
 
   look_unread : (calm : Type 0) (result : Result (List Bool) LoopFault) → LookCame jobs calm result h before after → RefusedUnread after
   look_unread calm (Ok names) came = unread_behind calm _ came
   look_unread calm (Err (NetFault None)) came = unread_behind calm _ came
-  look_unread calm (Err (NetFault (Some conn))) came = offers_unread true h before after (since_as (look_offer jobs h) came.looks) unused was
+  look_unread calm (Err (NetFault (Some conn))) came = offers_unread true h before after (since_as (look_offer jobs h) came.looks) was
   look_unread calm (Err Spent) came = subst RefusedUnread (sym came) was
 
 pub looks_unread : (jobs : List Bool) (result : Result (List Bool) LoopFault) (last : ℕ) (old new : Loop) (h : History) (before after : List Entry)
-    → StandsFor old h before → Looked jobs result last old new before after → Since RefusesUnused before after → RefusedUnread before → RefusedUnread after
-looks_unread jobs result last old new h before after stand looked unused was =
-    look_unread jobs h before after unused was (IsCalm last old) result (looked.so h stand).1
+    → StandsFor old h before → Looked jobs result last old new before after → RefusedUnread before → RefusedUnread after
+looks_unread jobs result last old new h before after stand looked was =
+    look_unread jobs h before after was (IsCalm last old) result (looked.so h stand).1

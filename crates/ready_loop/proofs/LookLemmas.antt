@@ -110,7 +110,7 @@ offered_at {q} {last} {l} {new} only here o = record {
 offer_time : (forced : Bool) (h : History) (past : List Entry) (conn : Conn) (entry : Entry)
     → Offers forced h past conn entry → time (entry ∷ past) ≡ time past
 offer_time forced h past conn entry (again port how r) = refl
-offer_time forced h past conn entry (writes answer piece r) = untimed_write conn answer piece past
+offer_time forced h past conn entry (writes answer piece r unused) = untimed_write conn answer piece past
 
 look_time : (jobs : List Bool) (h : History) {x y : List Entry} → Since (LookMoment jobs h) x y → time y ≡ time x
 look_time jobs h start = refl
@@ -190,7 +190,7 @@ may_then l mid may drained offered failed = record { drained = drained may.drain
 offer_elsewhere : (p : ℕ) (forced : Bool) (h : History) (past : List Entry) (conn : Conn) (entry : Entry) → p ≢ place_of conn
     → Offers forced h past conn entry → concerns p entry ≡ false
 offer_elsewhere p forced h past conn entry ne (again port how r) = not_at p conn ne
-offer_elsewhere p forced h past conn entry ne (writes answer piece r) = concerns_not conn answer piece p ne
+offer_elsewhere p forced h past conn entry ne (writes answer piece r unused) = concerns_not conn answer piece p ne
 
 pub others_looked : (jobs : List Bool) (h : History) {x y : List Entry} → Since (LookMoment jobs h) x y → (conn : Conn) → is_looked jobs conn.job ≡ false
     → status (place_of conn) y ≡ status (place_of conn) x

@@ -18,6 +18,7 @@ use Rattle.ready_loop.specs.declared.link.Link.{Link}
 use Rattle.ready_loop.specs.declared.readiness.Loop.{Loop}
 use Rattle.ready_loop.specs.Link.{MayWrite, IsToBegin, connect_link, write_link}
 use Rattle.ready_loop.specs.History.{History, no_change}
+use Rattle.ready_loop.specs.Refusals.{RefusesUnused}
 use Rattle.ready_loop.specs.Offers.{IsOfferedTo, Offers, again, writes, OfferMoment, OfferAt}
 use Rattle.ready_loop.specs.Queues.{Held, held_in, rest_at}
 use Rattle.ready_loop.specs.Standing.{write_ended, Stand, StandsFor, Goes}
@@ -151,6 +152,15 @@ module _ (conn : Conn) (answer : Put) (l : Loop) (link : Link) (last : ℕ) (pas
         rest = sym (m.sends.whole ∙ ap (λ xs. xs ++ rest_at l.queues q) (put_known known));
       }
 
+-- it is turned away only before a byte has passed
+write_unused : (conn : Conn) (answer : Put) (piece : List ℕ) (past : List Entry) → (answer ≡ put.Refused → IsUnused (place_of conn) past)
+    → RefusesUnused (write_entry conn answer piece ∷ past)
+write_unused conn (put.Took n) piece past unused = tt
+write_unused conn put.Stuck piece past unused = tt
+write_unused conn put.Ended piece past unused = tt
+write_unused conn put.Refused piece past unused = unused refl
+write_unused conn put.Failed piece past unused = tt
+
 pub write_goes : (conn : Conn) (p : ℕ) (answer : Put) (piece : List ℕ) (l : Loop) (links : List Link) (queues : List Held) (link : Link) (last : ℕ) (past : List Entry)
     → place_of conn ≡ p → slice_get l.links p ≡ Some link → MayWrite link → 0 < length (rest_at l.queues p)
     → piece ≡ rest_at l.queues p
@@ -171,7 +181,7 @@ write_goes conn p answer piece l links queues link last past place found may som
                 (subst (λ ls. Stand ls queues l.left h (write_entry conn answer (rest_at l.queues (place_of conn)) ∷ past)) (sym is)
                 (subst (λ qs. Stand (set l.links p (write_link answer last link)) qs l.left h (write_entry conn answer (rest_at l.queues (place_of conn)) ∷ past)) (sym queues_are)
                 (subst (λ i. Stand (set l.links i (write_link answer last link)) (set l.queues i (held_write answer (held_in (slice_get l.queues i)))) l.left h (write_entry conn answer (rest_at l.queues (place_of conn)) ∷ past)) place r))),
-            more start (conn, place, writes answer piece (subst (λ xs. IsOfferedTo (h.queued (place_of conn)) conn xs past) (sym piece') w)),
+            more start (conn, place, writes answer piece (subst (λ xs. IsOfferedTo (h.queued (place_of conn)) conn xs past) (sym piece') w) (write_unused conn answer piece past unused)),
           );
     }
 
@@ -195,7 +205,7 @@ forced_offer forced h past conn entry (again port how r) = again port how (recor
   where
     not_so : false ≡ true → ⊥
     not_so e = cc
-forced_offer forced h past conn entry (writes answer piece r) = writes answer piece r
+forced_offer forced h past conn entry (writes answer piece r unused) = writes answer piece r unused
 
 pub forced_at : (forced : Bool) (place : ℕ) (h : History) (now : List Entry) → OfferAt false place h now
     → OfferAt forced place h now

@@ -16,6 +16,7 @@ use Rattle.ready_loop.specs.declared.readiness.Loop.{Loop}
 use Rattle.ready_loop.specs.Link.{MayRead, read_link}
 use Rattle.ready_loop.specs.History.{History}
 use Rattle.ready_loop.specs.Queues.{Held}
+use Rattle.ready_loop.specs.Refusals.{RefusesUnused}
 use Rattle.ready_loop.specs.Reads.{ReadMoment, after_got}
 use Rattle.ready_loop.specs.Standing.{write_ended, StandsAt, Stand, Goes}
 use Rattle.ready_loop.proofs.CallLemmas.{status_read, named_read, stands_read}
@@ -86,6 +87,15 @@ own_history got.Ended conn h m = stands_as refl refl refl (or_own (place_of conn
 own_history got.Refused conn h m = m
 own_history got.Failed conn h m = m
 
+-- it is turned away only before a byte has passed
+read_unused : (conn : Conn) (room : ℕ) (answer : Got) (buffer : List ℕ) (past : List Entry) → (answer ≡ got.Refused → IsUnused (place_of conn) past)
+    → RefusesUnused (read_entry conn room answer buffer ∷ past)
+read_unused conn room (got.Piece n) buffer past unused = tt
+read_unused conn room got.Dry buffer past unused = tt
+read_unused conn room got.Ended buffer past unused = tt
+read_unused conn room got.Refused buffer past unused = unused refl
+read_unused conn room got.Failed buffer past unused = tt
+
 -- a read of a connection that may be read
 pub read_goes : (conn : Conn) (p room : ℕ) (answer : Got) (buffer : List ℕ) (l : Loop) (links : List Link) (link : Link) (last : ℕ) (past : List Entry)
     → place_of conn ≡ p → slice_get l.links p ≡ Some link → MayRead link
@@ -112,6 +122,7 @@ read_goes conn p room answer buffer l links link last past place found may is cl
                 awake = sym m.awake ∙ may.awake;
                 sound = sym m.failed ∙ may.sound;
                 few = subst (λ n. n < 64) (m.reads may.awake) may.reads;
+                unused = read_unused conn room answer buffer past unused;
               },
             ),
           );

@@ -85,7 +85,7 @@ fair_read (entry ∷ past) h m = runs.read m.0 entry m.1
 fair_offers : (forced : Bool) (h : History) (past : List Entry) (conn : Conn) (entry : Entry)
     → Offers forced h past conn entry → IsFair past entry
 fair_offers forced h past conn entry (again port how r) = runs.again forced conn port how r
-fair_offers forced h past conn entry (writes answer piece r) = runs.write conn answer piece r.writable
+fair_offers forced h past conn entry (writes answer piece r unused) = runs.write conn answer piece r.writable
 
 fair_offer : (now : List Entry) (h : History) → OfferMoment false h now → FairMoment now
 fair_offer [] h m = m

@@ -5,6 +5,7 @@ pub mod Link
 pub mod Offers
 pub mod Queues
 pub mod Reads
+pub mod Refusals
 pub mod Runs
 pub mod Standing
 pub mod States

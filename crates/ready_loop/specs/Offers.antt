@@ -13,6 +13,7 @@ use Rattle.world.specs.Places.{status, time, place_of}
 use Rattle.ready_loop.specs.declared.fault.LoopFault.{LoopFault}
 use Rattle.ready_loop.specs.declared.fault.LoopFault.TheVariants.{NetFault, Spent}
 use Rattle.ready_loop.specs.History.{History}
+use Rattle.ready_loop.specs.Refusals.{RefusesUnused}
 use Rattle.ready_loop.specs.Standing.{write_ended, StandsFor}
 use Rattle.ready_loop.specs.declared.readiness.Loop.{Loop}
 use Rattle.ready_loop.specs.States.{refused_in}
@@ -36,7 +37,7 @@ pub data Offers (forced : Bool) (h : History) (past : List Entry) (conn : Conn) 
   again : (port : ℕ) (how : Connected) → IsBegunAgain forced conn port past
       → Offers forced h past conn (made.Connected conn port how)
   writes : (answer : Put) (piece : List ℕ) → IsOfferedTo (h.queued (place_of conn)) conn piece past
-      → Offers forced h past conn (write_entry conn answer piece)
+      → RefusesUnused (write_entry conn answer piece ∷ past) → Offers forced h past conn (write_entry conn answer piece)
 
 -- the newest entry does so
 abbrev pub OfferMoment : Bool → History → List Entry → Type 0

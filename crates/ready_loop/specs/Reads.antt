@@ -13,13 +13,16 @@ use Rattle.ready_loop.specs.declared.next.Next.TheVariants.{Piece, Ended, Refuse
 use Rattle.world.specs.declared.got.Got.{Got}
 use Rattle.world.specs.declared.got.Got.TheVariants as got
 use Rattle.ready_loop.specs.History.{History, with_named}
+use Rattle.ready_loop.specs.Refusals.{RefusesUnused}
 
--- an entry is a read of a connection that was awake, had not failed and gave bytes less than 64 times since the last wait
+-- An entry is a read of a connection that was awake, had not failed and gave bytes less than 64 times since the last wait. It is
+-- turned away only before a byte has passed.
 pub record IsReadOf (conn : Conn) (past : List Entry) (entry : Entry) : Type 0 where
   pub read : is_read (place_of conn) entry ≡ true
   pub awake : (status (place_of conn) past).awake ≡ true
   pub sound : (status (place_of conn) past).failed ≡ false
   pub few : (status (place_of conn) past).count < 64
+  pub unused : RefusesUnused (entry ∷ past)
 
 -- the newest entry is such a read
 abbrev pub ReadMoment : History → List Entry → Type 0

@@ -9,7 +9,7 @@ ghost use Rattle.ready_loop.specs.History.{History};
 ghost use Rattle.ready_loop.specs.Offers.{JobMoment, LookMoment, OfferMoment};
 ghost use Rattle.run_journal.specs.Job.{Job};
 ghost use Rattle.job_journal.specs.Quiet.{IsQuietNow, is_unread};
-ghost use Rattle.other_jobs.specs.Refused.{RefusedUnread, RefusesUnused};
+ghost use Rattle.other_jobs.specs.Refused.{RefusedUnread};
 
 /// The first connects of another job are quiet for a job, and so are its own before any byte was
 /// got for it.
@@ -21,8 +21,7 @@ pub fn first_connects_are_quiet()
 {}
 
 /// What the loop offers is quiet for each job, where nothing was got on the connections that are
-/// refused. One that is begun again was refused before the call. In a last look it may be refused
-/// since, where no byte has passed on it.
+/// refused.
 pub fn offers_are_quiet()
     ensures all { (j : Job) (h : History) (before after : List Entry) → j.number < 16 →
         RefusedUnread before → Since (OfferMoment false h) before after →
@@ -31,6 +30,6 @@ pub fn offers_are_quiet()
         j.number < 16 → RefusedUnread before → Since (JobMoment job h) before after →
         Since (IsQuietNow j) before after }
     ensures looks { (j : Job) (jobs : List Bool) (h : History) (before after : List Entry) →
-        j.number < 16 → RefusedUnread before → Since RefusesUnused before after →
+        j.number < 16 → RefusedUnread before →
         Since (LookMoment jobs h) before after → Since (IsQuietNow j) before after }
 {}

@@ -9,7 +9,7 @@ ghost use Rattle.ready_loop.specs.Standing.{StandsFor};
 ghost use Rattle.ready_loop.specs.Waits.{Looked, Turned};
 ghost use Rattle.run_journal.specs.Job.{Job};
 ghost use Rattle.job_journal.specs.Quiet.{IsQuietNow};
-ghost use Rattle.other_jobs.specs.Refused.{RefusedUnread, RefusesUnused};
+ghost use Rattle.other_jobs.specs.Refused.{RefusedUnread};
 ghost use Rattle.other_jobs.specs.Turns.{TurnBrings};
 
 /// A turn brings each job the one moment that it gives, and nothing else.
@@ -25,5 +25,5 @@ pub fn looks_bring_nothing()
         (last : ℕ) (old new : Loop) (h : History) (before after : List Entry) →
         j.number < 16 → StandsFor old h before →
         Looked jobs result last old new before after → RefusedUnread before →
-        Since RefusesUnused before after → Since (IsQuietNow j) before after }
+        Since (IsQuietNow j) before after }
 {}
