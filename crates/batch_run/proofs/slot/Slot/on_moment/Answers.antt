@@ -6,8 +6,8 @@ use Rattle.batch_run.proofs.slot.Slot.on_moment.Goals as goal
 pub returns-in-Running : goal.returns-in-Running
 returns-in-Running g c = λ asks start from slots k found s.
     job_goes_on asks start from slots (g.W.Journal.journal c.args.w.now) (g.W.Journal.journal c.on_moment.new.w) (g.W.Journal.counts c.args.w.now) (g.W.Journal.counts c.on_moment.new.w)
-    k c.in-Running.job c.on_moment.new.self c.on_moment.ensures.course c.on_moment.ensures.calls c.on_moment.ensures.keeps.task c.on_moment.ensures.keeps.output
-    (λ l. inl (c.on_moment.ensures.keeps.still.lost l)) (λ l. inl (c.on_moment.ensures.keeps.still.spent l)) (found ∙ ap Some c.in-Running.is) s
+    k c.in-Running.job c.on_moment.new.self c.on_moment.ensures.goes.course c.on_moment.ensures.goes.calls c.on_moment.ensures.goes.keeps.task c.on_moment.ensures.goes.keeps.output
+    (λ l. inl (c.on_moment.ensures.goes.keeps.still.lost l)) (λ l. inl (c.on_moment.ensures.goes.keeps.still.spent l)) (found ∙ ap Some c.in-Running.is) s
 
 pub returns-in-Waiting : goal.returns-in-Waiting
 returns-in-Waiting g c = λ asks start from slots k found s.
