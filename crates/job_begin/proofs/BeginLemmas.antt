@@ -117,13 +117,20 @@ module _ {E : Type 0} (a : Ask) (number : ℕ) (here : List ℕ) (result : Resul
 
 -- ---- children
 
--- calls of a job that start none
-pub none_started_in : (a : Ask) (first : Notebook) (n : ℕ) (j k : Option (List Entry)) (c d : Counts)
-    → ((cast : Cast) (number : ℕ) (since : List Entry) (from : Counts) → cast.job number ≡ Some a → OnlyReads cast a first j → HasCalled cast since from j c → HasCalled cast since from k d)
-    → KeepsEnd n j k
-none_started_in a first n j k c d calls =
+-- calls that save a notebook, and no more
+abbrev Saving : Ask → Notebook → Option (List Entry) → Option (List Entry) → Counts → Counts → Type 0
+Saving a first j k c d = (cast : Cast) (number : ℕ) (since : List Entry) (from : Counts) → cast.job number ≡ Some a → OnlyReads cast a first j → HasCalled cast since from j c
+    → HasCalled cast since from k d
+
+-- they are told
+pub saving_told : (a : Ask) (first : Notebook) (j k : Option (List Entry)) (c d : Counts) → Saving a first j k c d → Told j k (Since (IsCall (sole a [] false)))
+saving_told a first j k c d calls =
     let cast : Cast = sole a [] false in
-    told_keeps_end cast n (λ number b has starts. absurd (cc)) j k (told_by (IsCall cast) j k (λ since held. (calls cast 0 since c refl (λ e. absurd (cc)) (sole_calls a [] false since j c held)).told))
+    told_by (IsCall cast) j k (λ since held. (calls cast 0 since c refl (λ e. absurd (cc)) (sole_calls a [] false since j c held)).told)
+
+-- they start no child
+pub none_started_in : (a : Ask) (first : Notebook) (n : ℕ) (j k : Option (List Entry)) (c d : Counts) → Saving a first j k c d → KeepsEnd n j k
+none_started_in a first n j k c d calls = told_keeps_end (sole a [] false) n (λ number b has starts. absurd (cc)) j k (saving_told a first j k c d calls)
 
 -- calls of the disk alone
 pub disk_keeps_end : (n : ℕ) (j k : Option (List Entry)) → Told j k (Since (IsOf OnDisk)) → KeepsEnd n j k

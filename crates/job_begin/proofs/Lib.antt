@@ -4,3 +4,4 @@ mod CellCounts
 mod CountLemmas
 pub mod EndLemmas
 pub mod RefusalLemmas
+pub mod StandLemmas

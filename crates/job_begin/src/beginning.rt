@@ -14,6 +14,8 @@ ghost use Rattle.job_begin.specs.Steps.{SavesFor, StartsFor, CountsEnd, EndsInRo
 ghost use Rattle.job_begin.specs.Steps.{Acknowledges, LeavesWhole, closing_saves, end_by};
 ghost use Rattle.job_saves.specs.Left.{IsLeft, output_at};
 ghost use Rattle.job_begin.specs.Steps.{BeginsInRole, LeavesNone};
+ghost use Rattle.job_begin.specs.Standing.{BeginsPlot, IsToBeginWith, BeginsAsPlot};
+ghost use Rattle.job_journal.specs.Plot.{Plot};
 ghost use Rattle.job_notebook.specs.State.{notebook_of, settled_of, merge_of, output_of, KeepsRead};
 ghost use Rattle.job_saves.specs.Calls.{Cast, IsCall};
 ghost use Rattle.job_saves.specs.Reads.{IsInputOf, IsNotebookOf, IsKernelOf, first_of};
@@ -91,6 +93,11 @@ pub fn begin<W: World>(
     ensures fresh { IfOk result (λ j. outcome_of j ≡ None) }
     ensures pings { IfOk result (λ j. pings_kernel j ≡ ask.heartbeat) }
     ensures ports { IfOk result (λ j. HasPorts number (ports_of_job j) (W.journal w.new)) }
+    // Where nothing had happened to the job of a plot, and its input gives the plot's notebook, it
+    // stands for the journal where it runs in the plot's session. Where it has ended, the texts that
+    // were saved are the first of the saves that are due.
+    ensures stands { (p : Plot) → Told (W.journal w.old) (W.journal w.new) (λ before after.
+        BeginsPlot p number ask before after → BeginsAsPlot p result after) }
 {
     laws::other_calls_pass();
     let Ok(output) = ask.output.copy(alloc) else {
@@ -197,6 +204,9 @@ fn begin_with<W: World>(
     ensures fresh { IfOk result (λ j. outcome_of j ≡ None) }
     ensures pings { IfOk result (λ j. pings_kernel j ≡ ask.heartbeat) }
     ensures ports { IfOk result (λ j. HasPorts number (ports_of_job j) (W.journal w.new)) }
+    ensures stands { (p : Plot) → Told (W.journal w.old) (W.journal w.new) (λ before after.
+        IsToBeginWith p number ask (first_of ask notebook) before →
+        BeginsAsPlot p result after) }
 {
     jobs_end_unsaved();
     if ask.prepare {
@@ -339,6 +349,8 @@ fn execute<W: World>(
     ensures fresh { IfOk result (λ j. outcome_of j ≡ None) }
     ensures pings { IfOk result (λ j. pings_kernel j ≡ ask.heartbeat) }
     ensures ports { IfOk result (λ j. HasPorts number (ports_of_job j) (W.journal w.new)) }
+    ensures stands { (p : Plot) → Told (W.journal w.old) (W.journal w.new) (λ before after.
+        IsToBeginWith p number ask notebook before → BeginsAsPlot p result after) }
 {
     laws::other_calls_pass();
     jobs_end_unsaved();

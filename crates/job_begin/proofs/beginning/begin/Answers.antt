@@ -1,6 +1,6 @@
 use Rattle.std.proofs.Common.{◌≡◌, None, refl, subst}
 use Rattle.world.specs.Moments.{start}
-use Rattle.world.proofs.MomentsLemmas.{told_start, told_as, told_both}
+use Rattle.world.proofs.MomentsLemmas.{told_start, told_as, told_both, told_then}
 use Rattle.job_saves.specs.Reads.{first_of}
 use Rattle.job_saves.proofs.TellingLemmas.{lacks_later}
 use Rattle.job_begin.specs.Begun.{AnswersAs, without}
@@ -14,6 +14,8 @@ use Rattle.std.specs.Prelude.{IfErr}
 use Rattle.job_end.specs.Answers.{Answers}
 use Rattle.job_saves.specs.Speaking.{IsAnswer}
 use Rattle.job_begin.proofs.RefusalLemmas.{starved_refuses, input_refuses, begun_refuses}
+use Rattle.job_begin.proofs.StandLemmas.{answer_begins, fresh_kept, plot_read}
+use Rattle.job_run.proofs.StartLemmas.{fresh_ends}
 use Rattle.job_begin.proofs.beginning.begin.Goals as goal
 
 pub returns-in_default-clause-begun : goal.returns-in_default-clause-begun
@@ -130,3 +132,24 @@ returns-in-Ok-input_of-clause-ports g c =
 pub returns-in-Ok-input_of-clause-pings : goal.returns-in-Ok-input_of-clause-pings
 returns-in-Ok-input_of-clause-pings g c =
     answered_ok c.in-Ok.output (λ j. pings_kernel j ≡ c.args.ask.heartbeat) c.begin_with-begun.result c.answer_of.result c.answer_of.ensures c.begin_with-begun.ensures.pings
+
+-- ---- what the job stands for
+
+pub returns-in_default-clause-stands : goal.returns-in_default-clause-stands
+returns-in_default-clause-stands g c p = told_start (λ now b. fresh_ends p now b.fresh)
+
+pub returns-in-Err-clause-stands : goal.returns-in-Err-clause-stands
+returns-in-Err-clause-stands g c p =
+    let e = c.in-Err.ensures in
+    told_as (told_both e.part (e.others p.ask.output)) (λ x y s b. fresh_ends p y (fresh_kept p x y s.0 s.1 b.fresh))
+
+pub returns-in-Ok-input_of-clause-stands : goal.returns-in-Ok-input_of-clause-stands
+returns-in-Ok-input_of-clause-stands g c p =
+    let a = c.args.ask in
+    let n = c.in-Ok-input_of.notebook in
+    let e = c.in-Ok-input_of.ensures in
+    let begun = c.begin_with-begun.result in
+    let so = c.begin_with-begun.ensures in
+    let added = told_appends a c.args.number c.args.here.now begun _ _ _ _ (so.calls (input_read a n _ _ e.read)) in
+    told_then (told_both e.read (told_both e.part (e.others p.ask.output))) (told_both (so.stands p) added)
+    (λ x y z s t b. answer_begins c.in-Ok.output p begun c.answer_of.result z c.answer_of.ensures (t.0 (plot_read p c.args.number a n x y z b s.0 s.1.0 s.1.1 t.1)))

@@ -6,7 +6,11 @@ use Rattle.job_begin.specs.Steps.{EndsCounted}
 use Rattle.job_saves.specs.Reads.{first_of}
 use Rattle.job_begin.specs.Begun.{counted_task, StartsWith, KernelEnds}
 use Rattle.std.specs.Prelude.{IfErr}
-use Rattle.job_begin.proofs.BeginLemmas.{none_started_in, input_prepared, end_unsaved, only_given}
+use Rattle.job_begin.proofs.BeginLemmas.{none_started_in, input_prepared, end_unsaved, only_given, saving_told}
+use Rattle.job_begin.specs.Standing.{BeginsAsPlot, IsToBeginWith}
+use Rattle.job_run.proofs.StartLemmas.{fresh_ends}
+use Rattle.world.specs.Moments.{Told}
+use Rattle.world.proofs.MomentsLemmas.{told_as, told_start}
 use Rattle.job_saves.specs.Course.{Ends}
 use Rattle.job_end.specs.declared.end.End.TheVariants as end
 use Rattle.job_begin.proofs.EndLemmas.{saving_in, uncaused_in, saving_ends}
@@ -98,3 +102,21 @@ returns-clause-counted g c o for s fresh =
 
 pub returns-clause-pings : goal.returns-clause-pings
 returns-clause-pings g c = c.execute.ensures.pings
+
+-- ---- what the job stands for
+
+pub returns-then-ask-clause-stands : goal.returns-then-ask-clause-stands
+returns-then-ask-clause-stands g c p =
+    told_as (saving_told c.args.ask c.args.notebook _ _ _ _ c.save_alone-saved.ensures.calls) (λ x y s t.
+    let no : true ≡ false = sym c.if-ask.true ∙ t.executes in absurd (cc))
+
+pub returns-in_default-clause-stands : goal.returns-in_default-clause-stands
+returns-in_default-clause-stands g c p = told_start (λ now t. fresh_ends p now t.fresh)
+
+pub returns-clause-stands : goal.returns-clause-stands
+returns-clause-stands g c p =
+    let a = c.args.ask in
+    let n = c.args.notebook in
+    let same : c.in-Ok.notebook ≡ first_of a n = c.in-Ok.ensures ∙ sym (ap (λ b. if b then n else prepared_notebook n) c.if-ask.false) in
+    subst (λ first. Told (g.W.Journal.journal c.args.w.now) (g.W.Journal.journal c.execute.new.w) (λ before after. IsToBeginWith p c.args.number a first before → BeginsAsPlot p c.execute.result after)) same
+    (c.execute.ensures.stands p)

@@ -1,6 +1,9 @@
 use Rattle.job_saves.proofs.CourseLemmas.{begins_pass}
 use Rattle.job_saves.proofs.TellingLemmas.{only_later}
-use Rattle.job_begin.proofs.BeginLemmas.{end_unsaved, disk_calls, disk_keeps_end, disk_asks_none, none_started_in, only_prepared}
+use Rattle.job_begin.proofs.BeginLemmas.{end_unsaved, disk_calls, disk_keeps_end, disk_asks_none, none_started_in, only_prepared, saving_told}
+use Rattle.job_begin.proofs.StandLemmas.{fresh_kept, has_cells, start_begins}
+use Rattle.job_run.proofs.StartLemmas.{fresh_ends}
+use Rattle.world.proofs.MomentsLemmas.{told_as, told_both, told_start, told_then}
 use Rattle.job_run.proofs.LaunchLemmas.{ends_then}
 use Rattle.job_run.proofs.TurnLemmas.{new_passes, begins_rested}
 use Rattle.job_begin.proofs.CauseLemmas.{saving_caused}
@@ -117,3 +120,26 @@ returns-in-Err-clause-counted g c o for s fresh = uncaused_counts o (counted_tas
 
 pub returns-in-Ok-kernel_of-clause-pings : goal.returns-in-Ok-kernel_of-clause-pings
 returns-in-Ok-kernel_of-clause-pings g c = c.start.ensures.pings
+
+-- ---- what the job stands for
+
+pub returns-in_default-clause-stands : goal.returns-in_default-clause-stands
+returns-in_default-clause-stands g c p = told_start (λ now t. fresh_ends p now t.fresh)
+
+pub returns-then-len-eq0-clause-stands : goal.returns-then-len-eq0-clause-stands
+returns-then-len-eq0-clause-stands g c p =
+    let a = c.args.ask in
+    let n = c.args.notebook in
+    let none : length (plan n) ≡ 0 = omega (arith, ap (λ (xs : List ℕ). length xs) c.in-Ok.ensures, c.len.ensures, c.if-len-eq0.true) in
+    told_as (saving_told a n _ _ _ _ c.save_twice-saved.ensures.calls) (λ x y s t. absurd (has_cells p c.args.number a n x t none))
+
+pub returns-in-Ok-kernel_of-clause-stands : goal.returns-in-Ok-kernel_of-clause-stands
+returns-in-Ok-kernel_of-clause-stands g c p =
+    let e = c.kernel_of.ensures in
+    told_then (told_both e.part (e.others p.ask.output)) (c.start.ensures.stands p)
+    (λ x y z s so t. start_begins p c.start.result z (so t.plot (fresh_kept p x y s.0 s.1 t.fresh)))
+
+pub returns-in-Err-clause-stands : goal.returns-in-Err-clause-stands
+returns-in-Err-clause-stands g c p =
+    let e = c.kernel_of.ensures in
+    told_as (told_both e.part (e.others p.ask.output)) (λ x y s t. fresh_ends p y (fresh_kept p x y s.0 s.1 t.fresh))
