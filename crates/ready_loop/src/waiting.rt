@@ -1,7 +1,7 @@
 //! Waiting, and taking over what a wait reported.
-ghost use Rattle.std.specs.Prelude.{◌≡◌, ◌↔◌, ◌-◌, ◌<◌, ◌≤◌, ℕ, Err};
+ghost use Rattle.std.specs.Prelude.{◌≡◌, ◌↔◌, ◌-◌, ◌<◌, ◌≤◌, ℕ, Err, IfOk};
 ghost use Rattle.world.specs.Counts.{CountsBy, WaitCause};
-ghost use Rattle.world.specs.Places.{is_reported};
+ghost use Rattle.world.specs.Places.{is_reported, time};
 ghost use Rattle.ready_loop.specs.Link.{wait_link};
 ghost use Rattle.ready_loop.specs.Standing.{CallsOfLoop};
 ghost use Rattle.world.specs.Told.{Between};
@@ -20,6 +20,9 @@ impl Loop {
         // One wait, with exactly the limit of the timers, and the clock directly behind it.
         ensures turned { Between W.journal w.old w.new
             (Turned due result (W.counts w.old).last self.old self.new) }
+        // The moment that it gives is no earlier than the journal's time before.
+        ensures rises { IfOk result (λ ms.
+            Between W.journal w.old w.new (λ before _. time before ≤ ms)) }
 
         // `Spent` exactly where no wait is left, and then nothing changes.
         ensures spent { (result ≡ Err LoopFault.Spent) ↔ (waits_left self.old ≡ 0) }
