@@ -176,3 +176,24 @@ turned_run p j ms entry now quiet t = record {
   rises = t.rises;
   since = more t.since (quiet_kind (facts p) entry now quiet);
 }
+
+-- ---- the clock, after its begin
+
+told_clock : (p : Plot) (number : ℕ) (x y : Execution) (ms : ℕ) (now : List Entry) → y ≡ record x { clock = y.clock } → (x.clock ≤ ms → y.clock ≡ ms) → time now ≡ ms → StandsUntold p number x now
+    → Stands p number y now
+told_clock p number x y ms now rest turns at u =
+    let clock : y.clock ≡ time now = turns (subst (λ n. x.clock ≤ n) at u.earlier) ∙ sym at in
+    let is : y ≡ record x { clock = time now } = rest ∙ ap (λ (n : ℕ). record x { clock = n }) clock in
+    subst (λ (v : Execution). Stands p number v now) (sym is) u.stands
+
+-- a job was told the moment of the last clock entry
+pub job_clocked : (p : Plot) (was now : Job) (ms : ℕ) (journal : List Entry) → now.number ≡ was.number → now.outcome ≡ was.outcome → now.run ≡ record was.run { clock = now.run.clock }
+    → (was.run.clock ≤ ms → now.run.clock ≡ ms) → time journal ≡ ms → JobStandsUntold p was journal → JobStands p now journal
+job_clocked p was now ms journal number outcome rest turns at s = record {
+  number_is = number ∙ s.number_is;
+  undated = s.undated;
+  runs = λ e.
+      subst (λ n. Stands p n now.run journal) (sym number)
+      (told_clock p was.number was.run now.run ms journal rest turns at (s.runs (ap (λ (a : Option Answer). is_some a) (sym outcome) ∙ e)));
+  ended = λ e. s.ended (ap (λ (a : Option Answer). is_some a) (sym outcome) ∙ e);
+}

@@ -15,6 +15,7 @@ pub mod OutcomeLemmas
 pub mod PartLemmas
 pub mod PieceLemmas
 pub mod QueueLemmas
+pub mod ReadLemmas
 pub mod ReadyLemmas
 pub mod RunLemmas
 pub mod SaveLemmas

@@ -1,5 +1,5 @@
 -- What the status of a job says of its saves.
-use Rattle.std.proofs.Common.{◌≡◌, inl, inr, ℕ, ◌==◌, ◌||◌, Bool, true, false, List, Result, Ok, Err, refl, sym, ap, subst, ◌∙◌}
+use Rattle.std.proofs.Common.{◌≡◌, inl, inr, ℕ, ◌==◌, ◌||◌, Bool, true, false, List, Option, Some, None, Result, Ok, Err, refl, sym, ap, subst, ◌∙◌}
 use Rattle.std.specs.Prelude.{IfErr}
 use Rattle.nb_load.specs.declared.load_fault.LoadFault.{LoadFault}
 use Rattle.nb_load.specs.declared.load_fault.LoadFault.TheVariants as load
@@ -140,3 +140,10 @@ not_lost task r own is = subst (λ q. IfErr q (EndsBy task)) is own
 
 pub not_spent : {A : Type 0} (task : Task) (r : Result A End) → IfErr r (EndsBy task) → r ≡ Err end.Spent → ⊥
 not_spent task r own is = subst (λ q. IfErr q (EndsBy task)) is own
+
+-- a job has ended with one answer
+pub answer_same : (outcome : Option Answer) (a b : Answer) → outcome ≡ Some a → outcome ≡ Some b → a ≡ b
+answer_same outcome a b is at = let both : Some a ≡ Some b = sym is ∙ at in cc
+
+pub some_none : (outcome : Option Answer) (a : Answer) → outcome ≡ Some a → outcome ≡ None → ⊥
+some_none outcome a is none = let both : Some a ≡ None = sym is ∙ none in absurd (cc)

@@ -37,3 +37,12 @@ disk_portless e = absurd (cc)
 
 pub kids_portless : OnKids ≢ OnWire
 kids_portless e = absurd (cc)
+
+pub disk_unclocked : OnDisk ≢ OnClock
+disk_unclocked e = absurd (cc)
+
+pub say_unclocked : OnSay ≢ OnClock
+say_unclocked e = absurd (cc)
+
+pub kids_unclocked : OnKids ≢ OnClock
+kids_unclocked e = absurd (cc)

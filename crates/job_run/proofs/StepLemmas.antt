@@ -4,6 +4,8 @@ use Rattle.std.proofs.lemmas.Result.{err_from_is_err_and}
 use Rattle.std.specs.Result.{IsErrAnd}
 use Rattle.world.specs.declared.entry.Entry.{Entry}
 use Rattle.world.specs.Counts.{Counts}
+use Rattle.world.specs.Moments.{start}
+use Rattle.world.proofs.MomentsLemmas.{since_then, told_start, told_then}
 use Rattle.cell_core.specs.declared.act.Act.{Act}
 use Rattle.cell_core.specs.declared.act.Act.TheVariants.{Nothing}
 use Rattle.cell_core.specs.StandsFor.{task_of}
@@ -14,7 +16,7 @@ use Rattle.job_saves.specs.Left.{OutputAt}
 use Rattle.job_run.specs.declared.execution.Execution.{Execution}
 use Rattle.job_run.specs.Counted.{IsCounted, KeepsTold}
 use Rattle.job_run.specs.Held.{Holds, IsCalm}
-use Rattle.job_run.specs.Steps.{Proceeds}
+use Rattle.job_run.specs.Steps.{Proceeds, ProceedsFirst}
 use Rattle.job_run.proofs.CountLemmas.{counts_by, counts_kept, told_counted, starved_on}
 
 module _ {W : Type 0} {journal : W → Option (List Entry)} {tally : W → Counts} where
@@ -22,6 +24,25 @@ module _ {W : Type 0} {journal : W → Option (List Entry)} {tally : W → Count
   pub goes_then : {U V : Type 0} {p q r : W} {x y z : Execution} {act : Act} {u : U} {result : Result V End}
       → Proceeds journal tally p q x y act (Ok u) → Proceeds journal tally q r y z Nothing result → Proceeds journal tally p r x z act result
   goes_then g h = record {
+    holds = h.holds;
+    calm = h.calm;
+    course = λ o s. h.course o (g.course o s);
+    calls = λ cast since from s. h.calls cast since from (g.calls cast since from s);
+    task = h.task ∙ g.task;
+    terms = h.terms ∙ g.terms;
+    own = h.own;
+    counts = λ o on s at. h.counts o on (g.course o s) (g.counts o on s at);
+    clock = told_then g.clock h.clock (λ a b c v w. since_then v w);
+  }
+
+  -- a step may read the clock
+  pub goes_first : {U : Type 0} {p q : W} {x y : Execution} {act : Act} {result : Result U End} → Proceeds journal tally p q x y act result → ProceedsFirst journal tally p q x y act result
+  goes_first g = record { holds = g.holds; calm = g.calm; course = g.course; calls = g.calls; task = g.task; terms = g.terms; own = g.own; counts = g.counts }
+
+  -- one step, and then another that may read the clock
+  pub goes_reading : {U V : Type 0} {p q r : W} {x y z : Execution} {act : Act} {u : U} {result : Result V End}
+      → Proceeds journal tally p q x y act (Ok u) → ProceedsFirst journal tally q r y z Nothing result → ProceedsFirst journal tally p r x z act result
+  goes_reading g h = record {
     holds = h.holds;
     calm = h.calm;
     course = λ o s. h.course o (g.course o s);
@@ -43,6 +64,7 @@ module _ {W : Type 0} {journal : W → Option (List Entry)} {tally : W → Count
     terms = refl;
     own = tt;
     counts = λ o on s at. at;
+    clock = told_start (λ now. start);
   }
 
   -- memory was wanted
@@ -56,6 +78,7 @@ module _ {W : Type 0} {journal : W → Option (List Entry)} {tally : W → Count
     terms = refl;
     own = tt;
     counts = λ o on s at. starved_on U o x (journal p);
+    clock = told_start (λ now. start);
   }
 
   -- a step after what has changed the core alone, which counts as many saves as before
@@ -70,6 +93,7 @@ module _ {W : Type 0} {journal : W → Option (List Entry)} {tally : W → Count
     terms = g.terms ∙ terms;
     own = g.own;
     counts = λ o on s at. g.counts o on (subst (λ k. Stands o k true (journal p) (tally p)) (sym book) s) (counts_by o x y a b (journal p) counts at);
+    clock = g.clock;
   }
 
   -- a step after what has changed neither the core nor the notebook
@@ -89,6 +113,7 @@ module _ {W : Type 0} {journal : W → Option (List Entry)} {tally : W → Count
     terms = g.terms ∙ told.terms;
     own = g.own;
     counts = λ o on s at. g.counts o on (stays o true (journal p) (tally p) s) (counts_kept o x y act (journal p) told at);
+    clock = g.clock;
   }
 
   -- where memory was wanted or the job has ended, and that is passed on

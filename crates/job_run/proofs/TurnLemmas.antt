@@ -1,5 +1,5 @@
 -- How many saves the core of a job was told of, and what they left, over its calls.
-use Rattle.std.proofs.Common.{◌≡◌, ℕ, Bool, true, false, List, Option, Some, None, Result, Ok, Err, sym, ap, subst, ◌∙◌}
+use Rattle.std.proofs.Common.{◌≡◌, ◌≤◌, ℕ, Bool, true, false, List, Option, Some, None, Result, Ok, Err, sym, ap, subst, ◌∙◌}
 use Rattle.std.specs.Prelude.{is_some, IfSome, IfErr}
 use Rattle.world.specs.declared.entry.Entry.{Entry}
 use Rattle.world.specs.Moments.{Since, Told}
@@ -24,7 +24,7 @@ use Rattle.job_saves.proofs.TellingLemmas.{spared_count}
 use Rattle.job_run.specs.Counted.{IsCounted, IsCountedIn, IsCountedOn, IsCountedBy, IsCausedAfter, IsCountedAt, CountsOn, EndsAfter, EndsJobAfter, StartsAfter}
 use Rattle.job_run.specs.Run.{IsNew, BeginsNew, StartsCounted, CountsAll}
 use Rattle.job_run.specs.Told.{IsOutside, IsEndOfLaunch, EndsJob}
-use Rattle.job_run.proofs.CountLemmas.{end_caused, starved_after, in_later}
+use Rattle.job_run.proofs.CountLemmas.{end_caused, later_counts, starved_after, in_later}
 use Rattle.job_run.specs.declared.execution.Execution.{Execution}
 
 -- ---- calls that don't touch the output
@@ -246,3 +246,14 @@ start_status n task end.Spent s = absurd s
 pub start_after : (n : OutputAt) (task : Task) (output : List ℕ) (e : End) (a : Answer) → Answers output e a → StartsAfter n task e → IsCausedAfter n task a.status
 start_after n task output e _ said s = start_status n task e s
 start_after n task output e _ starved s = λ cause is. absurd (cc)
+
+-- ---- the clock of an execution is turned
+
+turned_in : (out : Option Answer) (x y : Execution) (n : OutputAt) → y.core ≡ x.core → x.clock ≤ y.clock → y.broken ≡ x.broken → IsCountedIn out x n → IsCountedIn out y n
+turned_in None x y n core later broken i = later_counts x y n core later broken i
+turned_in (Some a) x y n core later broken i = subst (λ k. IsCausedAfter n (task_of k) a.status) (sym core) i
+
+pub turned_counts : (o : Origin) (out : Option Answer) (x y : Execution) (j : Option (List Entry)) → y.core ≡ x.core → x.clock ≤ y.clock → y.broken ≡ x.broken
+    → IfSome j (λ past. IsCountedIn out x (output_at o past)) → IfSome j (λ past. IsCountedIn out y (output_at o past))
+turned_counts o out x y j core later broken h =
+    told_as j (λ past. IsCountedIn out x (output_at o past)) (λ past. IsCountedIn out y (output_at o past)) (λ past i. turned_in out x y (output_at o past) core later broken i) h

@@ -3,6 +3,7 @@ use Rattle.std.specs.Prelude.{◌≡◌, List, true, Option, Result, OnOk, IfErr
 use Rattle.world.specs.declared.entry.Entry.{Entry}
 use Rattle.world.specs.Counts.{Counts}
 use Rattle.world.specs.Moments.{Told, Since}
+use Rattle.world.specs.Parts.{IsNotOf, OnClock}
 use Rattle.cell_core.specs.declared.act.Act.{Act}
 use Rattle.cell_core.specs.StandsFor.{task_of}
 use Rattle.job_end.specs.declared.end.End.{End}
@@ -19,8 +20,33 @@ use Rattle.job_run.specs.Told.{EndsBy}
 use Rattle.job_run.specs.declared.execution.Execution.{Execution}
 use Rattle.job_run.specs.declared.job.Job.{Job}
 
+-- no call reads the clock since
+abbrev pub ReadsNoClock : {W : Type 0} → (W → Option (List Entry)) → W → W → Type 0
+ReadsNoClock journal old new = Told (journal old) (journal new) (Since (IsNotOf OnClock))
+
 -- a step that did this act goes on with what stood before it, and was answered so
 pub record Proceeds {W U : Type 0} (journal : W → Option (List Entry)) (tally : W → Counts) (old new : W) (was now : Execution) (act : Act) (result : Result U End) : Type 0 where
+  -- the parts of the execution agree
+  pub holds : Holds now
+  -- no save is awaited where the job goes on
+  pub calm : OnOk result (IsCalm now)
+  -- its saves go on with the course of the job
+  pub course : GoesOn journal tally old new was.book now.book (stays_open result)
+  -- its calls are those of the job
+  pub calls : CallsOwn journal tally old new was.book now.book
+  -- the core has the task that it had
+  pub task : task_of now.core ≡ task_of was.core
+  -- what is asked of it stays
+  pub terms : now.terms ≡ was.terms
+  -- where the job ends, it ends as a run does
+  pub own : IfErr result (EndsBy (task_of now.core))
+  -- the core was told of as many saves as were acknowledged, and they left what it has asked for, where it was so
+  pub counts : (o : Origin) → o.is_watched ≡ true → Stands o was.book true (journal old) (tally old) → IsCountedAt o was act (journal old) → CountsOn o now result (journal new)
+  -- its calls are none of the clock
+  pub clock : ReadsNoClock journal old new
+
+-- the same of a step that may read the clock, as the first one of a job does
+pub record ProceedsFirst {W U : Type 0} (journal : W → Option (List Entry)) (tally : W → Counts) (old new : W) (was now : Execution) (act : Act) (result : Result U End) : Type 0 where
   -- the parts of the execution agree
   pub holds : Holds now
   -- no save is awaited where the job goes on
@@ -72,6 +98,8 @@ pub record JobGoesOn {W U E : Type 0} (journal : W → Option (List Entry)) (tal
   pub course : RunsOn journal tally old new was now
   -- the calls are its own
   pub calls : CallsInRole journal tally old new was now
+  -- none of them is of the clock
+  pub clock : ReadsNoClock journal old new
   -- what it is to do stays
   pub keeps : JobKeeps was now
   -- it ends at most once, and where memory is refused it has ended by that

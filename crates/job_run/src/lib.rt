@@ -10,6 +10,7 @@ mod fresh;
 mod hearing;
 mod histories;
 mod job;
+mod launching;
 pub mod laws;
 mod look;
 mod outcome;

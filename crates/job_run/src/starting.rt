@@ -10,7 +10,7 @@ ghost use Rattle.words.specs.Paths.{connection_of};
 ghost use Rattle.words.specs.Runnable.{IsRunnable};
 ghost use Rattle.job_notebook.specs.State.{merge_of, output_of, KeepsRead};
 ghost use Rattle.job_saves.specs.Calls.{Cast};
-ghost use Rattle.job_saves.specs.Children.{HasEnd, KeepsEnd};
+ghost use Rattle.job_saves.specs.Children.{KeepsEnd};
 ghost use Rattle.job_saves.specs.Sessions.{key_of};
 ghost use Rattle.kernel_start.specs.RandomWords.{Draws};
 ghost use Rattle.job_saves.specs.Course.{Origin, Stands, HasPart, CountsWork, stays_open};
@@ -19,7 +19,7 @@ ghost use Rattle.job_run.specs.Told.{StartsBy, IsEndOfLaunch};
 ghost use Rattle.job_run.specs.Held.{Holds, IsCalm, IsFirst};
 ghost use Rattle.job_run.specs.Task.{task_of_job, output_of_job, ports_of_job, pings_kernel};
 ghost use Rattle.job_run.specs.Task.{task_for, task_in, terms_of_job, AreTermsOf};
-ghost use Rattle.job_run.specs.Run.{Runs, IsRole, HasRole, MayStart, StartsAs, StartsInRole};
+ghost use Rattle.job_run.specs.Run.{IsRole, MayStart, StartsAs, StartsInRole};
 ghost use Rattle.job_run.specs.Run.{BeginsNew, StartsCounted, HasPorts, HasNoPorts, EndCause};
 ghost use Rattle.job_run.specs.Run.{number_of, outcome_of};
 ghost use Rattle.std.specs.Prelude.{[]};
@@ -27,17 +27,14 @@ ghost use Rattle.world.specs.declared.chan.Chan.{Chan as Channel};
 ghost use Rattle.jsign.specs.History.{StandsFor as SeenFor};
 ghost use Rattle.kernel_lines.specs.Line.{StandsFor as LineStandsFor, role_of};
 ghost use Rattle.kernel_lines.specs.Lines.{line_on, role_on};
-ghost use Rattle.run_journal.specs.Job.{Job as Facts};
 ghost use Rattle.run_journal.specs.Requests.{requests};
 ghost use Rattle.job_journal.specs.Plot.{Plot, facts};
-ghost use Rattle.job_journal.specs.Quiet.{IsQuietNow};
 ghost use Rattle.job_run.specs.Beginning.{BeginsOrEnds, IsFresh, IsToBegin, IsUnbegun, SpeaksOn};
-ghost use Rattle.job_run.specs.JobStanding.{JobStands};
 
 use crate::execution::Execution;
 use crate::histories::Histories;
+use crate::launching::with_kernel;
 use crate::look::Look;
-use crate::outcome::{end_of_file, end_of_start};
 use crate::paths::Paths;
 use crate::terms::Terms;
 use crate::{Agenda, Job};
@@ -47,7 +44,7 @@ use job_notebook::JobNotebook;
 use job_saves::laws;
 use jtext::{NoMemory, Text};
 use kernel_lines::Lines;
-use kernel_start::{Kernel, RandomPairs, connection_path, random_pairs, write_connection};
+use kernel_start::{Kernel, RandomPairs, connection_path, random_pairs};
 use kernel_talk::{Asking, Pings, Session};
 use std::alloc::Global;
 use words::Ask;
@@ -63,20 +60,15 @@ impl Job {
     ghost use Rattle.job_saves.specs.Children.{KeepsEnd};
     ghost use Rattle.job_saves.specs.Sessions.{HasDrawn};
     ghost use Rattle.job_run.specs.Run.{IsCastAs, BeginsNew, StartsAs, StartsCounted, StartsInRole};
-    ghost use Rattle.job_run.specs.Run.{RunsOn};
-    ghost use Rattle.job_run.specs.Run.{LaunchesInRole, LaunchesOnPorts, RunsInRole, WritesInRole};
-    ghost use Rattle.job_run.specs.Run.{ReadiesIn, HasNoChild, HasNoPorts, EndCause, number_of};
-    ghost use Rattle.job_run.specs.Run.{EndsLaunch, OnlyReads};
-    ghost use Rattle.job_run.specs.Run.{HasPorts, KeepsPorts, outcome_of};
+    ghost use Rattle.job_run.specs.Run.{HasNoChild, HasNoPorts, EndCause};
+    ghost use Rattle.job_run.specs.Run.{OnlyReads};
+    ghost use Rattle.job_run.specs.Run.{HasPorts, outcome_of};
     ghost use Rattle.job_run.specs.Task.{task_of_job, output_of_job, ports_of_job, task_for};
     ghost use Rattle.job_run.specs.Task.{pings_kernel, terms_of_job, AreTermsOf};
     ghost use Rattle.job_run.specs.Told.{StartsBy};
-    ghost use Rattle.world.specs.Moments.{Since, Told};
-    ghost use Rattle.run_journal.specs.Job.{Job as Facts};
+    ghost use Rattle.world.specs.Moments.{Told};
     ghost use Rattle.job_journal.specs.Plot.{Plot};
-    ghost use Rattle.job_journal.specs.Quiet.{IsQuietNow};
     ghost use Rattle.job_run.specs.Beginning.{IsFresh, IsPlotOf, StartsOrEnds};
-    ghost use Rattle.job_run.specs.JobStanding.{KeepsStanding};
 
     /// Saves the notebook with no cell settled and starts the kernel that was found for it. Where
     /// the start fails nothing is left of the kernel. `here` is the working folder.
@@ -183,84 +175,13 @@ impl Job {
             Err(NoMemory) => Err(End::NoMemory),
         }
     }
-
-    // Draws the ports, writes the connection file and starts the child.
-    fn launch<W: World>(&mut self, w: &mut W, kernel: &Kernel, here: &Text) -> Result<(), End>
-        ensures course { RunsOn W.journal W.counts w.old w.new self.old self.new }
-        ensures calls { LaunchesInRole W.journal W.counts w.old w.new kernel.now here.now
-            self.old self.new }
-        ensures number { number_of self.new ≡ number_of self.old }
-        ensures outcome { outcome_of self.new ≡ outcome_of self.old }
-        ensures task { task_of_job self.new ≡ task_of_job self.old }
-        ensures pings { pings_kernel self.new ≡ pings_kernel self.old }
-        ensures terms { terms_of_job self.new ≡ terms_of_job self.old }
-        ensures output { output_of_job self.new ≡ output_of_job self.old }
-        ensures ports { IfOk result (λ _.
-            HasPorts (number_of self.new) (ports_of_job self.new) (W.journal w.new)) }
-        ensures ends { EndsLaunch (W.counts w.old) (W.counts w.new) result }
-        ensures run { self.new.run ≡ self.old.run }
-        ensures keeps { KeepsStanding self.old self.new }
-        ensures quiet { (facts : Facts) →
-            Told (W.journal w.old) (W.journal w.new) (Since (IsQuietNow facts)) }
-    {
-        match w.free_ports(self.number) {
-            Some(ports) => {
-                self.ports = ports;
-                self.start_on_ports(w, kernel, here)
-            }
-            None => Err(End::NetFault),
-        }
-    }
-
-    // Writes the connection file and starts the child.
-    fn start_on_ports<W: World>(&self, w: &mut W, kernel: &Kernel, here: &Text) -> Result<(), End>
-        ensures course { RunsOn W.journal W.counts w.old w.new self.now self.now }
-        ensures calls { LaunchesOnPorts W.journal W.counts w.old w.new kernel.now here.now
-            self.now }
-        ensures given { KeepsPorts W.journal w.old w.new }
-        ensures ends { EndsLaunch (W.counts w.old) (W.counts w.new) result }
-        ensures quiet { (facts : Facts) →
-            Told (W.journal w.old) (W.journal w.new) (Since (IsQuietNow facts)) }
-    {
-        match self.write_file(w) {
-            Ok(()) => self.start_child(w, kernel, here),
-            Err(end) => Err(end),
-        }
-    }
-
-    fn write_file<W: World>(&self, w: &mut W) -> Result<(), End>
-        ensures course { RunsOn W.journal W.counts w.old w.new self.now self.now }
-        ensures calls { WritesInRole W.journal W.counts w.old w.new self.now }
-        ensures ready { IfOk result (λ _. ReadiesIn W.journal w.old w.new self.now) }
-        ensures left { KeepsEnd (number_of self.now) (W.journal w.old) (W.journal w.new) }
-        ensures given { KeepsPorts W.journal w.old w.new }
-        ensures ends { EndsLaunch (W.counts w.old) (W.counts w.new) result }
-        ensures quiet { (facts : Facts) →
-            Told (W.journal w.old) (W.journal w.new) (Since (IsQuietNow facts)) }
-    {
-        let key = self.run.session.key();
-        let path = &self.paths.connection;
-        end_of_file(write_connection(self.alloc, w, path, self.ports, key))
-    }
-
-    fn start_child<W: World>(&self, w: &mut W, kernel: &Kernel, here: &Text) -> Result<(), End>
-        ensures course { RunsOn W.journal W.counts w.old w.new self.now self.now }
-        ensures calls { RunsInRole W.journal W.counts w.old w.new kernel.now here.now self.now }
-        ensures given { KeepsPorts W.journal w.old w.new }
-        ensures ends { EndsLaunch (W.counts w.old) (W.counts w.new) result }
-        ensures quiet { (facts : Facts) →
-            Told (W.journal w.old) (W.journal w.new) (Since (IsQuietNow facts)) }
-    {
-        let path = &self.paths.connection;
-        end_of_start(kernel.start(self.alloc, w, self.number, here, path, &self.paths.cwd))
-    }
 }
 
 impl Execution {
     ghost use Rattle.std.specs.Prelude.{◌≡◌, OnOk};
     ghost use Rattle.job_run.specs.Held.{Holds, IsCalm, IsFirst};
     ghost use Rattle.cell_core.specs.declared.act.Act.TheVariants.{Nothing};
-    ghost use Rattle.job_run.specs.Steps.{Proceeds, OnlySaves};
+    ghost use Rattle.job_run.specs.Steps.{ProceedsFirst, OnlySaves};
     ghost use Rattle.std.specs.Prelude.{ℕ};
     ghost use Rattle.job_journal.specs.Plot.{Plot};
     ghost use Rattle.world.specs.Moments.{Told};
@@ -270,7 +191,8 @@ impl Execution {
     /// Saves the notebook with no cell settled, and reads the clock once.
     fn save_first<W: World>(&mut self, w: &mut W) -> Result<(), End>
         requires first { IsFirst self.old }
-        ensures goes { Proceeds W.journal W.counts w.old w.new self.old self.new Nothing result }
+        ensures goes { ProceedsFirst W.journal W.counts w.old w.new self.old self.new Nothing
+            result }
         ensures saves { OnlySaves W.journal w.old w.new self.old.book }
         ensures key { OnOk result (self.new.session.key ≡ self.old.session.key) }
         ensures name { OnOk result (self.new.session.name ≡ self.old.session.name) }
@@ -286,7 +208,8 @@ impl Execution {
     fn read_clock<W: World>(&mut self, w: &mut W) -> Result<(), End>
         requires holds { Holds self.old }
         requires calm { IsCalm self.old }
-        ensures goes { Proceeds W.journal W.counts w.old w.new self.old self.new Nothing result }
+        ensures goes { ProceedsFirst W.journal W.counts w.old w.new self.old self.new Nothing
+            result }
         ensures saves { OnlySaves W.journal w.old w.new self.old.book }
         ensures key { OnOk result (self.new.session.key ≡ self.old.session.key) }
         ensures name { OnOk result (self.new.session.name ≡ self.old.session.name) }
@@ -369,45 +292,6 @@ fn job_of(alloc: Global, number: u8, paths: Paths, run: Execution) -> Job
         run,
         look: Look::Still,
         outcome: None,
-    }
-}
-
-/// The job whose kernel was started. Where its start fails nothing is left of it.
-fn with_kernel<W: World>(job: Job, w: &mut W, kernel: &Kernel, here: &Text) -> Result<Job, End>
-    requires { outcome_of job ≡ None }
-    ensures course { (o : Origin) → Runs o job (W.journal w.old) (W.counts w.old) →
-        StartsAs o result (W.journal w.new) (W.counts w.new) }
-    ensures calls { (c : Cast) (since : List Entry) (from : Counts) →
-        MayStart c (number_of job) kernel.now here.now job.run (W.journal w.old) →
-        HasNoPorts c (number_of job) (W.journal w.old) →
-        HasRole c since from job (W.journal w.old) (W.counts w.old) →
-        StartsInRole c since from result (W.journal w.new) (W.counts w.new) }
-    ensures left { IfErr result (λ _. HasEnd (number_of job) (W.journal w.new)) }
-    ensures cause { IfErr result (EndCause (W.counts w.old) (W.counts w.new)) }
-    ensures own { IfErr result IsEndOfLaunch }
-    ensures task { IfOk result (λ j. task_of_job j ≡ task_of_job job) }
-    ensures output { IfOk result (λ j. output_of_job j ≡ output_of_job job) }
-    ensures fresh { IfOk result (λ j. outcome_of j ≡ None) }
-    ensures pings { IfOk result (λ j. pings_kernel j ≡ pings_kernel job) }
-    ensures terms { IfOk result (λ j. terms_of_job j ≡ terms_of_job job) }
-    ensures ports { IfOk result (λ j.
-        HasPorts (number_of job) (ports_of_job j) (W.journal w.new)) }
-    ensures stands { (p : Plot) → Told (W.journal w.old) (W.journal w.new) (λ before after.
-        JobStands p job before → BeginsOrEnds p result after) }
-    ensures quiet { (facts : Facts) →
-        Told (W.journal w.old) (W.journal w.new) (Since (IsQuietNow facts)) }
-    ensures speaks { IfOk result (SpeaksOn job.run) }
-{
-    laws::jobs_begin_and_end();
-    let mut job = job;
-    match job.launch(w, kernel, here) {
-        Ok(()) => Ok(job),
-        Err(end) => {
-            job.end_child(w);
-            // By a call, as where a job ends.
-            drop(job);
-            Err(end)
-        }
     }
 }
 

@@ -36,7 +36,7 @@ impl Execution {
     ghost use Rattle.cell_core.specs.Stops.{stopping_of};
     ghost use Rattle.job_saves.specs.Course.{stays_open, keeps_open};
     ghost use Rattle.cell_core.specs.declared.act.Act.TheVariants.{Nothing};
-    ghost use Rattle.job_run.specs.Steps.{Proceeds, OnlySaves};
+    ghost use Rattle.job_run.specs.Steps.{Proceeds, OnlySaves, ReadsNoClock};
     ghost use Rattle.job_run.specs.Used.{TakesEvent};
     ghost use Rattle.world.specs.declared.entry.Entry.{Entry};
     ghost use Rattle.cell_core.specs.Answering.{can_answer};
@@ -149,6 +149,7 @@ impl Execution {
             (stays_open result) }
         ensures calls { CallsOwn W.journal W.counts w.old w.new self.old.book self.new.book }
         ensures saves { OnlySaves W.journal w.old w.new self.old.book }
+        ensures reads { ReadsNoClock W.journal w.old w.new }
         ensures task { task_of self.new.core ≡ task_of self.old.core }
         ensures terms { self.new.terms ≡ self.old.terms }
         ensures own { IfErr result (EndsBy (task_of self.new.core)) }

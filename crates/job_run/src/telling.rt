@@ -9,7 +9,8 @@ use jtext::{Bytes, NoMemory};
 use world::{Chan, Disk, Kids, Say};
 
 impl Job {
-    ghost use Rattle.std.specs.Prelude.{◌≡◌, ◌<◌, ◌^◌, List, true, false, Some, is_some, OnOk, OnErr};
+    ghost use Rattle.std.specs.Prelude.{◌≡◌, ◌<◌, ◌^◌, List, true, false, None, Some};
+    ghost use Rattle.std.specs.Prelude.{is_some, OnOk, OnErr};
     ghost use Rattle.world.specs.declared.entry.Entry.{Entry};
     ghost use Rattle.world.specs.Counts.{Counts, CountsGrow};
     ghost use Rattle.job_saves.specs.Calls.{Cast};
@@ -17,6 +18,7 @@ impl Job {
     ghost use Rattle.job_saves.specs.Course.{Origin, HasCalled, keeps_open};
     ghost use Rattle.job_run.specs.Task.{task_of_job, output_of_job, ports_of_job};
     ghost use Rattle.job_run.specs.Task.{pings_kernel};
+    ghost use Rattle.job_end.specs.declared.answer.Answer.{Answer as TheAnswer};
     ghost use Rattle.job_end.specs.declared.end.End.TheVariants as ending;
     ghost use Rattle.job_run.specs.Told.{IsOutside, IsEnding};
     ghost use Rattle.job_run.specs.Run.{Runs, RunsOn, KeepsRun, EndsWith, EndsOnce};
@@ -27,6 +29,7 @@ impl Job {
     ghost use Rattle.job_run.specs.Due.{IsDue, WantsLook};
     ghost use Rattle.job_run.specs.Queues.{HandsOutOn, NotesTaken};
     ghost use Rattle.world.specs.Moments.{Since, Told};
+    ghost use Rattle.world.specs.Places.{time};
     ghost use Rattle.run_journal.specs.Job.{Job as Facts};
     ghost use Rattle.job_journal.specs.Plot.{Plot};
     ghost use Rattle.job_journal.specs.Quiet.{IsQuietNow};
@@ -86,6 +89,24 @@ impl Job {
         ensures notes { NotesTaken chan taken self.old self.new }
     {
         self.run.lines.on_taken(chan, taken);
+    }
+
+    /// The clock stands at this moment, which the job has still to be told after its begin.
+    pub fn read_clock(&mut self, ms: u64)
+        requires { ms < 2 ^ 47 }
+        ensures course { KeepsRun self.old self.new }
+        ensures calls { KeepsRole self.old self.new }
+        ensures keeps { JobKeeps self.old self.new }
+        ensures outcome { outcome self.new ≡ outcome self.old }
+        // Where the job stood for the journal but for its clock, and this is the moment of the last
+        // clock entry, the job stands for the journal.
+        ensures stands { (p : Plot) (now : List Entry) → time now ≡ ms →
+            JobStandsUntold p self.old now → JobStands p self.new now }
+    {
+        if self.is_over() {
+            return;
+        }
+        self.run.turn_clock(ms);
     }
 
     /// Whether a last look of the job is to be made.
@@ -257,6 +278,12 @@ impl Job {
         // It is that of the network or of the budget of turns only where that has ended the job.
         ensures lost { result.status ≡ 14 → IsLost (outcome self) }
         ensures spent { result.status ≡ 16 → IsSpent (outcome self) }
+        // Where it has ended, it is the answer of its end, and else that of memory that was wanted.
+        ensures over { (answer : TheAnswer) → outcome self ≡ Some answer → result ≡ answer }
+        ensures starved { outcome self ≡ None → result.status ≡ 12 }
+        // Its calls are quiet for every job.
+        ensures quiet { (facts : Facts) →
+            Told (W.journal w.old) (W.journal w.new) (Since (IsQuietNow facts)) }
     {
         laws::jobs_begin_and_end();
         self.end_child(w);

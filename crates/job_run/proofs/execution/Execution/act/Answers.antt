@@ -1,6 +1,6 @@
 use Rattle.std.proofs.Common.{refl, sym, ap, subst, ◌∙◌}
 use Rattle.world.specs.Moments.{start}
-use Rattle.world.proofs.MomentsLemmas.{told_as, told_start, told_then}
+use Rattle.world.proofs.MomentsLemmas.{since_then, told_as, told_start, told_then}
 use Rattle.job_saves.specs.Course.{Stands}
 use Rattle.job_run.proofs.AskLemmas.{acts_once}
 use Rattle.job_run.proofs.CountLemmas.{counts_on, quiet_at}
@@ -20,6 +20,7 @@ loop-act-init g c = record {
   course = λ o s. s;
   calls = λ cast since from s. s;
   saves = told_start (λ x. start);
+  reads = told_start (λ x. start);
   task = refl;
   terms = refl;
   session = refl;
@@ -43,6 +44,7 @@ loop-act-preserved g c =
       saves = saves_then (output_of c.args.self.now.book) (output_of c.loop-act.self.book)
           (calls_output c.args.self.now.book c.loop-act.self.book (g.W.Journal.journal c.args.w.now) (g.W.Journal.journal c.loop-act.w) (g.W.Journal.counts c.args.w.now) (g.W.Journal.counts c.loop-act.w) i.calls)
           i.saves e.saves;
+      reads = told_then i.reads e.reads (λ x y z v w. since_then v w);
       task = e.task ∙ i.task;
       terms = e.terms ∙ i.terms;
       session = e.asks ∙ i.session;
@@ -70,6 +72,7 @@ returns g c =
         terms = p.terms ∙ i.terms;
         own = p.own;
         counts = λ o on s h. counts_on o c.loop-act.self c.perform.new.self c.loop-act.act c.perform.result (g.W.Journal.journal c.loop-act.w) p.counts (i.counts o on s h);
+        clock = i.reads;
       };
       saves = i.saves;
       asks = acts_once c.perform.result c.loop-act.act c.args.self.now c.loop-act.self c.perform.new.self i.session p.asks;
@@ -101,6 +104,7 @@ returns-in_err-act-clause-goes g c =
       terms = e.terms ∙ i.terms;
       own = e.own;
       counts = λ o on s h. e.counts o on (i.course o s) (quiet_at o c.loop-act.self c.loop-act.act (g.W.Journal.journal c.loop-act.w) (i.counts o on s h));
+      clock = told_then i.reads e.reads (λ x y z v w. since_then v w);
     })
 
 pub returns-in_err-act-clause-stands : goal.returns-in_err-act-clause-stands

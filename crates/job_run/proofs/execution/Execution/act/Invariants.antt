@@ -11,6 +11,7 @@ use Rattle.job_saves.specs.Course.{Origin, Stands, GoesOn, CallsOwn}
 use Rattle.job_saves.specs.Sessions.{IsSaveCall}
 use Rattle.job_run.specs.Held.{Holds, IsToDo}
 use Rattle.job_run.specs.Counted.{IsCountedAt}
+use Rattle.job_run.specs.Steps.{ReadsNoClock}
 use Rattle.job_run.proofs.execution.Execution.act.Given as goal
 
 abbrev pub invariant-loop-act : goal.invariant-loop-act
@@ -21,6 +22,7 @@ invariant-loop-act g l =
       course : GoesOn g.W.Journal.journal g.W.Journal.counts l.fn.w l.w l.fn.self.book l.self.book true;
       calls : CallsOwn g.W.Journal.journal g.W.Journal.counts l.fn.w l.w l.fn.self.book l.self.book;
       saves : Told (g.W.Journal.journal l.fn.w) (g.W.Journal.journal l.w) (Since (IsSaveCall (output_of l.fn.self.book)));
+      reads : ReadsNoClock g.W.Journal.journal l.fn.w l.w;
       task : task_of l.self.core ≡ task_of l.fn.self.core;
       terms : l.self.terms ≡ l.fn.self.terms;
       session : l.self.session ≡ l.fn.self.session;

@@ -5,6 +5,7 @@ use Rattle.job_run.proofs.AskLemmas.{once_keyed, once_named}
 use Rattle.std.specs.Prelude.{is_some}
 use Rattle.job_run.proofs.ClockLemmas.{passes_still}
 use Rattle.job_run.proofs.ToldLemmas.{moment_may}
+use Rattle.job_run.proofs.StepLemmas.{goes_still}
 use Rattle.job_run.proofs.execution.Execution.hear_clock.Goals as goal
 
 pub returns-then-wants_look-clause-saves : goal.returns-then-wants_look-clause-saves
@@ -33,3 +34,6 @@ returns-then-wants_look-clause-name g c = refl
 
 pub returns-clause-name : goal.returns-clause-name
 returns-clause-name g c = once_named c.step.result c.args.self.now c.step.new.self c.step.ensures.asks
+
+pub returns-then-wants_look-clause-goes : goal.returns-then-wants_look-clause-goes
+returns-then-wants_look-clause-goes g c = goes_still c.requires.holds c.requires.calm

@@ -1,6 +1,7 @@
 use Rattle.std.proofs.Common.{refl}
 use Rattle.world.proofs.MomentsLemmas.{told_start}
 use Rattle.job_run.proofs.ClockLemmas.{passes_still}
+use Rattle.job_run.proofs.StepLemmas.{goes_still}
 use Rattle.job_run.proofs.execution.Execution.lose.Goals as goal
 
 pub returns-then-is_lost-clause-passes : goal.returns-then-is_lost-clause-passes
@@ -8,3 +9,6 @@ returns-then-is_lost-clause-passes g c p number = c.step.ensures.passes refl p n
 
 pub returns-else-is_lost-clause-passes : goal.returns-else-is_lost-clause-passes
 returns-else-is_lost-clause-passes g c p number = told_start (λ now. passes_still p number c.args.self.now now)
+
+pub returns-else-is_lost-clause-goes : goal.returns-else-is_lost-clause-goes
+returns-else-is_lost-clause-goes g c = goes_still c.requires.holds c.requires.calm

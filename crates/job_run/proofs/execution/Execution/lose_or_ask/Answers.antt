@@ -26,6 +26,7 @@ returns-in-Ok-clause-goes g c =
       terms = ap (λ (z : Execution). z.terms) e.asked ∙ l.terms;
       own = e.own;
       counts = λ o on s h. counts_on o x y Nothing c.ask_or_end.result j e.counts (l.counts o on s h);
+      clock = l.clock;
     }
 
 pub returns-in-Ok-clause-stands : goal.returns-in-Ok-clause-stands

@@ -1,5 +1,5 @@
 use Rattle.std.proofs.Common.{refl, true}
-use Rattle.job_run.proofs.StepLemmas.{goes_kept, goes_told}
+use Rattle.job_run.proofs.StepLemmas.{goes_kept, goes_still, goes_told}
 use Rattle.std.proofs.Common.{◌≡◌, ap, inl, inr, subst, sym, ◌∙◌}
 use Rattle.world.proofs.MomentsLemmas.{told_as, told_start}
 use Rattle.cell_core.specs.declared.act.Act.TheVariants.{Nothing}
@@ -31,3 +31,6 @@ returns-then-self-clause-uses g c p number chan ms = told_start (λ now h.
       | then-self-via-then-self w ↦ inl w.if-self.true
       | then-self-via-else-self+then-not-is_ready w ↦ inr (sym w.is_ready.ensures ∙ w.if-not-is_ready.true)
     ]))
+
+pub returns-then-self-clause-goes : goal.returns-then-self-clause-goes
+returns-then-self-clause-goes g c = goes_still c.requires.holds c.requires.calm

@@ -2,6 +2,7 @@ use Rattle.std.proofs.Common.{sym, ◌∙◌}
 use Rattle.world.proofs.MomentsLemmas.{told_start}
 use Rattle.run_journal.specs.Jupyter.{arrival_of}
 use Rattle.job_run.proofs.MessageLemmas.{is_other, is_own, other_passes, uses_end}
+use Rattle.job_run.proofs.StepLemmas.{goes_starved, goes_still}
 use Rattle.job_run.proofs.execution.Execution.on_message.Goals as goal
 
 pub returns-then-not-is_of_request-clause-uses : goal.returns-then-not-is_of_request-clause-uses
@@ -16,3 +17,9 @@ returns-in-Ok-clause-uses g c p number done rest =
 
 pub returns-in-Err-clause-uses : goal.returns-in-Err-clause-uses
 returns-in-Err-clause-uses g c p number done rest = told_start (λ now u. uses_end p number c.args.self.now c.args.standing c.args.chan done _ now u)
+
+pub returns-then-not-is_of_request-clause-goes : goal.returns-then-not-is_of_request-clause-goes
+returns-then-not-is_of_request-clause-goes g c = goes_still c.requires.holds c.requires.calm
+
+pub returns-in-Err-clause-goes : goal.returns-in-Err-clause-goes
+returns-in-Err-clause-goes g c = goes_starved c.requires.holds

@@ -1,5 +1,6 @@
-use Rattle.std.proofs.Common.{refl}
-use Rattle.job_run.proofs.StepLemmas.{goes_kept, goes_then}
+use Rattle.std.proofs.Common.{refl, rules}
+use Rattle.job_run.specs.Held.{Holds}
+use Rattle.job_run.proofs.StepLemmas.{goes_err, goes_kept, goes_starved, goes_then}
 use Rattle.world.proofs.MomentsLemmas.{told_as, told_start, told_then}
 use Rattle.job_run.proofs.PieceLemmas.{got_ends, has_fed}
 use Rattle.job_run.proofs.StandingLemmas.{ended_so}
@@ -29,3 +30,8 @@ pub returns-in_err-bodies-clause-stands : goal.returns-in_err-bodies-clause-stan
 returns-in_err-bodies-clause-stands g c p number =
     told_start (λ now got.
     ended_so p number _ c.from_residual.result _ now c.from_residual.ensures.1 (got_ends p number c.args.self.now c.args.chan c.args.piece.now now got))
+
+pub returns-in_err-bodies-clause-goes : goal.returns-in_err-bodies-clause-goes
+returns-in_err-bodies-clause-goes g c =
+    let h : Holds (record c.args.self.now { lines = c.feed.new.self }) = search rules in
+    goes_kept refl (record { core = refl; clock = refl; broken = refl; terms = refl }) (goes_err c.from_residual.ensures.1 (goes_starved h))

@@ -9,14 +9,14 @@ use Rattle.job_run.proofs.StandingLemmas.{ended_so}
 use Rattle.job_run.proofs.StartLemmas.{begin_saves, none_requested, saved_first, saves_unread}
 use Rattle.job_run.proofs.CauseLemmas.{calls_output}
 use Rattle.job_run.proofs.CountLemmas.{to_save}
-use Rattle.job_run.proofs.StepLemmas.{goes_err, goes_then, goes_told}
+use Rattle.job_run.proofs.StepLemmas.{goes_err, goes_first, goes_reading, goes_told}
 use Rattle.job_run.proofs.execution.Execution.save_first.Goals as goal
 
 pub returns-clause-goes : goal.returns-clause-goes
-returns-clause-goes g c = goes_told refl refl refl (λ n i. to_save c.args.self.now 0 n i) (goes_then c.in_ok-act.ensures.goes c.read_clock.ensures.goes)
+returns-clause-goes g c = goes_reading (goes_told refl refl refl (λ n i. to_save c.args.self.now 0 n i) c.in_ok-act.ensures.goes) c.read_clock.ensures.goes
 
 pub returns-in_err-act-clause-goes : goal.returns-in_err-act-clause-goes
-returns-in_err-act-clause-goes g c = goes_err c.from_residual.ensures.1 (goes_told refl refl refl (λ n i. to_save c.args.self.now 0 n i) c.in_err-act.ensures.goes)
+returns-in_err-act-clause-goes g c = goes_first (goes_err c.from_residual.ensures.1 (goes_told refl refl refl (λ n i. to_save c.args.self.now 0 n i) c.in_err-act.ensures.goes))
 
 pub returns-clause-saves : goal.returns-clause-saves
 returns-clause-saves g c =

@@ -13,12 +13,14 @@ use Rattle.job_run.proofs.CountLemmas.{counts_saved, residual_for, unsaved_for, 
 use Rattle.world.proofs.MomentsLemmas.{told_as}
 use Rattle.job_journal.specs.Plot.{facts}
 use Rattle.job_notebook.specs.State.{notebook_of, output_of}
+use Rattle.nb_text.specs.Notebooks.{text_of}
 use Rattle.progress_save.specs.Saved.{line_of}
 use Rattle.said_lines.specs.Between.{SayFailed}
 use Rattle.job_run.specs.declared.execution.Execution.{Execution}
 use Rattle.job_run.specs.Standing.{StandsTo}
 use Rattle.job_run.specs.Used.{TakesEvent}
 use Rattle.job_run.proofs.ActLemmas.{kind_saved}
+use Rattle.job_run.proofs.ReadLemmas.{saves_read}
 use Rattle.job_run.proofs.SaveLemmas.{saved_to, says_quiet, unsaved_ends}
 use Rattle.job_run.proofs.StandingLemmas.{ended_to}
 use Rattle.job_run.proofs.execution.Execution.save_on.Goals as goal
@@ -54,6 +56,20 @@ returns-clause-saves g c = c.save.ensures.saves
 
 pub returns-in_err-save-clause-saves : goal.returns-in_err-save-clause-saves
 returns-in_err-save-clause-saves g c = c.save.ensures.saves
+
+pub returns-clause-reads : goal.returns-clause-reads
+returns-clause-reads g c =
+    let output = output_of c.args.self.now.book in
+    let now = notebook_of c.save.new.self.book in
+    told_as c.save.ensures.entries
+    (λ before after so. saves_read output (text_of now) (line_of output c.args.settled now) (SayFailed g.W.Journal.counts c.save.new.w) c.save.result before after so)
+
+pub returns-in_err-save-clause-reads : goal.returns-in_err-save-clause-reads
+returns-in_err-save-clause-reads g c =
+    let output = output_of c.args.self.now.book in
+    let now = notebook_of c.save.new.self.book in
+    told_as c.save.ensures.entries
+    (λ before after so. saves_read output (text_of now) (line_of output c.args.settled now) (SayFailed g.W.Journal.counts c.save.new.w) c.save.result before after so)
 
 pub returns-clause-counts : goal.returns-clause-counts
 returns-clause-counts g c o on stands h =

@@ -2,7 +2,7 @@ use Rattle.std.proofs.Common.{sym, subst, ap}
 use Rattle.world.proofs.MomentsLemmas.{told_as}
 use Rattle.job_journal.specs.Plot.{facts}
 use Rattle.job_run.proofs.JobLemmas.{job_quiet_untold, job_saved}
-use Rattle.job_run.proofs.OutcomeLemmas.{starved_lost, starved_spent}
+use Rattle.job_run.proofs.OutcomeLemmas.{answer_same, some_none, starved_lost, starved_spent}
 use Rattle.job_run.specs.Run.{IsLost, IsSpent}
 use Rattle.job_run.proofs.RunLemmas.{ends_with, ends_starved}
 use Rattle.job_run.specs.Task.{task_of_job, output_of_job}
@@ -44,3 +44,21 @@ returns-in-Some-clause-stands g c p = told_as (c.end_child.ensures.quiet (facts 
 
 pub returns-clause-stands : goal.returns-clause-stands
 returns-clause-stands g c p = told_as (c.end_child.ensures.quiet (facts p)) (λ x y w s. job_saved p c.args.self y (job_quiet_untold p c.args.self x y w s))
+
+pub returns-in-Some-clause-over : goal.returns-in-Some-clause-over
+returns-in-Some-clause-over g c answer is = answer_same c.args.self.outcome c.in-Some.answer answer c.in-Some.is is
+
+pub returns-clause-over : goal.returns-clause-over
+returns-clause-over g c answer is = absurd (some_none c.args.self.outcome answer is c.in-None.is)
+
+pub returns-in-Some-clause-starved : goal.returns-in-Some-clause-starved
+returns-in-Some-clause-starved g c is = absurd (some_none c.args.self.outcome c.in-Some.answer c.in-Some.is is)
+
+pub returns-clause-starved : goal.returns-clause-starved
+returns-clause-starved g c is = ap (λ a. a.status) c.starved.ensures
+
+pub returns-in-Some-clause-quiet : goal.returns-in-Some-clause-quiet
+returns-in-Some-clause-quiet g c facts = c.end_child.ensures.quiet facts
+
+pub returns-clause-quiet : goal.returns-clause-quiet
+returns-clause-quiet g c facts = c.end_child.ensures.quiet facts

@@ -1,7 +1,9 @@
-use Rattle.std.proofs.Common.{true, refl, sym, subst, ◌∙◌}
+use Rattle.std.proofs.Common.{true, refl, rules, sym, subst, ◌∙◌}
 use Rattle.std.proofs.Math.Bool.{true≢false}
 use Rattle.world.specs.declared.entry.Entry.TheVariants.{Looked}
-use Rattle.world.proofs.MomentsLemmas.{told_start, told_then}
+use Rattle.world.specs.Moments.{Since, more, start}
+use Rattle.world.specs.Parts.{IsNotOf, OnClock}
+use Rattle.world.proofs.MomentsLemmas.{since_then, tells_as, told_start, told_then}
 use Rattle.job_run.specs.Standing.{IsTurned}
 use Rattle.job_run.proofs.JobLemmas.{job_stands, turned_run}
 use Rattle.world.proofs.CountsLemmas.{grow_same}
@@ -14,7 +16,7 @@ use Rattle.cell_core.specs.declared.act.Act.TheVariants.{Nothing}
 use Rattle.job_saves.proofs.CourseLemmas.{others_pass}
 use Rattle.job_run.proofs.CountLemmas.{counts_passed}
 use Rattle.job_run.proofs.WorkLemmas.{same_works}
-use Rattle.job_run.proofs.PartLemmas.{kids_quiet}
+use Rattle.job_run.proofs.PartLemmas.{kids_quiet, kids_unclocked}
 use Rattle.job_run.proofs.job.Job.on_moment.Goals as goal
 
 pub outcome_of-requires-clause-own : goal.outcome_of-requires-clause-own
@@ -35,6 +37,7 @@ returns-clause-goes g c =
       calls = λ cast since from r.
           plays_on cast since from c.args.self.now _ t.new.self.book _ _ _ _
           (λ s. t.ensures.goes.calls cast since from (entry_called cast since from _ _ _ _ _ _ (λ past. record { number = c.args.self.now.number; ask = r.role.ask; has = r.role.has; is = refl }) kids_quiet (λ past. tt) c.look.ensures.tells (same_works c.look.ensures.same) s)) e.calls refl refl r;
+      clock = told_then (tells_as {R = Since (IsNotOf OnClock)} c.look.ensures.tells (λ past. more start kids_unclocked)) t.ensures.goes.clock (λ x y z v w. since_then v w);
       keeps = keeps_on t.new.self t.result e.task t.ensures.goes.task e.terms t.ensures.goes.terms refl t.ensures.goes.own e.lost e.spent;
       ends = ends_told c.args.self.now.outcome c.outcome_of.result c.unless_starved.result (sym c.is_over.ensures ∙ c.if-is_over.false) c.unless_starved.ensures.starved c.unless_starved.ensures.fed;
     }
@@ -51,3 +54,12 @@ returns-clause-stands g c p =
 
 pub returns-then-is_over-clause-stands : goal.returns-then-is_over-clause-stands
 returns-then-is_over-clause-stands g c p = told_start (λ now turned. absurd (true≢false (sym (sym c.is_over.ensures ∙ c.if-is_over.true) ∙ turned.running)))
+
+pub returns-then-is_over-clause-goes : goal.returns-then-is_over-clause-goes
+returns-then-is_over-clause-goes g c = record {
+  course = search rules;
+  calls = search rules;
+  clock = told_start (λ now. start);
+  keeps = search rules;
+  ends = search rules;
+}

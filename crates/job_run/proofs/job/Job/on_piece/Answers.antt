@@ -1,5 +1,6 @@
-use Rattle.std.proofs.Common.{refl, sym, ◌∙◌}
+use Rattle.std.proofs.Common.{refl, rules, sym, ◌∙◌}
 use Rattle.std.proofs.Math.Bool.{true≢false}
+use Rattle.world.specs.Moments.{start}
 use Rattle.world.proofs.MomentsLemmas.{told_as, told_start}
 use Rattle.job_run.proofs.JobLemmas.{got_run, job_stands}
 use Rattle.job_saves.specs.Course.{stays_open}
@@ -24,6 +25,7 @@ returns-clause-goes g c =
           (g.W.Journal.journal c.args.w.now) (g.W.Journal.journal t.new.w) (t.ensures.goes.counts o fresh.watched s) e.counts h) r;
       calls = λ cast since from r.
           plays_on cast since from c.args.self.now _ t.new.self.book _ _ _ _ (t.ensures.goes.calls cast since from) e.calls refl refl r;
+      clock = t.ensures.goes.clock;
       keeps = keeps_on t.new.self t.result e.task t.ensures.goes.task e.terms t.ensures.goes.terms refl t.ensures.goes.own e.lost e.spent;
       ends = ends_told c.args.self.now.outcome c.outcome_of.result c.unless_starved.result (sym c.is_over.ensures ∙ c.if-is_over.false) c.unless_starved.ensures.starved c.unless_starved.ensures.fed;
     }
@@ -39,3 +41,12 @@ returns-clause-stands g c p =
 
 pub returns-then-is_over-clause-stands : goal.returns-then-is_over-clause-stands
 returns-then-is_over-clause-stands g c p = told_start (λ now got. absurd (true≢false (sym (sym c.is_over.ensures ∙ c.if-is_over.true) ∙ got.running)))
+
+pub returns-then-is_over-clause-goes : goal.returns-then-is_over-clause-goes
+returns-then-is_over-clause-goes g c = record {
+  course = search rules;
+  calls = search rules;
+  clock = told_start (λ now. start);
+  keeps = search rules;
+  ends = search rules;
+}

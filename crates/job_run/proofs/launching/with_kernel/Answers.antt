@@ -6,7 +6,7 @@ use Rattle.job_run.specs.Task.{ports_of_job}
 use Rattle.job_run.proofs.RunLemmas.{unstarted}
 use Rattle.world.proofs.CountsLemmas.{grow_start}
 use Rattle.job_run.proofs.CauseLemmas.{cause_within}
-use Rattle.job_run.proofs.starting.with_kernel.Goals as goal
+use Rattle.job_run.proofs.launching.with_kernel.Goals as goal
 use Rattle.world.proofs.MomentsLemmas.{since_then, told_as, told_then}
 use Rattle.std.proofs.Common.{ap}
 use Rattle.job_journal.specs.Plot.{facts}
