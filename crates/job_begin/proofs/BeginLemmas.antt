@@ -31,7 +31,9 @@ use Rattle.job_saves.proofs.ToldLemmas.{told_by}
 use Rattle.job_notebook.specs.declared.notebook.JobNotebook.{JobNotebook}
 use Rattle.job_notebook.specs.State.{merge_of, output_of}
 use Rattle.job_saves.proofs.CourseLemmas.{told_as, told_on, calls_on, begins_pass, work_start}
+use Rattle.job_journal.specs.Plot.{Plot}
 use Rattle.job_run.specs.declared.job.Job.{Job}
+use Rattle.job_run.specs.Beginning.{IsFresh}
 use Rattle.cell_core.specs.Task.{Task}
 use Rattle.job_run.proofs.TurnLemmas.{new_passes, begins_rested}
 use Rattle.job_run.specs.Run.{StartsAs, BeginsAs, BeginsNew, Runs, IsCastAs, HasNoChild, HasNoPorts, HasNoSave, OnlyReads, StartsInRole, HasRole}
@@ -39,6 +41,7 @@ use Rattle.job_run.proofs.OutcomeLemmas.{shut_by}
 use Rattle.job_begin.specs.Causes.{HasCause}
 use Rattle.job_begin.proofs.CountLemmas.{answer_counts}
 use Rattle.job_begin.specs.Steps.{EndsCounted}
+use Rattle.job_begin.specs.Standing.{IsPlotWith, BeginsAsPlot}
 use Rattle.job_begin.specs.Begun.{counted_task, Begun, with_notebook, HasRead, AnswersAs, BeginsWith, FindsKernel, IsOpen, origin_of}
 
 -- ---- an end without a save
@@ -274,13 +277,14 @@ module _ (a : Ask) (n : Notebook) (begun : Result Job End) (mid new : Counts) wh
       let rested : IsRested a.output x = subst (IsRested a.output) (sym h.is) refl in
       rose_of (origin_of a n x mid) k refl (saved_from (Some x) k x goes (record { course = begins; rested = rested }) (λ fresh. fresh.none))
 
-  pub begun_so : (result : Result Job Answer) (old : Counts) (i j k : Option (List Entry)) → AnswersAs a.output begun result → IfErr result (λ answer. HasCause old new answer.status)
+  pub begun_so : (number : ℕ) (result : Result Job Answer) (old : Counts) (i j k : Option (List Entry)) → AnswersAs a.output begun result → IfErr result (λ answer. HasCause old new answer.status)
       → BeginsWith a (first_of a n) result → ((x y : List Entry) → j ≡ Some x → k ≡ Some y → FindsKernel a (first_of a n) result x y) → Told i j (HasRead a n) → Told i j (Since (Spares a.output)) → CountsGrow old mid → SavesOn j k → CountsOn j k → Told j k Appends
-      → Told i k (λ before after. IsRested a.output before → Begun a result old new before after)
-  begun_so result old i j None answers caused task kernel read spared grow goes counts more = record { so = tt }
-  begun_so result old i None (Some y) answers caused task kernel read spared grow goes counts more = absurd more.so
-  begun_so result old None (Some x) (Some y) answers caused task kernel read spared grow goes counts more = absurd read.so
-  begun_so result old (Some before) (Some x) (Some y) answers caused task kernel read spared grow goes counts more =
+      → ((p : Plot) → Told i k (λ before after. IsPlotWith p number a n → IsFresh p before → BeginsAsPlot p result after))
+      → Told i k (λ before after. IsRested a.output before → Begun number a result old new before after)
+  begun_so number result old i j None answers caused task kernel read spared grow goes counts more plots = record { so = tt }
+  begun_so number result old i None (Some y) answers caused task kernel read spared grow goes counts more plots = absurd more.so
+  begun_so number result old None (Some x) (Some y) answers caused task kernel read spared grow goes counts more plots = absurd read.so
+  begun_so number result old (Some before) (Some x) (Some y) answers caused task kernel read spared grow goes counts more plots =
       let h : HasRead a n before x = read.so in
       let m : Appends x y = more.so in
       let o : Origin = origin_of a n before old in
@@ -290,5 +294,5 @@ module _ (a : Ask) (n : Notebook) (begun : Result Job End) (mid new : Counts) wh
             let b : Begins o (Some x) mid = begins_pass o (Some before) (Some x) old mid spared grow first in
             let fresh : BeginsNew o (Some x) = new_passes o (Some before) (Some x) (begins_rested o (Some before) old first) spared (λ fresh. fresh.none) in
             let for : IsFor a.output a.merge (first_of a n) o = record { output_is = refl; merge_is = refl; first_is = refl } in
-            with_notebook h.bytes n m.added h.accepted (m.is ∙ ap (λ past. m.added ++ past) h.is) task (subst (λ z. FindsKernel a (first_of a n) result z y) h.is (kernel x y refl refl)) (answered a.output begun result answers o (counted_task a (first_of a n)) (Some y) new (counts o for b fresh) caused (goes o for b fresh));
+            with_notebook h.bytes n m.added h.accepted (m.is ∙ ap (λ past. m.added ++ past) h.is) task (subst (λ z. FindsKernel a (first_of a n) result z y) h.is (kernel x y refl refl)) (answered a.output begun result answers o (counted_task a (first_of a n)) (Some y) new (counts o for b fresh) caused (goes o for b fresh)) (λ p. (plots p).so);
       }

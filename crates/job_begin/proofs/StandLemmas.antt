@@ -1,5 +1,5 @@
 -- What a job stands for when it has begun, by the steps of its begin.
-use Rattle.std.proofs.Common.{◌≡◌, ◌<◌, ◌+◌, ◌&&◌, ◌||◌, ◌++◌, arith, ℕ, Bool, true, false, not, cond, List, [], ◌∷◌, length, map, codes, Result, Ok, Err, refl, sym, ◌∙◌, ap, subst}
+use Rattle.std.proofs.Common.{◌≡◌, ◌+◌, ◌&&◌, ◌||◌, ◌++◌, arith, ℕ, Bool, true, false, not, cond, List, [], ◌∷◌, length, map, codes, Result, Ok, Err, refl, sym, ◌∙◌, ap, subst}
 use Rattle.std.specs.Prelude.{None, if◌then◌else◌}
 use Rattle.std.specs.List.{list_any}
 use Rattle.std.specs.Str.{bytes_eq}
@@ -19,7 +19,6 @@ use Rattle.world.proofs.SaveLemmas.{renames_is}
 use Rattle.words.specs.declared.ask.Ask.{Ask}
 use Rattle.words.specs.Paths.{temporary_of}
 use Rattle.nb_model.specs.declared.cell.Cell.{Cell}
-use Rattle.nb_model.specs.declared.kind.Kind.{Kind}
 use Rattle.nb_model.specs.declared.notebook.Notebook.{Notebook}
 use Rattle.nb_model.specs.Keys.{is_text}
 use Rattle.nb_model.specs.Kind.{is_code}
@@ -34,15 +33,14 @@ use Rattle.job_saves.specs.Reads.{first_of}
 use Rattle.run_journal.specs.Agreement.{is_got}
 use Rattle.run_journal.specs.Job.{Job as Facts}
 use Rattle.run_journal.specs.Saves.{renamed_texts}
-use Rattle.job_journal.specs.Plot.{Plot, facts, first}
+use Rattle.job_journal.specs.Plot.{Plot, facts}
 use Rattle.job_journal.specs.Quiet.{is_unread}
 use Rattle.job_run.specs.declared.job.Job.{Job}
-use Rattle.job_run.specs.Beginning.{IsFresh, IsPlotOf, SpeaksAs, StartsOrEnds}
+use Rattle.job_run.specs.Beginning.{IsFresh, SpeaksAs, StartsOrEnds}
 use Rattle.job_run.specs.JobStanding.{JobStands}
 use Rattle.job_run.specs.Task.{task_for, times_of}
-use Rattle.job_begin.specs.Begun.{AnswersAs, HasRead}
-use Rattle.job_begin.specs.Standing.{BeginsAsPlot, BeginsPlot, IsToBeginWith}
-use Rattle.job_begin.proofs.BeginLemmas.{Appends}
+use Rattle.job_begin.specs.Begun.{AnswersAs}
+use Rattle.job_begin.specs.Standing.{BeginsAsPlot, IsPlotWith, IsToBeginWith}
 
 -- ---- the plan of a prepared notebook
 
@@ -125,21 +123,19 @@ fresh_kept p before now part others f = record {
 -- ---- the plot of a job that begins
 
 -- once its input was read
-pub plot_read : (p : Plot) (number : ℕ) (a : Ask) (n : Notebook) (before read after : List Entry) → BeginsPlot p number a before after → HasRead a n before read
-    → Since (IsOf OnDisk) before read → Since (Spares p.ask.output) before read → Appends read after → IsToBeginWith p number a (first_of a n) read
-plot_read p number a n before read after b h part others added =
-    let given : p.given ≡ n
-    = b.given n (record { bytes = h.bytes; accepted = h.accepted; later = added.added; is = added.is ∙ ap (λ past. added.added ++ past) h.is }) in
-    let waits : prepared_notebook n ≡ first_of a n = sym (ap (λ q. if q then n else prepared_notebook n) b.executes) in
+pub plot_read : (p : Plot) (number : ℕ) (a : Ask) (n : Notebook) (before read : List Entry) → IsPlotWith p number a n → IsFresh p before
+    → Since (IsOf OnDisk) before read → Since (Spares p.ask.output) before read → IsToBeginWith p number a (first_of a n) read
+plot_read p number a n before read of fresh part others =
+    let waits : prepared_notebook n ≡ first_of a n = sym (ap (λ q. if q then n else prepared_notebook n) of.executes) in
     record {
       plot = record {
-        number_is = b.number_is;
-        ask_is = b.ask_is;
-        first_is = ap prepared_notebook given ∙ waits;
-        task_is = ap (λ x. task_for x p.given) b.ask_is ∙ ap (task_for a) given ∙ task_kept a n ∙ ap (task_for a) waits;
+        number_is = of.number_is;
+        ask_is = of.ask_is;
+        first_is = ap prepared_notebook of.given_is ∙ waits;
+        task_is = ap (λ x. task_for x p.given) of.ask_is ∙ ap (task_for a) of.given_is ∙ task_kept a n ∙ ap (task_for a) waits;
       };
-      executes = b.executes;
-      fresh = fresh_kept p before read part others b.fresh;
+      executes = of.executes;
+      fresh = fresh_kept p before read part others fresh;
     }
 
 -- it has a cell to execute

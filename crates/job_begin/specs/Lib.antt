@@ -1,4 +1,4 @@
+pub mod Standing
 pub mod Begun
 pub mod Causes
 pub mod Steps
-pub mod Standing

@@ -14,7 +14,7 @@ ghost use Rattle.job_begin.specs.Steps.{SavesFor, StartsFor, CountsEnd, EndsInRo
 ghost use Rattle.job_begin.specs.Steps.{Acknowledges, LeavesWhole, closing_saves, end_by};
 ghost use Rattle.job_saves.specs.Left.{IsLeft, output_at};
 ghost use Rattle.job_begin.specs.Steps.{BeginsInRole, LeavesNone};
-ghost use Rattle.job_begin.specs.Standing.{BeginsPlot, IsToBeginWith, BeginsAsPlot};
+ghost use Rattle.job_begin.specs.Standing.{IsToBeginWith, BeginsAsPlot};
 ghost use Rattle.job_journal.specs.Plot.{Plot};
 ghost use Rattle.job_notebook.specs.State.{notebook_of, settled_of, merge_of, output_of, KeepsRead};
 ghost use Rattle.job_saves.specs.Calls.{Cast, IsCall};
@@ -66,10 +66,12 @@ pub fn begin<W: World>(
 
     // What its saves are a course of, where no rename onto the output waited for its folder's sync;
     // where none was acknowledged before, as many saves as were since are among the events that the
-    // core of the job was told, or that brought the end of one that was to be executed.
+    // core of the job was told, or that brought the end of one that was to be executed. Where it runs
+    // in the session of a plot with its notebook, and nothing had happened to it before, it stands for
+    // the journal.
     ensures begun { Told (W.journal w.old) (W.journal w.new) (λ before after.
         IsRested ask.output before →
-        Begun ask result (W.counts w.old) (W.counts w.new) before after) }
+        Begun number ask result (W.counts w.old) (W.counts w.new) before after) }
     // Its calls are those of the job that was asked for, and no other job's, where no child of its
     // number is there and no save of it was acknowledged, or the jobs didn't begin clean.
     ensures calls { BeginsInRole W.journal W.counts w.old w.new number ask here.now result }
@@ -93,11 +95,6 @@ pub fn begin<W: World>(
     ensures fresh { IfOk result (λ j. outcome_of j ≡ None) }
     ensures pings { IfOk result (λ j. pings_kernel j ≡ ask.heartbeat) }
     ensures ports { IfOk result (λ j. HasPorts number (ports_of_job j) (W.journal w.new)) }
-    // Where nothing had happened to the job of a plot, and its input gives the plot's notebook, it
-    // stands for the journal where it runs in the plot's session. Where it has ended, the texts that
-    // were saved are the first of the saves that are due.
-    ensures stands { (p : Plot) → Told (W.journal w.old) (W.journal w.new) (λ before after.
-        BeginsPlot p number ask before after → BeginsAsPlot p result after) }
 {
     laws::other_calls_pass();
     let Ok(output) = ask.output.copy(alloc) else {

@@ -14,8 +14,7 @@ use Rattle.std.specs.Prelude.{IfErr}
 use Rattle.job_end.specs.Answers.{Answers}
 use Rattle.job_saves.specs.Speaking.{IsAnswer}
 use Rattle.job_begin.proofs.RefusalLemmas.{starved_refuses, input_refuses, begun_refuses}
-use Rattle.job_begin.proofs.StandLemmas.{answer_begins, fresh_kept, plot_read}
-use Rattle.job_run.proofs.StartLemmas.{fresh_ends}
+use Rattle.job_begin.proofs.StandLemmas.{answer_begins, plot_read}
 use Rattle.job_begin.proofs.beginning.begin.Goals as goal
 
 pub returns-in_default-clause-begun : goal.returns-in_default-clause-begun
@@ -46,7 +45,9 @@ returns-in-Ok-input_of-clause-begun g c =
     let answers : AnswersAs a.output begun c.answer_of.result = subst (λ q. AnswersAs q begun c.answer_of.result) c.in-Ok.ensures c.answer_of.ensures in
     let caused = all_caused _ _ a.output _ begun c.answer_of.result answers e.work.grow c.begin_with-begun.ensures.cause (save_rose a n begun _ _ _ _ _ e.read c.begin_with-begun.ensures.course) in
     let task = answered_with a.output a (first_of a n) begun c.answer_of.result answers c.begin_with-begun.ensures.task in
-    begun_so a n begun _ _ c.answer_of.result _ _ _ _ answers caused task (λ x y f g_. answered_kernel a (first_of a n) a.output begun c.answer_of.result x y answers (at_moments a (first_of a n) begun _ _ x y f g_ c.begin_with-begun.ensures.kernel)) e.read (e.others a.output) e.work.grow c.begin_with-begun.ensures.course c.begin_with-begun.ensures.counted (told_appends a c.args.number c.args.here.now begun _ _ _ _ (c.begin_with-begun.ensures.calls (input_read a n _ _ e.read)))
+    let so = c.begin_with-begun.ensures in
+    begun_so a n begun _ _ c.args.number c.answer_of.result _ _ _ _ answers caused task (λ x y f g_. answered_kernel a (first_of a n) a.output begun c.answer_of.result x y answers (at_moments a (first_of a n) begun _ _ x y f g_ c.begin_with-begun.ensures.kernel)) e.read (e.others a.output) e.work.grow so.course so.counted (told_appends a c.args.number c.args.here.now begun _ _ _ _ (so.calls (input_read a n _ _ e.read)))
+    (λ p. told_then (told_both e.part (e.others p.ask.output)) (so.stands p) (λ x y z s t of fresh. answer_begins a.output p begun c.answer_of.result z answers (t (plot_read p c.args.number a n x y of fresh s.0 s.1))))
 
 pub returns-in-Ok-input_of-clause-calls : goal.returns-in-Ok-input_of-clause-calls
 returns-in-Ok-input_of-clause-calls g c cast since from who childless portless lacks so =
@@ -132,24 +133,3 @@ returns-in-Ok-input_of-clause-ports g c =
 pub returns-in-Ok-input_of-clause-pings : goal.returns-in-Ok-input_of-clause-pings
 returns-in-Ok-input_of-clause-pings g c =
     answered_ok c.in-Ok.output (λ j. pings_kernel j ≡ c.args.ask.heartbeat) c.begin_with-begun.result c.answer_of.result c.answer_of.ensures c.begin_with-begun.ensures.pings
-
--- ---- what the job stands for
-
-pub returns-in_default-clause-stands : goal.returns-in_default-clause-stands
-returns-in_default-clause-stands g c p = told_start (λ now b. fresh_ends p now b.fresh)
-
-pub returns-in-Err-clause-stands : goal.returns-in-Err-clause-stands
-returns-in-Err-clause-stands g c p =
-    let e = c.in-Err.ensures in
-    told_as (told_both e.part (e.others p.ask.output)) (λ x y s b. fresh_ends p y (fresh_kept p x y s.0 s.1 b.fresh))
-
-pub returns-in-Ok-input_of-clause-stands : goal.returns-in-Ok-input_of-clause-stands
-returns-in-Ok-input_of-clause-stands g c p =
-    let a = c.args.ask in
-    let n = c.in-Ok-input_of.notebook in
-    let e = c.in-Ok-input_of.ensures in
-    let begun = c.begin_with-begun.result in
-    let so = c.begin_with-begun.ensures in
-    let added = told_appends a c.args.number c.args.here.now begun _ _ _ _ (so.calls (input_read a n _ _ e.read)) in
-    told_then (told_both e.read (told_both e.part (e.others p.ask.output))) (told_both (so.stands p) added)
-    (λ x y z s t b. answer_begins c.in-Ok.output p begun c.answer_of.result z c.answer_of.ensures (t.0 (plot_read p c.args.number a n x y z b s.0 s.1.0 s.1.1 t.1)))
