@@ -9,14 +9,13 @@ use Rattle.world.specs.declared.conn.Conn.{Conn}
 use Rattle.ready_loop.specs.declared.fault.LoopFault.{LoopFault}
 use Rattle.ready_loop.specs.declared.fault.LoopFault.TheVariants as loop_fault
 use Rattle.batch_run.specs.declared.slot.Slot.{Slot}
-use Rattle.ready_loop.specs.declared.readiness.Loop.{Loop}
-use Rattle.ready_loop.specs.Wires.{ports_in}
 use Rattle.batch_run.specs.declared.lines.Lines.{Lines}
 use Rattle.batch_run.specs.declared.fault.Fault.{Fault}
 use Rattle.batch_run.specs.declared.fault.Fault.TheVariants as fault
 use Rattle.batch_run.specs.Batch.{HasWaited}
 use Rattle.batch_run.specs.Kept.{FaultCause}
-use Rattle.batch_run.specs.Stands.{Outset, AllStand, IsFaultOf, IsOutOfWaits, more_waits, wired_by}
+use Rattle.batch_run.specs.Owed.{Owed}
+use Rattle.batch_run.specs.Stands.{Outset, AllStand, IsFaultOf, IsOutOfWaits, more_waits, served_by}
 
 -- ---- counts that grow
 
@@ -76,13 +75,9 @@ fits_then asks first from {slots} {p} {c} l m n same s =
     subst (λ (k : ℕ). AllStand asks first (record from { waits = k }) slots p c) all s
 
 -- where the connections are as they were
-pub same_lines : (asks : ℕ → Option Ask) (first : Option (List Entry)) (from : Outset) {slots : List Slot} {p : Option (List Entry)} {c : Counts} (was now : Lines) → now ≡ was
-    → AllStand asks first (wired_by was.connections from) slots p c → AllStand asks first (wired_by now.connections from) slots p c
-same_lines asks first from {slots} {p} {c} was now same s = subst (λ (l : Lines). AllStand asks first (wired_by l.connections from) slots p c) (sym same) s
-
-pub same_ports : (asks : ℕ → Option Ask) (first : Option (List Entry)) (from : Outset) {slots : List Slot} {p : Option (List Entry)} {c : Counts} (was now : Loop) → ports_in now ≡ ports_in was
-    → AllStand asks first (wired_by was from) slots p c → AllStand asks first (wired_by now from) slots p c
-same_ports asks first from {slots} {p} {c} was now same s = subst (λ (w : List (Option ℕ)). AllStand asks first (record from { wires = w }) slots p c) (sym same) s
+pub same_lines : (asks : ℕ → Option Ask) (first : Option (List Entry)) (from : Outset) (o : Owed) {slots : List Slot} {p : Option (List Entry)} {c : Counts} (was now : Lines) → now ≡ was
+    → AllStand asks first (served_by o was.connections from) slots p c → AllStand asks first (served_by o now.connections from) slots p c
+same_lines asks first from o {slots} {p} {c} was now same s = subst (λ (l : Lines). AllStand asks first (served_by o l.connections from) slots p c) (sym same) s
 
 -- ---- faults
 

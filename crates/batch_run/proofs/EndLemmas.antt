@@ -1,5 +1,5 @@
 -- How a run begins and ends.
-use Rattle.std.proofs.Common.{◌≡◌, ◌⊎◌, inl, inr, ℕ, zero, suc, ◌+◌, ◌-◌, Bool, ◌<◌, List, ◌∷◌, length, Option, Some, None, Result, Ok, Err, true, false, refl, sym, ◌∙◌, ap, subst, arith}
+use Rattle.std.proofs.Common.{◌≡◌, ◌⊎◌, inl, inr, ℕ, zero, suc, ◌+◌, ◌-◌, Bool, ◌<◌, ◌≤◌, List, ◌∷◌, length, Option, Some, None, Result, Ok, Err, true, false, refl, sym, ◌∙◌, ap, subst, arith}
 use Rattle.std.specs.Prelude.{slice_get, IfOk, IfSome}
 use Rattle.std.proofs.lemmas.Bool.{cases_lt}
 use Rattle.std.proofs.lemmas.Option.{slice_get_within, same_Some}
@@ -11,6 +11,7 @@ use Rattle.world.specs.declared.entry.Entry.TheVariants.{Read}
 use Rattle.world.specs.declared.read_file.ReadFile.TheVariants as found
 use Rattle.world.specs.Counts.{Counts}
 use Rattle.world.specs.Moments.{Since, start, Told}
+use Rattle.world.specs.Places.{time}
 use Rattle.world.specs.Touched.{Spares}
 use Rattle.world.proofs.CountsLemmas.{grow_start}
 use Rattle.world.proofs.MomentsLemmas.{told_start, since_as}
@@ -24,11 +25,23 @@ use Rattle.job_saves.specs.Reads.{first_of}
 use Rattle.job_begin.specs.Begun.{origin_of, counted_task}
 use Rattle.batch_run.specs.declared.slot.Slot.{Slot}
 use Rattle.batch_run.specs.declared.slot.Slot.TheVariants.{Waiting, Running, Ended}
-use Rattle.batch_run.specs.Batch.{HasStopped, HasWaited, EndsBy, EndsUnread, EndsRead, AreEnds, Makes, nothing, saves, MakesEach, LeavesOthers, CallsOfJobs, CallsOfRun, EndsChildren, IsApart, IsClean, numbered}
+use Rattle.batch_run.specs.Batch.{HasStopped, HasWaited, EndsBy, EndsFollowing, EndsUnread, EndsRead, AreEnds, Makes, nothing, saves, MakesEach, LeavesOthers, CallsOfJobs, CallsOfRun, EndsChildren, IsApart, IsClean, numbered}
+use Rattle.job_run.specs.declared.job.Job.{Job}
+use Rattle.job_turns.specs.OwedTo.{OwedTo}
+use Rattle.job_turns.specs.OwedTo as to
+use Rattle.other_jobs.proofs.Refusals.{shut_unread}
+use Rattle.ready_loop.specs.declared.readiness.Loop.{Loop}
+use Rattle.ready_loop.specs.History.{History}
+use Rattle.ready_loop.specs.Standing.{AllShut, StandsFor}
+use Rattle.ready_loop.specs.Wires.{ports_in}
+use Rattle.batch_run.specs.Due.{is_slot_over}
+use Rattle.batch_run.specs.Owed.{AreServed, Owed, SlotFollows, StaysFresh, owed_to}
+use Rattle.batch_run.specs.Owed.{none, begins}
+use Rattle.batch_run.proofs.FollowLemmas.{fresh_start}
 use Rattle.job_saves.specs.Children.{has_child, HasEnd}
 use Rattle.job_saves.specs.Speaking.{IsWhole, SpeaksWhole}
 use Rattle.batch_run.proofs.CallLemmas.{run_spares}
-use Rattle.batch_run.specs.Stands.{Outset, AreWired, IsIdle, SlotPlays, SlotTells, SlotEnds, SlotRuns, SlotTask, SlotKernel, SlotCounted, EndCounted, Stands, waits, spared, begun, AllStand, AllEnded, AreAnswers, EndedBelow, HasEnded, WaitingFrom, answer_of, answers_from}
+use Rattle.batch_run.specs.Stands.{Outset, AreWired, IsIdle, SlotPlays, SlotTells, SlotEnds, SlotRuns, SlotTask, SlotKernel, SlotCounted, EndCounted, Stands, waits, spared, begun, AllStand, AllEnded, AreAnswers, EndedBelow, HasEnded, NoneOver, WaitingFrom, answer_of, answers_from}
 use Rattle.batch_run.proofs.JournalLemmas.{extension, told_at}
 use Rattle.batch_run.proofs.SlotLemmas.{are_answers}
 
@@ -69,10 +82,38 @@ pub record AreIdle (asks : ℕ → Option Ask) (p : Option (List Entry)) : Type 
   pub idle : (i : ℕ) (a : Ask) → asks i ≡ Some a → IsIdle i a p
   pub apart : (i : ℕ) (a : Ask) → asks i ≡ Some a → IsApart asks i a
 
-pub all_start : (n : ℕ) (asks : List Ask) (slots : List Slot) (p : Option (List Entry)) (c : Counts) (here : List ℕ) (most : ℕ) (wires : List (Option ℕ)) (clean : Bool) → length slots ≡ n + length asks
-    → EndedBelow n slots → WaitingFrom n slots → (clean ≡ true → SpeaksWhole p c) → (clean ≡ true → AreIdle (numbered n asks) p) → IfSome p (AreWired wires)
-    → AllStand (numbered n asks) p (record { size = n + length asks; here = here; counts = c; waits = c.waits; most = most; clean = clean; wires = wires }) slots p c
-all_start n asks slots p c here most wires clean size below waiting spoken idle wired = record {
+-- no job runs yet
+none_runs : (n : ℕ) (slots : List Slot) → EndedBelow n slots → WaitingFrom n slots → (i : ℕ) (j : Job) → slice_get slots i ≡ Some (Running j) → ⊥
+none_runs n slots below waiting i j got = elim (cases_lt i n) [
+  | inl low ↦ below.each i (Running j) low got
+  | inr high ↦ let no : Running j ≡ Waiting = waiting.each i (Running j) high got in absurd (cc)
+]
+
+pub none_over_start : {n : ℕ} {slots : List Slot} → EndedBelow n slots → WaitingFrom n slots → NoneOver slots
+none_over_start {n} {slots} below waiting = record { each = λ i. at i (slice_get slots i) refl }
+  where
+    at : (i : ℕ) (o : Option Slot) → slice_get slots i ≡ o → is_slot_over (slice_get slots i) ≡ false
+    at i None e = ap is_slot_over e
+    at i (Some Waiting) e = ap is_slot_over e
+    at i (Some (Running j)) e = absurd (none_runs n slots below waiting i j e)
+    at i (Some (Ended answer)) e = ap is_slot_over e
+
+-- the loop at the start
+served_start : (n : ℕ) (asks : List Ask) (slots : List Slot) (l : Loop) (before : List Entry) → EndedBelow n slots → WaitingFrom n slots
+    → (h : History) × StandsFor l h before → AllShut before → AreServed (numbered n asks) (begins n) l slots before
+served_start n asks slots l before below waiting stands shut = record {
+  history = stands.0;
+  stands = stands.1;
+  unread = shut_unread before shut;
+  listens = λ i j got has. absurd (none_runs n slots below waiting i j got);
+  closed = λ i a answer at got. let no : Ended answer ≡ Waiting = waiting_start n asks slots waiting i a (Ended answer) at got in absurd (cc);
+}
+
+pub all_start : (n : ℕ) (asks : List Ask) (slots : List Slot) (p : Option (List Entry)) (c : Counts) (here : List ℕ) (most : ℕ) (l : Loop) (clean : Bool) → length slots ≡ n + length asks → length slots ≤ 16
+    → EndedBelow n slots → WaitingFrom n slots → ((journal : List Entry) → AllShut journal → (h : History) × StandsFor l h journal)
+    → (clean ≡ true → SpeaksWhole p c) → (clean ≡ true → AreIdle (numbered n asks) p) → IfSome p (AreWired (ports_in l))
+    → AllStand (numbered n asks) p (record { size = n + length asks; here = here; counts = c; waits = c.waits; most = most; clean = clean; loop = l; owed = begins n }) slots p c
+all_start n asks slots p c here most l clean size few below waiting stands spoken idle wired = record {
   size = size;
   asked = asked_start n asks slots size below;
   grow = grow_start c;
@@ -85,12 +126,23 @@ all_start n asks slots p c here most wires clean size below waiting spoken idle 
   apart = λ e. (idle e).apart;
   tells = λ e i a slot at got. subst (λ x. SlotTells a x p c) (sym (waiting_start n asks slots waiting i a slot at got)) tt;
   wired = λ e. wired;
+  few = few;
   plays = λ i a slot at got. subst (λ x. SlotPlays i a x) (sym (waiting_start n asks slots waiting i a slot at got)) tt;
   ends = λ i a slot at got. subst (λ x. SlotEnds i x p p) (sym (waiting_start n asks slots waiting i a slot at got)) (λ h. h);
   counted = λ i a slot at got. subst (λ x. SlotCounted a c most x p c) (sym (waiting_start n asks slots waiting i a slot at got)) tt;
   each = λ before past st e i a slot at got apart rested.
-      waits (waiting_start n asks slots waiting i a slot at got) (subst (λ x. Since (Spares a.output) before x) (same_Some _ _ (sym st ∙ e)) start);
+      let same : before ≡ past = same_Some _ _ (sym st ∙ e) in
+      waits (waiting_start n asks slots waiting i a slot at got) (subst (λ x. Since (Spares a.output) before x) same start)
+      (λ shut. subst (λ x. StaysFresh to.first_clock i a before x) same (fresh_start to.first_clock i a before));
+  served = λ before past st e shut.
+      let same : before ≡ past = same_Some _ _ (sym st ∙ e) in
+      subst (λ x. AreServed (numbered n asks) (begins n) l slots x) same (served_start n asks slots l before below waiting (stands before shut) shut);
 }
+
+-- the clock that a world tells
+pub clock_stands : (p : Option (List Entry)) (ms : ℕ) → IfSome p (λ past. ms ≡ time past) → IfSome p (λ past. time past ≡ ms)
+clock_stands None ms at = tt
+clock_stands (Some past) ms at = sym at
 
 -- what holds of the journals holds where they are told
 told_of : (p q : Option (List Entry)) (R S : List Entry → List Entry → Type 0) → Told p q R
@@ -127,25 +179,37 @@ ends_by o task Waiting j d h r = absurd h
 ends_by o task (Running job) j d h r = absurd h
 ends_by o task (Ended answer) j d h r = r
 
-made_stopped : (a : Ask) (from : Counts) (before past : List Entry) (d : Counts) (slot : Slot) → Stands a from before past d slot → Makes a None from d before past
-made_stopped a from before past d slot (waits e h) = nothing tt h
-made_stopped a from before past d slot (spared answer e u h) = nothing tt h
-made_stopped a from before past d slot (begun bytes n begin then acc h g ext of kernel r) =
+made_stopped : (o : OwedTo) (i : ℕ) (a : Ask) (from : Counts) (before past : List Entry) (d : Counts) (slot : Slot) → Stands o i a from before past d slot → Makes i a None from d before past
+made_stopped o i a from before past d slot (waits e h fresh) = nothing tt h
+made_stopped o i a from before past d slot (spared answer e u h) = nothing tt h
+made_stopped o i a from before past d slot (begun bytes n begin then acc h g ext of kernel r follows) =
     let front = extension ext in
-    saves bytes n begin then front.0 acc tt h g front.1 (stopped (origin_of a n begin then) (counted_task a (first_of a n)) slot (Some past) d r)
+    saves bytes n begin then front.0 acc tt h g front.1 (stopped (origin_of a n begin then) (counted_task a (first_of a n)) slot (Some past) d r) (λ shut. tt)
+
+-- a job that has ended, and to which nothing is still to be told
+ends_following : (i : ℕ) (a : Ask) (n : Notebook) (slot : Slot) (before past : List Entry) → HasEnded slot → SlotFollows to.nothing i a n slot before past
+    → EndsFollowing i a n (answer_of (Some slot)) before past
+ends_following i a n Waiting before past ended h = absurd ended
+ends_following i a n (Running j) before past ended h = absurd ended
+ends_following i a n (Ended answer) before past ended h = record {
+  session = h.session;
+  key = h.key;
+  each = λ p plot fresh session key. (h.each p plot fresh session key).ended;
+}
 
 slot_read : (a : Ask) (first : Notebook) (slot : Slot) (x y : List Entry) → SlotTask a first slot → SlotKernel a first slot x y → EndsRead a first (answer_of (Some slot)) x y
 slot_read a first Waiting x y of kernel = tt
 slot_read a first (Running j) x y of kernel = tt
 slot_read a first (Ended answer) x y of kernel = (of, kernel)
 
-made_ended : (a : Ask) (from : Counts) (before past : List Entry) (d : Counts) (slot : Slot) → HasEnded slot → Stands a from before past d slot
-    → Makes a (answer_of (Some slot)) from d before past
-made_ended a from before past d slot ended (waits e h) = nothing (subst (λ x. EndsUnread a (answer_of (Some x)) before past) (sym e) tt) h
-made_ended a from before past d slot ended (spared answer e u h) = nothing (subst (λ x. EndsUnread a (answer_of (Some x)) before past) (sym e) u) h
-made_ended a from before past d slot ended (begun bytes n begin then acc h g ext of kernel r) =
+made_ended : (i : ℕ) (a : Ask) (from : Counts) (before past : List Entry) (d : Counts) (slot : Slot) → HasEnded slot → Stands to.nothing i a from before past d slot
+    → Makes i a (answer_of (Some slot)) from d before past
+made_ended i a from before past d slot ended (waits e h fresh) = nothing (subst (λ x. EndsUnread a (answer_of (Some x)) before past) (sym e) tt) h
+made_ended i a from before past d slot ended (spared answer e u h) = nothing (subst (λ x. EndsUnread a (answer_of (Some x)) before past) (sym e) u) h
+made_ended i a from before past d slot ended (begun bytes n begin then acc h g ext of kernel r follows) =
     let front = extension ext in
     saves bytes n begin then front.0 acc (slot_read a (first_of a n) slot (Read a.input 33554432 (found.Whole bytes) ∷ begin) past of kernel) h g front.1 (ends_by (origin_of a n begin then) (counted_task a (first_of a n)) slot (Some past) d ended r)
+    (λ shut. ends_following i a n slot before past ended (follows shut))
 
 module _ (n : ℕ) (asks : List Ask) (first : Option (List Entry)) (from : Outset) (slots : List Slot) (q : Option (List Entry)) (d : Counts)
     (size : from.size ≡ n + length asks) (s : AllStand (numbered n asks) first from slots q d) where
@@ -162,16 +226,17 @@ module _ (n : ℕ) (asks : List Ask) (first : Option (List Entry)) (from : Outse
   apart_at : (i : ℕ) (a : Ask) → IsApart (numbered 0 asks) i a → IsApart (numbered n asks) (n + i) a
   apart_at i a apart = λ k b at ne. let r = numbered_only n asks k b at in apart r.0 b r.2 (λ e. ne (r.1 ∙ ap (λ m. n + m) e))
 
-  pub made_without : (e : NoMemory) → Told first q (MakesEach asks (Err e) from.counts d)
-  made_without e = told_of first q Extends (MakesEach asks (Err e) from.counts d) s.told (λ x y st f i a at apart rested.
+  pub made_without : (e : NoMemory) → Told first q (MakesEach n asks (Err e) from.counts d)
+  made_without e = told_of first q Extends (MakesEach n asks (Err e) from.counts d) s.told (λ x y st f i a at apart rested.
       let slot = slot_at (n + i) a (role i a at) in
-      made_stopped a from.counts x y d slot.0 (s.each x y st f (n + i) a slot.0 (role i a at) slot.1 (apart_at i a apart) rested))
+      made_stopped (owed_to from.owed (n + i)) (n + i) a from.counts x y d slot.0 (s.each x y st f (n + i) a slot.0 (role i a at) slot.1 (apart_at i a apart) rested))
 
-  pub made_with : (answers : List Answer) → AllEnded slots → AreAnswers n slots answers → Told first q (MakesEach {E = NoMemory} asks (Ok answers) from.counts d)
-  made_with answers ended are = told_of first q Extends (MakesEach {E = NoMemory} asks (Ok answers) from.counts d) s.told (λ x y st f i a at apart rested.
+  pub made_with : (answers : List Answer) → from.owed ≡ none → AllEnded slots → AreAnswers n slots answers → Told first q (MakesEach {E = NoMemory} n asks (Ok answers) from.counts d)
+  made_with answers owed ended are = told_of first q Extends (MakesEach {E = NoMemory} n asks (Ok answers) from.counts d) s.told (λ x y st f i a at apart rested.
       let slot = slot_at (n + i) a (role i a at) in
-      subst (λ o. Makes a o from.counts d x y) (sym (are.each i ∙ ap answer_of slot.1))
-      (made_ended a from.counts x y d slot.0 (ended.each (n + i) slot.0 slot.1) (s.each x y st f (n + i) a slot.0 (role i a at) slot.1 (apart_at i a apart) rested)))
+      let stands = subst (λ (o : Owed). Stands (owed_to o (n + i)) (n + i) a from.counts x y d slot.0) owed (s.each x y st f (n + i) a slot.0 (role i a at) slot.1 (apart_at i a apart) rested) in
+      subst (λ o. Makes (n + i) a o from.counts d x y) (sym (are.each i ∙ ap answer_of slot.1))
+      (made_ended (n + i) a from.counts x y d slot.0 (ended.each (n + i) slot.0 slot.1) stands))
 
   slot_end : (a : Ask) (slot : Slot) (answer : Answer) → answer_of (Some slot) ≡ Some answer → SlotCounted a from.counts from.most slot q d
       → EndCounted a from.counts from.most answer d
@@ -218,9 +283,9 @@ module _ (n : ℕ) (asks : List Ask) (first : Option (List Entry)) (from : Outse
   all_answers : AreAnswers n slots (answers_from n slots)
   all_answers = are_answers (omega (arith, size, s.size)) ended
 
-  pub made_by : (result : Result (List Answer) NoMemory) → IfOk result (λ answers. answers ≡ answers_from n slots) → Told first q (MakesEach asks result from.counts d)
-  made_by (Ok answers) is = made_with n asks first from slots q d size s answers ended (subst (AreAnswers n slots) (sym is) all_answers)
-  made_by (Err e) is = made_without n asks first from slots q d size s e
+  pub made_by : (result : Result (List Answer) NoMemory) → from.owed ≡ none → IfOk result (λ answers. answers ≡ answers_from n slots) → Told first q (MakesEach n asks result from.counts d)
+  made_by (Ok answers) owed is = made_with n asks first from slots q d size s answers owed ended (subst (AreAnswers n slots) (sym is) all_answers)
+  made_by (Err e) owed is = made_without n asks first from slots q d size s e
 
   pub ends_by_answers : (result : Result (List Answer) NoMemory) → IfOk result (λ answers. answers ≡ answers_from n slots) → IfOk result (AreEnds asks from.counts d)
   ends_by_answers (Ok answers) is = are_ends n asks first from slots q d size s answers (subst (AreAnswers n slots) (sym is) all_answers)

@@ -1,5 +1,6 @@
 -- What is told of journals and paths.
 use Rattle.std.proofs.Common.{◌≡◌, ◌↔◌, ◌^◌, ◌-◌, min, inl, inr, ℕ, ◌+◌, ◌<◌, ◌≤◌, ◌++◌, Bool, List, [], ◌∷◌, Option, Some, None, Result, Ok, Err, arith, refl, sym, ◌∙◌, ap, subst}
+use Rattle.std.specs.Prelude.{IfSome}
 use Rattle.std.proofs.lemmas.Bool.{cases_lt}
 use Rattle.std.proofs.lemmas.Option.{same_Some}
 use Rattle.save_course.proofs.CourseLemmas.{spared_other}
@@ -16,6 +17,7 @@ use Rattle.world.proofs.MomentsLemmas.{told_as, since_as}
 use Rattle.said_lines.specs.Speech.{Says}
 use Rattle.said_lines.proofs.SpeechLemmas.{says_since}
 use Rattle.ready_loop.specs.Offers.{Extends}
+use Rattle.world.specs.Places.{time}
 use Rattle.batch_run.specs.Batch.{HasWaited}
 
 -- ---- journals
@@ -139,3 +141,12 @@ left_less left spent is = elim (cases_lt 0 left) [
   | inl some ↦ omega (arith, is, some)
   | inr none ↦ let no = spent (omega (arith, none)) in absurd (cc)
 ]
+
+-- ---- the clock
+
+-- by what the world's clock gave before and after
+pub clock_rises : {R : List Entry → List Entry → Type 0} (p q : Option (List Entry)) (a b : ℕ) → Told p q R → IfSome p (λ past. a ≡ time past) → IfSome q (λ past. b ≡ time past) → a ≤ b
+    → Told p q (λ x y. time x ≤ time y)
+clock_rises p None a b told old new low = record { so = tt }
+clock_rises None (Some y) a b told old new low = absurd told.so
+clock_rises (Some x) (Some y) a b told old new low = record { so = subst (λ n. n ≤ time y) old (subst (λ n. a ≤ n) new low) }

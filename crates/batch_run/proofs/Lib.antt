@@ -2,10 +2,15 @@ pub mod CallLemmas
 pub mod CauseLemmas
 pub mod DueLemmas
 pub mod EndLemmas
+pub mod FollowLemmas
 pub mod JournalLemmas
 pub mod KeptLemmas
 pub mod LineLemmas
+pub mod LoopLemmas
+pub mod OweLemmas
+pub mod PassLemmas
 pub mod SlotLemmas
 pub mod StandLemmas
 pub mod JobStandLemmas
+pub mod TellingLemmas
 pub mod WireLemmas

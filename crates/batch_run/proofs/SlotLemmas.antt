@@ -5,10 +5,12 @@ use Rattle.std.proofs.lemmas.Bool.{cases_eq, cases_lt, false≢true}
 use Rattle.std.proofs.lemmas.List.{length-set}
 use Rattle.std.proofs.lemmas.Option.{slice_get_past, slice_get_within, same_Some}
 use Rattle.job_end.specs.declared.answer.Answer.{Answer}
+use Rattle.world.specs.declared.chan.Chan.{Chan}
 use Rattle.job_run.specs.declared.job.Job.{Job}
+use Rattle.job_run.specs.Queues.{NotesTaken}
 use Rattle.batch_run.specs.declared.slot.Slot.{Slot}
 use Rattle.batch_run.specs.declared.slot.Slot.TheVariants.{Waiting, Running, Ended}
-use Rattle.batch_run.specs.Stands.{WaitingFrom, EndedBelow, AllEnded, HasEnded, AreAnswers, ChangesAt, EndsSaying, KeepsOthers, NoneOver, NoneOverBelow, answer_of, answers_from, answers_of, is_slot_running}
+use Rattle.batch_run.specs.Stands.{WaitingFrom, EndedBelow, AllEnded, HasEnded, AreAnswers, ChangesAt, EndsSaying, KeepsOthers, NoneOver, NoneOverBelow, SameOver, SlotNotes, answer_of, answers_from, answers_of, is_slot_running}
 use Rattle.world.specs.declared.entry.Entry.{Entry}
 use Rattle.world.specs.Moments.{Told}
 use Rattle.said_lines.specs.Speech.{Says}
@@ -211,6 +213,17 @@ none_ended {xs} all = record { each = λ i. at (slice_get xs i) i refl }
     at None i e = ap is_slot_over e
     at (Some s) i e = ap is_slot_over e ∙ over_ended s (all.each i s e)
 
+-- ---- jobs that end no more than they had
+
+pub over_start : (xs : List Slot) → SameOver xs xs
+over_start xs = record { each = λ i. refl }
+
+pub over_then : {xs ys zs : List Slot} → SameOver xs ys → SameOver ys zs → SameOver xs zs
+over_then f g = record { each = λ i. g.each i ∙ f.each i }
+
+pub none_same : {xs ys : List Slot} → SameOver xs ys → NoneOver xs → NoneOver ys
+none_same f none = record { each = λ i. f.each i ∙ none.each i }
+
 -- ---- jobs of which one changes
 
 pub changes_start : (n : ℕ) (xs : List Slot) → ChangesAt n xs xs
@@ -251,3 +264,57 @@ told_saying (Some x) (Some y) told = record { begin = x; says = told.so }
 pub none_wanted : {A E : Type 0} (r : Result (Option A) E) (P : A → Type 0) → IfOk r (λ o. o ≡ None) → IfOk r (λ o. IfSome o P)
 none_wanted (Ok o) P none = subst (λ x. IfSome x P) (sym none) tt
 none_wanted (Err e) P none = tt
+
+-- one slot changes, of which the job is over where it was
+pub over_set_same : (xs : List Slot) (n : ℕ) (was now : Slot) → slice_get xs n ≡ Some was → is_slot_over (Some now) ≡ is_slot_over (Some was) → SameOver xs (set xs n now)
+over_set_same xs n was now found same = record {
+  each = λ i. elim (cases_eq i n) [
+    | inl e ↦
+        subst (λ m. is_slot_over (slice_get (set xs n now) m) ≡ is_slot_over (slice_get xs m)) (sym e)
+        (ap is_slot_over (slice_get-set_same xs n now (slice_get_within xs n was found)) ∙ same ∙ sym (ap is_slot_over found))
+    | inr ne ↦ ap is_slot_over (slice_get-set_other xs n i now ne)
+  ];
+}
+
+-- none runs in a slot once it was replaced, or where there is none
+pub ended_gone : (s : Slot) → HasEnded s → is_slot_running (Some s) ≡ false
+ended_gone Waiting e = absurd e
+ended_gone (Running j) e = absurd e
+ended_gone (Ended answer) e = refl
+
+-- one that hasn't begun, or has ended
+pub idle_of : (s : Slot) → (s ≡ Waiting) ⊎ ((a : Answer) × (s ≡ Ended a)) → is_slot_running (Some s) ≡ false
+idle_of s (inl e) = ap (λ x. is_slot_running (Some x)) e
+idle_of s (inr e) = ap (λ x. is_slot_running (Some x)) e.1
+
+pub gone_set : (xs : List Slot) (n : ℕ) (s : Slot) → n < length xs → HasEnded s → is_slot_running (slice_get (set xs n s) n) ≡ false
+gone_set xs n s low e = ap is_slot_running (slice_get-set_same xs n s low) ∙ ended_gone s e
+
+pub gone_past : (xs : List Slot) (n : ℕ) → length xs ≤ n → is_slot_running (slice_get xs n) ≡ false
+gone_past xs n past = ap is_slot_running (slice_get_past xs n past)
+
+-- ---- octets that were taken
+
+pub notes_set : (chan : Chan) (count : ℕ) (xs : List Slot) (n : ℕ) (was now : Slot) → slice_get xs n ≡ Some was → SlotNotes chan count (Some was) (Some now)
+    → SlotNotes chan count (slice_get xs n) (slice_get (set xs n now) n)
+notes_set chan count xs n was now found notes =
+    subst (λ o. SlotNotes chan count o (slice_get (set xs n now) n)) (sym found)
+    (subst (λ o. SlotNotes chan count (Some was) o) (sym (slice_get-set_same xs n now (slice_get_within xs n was found))) notes)
+
+pub notes_past : (chan : Chan) (count : ℕ) (xs : List Slot) (n : ℕ) → length xs ≤ n → SlotNotes chan count (slice_get xs n) (slice_get xs n)
+notes_past chan count xs n past = λ j e. absurd (false≢true (sym (gone_past xs n past) ∙ ap is_slot_running e))
+
+abbrev running_or : Job → Slot → Job
+running_or other (Running j) = j
+running_or other Waiting = other
+running_or other (Ended answer) = other
+
+pub notes_one : (chan : Chan) (count : ℕ) (was : Slot) (j k : Job) → was ≡ Running j → NotesTaken chan count j k → SlotNotes chan count (Some was) (Some (Running k))
+notes_one chan count was j k is notes = λ next e. record {
+  job = j;
+  ran = ap Some is;
+  notes = subst (λ x. NotesTaken chan count j x) (ap (running_or k) (same_Some _ _ e)) notes;
+}
+
+pub notes_none : (chan : Chan) (count : ℕ) {slot : Slot} → is_slot_running (Some slot) ≡ false → SlotNotes chan count (Some slot) (Some slot)
+notes_none chan count idle = λ j e. absurd (false≢true (sym idle ∙ ap is_slot_running e))

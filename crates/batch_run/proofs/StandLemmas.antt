@@ -1,5 +1,5 @@
 -- How the jobs of a run go on standing, call by call.
-use Rattle.std.proofs.Common.{◌≡◌, inl, inr, ℕ, ◌+◌, ◌-◌, ◌<◌, ◌≤◌, Bool, true, false, List, [], ◌∷◌, length, set, Option, Some, refl, sym, ◌∙◌, ap, subst, arith}
+use Rattle.std.proofs.Common.{◌≡◌, ◌≢◌, inl, inr, ℕ, ◌+◌, ◌-◌, ◌<◌, ◌≤◌, Bool, true, false, List, [], ◌∷◌, length, set, Option, Some, refl, sym, ◌∙◌, ap, subst, arith}
 use Rattle.std.specs.Prelude.{slice_get, IfSome}
 use Rattle.std.proofs.lemmas.Bool.{cases_eq}
 use Rattle.std.proofs.lemmas.List.{length-set}
@@ -46,11 +46,18 @@ use Rattle.job_begin.proofs.EndLemmas.{starved_end, unread_starved, unread_pass,
 use Rattle.batch_run.specs.declared.slot.Slot.{Slot}
 use Rattle.batch_run.specs.declared.slot.Slot.TheVariants.{Waiting, Running, Ended}
 use Rattle.batch_run.specs.Batch.{IsApart, HasWaited}
-use Rattle.batch_run.specs.Stands.{Outset, SlotPlays, SlotTells, SlotEnds, SlotRuns, SlotKernel, SlotCounted, Stands, waits, spared, begun, AllStand, HasEnded, PassBy, AreWired, more_waits, wired_by}
+use Rattle.batch_run.specs.Owed.{Owed, AreClosed, Served, may_wait, owed_to}
+use Rattle.batch_run.specs.Stands.{Outset, SlotPlays, SlotTells, SlotEnds, SlotRuns, SlotKernel, SlotCounted, Stands, waits, spared, begun, AllStand, HasEnded, PassBy, AreWired, more_waits, owing, served_by, wires_of}
+use Rattle.batch_run.proofs.FollowLemmas.{slot_rested, served_as, served_calls, waits_each}
+use Rattle.batch_run.proofs.PassLemmas.{OnePass, Tells, one_quiet, one_stays, served_moves}
+use Rattle.job_turns.specs.OwedTo.{OwedTo}
+use Rattle.job_run.proofs.SaveLemmas.{says_quiet}
+use Rattle.ready_loop.specs.Standing.{AllShut}
+use Rattle.save_course.proofs.RestLemmas.{spared_rest}
 use Rattle.batch_run.proofs.CallLemmas.{sole, sole_here, sole_at, calls_wide, calls_spare, loop_spares, loop_keeps_end, loop_quiet, loop_asks_none}
 use Rattle.world.proofs.CountsLemmas.{rose_still}
 use Rattle.batch_run.proofs.CauseLemmas.{cause_still, waited_still, waited_more}
-use Rattle.batch_run.proofs.JournalLemmas.{told_back, says_touch}
+use Rattle.batch_run.proofs.JournalLemmas.{told_at, told_back, says_touch}
 use Rattle.ready_loop.proofs.LookLemmas.{extends_of}
 use Rattle.jtext.proofs.Lists.{slice_get-set_same, slice_get-set_other, set_given}
 
@@ -83,12 +90,13 @@ kernel_slot a first Waiting read past after s k = tt
 kernel_slot a first (Running j) read past after s k = tt
 kernel_slot a first (Ended answer) read past after s k = kernel_pass a first answer.status read past after s k
 
-pass_one : (a : Ask) (from : Counts) (before past after : List Entry) (c d : Counts) (slot : Slot) → Since (Spares a.output) past after → CountsGrow c d
-    → Stands a from before past c slot → Stands a from before after d slot
-pass_one a from before past after c d slot s g (waits e h) = waits e (since_then h s)
-pass_one a from before past after c d slot s g (spared answer e u h) = spared answer e (unread_pass a answer.status before before past after start s u) (since_then h s)
-pass_one a from before past after c d slot s g (begun bytes n begin then acc h gr ext task kernel r) =
-    begun bytes n begin then acc h gr (since_then ext (extends_of s)) task (kernel_slot a (first_of a n) slot (Read a.input 33554432 (found.Whole bytes) ∷ begin) past after s kernel) (runs_pass (origin_of a n begin then) (counted_task a (first_of a n)) slot past after c d s g r)
+pass_one : (o r : OwedTo) (i : ℕ) (a : Ask) (from : Counts) (before past after : List Entry) (c d : Counts) (slot : Slot) → IsRested a.output before → Since (Spares a.output) past after → CountsGrow c d
+    → (AllShut before → IsRested a.output past → OnePass o r i a before past after slot) → Stands o i a from before past c slot → Stands r i a from before after d slot
+pass_one o r i a from before past after c d slot rested s g one (waits e h fresh) = waits e (since_then h s) (λ shut. (one shut (spared_rest a.output rested h)).fresh e (fresh shut))
+pass_one o r i a from before past after c d slot rested s g one (spared answer e u h) = spared answer e (unread_pass a answer.status before before past after start s u) (since_then h s)
+pass_one o r i a from before past after c d slot rested s g one (begun bytes n begin then acc h gr ext task kernel runs follows) =
+    begun bytes n begin then acc h gr (since_then ext (extends_of s)) task (kernel_slot a (first_of a n) slot (Read a.input 33554432 (found.Whole bytes) ∷ begin) past after s kernel) (runs_pass (origin_of a n begin then) (counted_task a (first_of a n)) slot past after c d s g runs)
+    (λ shut. (one shut (slot_rested a n begin then (counted_task a (first_of a n)) slot past c runs)).follows n (follows shut))
 
 -- ---- by the counts alone
 
@@ -138,11 +146,17 @@ ends_then n Waiting first p q keeps h = λ s. keeps (h s)
 ends_then n (Running j) first p q keeps h = tt
 ends_then n (Ended answer) first p q keeps h = λ s. keeps (h s)
 
+-- what calls leave of what each job stands for by the journal, and of the loop, where all connections were closed before the run
+pub record Follow (asks : ℕ → Option Ask) (first : Option (List Entry)) (from : Outset) (slots : List Slot) (p q : Option (List Entry)) (rest : Owed) (next : Loop) : Type 0 where
+  pub each : (before x y : List Entry) → first ≡ Some before → p ≡ Some x → q ≡ Some y → AllShut before → Served asks from.owed from.loop slots x
+      → (i : ℕ) (a : Ask) (slot : Slot) → asks i ≡ Some a → slice_get slots i ≡ Some slot → OnePass (owed_to from.owed i) (owed_to rest i) i a before x y slot
+  pub served : (before x y : List Entry) → first ≡ Some before → p ≡ Some x → q ≡ Some y → AllShut before → Served asks from.owed from.loop slots x → Served asks rest next slots y
+
 -- calls that leave the jobs as they stand
-pub calls_pass : (asks : ℕ → Option Ask) (first : Option (List Entry)) (from : Outset) (slots : List Slot) (p q : Option (List Entry)) (c d : Counts) (most : ℕ) (wires : List (Option ℕ))
-    → d.waits ≤ most → HasWaited most d → PassBy asks from.here from.clean from.wires wires p q c d → AllStand asks first from slots p c
-    → AllStand asks first (record from { waits = most; wires = wires }) slots q d
-calls_pass asks first from slots p q c d most wires few all pass s = record {
+pub calls_pass : (asks : ℕ → Option Ask) (first : Option (List Entry)) (from : Outset) (slots : List Slot) (p q : Option (List Entry)) (c d : Counts) (most : ℕ) (rest : Owed) (next : Loop)
+    → d.waits ≤ most → HasWaited most d → PassBy asks from.here from.clean (wires_of from) (ports_in next) p q c d → Follow asks first from slots p q rest next → AllStand asks first from slots p c
+    → AllStand asks first (record from { waits = most; loop = next; owed = rest }) slots q d
+calls_pass asks first from slots p q c d most rest next few all pass follow s = record {
   size = s.size;
   asked = s.asked;
   grow = grow_then s.grow pass.grow;
@@ -155,12 +169,18 @@ calls_pass asks first from slots p q c d most wires few all pass s = record {
   apart = s.apart;
   tells = λ e i a slot at got. tells_passed a slot p q c d (pass.spares a.output) pass.grow (s.tells e i a slot at got);
   wired = λ e. pass.wired e (s.wired e);
+  few = s.few;
   plays = s.plays;
   ends = λ i a slot at got. ends_then i slot first p q (pass.ends i) (s.ends i a slot at got);
   counted = λ i a slot at got. counted_pass a from.counts from.most slot p q c d pass.grow (s.counted i a slot at got);
   each = λ before after st e i a slot at got apart rested.
       let back = told_back p q (Since (Spares a.output)) after (pass.spares a.output) e in
-      pass_one a from.counts before back.0 after c d slot back.2 pass.grow (s.each before back.0 st back.1 i a slot at got apart rested);
+      pass_one (owed_to from.owed i) (owed_to rest i) i a from.counts before back.0 after c d slot rested back.2 pass.grow
+      (λ shut clean. follow.each before back.0 after st back.1 e shut (s.served before back.0 st back.1 shut) i a slot at got)
+      (s.each before back.0 st back.1 i a slot at got apart rested);
+  served = λ before after st e shut.
+      let back = told_back p q (Since (Spares [])) after (pass.spares []) e in
+      follow.served before back.0 after st back.1 e shut (s.served before back.0 st back.1 shut);
 }
 
 loop_passes : (asks : ℕ → Option Ask) (here : List ℕ) (clean : Bool) (was wires : List (Option ℕ)) (p q : Option (List Entry)) (c d : Counts) → Told p q (Since IsOfLoop) → Told p q (Since (IsWired wires))
@@ -181,36 +201,38 @@ loop_passes asks here clean was wires p q c d told wired grow at = record {
 
 -- calls of the loop that keep the ports
 pub loop_keeps : {p q : Option (List Entry)} {c d : Counts} (old new : Loop) → ports_in new ≡ ports_in old → Told p q (Since (IsWired (ports_in new))) → Told p q (Since IsOfLoop) → CountsGrow c d → d.waits ≡ c.waits
-    → (asks : ℕ → Option Ask) (first : Option (List Entry)) (from : Outset) (slots : List Slot) → AllStand asks first (wired_by old from) slots p c → AllStand asks first (wired_by new from) slots q d
-loop_keeps {p} {q} {c} {d} old new same wired told grow still = λ asks first from slots s.
-    calls_pass asks first (wired_by old from) slots p q c d from.waits (ports_in new) (omega (arith, still, s.waits)) (waited_still from.waits c d grow s.waited)
-    (loop_passes asks from.here from.clean (ports_in old) (ports_in new) p q c d told wired grow (λ e. subst (λ w. IfSome p (AreWired w)) (sym same) (s.wired e))) s
+    → (asks : ℕ → Option Ask) (first : Option (List Entry)) (from : Outset) (slots : List Slot) (o rest : Owed) → Follow asks first (served_by o old from) slots p q rest new
+    → AllStand asks first (served_by o old from) slots p c → AllStand asks first (served_by rest new from) slots q d
+loop_keeps {p} {q} {c} {d} old new same wired told grow still = λ asks first from slots o rest follow s.
+    calls_pass asks first (served_by o old from) slots p q c d from.waits rest new (omega (arith, still, s.waits)) (waited_still from.waits c d grow s.waited)
+    (loop_passes asks from.here from.clean (ports_in old) (ports_in new) p q c d told wired grow (λ e. subst (λ w. IfSome p (AreWired w)) (sym same) (s.wired e))) follow s
 
 -- those that begin the connections of a job
 pub loop_begins : {p q : Option (List Entry)} {c d : Counts} (job : ℕ) (ports : List ℕ) (old new : Loop) → HasPorts job ports new
     → ((n : ℕ) → is_of_job job n ≡ false → slice_get (ports_in new) n ≡ slice_get (ports_in old) n)
     → Told p q (Since (IsWired (ports_in new))) → Told p q (Since IsOfLoop) → CountsGrow c d → d.waits ≡ c.waits
-    → (asks : ℕ → Option Ask) (first : Option (List Entry)) (from : Outset) (slots : List Slot) → (from.clean ≡ true → IfSome p (λ past. ports_of job past ≡ Some ports))
-    → AllStand asks first (wired_by old from) slots p c → AllStand asks first (wired_by new from) slots q d
-loop_begins {p} {q} {c} {d} job ports old new has others wired told grow still = λ asks first from slots given s.
-    calls_pass asks first (wired_by old from) slots p q c d from.waits (ports_in new) (omega (arith, still, s.waits)) (waited_still from.waits c d grow s.waited)
-    (loop_passes asks from.here from.clean (ports_in old) (ports_in new) p q c d told wired grow (λ e. told_begun job ports old new p has others (given e) (s.wired e))) s
+    → (asks : ℕ → Option Ask) (first : Option (List Entry)) (from : Outset) (slots : List Slot) (o rest : Owed) → (from.clean ≡ true → IfSome p (λ past. ports_of job past ≡ Some ports))
+    → Follow asks first (served_by o old from) slots p q rest new
+    → AllStand asks first (served_by o old from) slots p c → AllStand asks first (served_by rest new from) slots q d
+loop_begins {p} {q} {c} {d} job ports old new has others wired told grow still = λ asks first from slots o rest given follow s.
+    calls_pass asks first (served_by o old from) slots p q c d from.waits rest new (omega (arith, still, s.waits)) (waited_still from.waits c d grow s.waited)
+    (loop_passes asks from.here from.clean (ports_in old) (ports_in new) p q c d told wired grow (λ e. told_begun job ports old new p has others (given e) (s.wired e))) follow s
 
 -- and those that wait
 pub loop_waits : {p q : Option (List Entry)} {c d : Counts} (old new : Loop) → ports_in new ≡ ports_in old → Told p q (Since (IsWired (ports_in new))) → Told p q (Since IsOfLoop) → CountsGrow c d → (left rest : ℕ)
     → d.waits ≤ c.waits + (left - rest) → HasWaited (c.waits + (left - rest)) d
-    → (asks : ℕ → Option Ask) (first : Option (List Entry)) (from : Outset) (slots : List Slot) → AllStand asks first (wired_by old from) slots p c
-    → AllStand asks first (more_waits (left - rest) (wired_by new from)) slots q d
-loop_waits {p} {q} {c} {d} old new same wired told grow left rest few all = λ asks first from slots s.
-    calls_pass asks first (wired_by old from) slots p q c d (from.waits + (left - rest)) (ports_in new) (omega (arith, few, s.waits)) (waited_more from.waits (left - rest) c d s.waited all)
-    (loop_passes asks from.here from.clean (ports_in old) (ports_in new) p q c d told wired grow (λ e. subst (λ w. IfSome p (AreWired w)) (sym same) (s.wired e))) s
+    → (asks : ℕ → Option Ask) (first : Option (List Entry)) (from : Outset) (slots : List Slot) (o owed : Owed) → Follow asks first (served_by o old from) slots p q owed new
+    → AllStand asks first (served_by o old from) slots p c → AllStand asks first (served_by owed new (more_waits (left - rest) from)) slots q d
+loop_waits {p} {q} {c} {d} old new same wired told grow left rest few all = λ asks first from slots o owed follow s.
+    calls_pass asks first (served_by o old from) slots p q c d (from.waits + (left - rest)) owed new (omega (arith, few, s.waits)) (waited_more from.waits (left - rest) c d s.waited all)
+    (loop_passes asks from.here from.clean (ports_in old) (ports_in new) p q c d told wired grow (λ e. subst (λ w. IfSome p (AreWired w)) (sym same) (s.wired e))) follow s
 
 -- what is said of the end of a job
 pub saying_keeps : {p q : Option (List Entry)} {c d : Counts} {line : List ℕ} (answer : Answer) → line ≡ answer.line → Told p q (Says line (0 < d.say)) → (0 < c.say → q ≡ p)
     → CountsWork c d
-    → (asks : ℕ → Option Ask) (first : Option (List Entry)) (from : Outset) (slots : List Slot) (i : ℕ) (a : Ask) → asks i ≡ Some a → IsAnswer a.output answer
+    → (asks : ℕ → Option Ask) (first : Option (List Entry)) (from : Outset) (slots : List Slot) (i : ℕ) (a : Ask) → may_wait from.owed ≡ true → asks i ≡ Some a → IsAnswer a.output answer
     → AllStand asks first from slots p c → AllStand asks first from slots q d
-saying_keeps {p} {q} {c} {d} {line} answer same told silent work = λ asks first from slots i a own is s. calls_pass asks first from slots p q c d from.waits from.wires (omega (arith, work.waits, s.waits)) (waited_still from.waits c d work.grow s.waited) (record {
+saying_keeps {p} {q} {c} {d} {line} answer same told silent work = λ asks first from slots i a wait own is s. calls_pass asks first from slots p q c d from.waits from.owed from.loop (omega (arith, work.waits, s.waits)) (waited_still from.waits c d work.grow s.waited) (record {
   calls = told_as (said_by i a from.here true from.clean is s.spoken) (λ x y b. calls_wide asks from.here from.clean i a own b);
   spoken = λ e. line_speaks from.clean a line (line_is from.clean a is) p q c d told work.grow;
   idle = λ n b h. record {
@@ -218,10 +240,17 @@ saying_keeps {p} {q} {c} {d} {line} answer same told silent work = λ asks first
     portless = told_asks_none (sole i a from.here false false) n (λ number b has starts. absurd (cc)) p q (said_by i a from.here false false is (λ e. absurd (cc))) h.portless;
     lacks = lacks_later b.output p q (says_touch told b.output) h.lacks;
   };
-  wired = λ e h. wired_calls (sole i a from.here true true) from.wires p q refl (said_by i a from.here true true is (λ on. s.spoken e)) h;
+  wired = λ e h. wired_calls (sole i a from.here true true) (wires_of from) p q refl (said_by i a from.here true true is (λ on. s.spoken e)) h;
   spares = says_touch told;
   ends = λ n. told_keeps_end (sole i a from.here false false) n (λ number b has starts. absurd (cc)) p q (said_by i a from.here false false is (λ e. absurd (cc)));
   grow = work.grow;
+}) (record {
+  each = λ before x y st e f shut served n b slot at got.
+      let said = told_at p q (Says line (0 < d.say)) x y told e f in
+      one_quiet (owed_to from.owed n) n b before x y slot (waits_each from.owed n wait) (λ j number. says_quiet j line (0 < d.say) x y said);
+  served = λ before x y st e f shut served.
+      let calls = told_at p q (Since (IsCall (sole i a from.here false false))) x y (said_by i a from.here false false is (λ e. absurd (cc))) e f in
+      served_as asks from.owed from.loop from.loop slots slots x y (λ t. served_calls asks from.owed from.loop slots (sole i a from.here false false) x y calls t) served;
 }) s
   where
     line_is : (clean : Bool) (a : Ask) → IsAnswer a.output answer → (begin : List Entry) → IsLine clean a begin line
@@ -232,16 +261,18 @@ saying_keeps {p} {q} {c} {d} {line} answer same told silent work = λ asks first
 
 -- ---- one job changes
 
-pub change : (asks : ℕ → Option Ask) (first : Option (List Entry)) (from : Outset) (slots : List Slot) (p q : Option (List Entry)) (c d : Counts) (k : ℕ) (was next : Slot)
-    → slice_get slots k ≡ Some was → (HasEnded was → ⊥) → CountsWork c d → (next ≡ Waiting → ⊥) → (from.clean ≡ true → SpeaksWhole q d)
+pub change : (asks : ℕ → Option Ask) (first : Option (List Entry)) (from : Outset) (slots : List Slot) (p q : Option (List Entry)) (c d : Counts) (k : ℕ) (was next : Slot) (rest : Owed)
+    → slice_get slots k ≡ Some was → (HasEnded was → ⊥) → Tells from rest k was next → CountsWork c d → (next ≡ Waiting → ⊥) → (from.clean ≡ true → SpeaksWhole q d)
     → ((a : Ask) → asks k ≡ Some a → SlotPlays k a was → Told p q (Since (IsCall (sole k a from.here true from.clean))) × SlotPlays k a next)
     → (from.clean ≡ true → (a : Ask) → asks k ≡ Some a → SlotPlays k a was → SlotTells a next q d)
     → ((a : Ask) → asks k ≡ Some a → SlotPlays k a was → SlotEnds k was first p → SlotEnds k next first q)
     → ((a : Ask) (before past after : List Entry) → asks k ≡ Some a → SlotPlays k a was → p ≡ Some past → q ≡ Some after → IsRested a.output before
-    → Stands a from.counts before past c was → Stands a from.counts before after d next)
+    → Stands (owed_to from.owed k) k a from.counts before past c was → Stands (owed_to rest k) k a from.counts before after d next)
     → ((a : Ask) → asks k ≡ Some a → SlotCounted a from.counts from.most was p c → SlotCounted a from.counts from.most next q d)
-    → AllStand asks first from slots p c → AllStand asks first from (set slots k next) q d
-change asks first from slots p q c d k was next found runs work moved spoken calls tells ends step count s = record {
+    → ((b : Ask) (before x y : List Entry) → p ≡ Some x → q ≡ Some y → asks k ≡ Some b → SlotPlays k b was → Since (IsCall (sole k b from.here true from.clean)) x y
+    → (i : ℕ) (a : Ask) (slot : Slot) → i ≢ k → IsOther b.output a.output → IsRested a.output x → OnePass (owed_to from.owed i) (owed_to rest i) i a before x y slot)
+    → AllStand asks first from slots p c → AllStand asks first (owing rest from) (set slots k next) q d
+change asks first from slots p q c d k was next rest found runs fits work moved spoken calls tells ends step count others s = record {
   size = length-set slots k next ∙ s.size;
   asked = λ i slot got. elim (cases_eq i k) [
     | inl e ↦ inr (own.0, subst (λ m. asks m ≡ Some own.0) (sym e) own.1)
@@ -272,7 +303,8 @@ change asks first from slots p q c d k was next found runs work moved spoken cal
         tells_passed b slot p q c d (others_spared b (s.apart e i b at k own.0 own.1 (λ f. ne (sym f)))) work.grow
         (s.tells e i b slot at (sym (slice_get-set_other slots k i next ne) ∙ got))
   ];
-  wired = λ e. wired_calls (sole k own.0 from.here true from.clean) from.wires p q e made (s.wired e);
+  wired = λ e. wired_calls (sole k own.0 from.here true from.clean) (wires_of from) p q e made (s.wired e);
+  few = subst (λ n. n ≤ 16) (sym (length-set slots k next)) s.few;
   plays = λ i b slot at got. elim (cases_eq i k) [
     | inl e ↦
         let at_k = subst (λ m. asks m ≡ Some b) e at in
@@ -299,13 +331,17 @@ change asks first from slots p q c d k was next found runs work moved spoken cal
         | inl e ↦
             let at_k = subst (λ m. asks m ≡ Some b) e at in
             let apart_k = subst (λ m. IsApart asks m b) e apart in
-            subst (λ x. Stands b from.counts before after d x) (here i slot e got)
-            (step b before back.0 after at_k (s.plays k b was at_k found) back.1 f rested (s.each before back.0 st back.1 k b was at_k found apart_k rested))
+            subst (λ m. Stands (owed_to rest m) m b from.counts before after d slot) (sym e) (subst (λ x. Stands (owed_to rest k) k b from.counts before after d x) (here i slot e got)
+            (step b before back.0 after at_k (s.plays k b was at_k found) back.1 f rested (s.each before back.0 st back.1 k b was at_k found apart_k rested)))
         | inr ne ↦
             let other = apart k own.0 own.1 (λ e. ne (sym e)) in
-            pass_one b from.counts before back.0 after c d slot (calls_spare k own.0 from.here b.output true from.clean other back.2) work.grow
+            pass_one (owed_to from.owed i) (owed_to rest i) i b from.counts before back.0 after c d slot rested (calls_spare k own.0 from.here b.output true from.clean other back.2) work.grow
+            (λ shut clean. others own.0 before back.0 after back.1 f own.1 (s.plays k own.0 was own.1 found) back.2 i b slot ne other clean)
             (s.each before back.0 st back.1 i b slot at (sym (slice_get-set_other slots k i next ne) ∙ got) apart rested)
       ];
+  served = λ before after st f shut.
+      let back = told_back p q (Since (IsCall (sole k own.0 from.here true from.clean))) after made f in
+      served_moves asks from rest slots k was next (sole k own.0 from.here true from.clean) back.0 after found fits back.2 (s.served before back.0 st back.1 shut);
 }
   where
     low : k < length slots
@@ -329,12 +365,21 @@ pub slot_rests : (asks : ℕ → Option Ask) (first : Option (List Entry)) (from
     → slice_get slots k ≡ Some was → AllStand asks first from slots p c → AllStand asks first from (set slots k was) p c
 slot_rests asks first from slots k was p c found s = subst (λ x. AllStand asks first from x p c) (sym (set_given slots k was found)) s
 
+-- what stays to be told to others, where nothing is called
+pub others_stay : (from : Outset) (rest : Owed) (k : ℕ) (p : Option (List Entry)) → ((i : ℕ) → i ≢ k → owed_to rest i ≡ owed_to from.owed i) → (before x y : List Entry) → p ≡ Some x → p ≡ Some y
+    → (i : ℕ) (a : Ask) (slot : Slot) → i ≢ k → OnePass (owed_to from.owed i) (owed_to rest i) i a before x y slot
+others_stay from rest k p same before x y e f i a slot ne = one_stays (owed_to from.owed i) (owed_to rest i) i a before x y slot (same i ne) (same_Some _ _ (sym e ∙ f))
+
 -- a job that hasn't begun ends
 pub waiting_ends : (asks : ℕ → Option Ask) (first : Option (List Entry)) (from : Outset) (slots : List Slot) (p : Option (List Entry)) (c : Counts) (k : ℕ) (answer : Answer)
-    → answer ≡ starved_answer → slice_get slots k ≡ Some Waiting → AllStand asks first from slots p c → AllStand asks first from (set slots k (Ended answer)) p c
-waiting_ends asks first from slots p c k answer is found s =
-    change asks first from slots p p c c k Waiting (Ended answer) found (λ e. e) (work_start c) (λ e. absurd (cc)) s.spoken (λ a at role. (told_start (λ x. start), tt)) (λ e a at role. tt) (λ a at role h. h) step count s
+    → answer ≡ starved_answer → AreClosed from.loop k → slice_get slots k ≡ Some Waiting → AllStand asks first from slots p c → AllStand asks first from (set slots k (Ended answer)) p c
+waiting_ends asks first from slots p c k answer is closed found s =
+    change asks first from slots p p c c k Waiting (Ended answer) from.owed found (λ e. e) fits (work_start c) (λ e. absurd (cc)) s.spoken (λ a at role. (told_start (λ x. start), tt)) (λ e a at role. tt) (λ a at role h. h) step count
+    (λ b before x y e f own role calls i a slot ne other rested. others_stay from from.owed k p (λ i ne. refl) before x y e f i a slot ne) s
   where
+    fits : Tells from from.owed k Waiting (Ended answer)
+    fits = record { known = λ e. e; lines = λ i e. e; runs = λ j e. absurd (cc); closed = λ x e. closed }
+
     count : (a : Ask) → asks k ≡ Some a → SlotCounted a from.counts from.most Waiting p c → SlotCounted a from.counts from.most (Ended answer) p c
     count a at w = record {
       is = record { is = starved_end a.output answer is; cause = starved_caused from.counts c answer is };
@@ -342,8 +387,8 @@ waiting_ends asks first from slots p c k answer is found s =
     }
 
     step : (a : Ask) (before past after : List Entry) → asks k ≡ Some a → Unit {0} → p ≡ Some past → p ≡ Some after → IsRested a.output before
-        → Stands a from.counts before past c Waiting → Stands a from.counts before after c (Ended answer)
-    step a before past after at role e f rested (waits g h) = spared answer refl (subst (λ x. IsUnread a answer.status before x) (same_Some _ _ (sym e ∙ f)) (unread_pass a answer.status before past past past h start (unread_starved a answer past is)))
+        → Stands (owed_to from.owed k) k a from.counts before past c Waiting → Stands (owed_to from.owed k) k a from.counts before after c (Ended answer)
+    step a before past after at role e f rested (waits g h fresh) = spared answer refl (subst (λ x. IsUnread a answer.status before x) (same_Some _ _ (sym e ∙ f)) (unread_pass a answer.status before past past past h start (unread_starved a answer past is)))
         (subst (λ x. Since (Spares a.output) before x) (same_Some _ _ (sym e ∙ f)) h)
     step a before past after at role e f rested (spared x g u h) = absurd (cc)
-    step a before past after at role e f rested (begun bytes n begin then acc h gr ext of kernel r) = absurd r
+    step a before past after at role e f rested (begun bytes n begin then acc h gr ext of kernel r follows) = absurd r

@@ -85,7 +85,7 @@ wired_calls c wires (Some x) (Some y) clean told h = wired_jobs c wires clean to
 
 -- ---- a begin
 
-own_job : (job : ℕ) (conn : Conn) → is_of_job job (place_of conn) ≡ true → conn.job ≡ job
+pub own_job : (job : ℕ) (conn : Conn) → is_of_job job (place_of conn) ≡ true → conn.job ≡ job
 own_job job conn own =
     let few : chan_number conn.chan < 4 = chan_below conn.chan in
     elim (cases_lt conn.job job) [

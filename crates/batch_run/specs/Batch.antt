@@ -17,13 +17,15 @@ use Rattle.job_end.specs.declared.answer.Answer.{Answer}
 use Rattle.job_saves.specs.Course.{Origin, Ends, LacksSaves}
 use Rattle.job_run.specs.Run.{EndsWith, IsOther}
 use Rattle.ready_loop.specs.Begins.{port_of}
-use Rattle.ready_loop.specs.Standing.{IsOfLoop}
+use Rattle.ready_loop.specs.Standing.{AllShut, IsOfLoop}
+use Rattle.job_journal.specs.Standing.{HasEndedAs}
 use Rattle.job_saves.specs.Calls.{Cast, IsCall}
 use Rattle.job_saves.specs.Children.{has_child, ports_of}
 use Rattle.job_saves.specs.Speaking.{IsAnswer, IsWhole}
 use Rattle.job_saves.specs.Reads.{first_of}
 use Rattle.job_begin.specs.Begun.{origin_of, counted_task, IsCausedIn, IsUnread, HasKernel}
 use Rattle.job_begin.specs.Causes.{HasCause}
+use Rattle.batch_run.specs.Owed.{Follows}
 
 -- the job of each number, where the jobs of a run have the numbers from the first on
 abbrev pub numbered : ℕ → List Ask → ℕ → Option Ask
@@ -63,21 +65,27 @@ EndsUnread a answer before after = IfSome answer (λ x. IsUnread a x.status befo
 abbrev pub EndsRead : Ask → Notebook → Option Answer → List Entry → List Entry → Type 0
 EndsRead a first answer before after = IfSome answer (λ x. IsCausedIn a first x.status × HasKernel a first x.status before after)
 
+-- The job of this number has ended with an answer. The texts that were saved are the first of the saves that are due by the journal, for each
+-- plot that it can have. Nothing had happened to the job before.
+abbrev pub EndsFollowing : ℕ → Ask → Notebook → Option Answer → List Entry → List Entry → Type 0
+EndsFollowing i a n answer before after = IfSome answer (λ x. Follows i a n before (λ p. HasEndedAs p after))
+
 -- What a run makes of a job's output: it isn't touched; or from some moment on, before which it wasn't touched, the input
 -- was read, its bytes give the notebook with its parameters, the saves since are a course of its prefixes, and there are events
--- that stop its core for the cause that its answer names.
-pub data Makes (a : Ask) (answer : Option Answer) (old new : Counts) (before : List Entry) : List Entry → Type 0 where
-  nothing : {after : List Entry} → EndsUnread a answer before after → Since (Spares a.output) before after → Makes a answer old new before after
+-- that stop its core for the cause that its answer names. Where all connections were closed before, the saves follow the journal.
+pub data Makes (i : ℕ) (a : Ask) (answer : Option Answer) (old new : Counts) (before : List Entry) : List Entry → Type 0 where
+  nothing : {after : List Entry} → EndsUnread a answer before after → Since (Spares a.output) before after → Makes i a answer old new before after
   saves : (bytes : List ℕ) (n : Notebook) (begin : List Entry) (then : Counts) (later : List Entry) {after : List Entry} → Accepts a bytes n
       → EndsRead a (first_of a n) answer (Read a.input 33554432 (found.Whole bytes) ∷ begin) after → Since (Spares a.output) before begin → CountsGrow old then
       → after ≡ later ++ Read a.input 33554432 (found.Whole bytes) ∷ begin
-      → EndsBy (origin_of a n begin then) (counted_task a (first_of a n)) answer (Some after) new → Makes a answer old new before after
+      → EndsBy (origin_of a n begin then) (counted_task a (first_of a n)) answer (Some after) new
+      → (AllShut before → EndsFollowing i a n answer before after) → Makes i a answer old new before after
 
 -- what a run makes of the output of each job, where that is no path of another job and no rename onto it waited for its folder's
 -- sync
-abbrev pub MakesEach : {E : Type 0} → List Ask → Result (List Answer) E → Counts → Counts → List Entry → List Entry → Type 0
-MakesEach asks result old new before after = (i : ℕ) (a : Ask) → slice_get asks i ≡ Some a → IsApart (numbered 0 asks) i a → IsRested a.output before
-    → Makes a (answer_at i result) old new before after
+abbrev pub MakesEach : {E : Type 0} → ℕ → List Ask → Result (List Answer) E → Counts → Counts → List Entry → List Entry → Type 0
+MakesEach first asks result old new before after = (i : ℕ) (a : Ask) → slice_get asks i ≡ Some a → IsApart (numbered 0 asks) i a → IsRested a.output before
+    → Makes (first + i) a (answer_at i result) old new before after
 
 -- The answer of a job is that of an end. Its statuses 3, 6, 10 and 14 come only where a count of failed calls rose.
 pub record IsEndOf (a : Ask) (old new : Counts) (answer : Answer) : Type 0 where

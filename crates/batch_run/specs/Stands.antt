@@ -13,8 +13,14 @@ use Rattle.words.specs.Paths.{connection_of}
 use Rattle.save_course.specs.Course.{IsRested}
 use Rattle.cell_core.specs.Task.{Task}
 use Rattle.world.specs.declared.conn.Conn.{Conn}
-use Rattle.world.specs.Places.{place_of}
+use Rattle.world.specs.Places.{place_of, time}
+use Rattle.world.specs.declared.chan.Chan.{Chan}
+use Rattle.world.specs.declared.chan.Chan.TheVariants.{Iopub}
+use Rattle.kernel_lines.specs.Line.{taken_of}
 use Rattle.ready_loop.specs.declared.readiness.Loop.{Loop}
+use Rattle.ready_loop.specs.declared.next.Next.{Next}
+use Rattle.ready_loop.specs.History.{History, conn_on}
+use Rattle.ready_loop.specs.Standing.{AllShut, StandsFor, put_at}
 use Rattle.ready_loop.specs.Wires.{ports_in}
 use Rattle.ready_loop.specs.Offers.{Extends}
 use Rattle.job_end.specs.declared.answer.Answer.{Answer}
@@ -25,6 +31,7 @@ use Rattle.job_saves.specs.Course.{Origin, LacksSaves, TellsAll}
 use Rattle.job_saves.specs.Reads.{first_of}
 use Rattle.job_run.specs.declared.job.Job.{Job}
 use Rattle.job_run.specs.Run.{Runs, RunsCounted, EndsWith, IsLost, IsSpent, number_of, outcome_of, HasPorts}
+use Rattle.job_run.specs.Queues.{NotesTaken, line_of}
 use Rattle.job_run.specs.Task.{task_for, task_of_job, output_of_job}
 use Rattle.job_begin.specs.Begun.{origin_of, counted_task, IsCausedIn, IsUnread, HasKernel}
 use Rattle.batch_run.specs.declared.slot.Slot.{Slot}
@@ -34,11 +41,15 @@ use Rattle.batch_run.specs.Batch.{IsApart, IsEndOf, HasWaited, CallsOfJobs, HasP
 use Rattle.batch_run.specs.declared.lines.Lines.{Lines}
 use Rattle.batch_run.specs.Due.{is_slot_over}
 use Rattle.batch_run.specs.Lines.{waits_of}
+use Rattle.batch_run.specs.Owed.{Owed, owed_to, may_wait, after_begin, after_read, after_turn, AreClosed, Served, SlotFollows, StaysFresh}
+use Rattle.batch_run.specs.Owed.{none, begins, first_clock}
+use Rattle.job_turns.specs.OwedTo.{OwedTo, is_open}
 use Rattle.said_lines.specs.Speech.{Says}
 use Rattle.batch_run.specs.Kept.{FaultCause}
 
--- what a run begins with: how many numbers are taken, those of jobs that ran before it among them, its working folder, the counts
--- of its world, and whether it begins clean; and the count of waits by now, and at most
+-- What a run begins with: how many numbers are taken, those of jobs that ran before it among them, its working folder, the counts
+-- of its world, and whether it begins clean. Besides, what it has come to: the count of waits by now, and at most, the connections, and
+-- what is still to be told.
 pub record Outset : Type 0 where
   pub size : ℕ
   pub here : List ℕ
@@ -46,11 +57,20 @@ pub record Outset : Type 0 where
   pub waits : ℕ
   pub most : ℕ
   pub clean : Bool
-  pub wires : List (Option ℕ)  -- the port that the loop keeps by now for each connection, by places
+  pub loop : Loop  -- the connections by now
+  pub owed : Owed  -- what is still to be told to the jobs by now
 
--- the outset with the ports that the loop keeps for its connections
-abbrev pub wired_by : Loop → Outset → Outset
-wired_by l from = record from { wires = ports_in l }
+-- the ports that the loop keeps by now for its connections, by places
+abbrev pub wires_of : Outset → List (Option ℕ)
+wires_of from = ports_in from.loop
+
+-- the outset with this still to be told
+abbrev pub owing : Owed → Outset → Outset
+owing o from = record from { owed = o }
+
+-- the outset with these connections, and with this still to be told
+abbrev pub served_by : Owed → Loop → Outset → Outset
+served_by o l from = record from { loop = l; owed = o }
 
 -- each port that is kept is that of its connection
 pub record AreWired (wires : List (Option ℕ)) (past : List Entry) : Type 0 where
@@ -116,15 +136,17 @@ SlotCounted a from most Waiting journal counts = Unit {0}
 SlotCounted a from most (Running j) journal counts = JobCounted a from most j journal counts
 SlotCounted a from most (Ended answer) journal counts = EndCounted a from most answer counts
 
--- how a job of a run stands
-pub data Stands (a : Ask) (from : Counts) (before past : List Entry) (counts : Counts) (slot : Slot) : Type 0 where
-  waits : slot ≡ Waiting → Since (Spares a.output) before past → Stands a from before past counts slot
-  spared : (answer : Answer) → slot ≡ Ended answer → IsUnread a answer.status before past → Since (Spares a.output) before past → Stands a from before past counts slot
+-- How the job of this number stands in a run. Where all connections were closed before the run, it stands for the journal besides, but for
+-- what it is still to be told.
+pub data Stands (o : OwedTo) (i : ℕ) (a : Ask) (from : Counts) (before past : List Entry) (counts : Counts) (slot : Slot) : Type 0 where
+  waits : slot ≡ Waiting → Since (Spares a.output) before past → (AllShut before → StaysFresh o i a before past) → Stands o i a from before past counts slot
+  spared : (answer : Answer) → slot ≡ Ended answer → IsUnread a answer.status before past → Since (Spares a.output) before past → Stands o i a from before past counts slot
   begun : (bytes : List ℕ) (n : Notebook) (begin : List Entry) (then : Counts) → Accepts a bytes n
       → Since (Spares a.output) before begin → CountsGrow from then
       → Extends (Read a.input 33554432 (found.Whole bytes) ∷ begin) past → SlotTask a (first_of a n) slot
       → SlotKernel a (first_of a n) slot (Read a.input 33554432 (found.Whole bytes) ∷ begin) past
-      → SlotRuns (origin_of a n begin then) (counted_task a (first_of a n)) slot (Some past) counts → Stands a from before past counts slot
+      → SlotRuns (origin_of a n begin then) (counted_task a (first_of a n)) slot (Some past) counts
+      → (AllShut before → SlotFollows o i a n slot before past) → Stands o i a from before past counts slot
 
 -- a job that has not begun has no child, has asked for no ports, and no save of it was acknowledged
 pub record IsIdle (number : ℕ) (a : Ask) (journal : Option (List Entry)) : Type 0 where
@@ -157,13 +179,15 @@ pub record AllStand (asks : ℕ → Option Ask) (start : Option (List Entry)) (f
   pub idle : from.clean ≡ true → (i : ℕ) (a : Ask) → asks i ≡ Some a → slice_get slots i ≡ Some Waiting → IsIdle i a journal
   pub apart : from.clean ≡ true → (i : ℕ) (a : Ask) → asks i ≡ Some a → IsApart asks i a
   pub tells : from.clean ≡ true → (i : ℕ) (a : Ask) (slot : Slot) → asks i ≡ Some a → slice_get slots i ≡ Some slot → SlotTells a slot journal counts
-  pub wired : from.clean ≡ true → IfSome journal (AreWired from.wires)
+  pub wired : from.clean ≡ true → IfSome journal (AreWired (wires_of from))
+  pub few : length slots ≤ 16
   pub plays : (i : ℕ) (a : Ask) (slot : Slot) → asks i ≡ Some a → slice_get slots i ≡ Some slot → SlotPlays i a slot
   pub ends : (i : ℕ) (a : Ask) (slot : Slot) → asks i ≡ Some a → slice_get slots i ≡ Some slot → SlotEnds i slot start journal
   pub counted : (i : ℕ) (a : Ask) (slot : Slot) → asks i ≡ Some a → slice_get slots i ≡ Some slot → SlotCounted a from.counts from.most slot journal counts
   pub each : (before past : List Entry) → start ≡ Some before → journal ≡ Some past
       → (i : ℕ) (a : Ask) (slot : Slot) → asks i ≡ Some a → slice_get slots i ≡ Some slot
-      → IsApart asks i a → IsRested a.output before → Stands a from.counts before past counts slot
+      → IsApart asks i a → IsRested a.output before → Stands (owed_to from.owed i) i a from.counts before past counts slot
+  pub served : (before past : List Entry) → start ≡ Some before → journal ≡ Some past → AllShut before → Served asks from.owed from.loop slots past
 
 -- the slots of all jobs but this one stay as they were
 abbrev pub KeepsOthers : ℕ → List Slot → List Slot → Type 0
@@ -207,41 +231,94 @@ abbrev pub slot_of : Result Job Answer → Slot
 slot_of (Ok j) = Running j
 slot_of (Err answer) = Ended answer
 
--- calls keep them so
-abbrev pub KeepsAll : {W : Type 0} → (W → Option (List Entry)) → (W → Counts) → W → W → List Slot → List Slot → Type 0
-KeepsAll journal counts old new was now = (asks : ℕ → Option Ask) (start : Option (List Entry)) (from : Outset)
+-- ---- calls
+
+-- calls keep all jobs standing; this was still to be told before them, and that is after them
+abbrev pub KeepsOwed : {W : Type 0} → (W → Option (List Entry)) → (W → Counts) → W → W → Owed → Owed → List Slot → List Slot → Type 0
+KeepsOwed journal counts old new owed rest was now = (asks : ℕ → Option Ask) (start : Option (List Entry)) (from : Outset)
+    → AllStand asks start (owing owed from) was (journal old) (counts old) → AllStand asks start (owing rest from) now (journal new) (counts new)
+
+-- calls that end the job of this number, of which the connections are closed, keep all jobs standing
+abbrev pub FinishesAll : {W : Type 0} → (W → Option (List Entry)) → (W → Counts) → W → W → ℕ → List Slot → List Slot → Type 0
+FinishesAll journal counts old new number was now = (asks : ℕ → Option Ask) (start : Option (List Entry)) (from : Outset)
+    → may_wait from.owed ≡ true → AreClosed from.loop number
     → AllStand asks start from was (journal old) (counts old) → AllStand asks start from now (journal new) (counts new)
 
--- calls of the loop or of a job keep all slots standing, with the ports that the loop keeps before and after
-abbrev pub KeepsLines : {W : Type 0} → (W → Option (List Entry)) → (W → Counts) → W → W → Loop → Loop → List Slot → List Slot → Type 0
-KeepsLines journal counts old new kept keeps was now = (asks : ℕ → Option Ask) (start : Option (List Entry)) (from : Outset)
-    → AllStand asks start (wired_by kept from) was (journal old) (counts old) → AllStand asks start (wired_by keeps from) now (journal new) (counts new)
+-- Calls of the loop or of a job keep all jobs standing, with the connections. This was still to be told before them, and that is after them.
+abbrev pub KeepsLines : {W : Type 0} → (W → Option (List Entry)) → (W → Counts) → W → W → Owed → Owed → Loop → Loop → List Slot → List Slot → Type 0
+KeepsLines journal counts old new owed rest kept keeps was now = (asks : ℕ → Option Ask) (start : Option (List Entry)) (from : Outset)
+    → AllStand asks start (served_by owed kept from) was (journal old) (counts old)
+    → AllStand asks start (served_by rest keeps from) now (journal new) (counts new)
 
 -- so do these where there is such a cause since the outset
-abbrev pub KeepsLinesIf : (Outset → Counts → Type 0) → {W : Type 0} → (W → Option (List Entry)) → (W → Counts) → W → W → Loop → Loop → List Slot → List Slot → Type 0
-KeepsLinesIf why journal counts old new kept keeps was now = (asks : ℕ → Option Ask) (start : Option (List Entry)) (from : Outset) → why from (counts old)
-    → AllStand asks start (wired_by kept from) was (journal old) (counts old) → AllStand asks start (wired_by keeps from) now (journal new) (counts new)
+abbrev pub KeepsLinesIf : (Outset → Counts → Type 0) → {W : Type 0} → (W → Option (List Entry)) → (W → Counts) → W → W → Owed → Owed → Loop → Loop → List Slot → List Slot → Type 0
+KeepsLinesIf why journal counts old new owed rest kept keeps was now = (asks : ℕ → Option Ask) (start : Option (List Entry)) (from : Outset) → why from (counts old)
+    → AllStand asks start (served_by owed kept from) was (journal old) (counts old)
+    → AllStand asks start (served_by rest keeps from) now (journal new) (counts new)
 
--- calls that wait keep all slots standing, with as many more waits as were used up
-abbrev pub KeepsWaiting : {W : Type 0} → (W → Option (List Entry)) → (W → Counts) → W → W → Lines → Lines → List Slot → List Slot → Type 0
-KeepsWaiting journal counts old new kept keeps was now = (asks : ℕ → Option Ask) (start : Option (List Entry)) (from : Outset)
-    → from.waits + waits_of kept ≡ from.most → AllStand asks start (wired_by kept.connections from) was (journal old) (counts old)
-    → AllStand asks start (wired_by keeps.connections (more_waits (waits_of kept - waits_of keeps) from)) now (journal new) (counts new)
+-- Calls that wait keep all jobs standing, with as many more waits as were used up. Nothing is still to be told before them.
+abbrev pub KeepsWaiting : {W : Type 0} → (W → Option (List Entry)) → (W → Counts) → W → W → Owed → Lines → Lines → List Slot → List Slot → Type 0
+KeepsWaiting journal counts old new rest kept keeps was now = (asks : ℕ → Option Ask) (start : Option (List Entry)) (from : Outset)
+    → from.waits + waits_of kept ≡ from.most → AllStand asks start (served_by none kept.connections from) was (journal old) (counts old)
+    → AllStand asks start (served_by rest keeps.connections (more_waits (waits_of kept - waits_of keeps) from)) now (journal new) (counts new)
 
--- what calls nothing of the world keeps all slots standing
+-- What calls nothing of the world keeps all jobs standing, where nothing is still to be told.
 abbrev pub StayAll : List Slot → List Slot → Type 0
 StayAll was now = (asks : ℕ → Option Ask) (start : Option (List Entry)) (from : Outset) (journal : Option (List Entry)) (counts : Counts)
-    → AllStand asks start from was journal counts → AllStand asks start from now journal counts
+    → AllStand asks start (owing none from) was journal counts → AllStand asks start (owing none from) now journal counts
 
--- what only queues octets keeps all slots standing
+-- What calls nothing of the world, and changes the job of this number alone, keeps all jobs standing. That job isn't owed the clock of a turn
+-- or a piece.
+abbrev pub StayAt : ℕ → List Slot → List Slot → Type 0
+StayAt number was now = (asks : ℕ → Option Ask) (start : Option (List Entry)) (from : Outset) (journal : Option (List Entry)) (counts : Counts)
+    → is_open (owed_to from.owed number) ≡ true → AllStand asks start from was journal counts → AllStand asks start from now journal counts
+
+-- The clock stood at this moment, and the job of this number is told so. It was the first to which that was still to be told.
+abbrev pub ReadsClock : ℕ → ℕ → List Slot → List Slot → Type 0
+ReadsClock number ms was now = (asks : ℕ → Option Ask) (start : Option (List Entry)) (from : Outset) (journal : Option (List Entry)) (counts : Counts)
+    → IfSome journal (λ past. time past ≡ ms) → AllStand asks start (owing (first_clock number) from) was journal counts
+    → AllStand asks start (owing (first_clock (suc number)) from) now journal counts
+
+-- what only queues octets of the job of this number keeps all jobs standing
+abbrev pub StayLinesAt : ℕ → Loop → Loop → List Slot → List Slot → Type 0
+StayLinesAt number kept keeps was now = (asks : ℕ → Option Ask) (start : Option (List Entry)) (from : Outset) (owed : Owed) (journal : Option (List Entry)) (counts : Counts)
+    → is_open (owed_to owed number) ≡ true → AllStand asks start (served_by owed kept from) was journal counts
+    → AllStand asks start (served_by owed keeps from) now journal counts
+
+-- what only queues octets keeps all jobs standing, where nothing is still to be told
 abbrev pub StayLines : Loop → Loop → List Slot → List Slot → Type 0
 StayLines kept keeps was now = (asks : ℕ → Option Ask) (start : Option (List Entry)) (from : Outset) (journal : Option (List Entry)) (counts : Counts)
-    → AllStand asks start (wired_by kept from) was journal counts → AllStand asks start (wired_by keeps from) now journal counts
+    → AllStand asks start (served_by none kept from) was journal counts → AllStand asks start (served_by none keeps from) now journal counts
 
--- where this cause has come since the outset, the change keeps all slots standing
+-- where this cause has come since the outset, the change of one job keeps all standing
+abbrev pub StayAtIf : (Outset → Counts → Type 0) → ℕ → List Slot → List Slot → Type 0
+StayAtIf why number was now = (asks : ℕ → Option Ask) (start : Option (List Entry)) (from : Outset) (journal : Option (List Entry)) (counts : Counts)
+    → why from counts → is_open (owed_to from.owed number) ≡ true → AllStand asks start from was journal counts → AllStand asks start from now journal counts
+
+-- where this cause has come since the outset, the change keeps all jobs standing, where nothing is still to be told
 abbrev pub StayAllIf : (Outset → Counts → Type 0) → List Slot → List Slot → Type 0
 StayAllIf why was now = (asks : ℕ → Option Ask) (start : Option (List Entry)) (from : Outset) (journal : Option (List Entry)) (counts : Counts)
-    → why from counts → AllStand asks start from was journal counts → AllStand asks start from now journal counts
+    → why from counts → AllStand asks start (owing none from) was journal counts → AllStand asks start (owing none from) now journal counts
+
+-- the jobs that run have ended as they had
+pub record SameOver (was now : List Slot) : Type 0 where
+  pub each : (i : ℕ) → is_slot_over (slice_get now i) ≡ is_slot_over (slice_get was i)
+
+-- Each job that runs knows how many octets were taken of its connection for IOPub. As many were put on it, by each journal for which the loop
+-- stands.
+pub record AreTaken (l : Loop) (slots : List Slot) : Type 0 where
+  pub each : (i : ℕ) (j : Job) → slice_get slots i ≡ Some (Running j) → (h : History) (journal : List Entry) → StandsFor l h journal
+      → taken_of (line_of j Iopub) ≡ length (put_at h journal (place_of (conn_on i Iopub)))
+
+-- the job in a slot was told that so many octets of a channel were taken, and ran before
+pub record NotesAt (chan : Chan) (count : ℕ) (was : Option Slot) (j : Job) : Type 0 where
+  pub job : Job
+  pub ran : was ≡ Some (Running job)
+  pub notes : NotesTaken chan count job j
+
+-- where a slot runs a job, it was told that so many octets of a channel were taken
+abbrev pub SlotNotes : Chan → ℕ → Option Slot → Option Slot → Type 0
+SlotNotes chan count was now = (j : Job) → now ≡ Some (Running j) → NotesAt chan count was j
 
 -- a call of the network has failed since the outset
 abbrev pub IsCutOff : Outset → Counts → Type 0
@@ -255,38 +332,68 @@ IsOutOfWaits from counts = HasWaited from.most counts
 abbrev pub IsFaultOf : Fault → Outset → Counts → Type 0
 IsFaultOf f from counts = FaultCause from.counts counts (IsOutOfWaits from counts) f
 
--- calls that touch no path keep all slots standing
+-- calls of the loop that touch no path keep all jobs standing, whatever is still to be told
 abbrev pub KeepsEach : {W : Type 0} → (W → Option (List Entry)) → (W → Counts) → W → W → Loop → Loop → Type 0
 KeepsEach journal counts old new kept keeps = (asks : ℕ → Option Ask) (start : Option (List Entry)) (from : Outset) (slots : List Slot)
-    → AllStand asks start (wired_by kept from) slots (journal old) (counts old) → AllStand asks start (wired_by keeps from) slots (journal new) (counts new)
+    → may_wait from.owed ≡ true → AllStand asks start (served_by from.owed kept from) slots (journal old) (counts old)
+    → AllStand asks start (served_by from.owed keeps from) slots (journal new) (counts new)
 
--- calls that begin the connections of a job, on ports that were given for it, keep all slots standing
-abbrev pub KeepsBegun : {W : Type 0} → (W → Option (List Entry)) → (W → Counts) → W → W → ℕ → List ℕ → Loop → Loop → List Slot → List Slot → Type 0
-KeepsBegun journal counts old new job ports kept keeps was now = (asks : ℕ → Option Ask) (start : Option (List Entry)) (from : Outset)
-    → (from.clean ≡ true → HasPorts job ports (journal old))
-    → AllStand asks start (wired_by kept from) was (journal old) (counts old) → AllStand asks start (wired_by keeps from) now (journal new) (counts new)
+-- A read of the loop that was answered so, with what the buffer then has. No job is over, and nothing is still to be told before it.
+abbrev pub KeepsReading : {W E : Type 0} → (W → Option (List Entry)) → (W → Counts) → W → W → Result Next E → List ℕ → Loop → Loop → Type 0
+KeepsReading journal counts old new result buffer kept keeps = (asks : ℕ → Option Ask) (start : Option (List Entry)) (from : Outset) (slots : List Slot)
+    → NoneOver slots → AllStand asks start (served_by none kept from) slots (journal old) (counts old)
+    → AllStand asks start (served_by (after_read result buffer) keeps from) slots (journal new) (counts new)
 
--- calls of the loop that wait keep all slots standing
-abbrev pub KeepsEachWaiting : {W : Type 0} → (W → Option (List Entry)) → (W → Counts) → W → W → Lines → Lines → Type 0
-KeepsEachWaiting journal counts old new kept keeps = (asks : ℕ → Option Ask) (start : Option (List Entry)) (from : Outset) (slots : List Slot)
-    → AllStand asks start (wired_by kept.connections from) slots (journal old) (counts old)
-    → AllStand asks start (wired_by keeps.connections (more_waits (waits_of kept - waits_of keeps) from)) slots (journal new) (counts new)
+-- Calls that begin the connections of a job that runs, on ports that were given for it, keep all jobs standing while jobs begin.
+abbrev pub KeepsBegun : {W U E : Type 0} → (W → Option (List Entry)) → (W → Counts) → W → W → Result U E → ℕ → List ℕ → Loop → Loop → Type 0
+KeepsBegun journal counts old new result job ports kept keeps = (asks : ℕ → Option Ask) (start : Option (List Entry)) (from : Outset) (slots : List Slot)
+    → (from.clean ≡ true → HasPorts job ports (journal old)) → is_slot_running (slice_get slots job) ≡ true
+    → AllStand asks start (served_by (begins job) kept from) slots (journal old) (counts old)
+    → AllStand asks start (served_by (after_begin result job) keeps from) slots (journal new) (counts new)
 
--- calls of the job in one slot keep all so
-abbrev pub SlotKeeps : {W : Type 0} → (W → Option (List Entry)) → (W → Counts) → W → W → Slot → Slot → Type 0
-SlotKeeps journal counts old new was now = (asks : ℕ → Option Ask) (start : Option (List Entry)) (from : Outset) (slots : List Slot) (k : ℕ)
-    → slice_get slots k ≡ Some was → AllStand asks start from slots (journal old) (counts old)
+-- a last look of the loop keeps all jobs standing
+abbrev pub KeepsLooking : {W : Type 0} → (W → Option (List Entry)) → (W → Counts) → W → W → Lines → Lines → Type 0
+KeepsLooking journal counts old new kept keeps = (asks : ℕ → Option Ask) (start : Option (List Entry)) (from : Outset) (slots : List Slot)
+    → AllStand asks start (served_by none kept.connections from) slots (journal old) (counts old)
+    → AllStand asks start (served_by none keeps.connections (more_waits (waits_of kept - waits_of keeps) from)) slots (journal new) (counts new)
+
+-- A turn of the loop that was answered so keeps all jobs standing; then its clock is to be told. No job is over, and each knows how many of its
+-- octets were taken.
+abbrev pub KeepsTurning : {W E : Type 0} → (W → Option (List Entry)) → (W → Counts) → W → W → Result ℕ E → Lines → Lines → Type 0
+KeepsTurning journal counts old new result kept keeps = (asks : ℕ → Option Ask) (start : Option (List Entry)) (from : Outset) (slots : List Slot)
+    → NoneOver slots → AreTaken kept.connections slots
+    → AllStand asks start (served_by none kept.connections from) slots (journal old) (counts old)
+    → AllStand asks start (served_by (after_turn result) keeps.connections (more_waits (waits_of kept - waits_of keeps) from)) slots (journal new) (counts new)
+
+-- calls of the job in one slot keep all standing; this was still to be told before them, and that is after them
+abbrev pub SlotKeeps : {W : Type 0} → (W → Option (List Entry)) → (W → Counts) → W → W → (ℕ → Owed) → (ℕ → Owed) → Slot → Slot → Type 0
+SlotKeeps journal counts old new owed rest was now = (asks : ℕ → Option Ask) (start : Option (List Entry)) (from : Outset) (slots : List Slot) (k : ℕ)
+    → slice_get slots k ≡ Some was → AllStand asks start (owing (owed k) from) slots (journal old) (counts old)
+    → AllStand asks start (owing (rest k) from) (slice_set slots k now) (journal new) (counts new)
+
+-- calls that end the job in one slot, of which the connections are closed, keep all standing
+abbrev pub SlotFinishes : {W : Type 0} → (W → Option (List Entry)) → (W → Counts) → W → W → Slot → Slot → Type 0
+SlotFinishes journal counts old new was now = (asks : ℕ → Option Ask) (start : Option (List Entry)) (from : Outset) (slots : List Slot) (k : ℕ)
+    → may_wait from.owed ≡ true → AreClosed from.loop k → slice_get slots k ≡ Some was → AllStand asks start from slots (journal old) (counts old)
     → AllStand asks start from (slice_set slots k now) (journal new) (counts new)
 
--- a change of one slot that calls nothing of the world keeps all slots standing
+-- A change of one slot that calls nothing of the world keeps all standing. Its job isn't owed the clock of a turn or a piece.
 abbrev pub SlotStays : Slot → Slot → Type 0
 SlotStays was now = (asks : ℕ → Option Ask) (start : Option (List Entry)) (from : Outset) (slots : List Slot) (k : ℕ) (journal : Option (List Entry)) (counts : Counts)
-    → slice_get slots k ≡ Some was → AllStand asks start from slots journal counts → AllStand asks start from (slice_set slots k now) journal counts
+    → is_open (owed_to from.owed k) ≡ true → slice_get slots k ≡ Some was → AllStand asks start from slots journal counts
+    → AllStand asks start from (slice_set slots k now) journal counts
 
--- where this cause has come since the outset, a change of one slot keeps all slots standing
+-- the clock stood at this moment, and the job in one slot is told so, the first to which that was still to be told
+abbrev pub SlotReads : ℕ → Slot → Slot → Type 0
+SlotReads ms was now = (asks : ℕ → Option Ask) (start : Option (List Entry)) (from : Outset) (slots : List Slot) (k : ℕ) (journal : Option (List Entry)) (counts : Counts)
+    → IfSome journal (λ past. time past ≡ ms) → slice_get slots k ≡ Some was → AllStand asks start (owing (first_clock k) from) slots journal counts
+    → AllStand asks start (owing (first_clock (suc k)) from) (slice_set slots k now) journal counts
+
+-- where this cause has come since the outset, a change of one slot keeps all standing
 abbrev pub SlotStaysIf : (Outset → Counts → Type 0) → Slot → Slot → Type 0
 SlotStaysIf why was now = (asks : ℕ → Option Ask) (start : Option (List Entry)) (from : Outset) (slots : List Slot) (k : ℕ) (journal : Option (List Entry)) (counts : Counts)
-    → why from counts → slice_get slots k ≡ Some was → AllStand asks start from slots journal counts → AllStand asks start from (slice_set slots k now) journal counts
+    → why from counts → is_open (owed_to from.owed k) ≡ true → slice_get slots k ≡ Some was → AllStand asks start from slots journal counts
+    → AllStand asks start from (slice_set slots k now) journal counts
 
 -- calls that leave the jobs as they stand: each is one of theirs or of the loop, touches no path and starts no child
 pub record PassBy (asks : ℕ → Option Ask) (here : List ℕ) (clean : Bool) (kept wires : List (Option ℕ)) (old new : Option (List Entry)) (was now : Counts) : Type 0 where
@@ -301,7 +408,7 @@ pub record PassBy (asks : ℕ → Option Ask) (here : List ℕ) (clean : Bool) (
 -- what is said of the end of one of the jobs leaves all as they stand
 abbrev pub KeepsSaying : {W : Type 0} → (W → Option (List Entry)) → (W → Counts) → W → W → Answer → Type 0
 KeepsSaying journal counts old new answer = (asks : ℕ → Option Ask) (start : Option (List Entry)) (from : Outset) (slots : List Slot) (i : ℕ) (a : Ask)
-    → asks i ≡ Some a → IsAnswer a.output answer → AllStand asks start from slots (journal old) (counts old)
+    → may_wait from.owed ≡ true → asks i ≡ Some a → IsAnswer a.output answer → AllStand asks start from slots (journal old) (counts old)
     → AllStand asks start from slots (journal new) (counts new)
 
 -- each job has

@@ -9,8 +9,12 @@ ghost use Rattle.world.specs.Counts.{Counts, CountsGrow};
 ghost use Rattle.batch_run.specs.Batch.{AreEnds, CallsOfRun, EndSpent, EndsChildren, LeavesOthers};
 ghost use Rattle.batch_run.specs.Batch.{MakesEach, numbered};
 ghost use Rattle.batch_run.specs.Kept.{IsFreshFrom};
-ghost use Rattle.batch_run.specs.Stands.{AllEnded, AllStand, EndedBelow, Outset, WaitingFrom, more_waits};
-ghost use Rattle.batch_run.specs.Stands.{wired_by};
+ghost use Rattle.batch_run.specs.Owed.{after};
+ghost use Rattle.batch_run.specs.Owed as owed;
+ghost use Rattle.batch_run.specs.Stands.{AllEnded, AllStand, EndedBelow, NoneOver, Outset, WaitingFrom};
+ghost use Rattle.batch_run.specs.Stands.{more_waits, served_by};
+ghost use Rattle.ready_loop.specs.History.{History};
+ghost use Rattle.ready_loop.specs.Standing.{AllShut, StandsFor};
 ghost use Rattle.batch_run.specs.Lines.{waits_of};
 
 use crate::Limits;
@@ -36,10 +40,12 @@ pub fn run_jobs<W: World>(
     requires few { first + length asks ≤ 16 }
     requires asks { AllByRecursion IsRunnable asks }
 
-    // What it makes of the output of each job, with the answer that it gives for it: 0, 1, 7, 8, 9,
-    // 13 and 15 come only where there are events that stop such a job for that cause.
+    // What it makes of the output of each job, with the answer that it gives for it. 0, 1, 7, 8, 9,
+    // 13 and 15 come only where there are events that stop such a job for that cause. Where all
+    // connections were closed before, the texts that were saved are the first that are due by the
+    // journal, with the kernel's messages in it.
     ensures jobs { Between W.journal w.old w.new
-        (MakesEach asks result (W.counts w.old) (W.counts w.new)) }
+        (MakesEach first asks result (W.counts w.old) (W.counts w.new)) }
     // Each call is one of the loop or of one of the jobs: none reads or writes another file, starts
     // another program than the kernel that is asked for, or says another line.
     ensures calls { Between W.journal w.old w.new
@@ -82,8 +88,10 @@ fn answers_of<W: World>(
     requires sound { IsSound running.lines.connections }
     requires room { 0 < length running.buf.items }
     requires left { waits_of running.lines ≡ limits.now.turns }
+    requires stands { (journal : Plain Entry) → AllShut journal →
+        (h : History) × StandsFor running.lines.connections h journal }
     ensures jobs { Between W.journal w.old w.new
-        (MakesEach asks result (W.counts w.old) (W.counts w.new)) }
+        (MakesEach first asks result (W.counts w.old) (W.counts w.new)) }
     ensures calls { Between W.journal w.old w.new
         (CallsOfRun (numbered first asks) limits.now.here) }
     ensures children { Between W.journal w.old w.new (EndsChildren (numbered first asks)) }
@@ -123,15 +131,19 @@ fn carry_out<W: World>(
     ensures ended { OnOk result (AllEnded running.new.jobs.slots.items) }
     ensures stands { (start : Maybe (Plain Entry)) (from : Outset) →
         from.here ≡ limits.now.here → from.waits + waits_of running.old.lines ≡ from.most →
-        AllStand (numbered first asks) start (wired_by running.old.lines.connections from)
+        NoneOver running.old.jobs.slots.items → AllStand (numbered first asks) start
+        (served_by (owed.begins first) running.old.lines.connections from)
         running.old.jobs.slots.items (W.journal w.old) (W.counts w.old) →
         AllStand (numbered first asks) start
-        (wired_by running.new.lines.connections
+        (served_by (after result owed.none) running.new.lines.connections
         (more_waits (waits_of running.old.lines - waits_of running.new.lines) from))
         running.new.jobs.slots.items (W.journal w.new) (W.counts w.new) }
 {
     match begin_all(w, asks, first, limits, running) {
-        Ok(()) => running.run(w),
+        Ok(()) => {
+            running.read_clock(w.last());
+            running.run(w)
+        }
         Err(refused) => Err(refused),
     }
 }
@@ -156,11 +168,16 @@ fn begin_all<W: World>(
         waits_left running.old.lines.connections }
     ensures buf { running.new.buf ≡ running.old.buf }
     ensures stands { (start : Maybe (Plain Entry)) (from : Outset) →
-        from.here ≡ limits.now.here →
-        AllStand (numbered first asks) start (wired_by running.old.lines.connections from)
+        from.here ≡ limits.now.here → AllStand (numbered first asks) start
+        (served_by (owed.begins first) running.old.lines.connections from)
         running.old.jobs.slots.items (W.journal w.old) (W.counts w.old) →
-        AllStand (numbered first asks) start (wired_by running.new.lines.connections from)
+        AllStand (numbered first asks) start
+        (served_by (after result (owed.begins (first + length asks)))
+        running.new.lines.connections from)
         running.new.jobs.slots.items (W.journal w.new) (W.counts w.new) }
+    ensures over { OnOk result
+        (NoneOver running.old.jobs.slots.items → NoneOver running.new.jobs.slots.items) }
+    ensures size { length running.new.jobs.slots.items ≡ length running.old.jobs.slots.items }
 {
     let mut number = first;
     for ask in asks.into_vec() {

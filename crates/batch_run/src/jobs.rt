@@ -26,12 +26,14 @@ impl Jobs {
     ghost use Rattle.said_lines.specs.Between.{SayFailed};
     ghost use Rattle.job_run.specs.Run.{HasPorts};
     ghost use Rattle.job_run.specs.Task.{ports_of_job, pings_kernel};
-    ghost use Rattle.std.specs.Prelude.{List as Plain, Option as Maybe, Some, None, length, slice_get, slice_set};
+    ghost use Rattle.std.specs.Prelude.{List as Plain, Option as Maybe, Some, None, Ok, length, slice_get, slice_set};
     ghost use Rattle.words.specs.Runnable.{IsRunnable};
     ghost use Rattle.batch_run.specs.Due.{IsEarliestDue, SlotWantsLook, is_slot_over};
     ghost use Rattle.words.specs.declared.ask.Ask.{Ask as Asked};
     ghost use Rattle.world.specs.declared.entry.Entry.{Entry};
-    ghost use Rattle.batch_run.specs.Stands.{AllStand, AllEnded, EndedBelow, KeepsAll, Outset};
+    ghost use Rattle.batch_run.specs.Owed as owed;
+    ghost use Rattle.batch_run.specs.Owed.{AreClosed, after};
+    ghost use Rattle.batch_run.specs.Stands.{AllStand, AllEnded, EndedBelow, FinishesAll, Outset, owing};
     ghost use Rattle.batch_run.specs.Stands.{KeepsOthers, KeepsSaying, SaysEndOf, WaitingFrom, answers_from};
     ghost use Rattle.batch_run.specs.Stands.{is_slot_running};
 
@@ -72,10 +74,19 @@ impl Jobs {
         requires waiting { WaitingFrom number self.old.slots.items }
         ensures size { length self.new.slots.items ≡ length self.old.slots.items }
         ensures waiting { WaitingFrom (number + 1) self.new.slots.items }
+        ensures others { KeepsOthers number self.old.slots.items self.new.slots.items }
+        ensures over { is_slot_over (slice_get self.new.slots.items number) ≡ false }
+        ensures none { result ≡ Ok None →
+            is_slot_running (slice_get self.new.slots.items number) ≡ false }
+        ensures runs { IfOk result (λ o. IfSome o
+            (λ _. is_slot_running (slice_get self.new.slots.items number) ≡ true)) }
+        // Its connections were never begun. Then the first clock is still to be told to it.
         ensures stands { (asks : ℕ → Maybe Asked) (start : Maybe (Plain Entry)) (from : Outset) →
-            asks number ≡ Some ask → from.here ≡ here.now →
-            AllStand asks start from self.old.slots.items (W.journal w.old) (W.counts w.old) →
-            AllStand asks start from self.new.slots.items (W.journal w.new) (W.counts w.new) }
+            asks number ≡ Some ask → from.here ≡ here.now → AreClosed from.loop number →
+            AllStand asks start (owing (owed.begins number) from) self.old.slots.items
+            (W.journal w.old) (W.counts w.old) →
+            AllStand asks start (owing (after result (owed.begins number)) from)
+            self.new.slots.items (W.journal w.new) (W.counts w.new) }
         // The connections that it wants are on the ports that were given for it.
         ensures ports { IfOk result (λ o.
             IfSome o (λ wanted. HasPorts number wanted.ports (W.journal w.new))) }
@@ -83,9 +94,17 @@ impl Jobs {
         ensures heart { IfOk result (λ o.
             IfSome o (λ wanted. wanted.heart ≡ ask.heartbeat)) }
     {
+        // The clock never goes back.
+        let _before = w.last();
         match begin(self.alloc, w, number as u8, ask, here) {
-            Ok(job) => Ok(Some(self.start(number, job))),
-            Err(answer) => self.end(w, number, answer),
+            Ok(job) => {
+                let _now = w.last();
+                Ok(Some(self.start(number, job)))
+            }
+            Err(answer) => {
+                let _now = w.last();
+                self.end(w, number, answer)
+            }
         }
     }
 
@@ -157,8 +176,9 @@ impl Jobs {
             IfSome (W.journal w.new)
             (SaysEndOf (slice_get self.new.slots.items number) (SayFailed W.counts w.new)) }
         ensures size { length self.new.slots.items ≡ length self.old.slots.items }
-        ensures stands { KeepsAll W.journal W.counts w.old w.new self.old.slots.items
-            self.new.slots.items }
+        ensures stands { FinishesAll W.journal W.counts w.old w.new number
+            self.old.slots.items self.new.slots.items }
+        ensures gone { is_slot_running (slice_get self.new.slots.items number) ≡ false }
     {
         if number < self.slots.len() {
             self.slots[number].finish(self.alloc, w);
@@ -173,8 +193,9 @@ impl Jobs {
             IfSome (W.journal w.new)
             (SaysEndOf (slice_get self.new.slots.items number) (SayFailed W.counts w.new)) }
         ensures size { length self.new.slots.items ≡ length self.old.slots.items }
-        ensures stands { KeepsAll W.journal W.counts w.old w.new self.old.slots.items
-            self.new.slots.items }
+        ensures stands { FinishesAll W.journal W.counts w.old w.new number
+            self.old.slots.items self.new.slots.items }
+        ensures gone { is_slot_running (slice_get self.new.slots.items number) ≡ false }
     {
         if self.is_over(number) {
             self.finish(w, number);

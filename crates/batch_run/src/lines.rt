@@ -23,20 +23,30 @@ pub(crate) struct Lines {
 }
 
 impl Lines {
-    ghost use Rattle.std.specs.Prelude.{◌≡◌, ◌<◌, ◌≤◌, ◌+◌, ◌^◌, Some, Ok, IfOk, IfErr, OnOk, slice_get, true, false, length};
+    ghost use Rattle.std.specs.Prelude.{◌≡◌, ◌<◌, ◌≤◌, ◌+◌, ◌^◌, ℕ, Some, Ok, IfOk, IfErr, OnOk, slice_get, true, false, length};
     ghost use Rattle.ready_loop.specs.declared.next.Next.TheVariants.{Quiet};
     ghost use Rattle.ready_loop.specs.States.{IsDrained, IsOffered, IsSound, begun_at, waits_left};
     ghost use Rattle.batch_run.specs.Kept.{FaultCause, IsBroken, IsFreshFrom, IsLeft, IsSoundBut, LeftBy, StaysBegun};
     ghost use Rattle.batch_run.specs.Kept.{goes_on};
     ghost use Rattle.world.specs.Counts.{Rose};
     ghost use Rattle.batch_run.specs.Lines.{open_of, reads_of, waits_of};
-    ghost use Rattle.std.specs.Prelude.{List};
-    ghost use Rattle.ready_loop.specs.Wires.{ports_in};
+    ghost use Rattle.std.specs.Prelude.{List, Option as Maybe};
+    ghost use Rattle.words.specs.declared.ask.Ask.{Ask};
+    ghost use Rattle.world.specs.declared.entry.Entry.{Entry};
+    ghost use Rattle.world.specs.Counts.{Counts};
+    ghost use Rattle.ready_loop.specs.History.{History};
+    ghost use Rattle.ready_loop.specs.Standing.{AllShut, StandsFor, put_at};
     ghost use Rattle.batch_run.specs.declared.slot.Slot.{Slot};
-    ghost use Rattle.batch_run.specs.Stands.{KeepsBegun, KeepsEach, KeepsEachWaiting};
+    ghost use Rattle.batch_run.specs.Owed.{AreClosed, Owed};
+    ghost use Rattle.batch_run.specs.Stands.{AllStand, Outset, served_by};
+    ghost use Rattle.batch_run.specs.Stands.{KeepsBegun, KeepsEach, KeepsLooking};
+    ghost use Rattle.batch_run.specs.Stands.{KeepsReading, KeepsTurning};
 
     /// No connection, and so many waits.
     pub(crate) fn new(alloc: Global, turns: u64) -> Result<Lines, NoMemory>
+        // They stand for each journal in which every connection is closed.
+        ensures stands { IfOk result (λ l. (journal : List Entry) → AllShut journal →
+            (h : History) × StandsFor l.connections h journal) }
         ensures drained { IfOk result (λ l. IsDrained l.connections) }
         ensures sound { IfOk result (λ l. IsSound l.connections) }
         ensures fresh { IfOk result (λ l. IsFreshFrom 0 l.connections) }
@@ -53,8 +63,8 @@ impl Lines {
         requires job { job < 16 }
         requires fresh { IsFreshFrom job self.old.connections }
         requires sound { IsSound self.old.connections }
-        ensures stands { (slots : List Slot) → KeepsBegun W.journal W.counts w.old w.new job
-            wanted.ports self.old.connections self.new.connections slots slots }
+        ensures stands { KeepsBegun W.journal W.counts w.old w.new result job wanted.ports
+            self.old.connections self.new.connections }
         ensures fresh { IsFreshFrom (job + 1) self.new.connections }
         ensures waits { waits_left self.new.connections ≡ waits_left self.old.connections }
         ensures drained { IsDrained self.old.connections → IsDrained self.new.connections }
@@ -83,6 +93,10 @@ impl Lines {
     pub(crate) fn queue(&mut self, conn: Conn, bytes: Bytes) -> Result<(), NoMemory>
         requires job { conn.job < 16 }
         requires begun { slice_get self.old.begun (place_of conn) ≡ Some true }
+        ensures goes { (asks : ℕ → Maybe Ask) (start : Maybe (List Entry)) (from : Outset)
+            (o : Owed) (slots : List Slot) (journal : Maybe (List Entry)) (counts : Counts) →
+            AllStand asks start (served_by o self.old.connections from) slots journal counts →
+            AllStand asks start (served_by o self.new.connections from) slots journal counts }
         ensures stays { IsLeft conn.job self.old.connections self.new.connections }
         ensures begun { StaysBegun self.old.connections self.new.connections }
     {
@@ -92,6 +106,9 @@ impl Lines {
     /// How many bytes of a connection were taken.
     pub(crate) fn taken(&self, conn: Conn) -> u64
         requires { conn.job < 16 }
+        ensures { (h : History) (journal : List Entry) →
+            StandsFor self.now.connections h journal →
+            result ≡ length (put_at h journal (place_of conn)) }
     {
         self.connections.taken(conn)
     }
@@ -124,7 +141,7 @@ impl Lines {
         requires drained { IsDrained self.old.connections }
         requires offered { IsOffered self.old.connections }
         requires sound { IsSound self.old.connections }
-        ensures stands { KeepsEachWaiting W.journal W.counts w.old w.new self.old self.new }
+        ensures stands { KeepsLooking W.journal W.counts w.old w.new self.old self.new }
         ensures left { waits_of self.new ≤ waits_of self.old }
         ensures falls { OnOk result (waits_of self.new < waits_of self.old) }
         ensures linked { open_of self.new ≡ open_of self.old }
@@ -147,7 +164,7 @@ impl Lines {
         requires drained { IsDrained self.old.connections }
         requires offered { IsOffered self.old.connections }
         requires sound { IsSound self.old.connections }
-        ensures stands { KeepsEachWaiting W.journal W.counts w.old w.new self.old self.new }
+        ensures stands { KeepsTurning W.journal W.counts w.old w.new result self.old self.new }
         ensures left { waits_of self.new ≤ waits_of self.old }
         ensures falls { OnOk result (waits_of self.new < waits_of self.old) }
         ensures linked { open_of self.new ≡ open_of self.old }
@@ -157,6 +174,8 @@ impl Lines {
         ensures cause { IfErr result
             (FaultCause (W.counts w.old) (W.counts w.new) (waits_of self.old ≡ 0)) }
     {
+        // The clock never goes back.
+        let _before = w.last();
         match self.connections.turn(w, due) {
             // The moment that the turn gave.
             Ok(_) => Ok(w.last()),
@@ -169,8 +188,8 @@ impl Lines {
     pub(crate) fn next<W: World>(&mut self, w: &mut W, buf: &mut [u8]) -> Result<Next, u8>
         requires room { 0 < length buf.old }
         requires sound { IsSound self.old.connections }
-        ensures stands { KeepsEach W.journal W.counts w.old w.new self.old.connections
-            self.new.connections }
+        ensures stands { KeepsReading W.journal W.counts w.old w.new result buf.new
+            self.old.connections self.new.connections }
         ensures left { waits_of self.new ≡ waits_of self.old }
         ensures linked { open_of self.new ≡ open_of self.old }
         ensures quiet { result ≡ Ok Quiet → IsDrained self.new.connections }
@@ -191,6 +210,7 @@ impl Lines {
         requires { job < 16 }
         ensures stands { KeepsEach W.journal W.counts w.old w.new self.old.connections
             self.new.connections }
+        ensures closed { AreClosed self.new.connections job }
         ensures left { IsLeft job self.old.connections self.new.connections }
         ensures sound { IsSoundBut job self.old.connections → IsSound self.new.connections }
         ensures linked { (conn : Wired) → conn.job ≡ job →
@@ -206,6 +226,7 @@ impl Lines {
         requires { job < 16 }
         ensures stands { KeepsEach W.journal W.counts w.old w.new self.old.connections
             self.new.connections }
+        ensures closed { AreClosed self.new.connections job }
         ensures left { IsLeft job self.old.connections self.new.connections }
     {
         self.connections.close(w, job);

@@ -21,7 +21,7 @@ pub(crate) struct Running {
 }
 
 impl Running {
-    ghost use Rattle.std.specs.Prelude.{◌≡◌, ◌<◌, ◌≤◌, ◌+◌, ℕ, IfOk, IfSome, OnOk, length, true, false};
+    ghost use Rattle.std.specs.Prelude.{◌≡◌, ◌<◌, ◌≤◌, ◌+◌, ◌^◌, ℕ, suc, IfOk, IfSome, OnOk, length, true, false};
     ghost use Rattle.std.specs.Prelude.{List as Plain, Option as Maybe, Some, slice_get};
     ghost use Rattle.said_lines.specs.Between.{SayFailed};
     ghost use Rattle.ready_loop.specs.States.{IsDrained, IsSound, waits_left};
@@ -29,10 +29,17 @@ impl Running {
     ghost use Rattle.batch_run.specs.Due.{is_slot_over};
     ghost use Rattle.batch_run.specs.Kept.{IsBroken, IsFreshFrom, IsKept, IsLeft, IsSoundBut};
     ghost use Rattle.batch_run.specs.Lines.{open_of, waits_of};
-    ghost use Rattle.batch_run.specs.Stands.{AllStand, AllEnded, EndedBelow, IsCutOff, KeepsBegun};
+    ghost use Rattle.batch_run.specs.Owed.{Owed, after, may_wait, owed_to};
+    ghost use Rattle.batch_run.specs.Owed as owed;
+    ghost use Rattle.batch_run.specs.Stands.{AllStand, AllEnded, EndedBelow, IsCutOff, SameOver};
     ghost use Rattle.batch_run.specs.Stands.{KeepsLines, KeepsLinesIf, KeepsOthers, NoneOver};
-    ghost use Rattle.batch_run.specs.Stands.{Outset, SaysEndOf, is_slot_running, wired_by};
+    ghost use Rattle.batch_run.specs.Stands.{Outset, SaysEndOf, is_slot_running, served_by};
     ghost use Rattle.batch_run.specs.Stands.{WaitingFrom, answers_from};
+    ghost use Rattle.batch_run.specs.Telling.{ReadsClocks};
+    ghost use Rattle.job_run.specs.Run.{HasPorts};
+    ghost use Rattle.job_turns.specs.OwedTo.{is_open};
+    ghost use Rattle.ready_loop.specs.History.{History};
+    ghost use Rattle.ready_loop.specs.Standing.{AllShut, StandsFor};
     ghost use Rattle.words.specs.declared.ask.Ask.{Ask as Asked};
     ghost use Rattle.world.specs.declared.entry.Entry.{Entry};
 
@@ -52,6 +59,9 @@ impl Running {
         ensures fresh { IfOk result (λ r. IsFreshFrom 0 r.lines.connections) }
         ensures room { IfOk result (λ r. 0 < length r.buf.items) }
         ensures left { IfOk result (λ r. waits_of r.lines ≡ turns) }
+        // The loop stands for each journal in which all connections were closed.
+        ensures stands { IfOk result (λ r. (journal : Plain Entry) → AllShut journal →
+            (h : History) × StandsFor r.lines.connections h journal) }
     {
         Ok(Running {
             jobs: Jobs::new(alloc, first, count)?,
@@ -76,10 +86,13 @@ impl Running {
         ensures waiting { OnOk result (WaitingFrom (number + 1) self.new.jobs.slots.items) }
         ensures stands { (asks : ℕ → Maybe Asked) (start : Maybe (Plain Entry)) (from : Outset) →
             asks number ≡ Some ask → from.here ≡ here.now →
-            AllStand asks start (wired_by self.old.lines.connections from)
+            AllStand asks start (served_by (owed.begins number) self.old.lines.connections from)
             self.old.jobs.slots.items (W.journal w.old) (W.counts w.old) →
-            AllStand asks start (wired_by self.new.lines.connections from)
+            AllStand asks start (served_by (after result (owed.begins (suc number)))
+            self.new.lines.connections from)
             self.new.jobs.slots.items (W.journal w.new) (W.counts w.new) }
+        ensures over { OnOk result
+            (NoneOver self.old.jobs.slots.items → NoneOver self.new.jobs.slots.items) }
         ensures size { length self.new.jobs.slots.items ≡ length self.old.jobs.slots.items }
         ensures fresh { OnOk result (IsFreshFrom (number + 1) self.new.lines.connections) }
         ensures sound { OnOk result (IsSound self.new.lines.connections) }
@@ -104,9 +117,16 @@ impl Running {
         requires sound { IsSound self.old.lines.connections }
         requires waiting { WaitingFrom (number + 1) self.old.jobs.slots.items }
         ensures waiting { WaitingFrom (number + 1) self.new.jobs.slots.items }
-        ensures stands { KeepsBegun W.journal W.counts w.old w.new number wanted.ports
-            self.old.lines.connections self.new.lines.connections self.old.jobs.slots.items
-            self.new.jobs.slots.items }
+        ensures stands { (asks : ℕ → Maybe Asked) (start : Maybe (Plain Entry)) (from : Outset) →
+            (from.clean ≡ true → HasPorts number wanted.ports (W.journal w.old)) →
+            is_slot_running (slice_get self.old.jobs.slots.items number) ≡ true →
+            AllStand asks start (served_by (owed.begins number) self.old.lines.connections from)
+            self.old.jobs.slots.items (W.journal w.old) (W.counts w.old) →
+            AllStand asks start (served_by (after result (owed.begins (suc number)))
+            self.new.lines.connections from)
+            self.new.jobs.slots.items (W.journal w.new) (W.counts w.new) }
+        ensures over { OnOk result
+            (NoneOver self.old.jobs.slots.items → NoneOver self.new.jobs.slots.items) }
         ensures size { length self.new.jobs.slots.items ≡ length self.old.jobs.slots.items }
         ensures fresh { IsFreshFrom (number + 1) self.new.lines.connections }
         ensures drained { IsDrained self.old.lines.connections →
@@ -122,12 +142,28 @@ impl Running {
         }
     }
 
+    /// Tells each job the clock, which it is still to be told since its begin.
+    pub(crate) fn read_clock(&mut self, ms: u64)
+        requires { ms < 2 ^ 47 }
+        ensures stands { ReadsClocks ms self.old.jobs.slots.items self.new.jobs.slots.items }
+        ensures over { SameOver self.old.jobs.slots.items self.new.jobs.slots.items }
+        ensures lines { self.new.lines ≡ self.old.lines }
+        ensures buf { self.new.buf ≡ self.old.buf }
+    {
+        for number in 0..self.jobs.len() {
+            self.jobs.read_clock(number, ms);
+        }
+    }
+
     /// Ends a job by the network, of which a call has failed, and leaves it. It ends no other.
     pub(crate) fn lose_one<W: World>(&mut self, w: &mut W, job: u8) -> Result<(), NoMemory>
         requires { job < 16 }
-        ensures stands { KeepsLinesIf IsCutOff W.journal W.counts w.old w.new
+        ensures stands { (o : Owed) → may_wait o ≡ true → is_open (owed_to o job) ≡ true →
+            KeepsLinesIf IsCutOff W.journal W.counts w.old w.new o (after result o)
             self.old.lines.connections self.new.lines.connections self.old.jobs.slots.items
             self.new.jobs.slots.items }
+        ensures gone { OnOk result
+            (is_slot_running (slice_get self.new.jobs.slots.items job) ≡ false) }
         ensures left { IsKept self.old.lines.connections self.new.lines.connections }
         ensures waiting { WaitingFrom (job + 1) self.old.jobs.slots.items →
             WaitingFrom (job + 1) self.new.jobs.slots.items }
@@ -147,8 +183,10 @@ impl Running {
 
     /// Leaves a job of which it stands how it ended, before anything else is read.
     pub(crate) fn leave_where<W: World>(&mut self, w: &mut W, number: u8) -> Result<(), NoMemory>
-        ensures stands { KeepsLines W.journal W.counts w.old w.new self.old.lines.connections
-            self.new.lines.connections self.old.jobs.slots.items self.new.jobs.slots.items }
+        ensures stands { (o : Owed) → may_wait o ≡ true → is_open (owed_to o number) ≡ true →
+            KeepsLines W.journal W.counts w.old w.new o (after result o)
+            self.old.lines.connections self.new.lines.connections self.old.jobs.slots.items
+            self.new.jobs.slots.items }
         ensures left { IsKept self.old.lines.connections self.new.lines.connections }
         ensures others { KeepsOthers number self.old.jobs.slots.items self.new.jobs.slots.items }
         ensures over { OnOk result
@@ -165,8 +203,9 @@ impl Running {
 
     /// Leaves each job of which it stands how it ended, in their order.
     pub(crate) fn leave_over<W: World>(&mut self, w: &mut W) -> Result<(), NoMemory>
-        ensures stands { KeepsLines W.journal W.counts w.old w.new self.old.lines.connections
-            self.new.lines.connections self.old.jobs.slots.items self.new.jobs.slots.items }
+        ensures stands { KeepsLines W.journal W.counts w.old w.new owed.none
+            (after result owed.none) self.old.lines.connections self.new.lines.connections
+            self.old.jobs.slots.items self.new.jobs.slots.items }
         ensures left { IsKept self.old.lines.connections self.new.lines.connections }
         ensures over { OnOk result (NoneOver self.new.jobs.slots.items) }
         ensures buf { self.new.buf ≡ self.old.buf }
@@ -179,8 +218,9 @@ impl Running {
 
     /// Leaves each job, in their order, as none can go on.
     pub(crate) fn leave_all<W: World>(&mut self, w: &mut W) -> Result<(), NoMemory>
-        ensures stands { KeepsLines W.journal W.counts w.old w.new self.old.lines.connections
-            self.new.lines.connections self.old.jobs.slots.items self.new.jobs.slots.items }
+        ensures stands { KeepsLines W.journal W.counts w.old w.new owed.none
+            (after result owed.none) self.old.lines.connections self.new.lines.connections
+            self.old.jobs.slots.items self.new.jobs.slots.items }
         ensures left { IsKept self.old.lines.connections self.new.lines.connections }
         ensures ended { OnOk result (AllEnded self.new.jobs.slots.items) }
         ensures buf { self.new.buf ≡ self.old.buf }
@@ -196,8 +236,12 @@ impl Running {
     /// changes.
     fn leave<W: World>(&mut self, w: &mut W, number: u8) -> Result<(), NoMemory>
         requires { number < 16 }
-        ensures stands { KeepsLines W.journal W.counts w.old w.new self.old.lines.connections
-            self.new.lines.connections self.old.jobs.slots.items self.new.jobs.slots.items }
+        ensures stands { (o : Owed) → may_wait o ≡ true → is_open (owed_to o number) ≡ true →
+            KeepsLines W.journal W.counts w.old w.new o (after result o)
+            self.old.lines.connections self.new.lines.connections self.old.jobs.slots.items
+            self.new.jobs.slots.items }
+        ensures gone { OnOk result
+            (is_slot_running (slice_get self.new.jobs.slots.items number) ≡ false) }
         ensures left { IsLeft number self.old.lines.connections self.new.lines.connections }
         ensures others { KeepsOthers number self.old.jobs.slots.items self.new.jobs.slots.items }
         ensures ended { OnOk result (EndedBelow number self.old.jobs.slots.items →
@@ -227,8 +271,9 @@ impl Running {
     pub(crate) fn abandon<W: World>(&mut self, w: &mut W)
         ensures ended { AllEnded self.new.jobs.slots.items }
         ensures left { waits_of self.new.lines ≡ waits_of self.old.lines }
-        ensures stands { KeepsLines W.journal W.counts w.old w.new self.old.lines.connections
-            self.new.lines.connections self.old.jobs.slots.items self.new.jobs.slots.items }
+        ensures stands { KeepsLines W.journal W.counts w.old w.new owed.unknown owed.unknown
+            self.old.lines.connections self.new.lines.connections self.old.jobs.slots.items
+            self.new.jobs.slots.items }
     {
         for number in 0..self.jobs.len() {
             self.lines.close(w, number as u8);

@@ -1,7 +1,7 @@
 //! `Slot`, one job of a run.
 ghost use Rattle.std.specs.Prelude.{◌≡◌, IfSome, Some, true};
 ghost use Rattle.said_lines.specs.Between.{SayFailed};
-ghost use Rattle.batch_run.specs.Stands.{EndsSaying, SlotKeeps, KeepsSaying, is_slot_running};
+ghost use Rattle.batch_run.specs.Stands.{EndsSaying, SlotFinishes, KeepsSaying, is_slot_running};
 
 use job_end::Answer;
 use job_run::Job;
@@ -20,11 +20,14 @@ pub(crate) enum Slot {
 }
 
 impl Slot {
-    ghost use Rattle.std.specs.Prelude.{◌≡◌, ◌<◌, ◌^◌, Some, true, false, IfSome};
+    ghost use Rattle.std.specs.Prelude.{◌≡◌, ◌<◌, ◌^◌, Some, true, false, IfSome, suc};
     ghost use Rattle.said_lines.specs.Between.{SayFailed};
+    ghost use Rattle.ready_loop.specs.History.{conn_on};
     ghost use Rattle.batch_run.specs.Due.{IsSlotDue, SlotWantsLook, is_slot_over};
+    ghost use Rattle.batch_run.specs.Owed as owed;
     ghost use Rattle.batch_run.specs.Stands.{HasEnded, SaysEndOf, SlotKeeps, SlotStays, is_slot_running};
     ghost use Rattle.batch_run.specs.Stands.{IsCutOff, IsOutOfWaits, SlotStaysIf};
+    ghost use Rattle.batch_run.specs.Stands.{SlotFinishes, SlotNotes, SlotReads};
 
     /// The slot of a number before any job begins: where its job ran before, that has ended, and
     /// nothing more is told of it.
@@ -73,6 +76,7 @@ impl Slot {
     pub(crate) fn hand_out(&mut self, chan: Chan) -> Option<Bytes>
         ensures stays { SlotStays self.old self.new }
         ensures runs { is_slot_running (Some self.new) ≡ is_slot_running (Some self.old) }
+        ensures over { is_slot_over (Some self.new) ≡ is_slot_over (Some self.old) }
     {
         match self {
             Slot::Running(job) => job.hand_out(chan),
@@ -82,7 +86,10 @@ impl Slot {
 
     /// So many bytes of this channel were taken.
     pub(crate) fn on_taken(&mut self, chan: Chan, taken: u64)
-        ensures { SlotStays self.old self.new }
+        ensures stays { SlotStays self.old self.new }
+        ensures over { is_slot_over (Some self.new) ≡ is_slot_over (Some self.old) }
+        // Where a job runs it knows how many were taken.
+        ensures taken { SlotNotes chan taken (Some self.old) (Some self.new) }
     {
         match self {
             Slot::Running(job) => job.on_taken(chan, taken),
@@ -90,10 +97,23 @@ impl Slot {
         }
     }
 
+    /// The clock stands at this moment, which a job is told that has begun.
+    pub(crate) fn read_clock(&mut self, ms: u64)
+        requires { ms < 2 ^ 47 }
+        ensures reads { SlotReads ms self.old self.new }
+        ensures over { is_slot_over (Some self.new) ≡ is_slot_over (Some self.old) }
+    {
+        match self {
+            Slot::Running(job) => job.read_clock(ms),
+            Slot::Waiting | Slot::Ended(_) => {}
+        }
+    }
+
     /// The clock of a turn was read.
     pub(crate) fn on_moment<W: World>(&mut self, w: &mut W, ms: u64) -> Result<(), NoMemory>
         requires { ms < 2 ^ 47 }
-        ensures { SlotKeeps W.journal W.counts w.old w.new self.old self.new }
+        ensures { SlotKeeps W.journal W.counts w.old w.new (owed.turn_clock ms)
+            (λ k. owed.turn_clock ms (suc k)) self.old self.new }
     {
         match self {
             Slot::Running(job) => job.on_moment(w, ms),
@@ -108,7 +128,8 @@ impl Slot {
         chan: Chan,
         piece: &[u8],
     ) -> Result<(), NoMemory>
-        ensures { SlotKeeps W.journal W.counts w.old w.new self.old self.new }
+        ensures { SlotKeeps W.journal W.counts w.old w.new
+            (λ k. owed.piece (conn_on k chan) piece.now) (λ k. owed.none) self.old self.new }
     {
         match self {
             Slot::Running(job) => job.on_piece(w, chan, piece),
@@ -118,7 +139,8 @@ impl Slot {
 
     /// A connection has ended.
     pub(crate) fn on_ended(&mut self)
-        ensures { SlotStays self.old self.new }
+        ensures stays { SlotStays self.old self.new }
+        ensures over { is_slot_over (Some self.new) ≡ is_slot_over (Some self.old) }
     {
         match self {
             Slot::Running(job) => job.on_ended(),
@@ -128,7 +150,8 @@ impl Slot {
 
     /// The wait of a last look was made.
     pub(crate) fn on_waited(&mut self)
-        ensures { SlotStays self.old self.new }
+        ensures stays { SlotStays self.old self.new }
+        ensures over { is_slot_over (Some self.new) ≡ is_slot_over (Some self.old) }
     {
         match self {
             Slot::Running(job) => job.on_waited(),
@@ -138,7 +161,8 @@ impl Slot {
 
     /// The reads of a last look are done.
     pub(crate) fn on_looked<W: World>(&mut self, w: &mut W) -> Result<(), NoMemory>
-        ensures { SlotKeeps W.journal W.counts w.old w.new self.old self.new }
+        ensures { SlotKeeps W.journal W.counts w.old w.new (λ k. owed.none) (λ k. owed.none)
+            self.old self.new }
     {
         match self {
             Slot::Running(job) => job.on_looked(w),
@@ -169,7 +193,7 @@ impl Slot {
     /// Ends the child of a job that runs, without a word.
     pub(crate) fn stop<W: World>(&mut self, alloc: Global, w: &mut W)
         ensures ended { HasEnded self.new }
-        ensures stands { SlotKeeps W.journal W.counts w.old w.new self.old self.new }
+        ensures stands { SlotFinishes W.journal W.counts w.old w.new self.old self.new }
     {
         let slot = mem::replace(self, Slot::Waiting);
         let ended = Slot::Ended(end_of(alloc, w, slot));
@@ -182,7 +206,7 @@ impl Slot {
         // Where one ran, its line is the last that was said.
         ensures said { is_slot_running (Some self.old) ≡ true →
             IfSome (W.journal w.new) (SaysEndOf (Some self.new) (SayFailed W.counts w.new)) }
-        ensures stands { SlotKeeps W.journal W.counts w.old w.new self.old self.new }
+        ensures stands { SlotFinishes W.journal W.counts w.old w.new self.old self.new }
     {
         let slot = mem::replace(self, Slot::Waiting);
         let ended = Slot::Ended(end_and_say(alloc, w, slot));
@@ -192,7 +216,7 @@ impl Slot {
 
 /// How a job ended: of one that runs the child is ended.
 fn end_of<W: World>(alloc: Global, w: &mut W, slot: Slot) -> Answer
-    ensures { SlotKeeps W.journal W.counts w.old w.new slot (Slot.Ended result) }
+    ensures { SlotFinishes W.journal W.counts w.old w.new slot (Slot.Ended result) }
 {
     match slot {
         Slot::Running(job) => job.finish(w),
@@ -203,7 +227,7 @@ fn end_of<W: World>(alloc: Global, w: &mut W, slot: Slot) -> Answer
 
 /// How a job ended: of one that runs the child is ended, and how it ended is said.
 fn end_and_say<W: World>(alloc: Global, w: &mut W, slot: Slot) -> Answer
-    ensures keeps { SlotKeeps W.journal W.counts w.old w.new slot (Slot.Ended result) }
+    ensures keeps { SlotFinishes W.journal W.counts w.old w.new slot (Slot.Ended result) }
     ensures said { is_slot_running (Some slot) ≡ true →
         IfSome (W.journal w.new) (EndsSaying result.line (SayFailed W.counts w.new)) }
 {

@@ -5,13 +5,18 @@ use jtext::{Bytes, NoMemory};
 use world::{Chan, World};
 
 impl Jobs {
-    ghost use Rattle.std.specs.Prelude.{◌≡◌, ◌<◌, ◌+◌, ◌^◌, length};
-    ghost use Rattle.batch_run.specs.Stands.{ChangesAt, EndedBelow, KeepsAll, KeepsOthers, StayAll};
-    ghost use Rattle.batch_run.specs.Stands.{IsCutOff, IsOutOfWaits, StayAllIf, WaitingFrom};
+    ghost use Rattle.std.specs.Prelude.{◌≡◌, ◌<◌, ◌+◌, ◌^◌, false, length, slice_get, suc};
+    ghost use Rattle.ready_loop.specs.History.{conn_on};
+    ghost use Rattle.batch_run.specs.Owed as owed;
+    ghost use Rattle.batch_run.specs.Stands.{ChangesAt, EndedBelow, KeepsOwed, KeepsOthers, StayAll};
+    ghost use Rattle.batch_run.specs.Stands.{FinishesAll, ReadsClock, SameOver, SlotNotes, StayAt};
+    ghost use Rattle.batch_run.specs.Stands.{IsCutOff, IsOutOfWaits, StayAllIf, StayAtIf};
+    ghost use Rattle.batch_run.specs.Stands.{WaitingFrom, is_slot_running};
 
     /// Hands out what a job has queued on this channel, where there is anything.
     pub(crate) fn hand_out(&mut self, number: usize, chan: Chan) -> Option<Bytes>
-        ensures stands { StayAll self.old.slots.items self.new.slots.items }
+        ensures stands { StayAt number self.old.slots.items self.new.slots.items }
+        ensures over { SameOver self.old.slots.items self.new.slots.items }
         ensures at { ChangesAt number self.old.slots.items self.new.slots.items }
     {
         if number >= self.slots.len() {
@@ -22,10 +27,28 @@ impl Jobs {
 
     /// So many bytes of this channel were taken.
     pub(crate) fn on_taken(&mut self, number: usize, chan: Chan, taken: u64)
-        ensures stands { StayAll self.old.slots.items self.new.slots.items }
+        ensures stands { StayAt number self.old.slots.items self.new.slots.items }
+        ensures over { SameOver self.old.slots.items self.new.slots.items }
+        ensures others { KeepsOthers number self.old.slots.items self.new.slots.items }
+        ensures size { length self.new.slots.items ≡ length self.old.slots.items }
+        // Where the job runs it knows how many were taken.
+        ensures taken { SlotNotes chan taken (slice_get self.old.slots.items number)
+            (slice_get self.new.slots.items number) }
     {
         if number < self.slots.len() {
             self.slots[number].on_taken(chan, taken);
+        }
+    }
+
+    /// The clock stands at this moment, which a job is told that has begun.
+    pub(crate) fn read_clock(&mut self, number: usize, ms: u64)
+        requires { ms < 2 ^ 47 }
+        ensures stands { ReadsClock number ms self.old.slots.items self.new.slots.items }
+        ensures others { KeepsOthers number self.old.slots.items self.new.slots.items }
+        ensures over { SameOver self.old.slots.items self.new.slots.items }
+    {
+        if number < self.slots.len() {
+            self.slots[number].read_clock(ms);
         }
     }
 
@@ -37,8 +60,8 @@ impl Jobs {
         ms: u64,
     ) -> Result<(), NoMemory>
         requires { ms < 2 ^ 47 }
-        ensures stands { KeepsAll W.journal W.counts w.old w.new self.old.slots.items
-            self.new.slots.items }
+        ensures stands { KeepsOwed W.journal W.counts w.old w.new (owed.turn_clock ms number)
+            (owed.turn_clock ms (suc number)) self.old.slots.items self.new.slots.items }
         ensures others { KeepsOthers number self.old.slots.items self.new.slots.items }
     {
         if number >= self.slots.len() {
@@ -55,7 +78,8 @@ impl Jobs {
         chan: Chan,
         piece: &[u8],
     ) -> Result<(), NoMemory>
-        ensures stands { KeepsAll W.journal W.counts w.old w.new self.old.slots.items
+        ensures stands { KeepsOwed W.journal W.counts w.old w.new
+            (owed.piece (conn_on number chan) piece.now) owed.none self.old.slots.items
             self.new.slots.items }
         ensures others { KeepsOthers number self.old.slots.items self.new.slots.items }
     {
@@ -67,7 +91,8 @@ impl Jobs {
 
     /// A connection of the job has ended.
     pub(crate) fn on_ended(&mut self, number: usize)
-        ensures stands { StayAll self.old.slots.items self.new.slots.items }
+        ensures stands { StayAt number self.old.slots.items self.new.slots.items }
+        ensures over { SameOver self.old.slots.items self.new.slots.items }
         ensures others { KeepsOthers number self.old.slots.items self.new.slots.items }
     {
         if number < self.slots.len() {
@@ -78,6 +103,7 @@ impl Jobs {
     /// The connections at these places have ended.
     pub(crate) fn on_ends(&mut self, ends: &[bool; 64])
         ensures stands { StayAll self.old.slots.items self.new.slots.items }
+        ensures over { SameOver self.old.slots.items self.new.slots.items }
     {
         for place in 0..64usize {
             self.end_where(place / 4, ends[place]);
@@ -85,7 +111,8 @@ impl Jobs {
     }
 
     fn end_where(&mut self, number: usize, has_ended: bool)
-        ensures stands { StayAll self.old.slots.items self.new.slots.items }
+        ensures stands { StayAt number self.old.slots.items self.new.slots.items }
+        ensures over { SameOver self.old.slots.items self.new.slots.items }
     {
         if has_ended {
             self.on_ended(number);
@@ -95,6 +122,7 @@ impl Jobs {
     /// The wait of a last look was made for these jobs.
     pub(crate) fn on_waited(&mut self, looks: &[bool; 16])
         ensures stands { StayAll self.old.slots.items self.new.slots.items }
+        ensures over { SameOver self.old.slots.items self.new.slots.items }
     {
         for number in 0..16usize {
             self.wait_where(number, looks[number]);
@@ -102,7 +130,8 @@ impl Jobs {
     }
 
     fn wait_where(&mut self, number: usize, was_made: bool)
-        ensures stands { StayAll self.old.slots.items self.new.slots.items }
+        ensures stands { StayAt number self.old.slots.items self.new.slots.items }
+        ensures over { SameOver self.old.slots.items self.new.slots.items }
     {
         if was_made {
             self.mark_waited(number);
@@ -110,7 +139,8 @@ impl Jobs {
     }
 
     fn mark_waited(&mut self, number: usize)
-        ensures stands { StayAll self.old.slots.items self.new.slots.items }
+        ensures stands { StayAt number self.old.slots.items self.new.slots.items }
+        ensures over { SameOver self.old.slots.items self.new.slots.items }
     {
         if number < self.slots.len() {
             self.slots[number].on_waited();
@@ -124,8 +154,8 @@ impl Jobs {
         number: usize,
         was_made: bool,
     ) -> Result<(), NoMemory>
-        ensures stands { KeepsAll W.journal W.counts w.old w.new self.old.slots.items
-            self.new.slots.items }
+        ensures stands { KeepsOwed W.journal W.counts w.old w.new owed.none owed.none
+            self.old.slots.items self.new.slots.items }
         ensures others { KeepsOthers number self.old.slots.items self.new.slots.items }
     {
         if was_made {
@@ -136,8 +166,8 @@ impl Jobs {
     }
 
     fn finish_look<W: World>(&mut self, w: &mut W, number: usize) -> Result<(), NoMemory>
-        ensures stands { KeepsAll W.journal W.counts w.old w.new self.old.slots.items
-            self.new.slots.items }
+        ensures stands { KeepsOwed W.journal W.counts w.old w.new owed.none owed.none
+            self.old.slots.items self.new.slots.items }
         ensures others { KeepsOthers number self.old.slots.items self.new.slots.items }
     {
         if number >= self.slots.len() {
@@ -151,7 +181,7 @@ impl Jobs {
         ensures size { length self.new.slots.items ≡ length self.old.slots.items }
         ensures waiting { WaitingFrom (number + 1) self.old.slots.items →
             WaitingFrom (number + 1) self.new.slots.items }
-        ensures stands { StayAllIf IsCutOff self.old.slots.items self.new.slots.items }
+        ensures stands { StayAtIf IsCutOff number self.old.slots.items self.new.slots.items }
         ensures others { KeepsOthers number self.old.slots.items self.new.slots.items }
     {
         if number >= self.slots.len() {
@@ -181,7 +211,7 @@ impl Jobs {
     }
 
     fn spend(&mut self, number: usize) -> Result<(), NoMemory>
-        ensures stands { StayAllIf IsOutOfWaits self.old.slots.items self.new.slots.items }
+        ensures stands { StayAtIf IsOutOfWaits number self.old.slots.items self.new.slots.items }
     {
         if number >= self.slots.len() {
             return Ok(());
@@ -194,8 +224,9 @@ impl Jobs {
         ensures ended { EndedBelow number self.old.slots.items →
             EndedBelow (number + 1) self.new.slots.items }
         ensures size { length self.new.slots.items ≡ length self.old.slots.items }
-        ensures stands { KeepsAll W.journal W.counts w.old w.new self.old.slots.items
-            self.new.slots.items }
+        ensures stands { FinishesAll W.journal W.counts w.old w.new number
+            self.old.slots.items self.new.slots.items }
+        ensures gone { is_slot_running (slice_get self.new.slots.items number) ≡ false }
     {
         if number < self.slots.len() {
             self.slots[number].stop(self.alloc, w);

@@ -13,14 +13,18 @@ const CHANS: [Chan; 4] = [Chan::Shell, Chan::Control, Chan::Iopub, Chan::Heart];
 
 impl Running {
     ghost use Rattle.std.specs.Prelude.{◌≡◌, ◌<◌, ◌≤◌, ◌^◌, Ok, true, false, OnOk};
-    ghost use Rattle.std.specs.Prelude.{length, slice_get};
+    ghost use Rattle.std.specs.Prelude.{length, slice_get, take};
     ghost use Rattle.ready_loop.specs.States.{IsDrained, IsOffered, IsSound};
     ghost use Rattle.batch_run.specs.Due.{is_slot_over};
     ghost use Rattle.batch_run.specs.Kept.{IsKept, IsLeft, LeftBy, StaysBegun, goes_on};
     ghost use Rattle.batch_run.specs.Lines.{budget, open_of, reads_of, waits_of};
     ghost use Rattle.batch_run.specs.Stands.{AllEnded, ChangesAt, ChangesOne, KeepsOthers, NoneOver};
     ghost use Rattle.batch_run.specs.Stands.{IsFaultOf, KeepsLines, KeepsLinesIf, KeepsWaiting};
-    ghost use Rattle.batch_run.specs.Stands.{StayAll, StayLines};
+    ghost use Rattle.batch_run.specs.Stands.{AreTaken, SameOver, StayAll, StayLines, StayLinesAt};
+    ghost use Rattle.batch_run.specs.Owed.{after};
+    ghost use Rattle.batch_run.specs.Owed as owed;
+    ghost use Rattle.batch_run.specs.Telling.{IsTakenOn};
+    ghost use Rattle.world.specs.declared.chan.Chan.TheVariants.{Iopub};
     ghost use Rattle.batch_run.specs.declared.reading.Reading.TheVariants as reading;
 
     /// Turn after turn, until each job has ended.
@@ -28,8 +32,9 @@ impl Running {
         requires drained { IsDrained self.old.lines.connections }
         requires sound { IsSound self.old.lines.connections }
         requires room { 0 < length self.old.buf.items }
-        ensures stands { KeepsWaiting W.journal W.counts w.old w.new self.old.lines self.new.lines
-            self.old.jobs.slots.items self.new.jobs.slots.items }
+        ensures stands { NoneOver self.old.jobs.slots.items →
+            KeepsWaiting W.journal W.counts w.old w.new (after result owed.none) self.old.lines
+            self.new.lines self.old.jobs.slots.items self.new.jobs.slots.items }
         ensures left { waits_of self.new.lines ≤ waits_of self.old.lines }
         ensures ended { OnOk result (AllEnded self.new.jobs.slots.items) }
     {
@@ -46,8 +51,9 @@ impl Running {
         ensures sound { result ≡ Ok true → IsSound self.new.lines.connections }
         ensures room { 0 < length self.new.buf.items }
         ensures budget { result ≡ Ok true → budget self.new.lines < budget self.old.lines }
-        ensures stands { KeepsWaiting W.journal W.counts w.old w.new self.old.lines self.new.lines
-            self.old.jobs.slots.items self.new.jobs.slots.items }
+        ensures stands { NoneOver self.old.jobs.slots.items →
+            KeepsWaiting W.journal W.counts w.old w.new (after result owed.none) self.old.lines
+            self.new.lines self.old.jobs.slots.items self.new.jobs.slots.items }
         ensures left { waits_of self.new.lines ≤ waits_of self.old.lines }
         // Each job of which it stands how it ended was left.
         ensures over { result ≡ Ok true → NoneOver self.new.jobs.slots.items }
@@ -70,8 +76,10 @@ impl Running {
         ensures sound { result ≡ Ok true → IsSound self.new.lines.connections }
         ensures room { 0 < length self.new.buf.items }
         ensures budget { result ≡ Ok true → budget self.new.lines < budget self.old.lines }
-        ensures stands { KeepsWaiting W.journal W.counts w.old w.new self.old.lines self.new.lines
-            self.old.jobs.slots.items self.new.jobs.slots.items }
+        ensures stands { NoneOver self.old.jobs.slots.items →
+            AreTaken self.old.lines.connections self.old.jobs.slots.items →
+            KeepsWaiting W.journal W.counts w.old w.new (after result owed.none) self.old.lines
+            self.new.lines self.old.jobs.slots.items self.new.jobs.slots.items }
         ensures left { waits_of self.new.lines ≤ waits_of self.old.lines }
         ensures over { result ≡ Ok true → NoneOver self.new.jobs.slots.items }
         ensures ended { result ≡ Ok false → AllEnded self.new.jobs.slots.items }
@@ -94,8 +102,13 @@ impl Running {
             IsDrained self.new.lines.connections }
         ensures buf { self.new.buf ≡ self.old.buf }
         ensures linked { open_of self.new.lines ≤ open_of self.old.lines }
-        ensures stands { KeepsLines W.journal W.counts w.old w.new self.old.lines.connections
-            self.new.lines.connections self.old.jobs.slots.items self.new.jobs.slots.items }
+        ensures stands { KeepsLines W.journal W.counts w.old w.new owed.none
+            (after result owed.none) self.old.lines.connections self.new.lines.connections
+            self.old.jobs.slots.items self.new.jobs.slots.items }
+        ensures taken { OnOk result
+            (AreTaken self.new.lines.connections self.new.jobs.slots.items) }
+        ensures over { OnOk result
+            (NoneOver self.old.jobs.slots.items → NoneOver self.new.jobs.slots.items) }
         ensures left { waits_of self.new.lines ≡ waits_of self.old.lines }
     {
         loop {
@@ -116,6 +129,7 @@ impl Running {
         ensures buf { self.new.buf ≡ self.old.buf }
         ensures stands { StayLines self.old.lines.connections self.new.lines.connections
             self.old.jobs.slots.items self.new.jobs.slots.items }
+        ensures over { SameOver self.old.jobs.slots.items self.new.jobs.slots.items }
     {
         for number in 0..self.jobs.len() {
             self.queue_job(number as u8)?;
@@ -130,8 +144,9 @@ impl Running {
         ensures linked { StaysBegun self.old.lines.connections self.new.lines.connections }
         ensures at { ChangesAt job self.old.jobs.slots.items self.new.jobs.slots.items }
         ensures buf { self.new.buf ≡ self.old.buf }
-        ensures stands { StayLines self.old.lines.connections self.new.lines.connections
+        ensures stands { StayLinesAt job self.old.lines.connections self.new.lines.connections
             self.old.jobs.slots.items self.new.jobs.slots.items }
+        ensures over { SameOver self.old.jobs.slots.items self.new.jobs.slots.items }
     {
         for chan in CHANS {
             self.queue_on(Conn { job, chan })?;
@@ -145,8 +160,9 @@ impl Running {
         ensures linked { StaysBegun self.old.lines.connections self.new.lines.connections }
         ensures at { ChangesAt conn.job self.old.jobs.slots.items self.new.jobs.slots.items }
         ensures buf { self.new.buf ≡ self.old.buf }
-        ensures stands { StayLines self.old.lines.connections self.new.lines.connections
-            self.old.jobs.slots.items self.new.jobs.slots.items }
+        ensures stands { StayLinesAt conn.job self.old.lines.connections
+            self.new.lines.connections self.old.jobs.slots.items self.new.jobs.slots.items }
+        ensures over { SameOver self.old.jobs.slots.items self.new.jobs.slots.items }
     {
         if !self.lines.was_begun(conn) {
             return Ok(());
@@ -162,6 +178,8 @@ impl Running {
         ensures lines { self.new.lines ≡ self.old.lines }
         ensures buf { self.new.buf ≡ self.old.buf }
         ensures stands { StayAll self.old.jobs.slots.items self.new.jobs.slots.items }
+        ensures over { SameOver self.old.jobs.slots.items self.new.jobs.slots.items }
+        ensures taken { AreTaken self.new.lines.connections self.new.jobs.slots.items }
     {
         for number in 0..self.jobs.len() {
             self.tell_taken_of(number as u8);
@@ -173,11 +191,33 @@ impl Running {
         ensures lines { self.new.lines ≡ self.old.lines }
         ensures buf { self.new.buf ≡ self.old.buf }
         ensures stands { StayAll self.old.jobs.slots.items self.new.jobs.slots.items }
+        ensures over { SameOver self.old.jobs.slots.items self.new.jobs.slots.items }
+        ensures others { KeepsOthers job self.old.jobs.slots.items self.new.jobs.slots.items }
+        ensures size { length self.new.jobs.slots.items ≡ length self.old.jobs.slots.items }
+        ensures taken { IsTakenOn Iopub job self.new.lines.connections self.new.jobs.slots.items }
     {
-        for chan in CHANS {
-            let taken = self.lines.taken(Conn { job, chan });
-            self.jobs.on_taken(job as usize, chan, taken);
+        for chan in [Chan::Shell, Chan::Control, Chan::Heart] {
+            self.tell_taken_on(Conn { job, chan });
         }
+        self.tell_taken_on(Conn {
+            job,
+            chan: Chan::Iopub,
+        });
+    }
+
+    fn tell_taken_on(&mut self, conn: Conn)
+        requires { conn.job < 16 }
+        ensures lines { self.new.lines ≡ self.old.lines }
+        ensures buf { self.new.buf ≡ self.old.buf }
+        ensures stands { StayAll self.old.jobs.slots.items self.new.jobs.slots.items }
+        ensures over { SameOver self.old.jobs.slots.items self.new.jobs.slots.items }
+        ensures others { KeepsOthers conn.job self.old.jobs.slots.items self.new.jobs.slots.items }
+        ensures size { length self.new.jobs.slots.items ≡ length self.old.jobs.slots.items }
+        ensures taken { IsTakenOn conn.chan conn.job self.new.lines.connections
+            self.new.jobs.slots.items }
+    {
+        let taken = self.lines.taken(conn);
+        self.jobs.on_taken(conn.job as usize, conn.chan, taken);
     }
 
     // Ends and leaves what a fault ends: the fault of one job ends no other. Whether a job may go on.
@@ -188,9 +228,9 @@ impl Running {
         ensures sound { result ≡ Ok true → IsSound self.new.lines.connections }
         ensures linked { result ≡ Ok true → open_of self.new.lines < open_of self.old.lines }
         ensures buf { self.new.buf ≡ self.old.buf }
-        ensures stands { KeepsLinesIf (IsFaultOf fault) W.journal W.counts w.old w.new
-            self.old.lines.connections self.new.lines.connections self.old.jobs.slots.items
-            self.new.jobs.slots.items }
+        ensures stands { KeepsLinesIf (IsFaultOf fault) W.journal W.counts w.old w.new owed.none
+            (after result owed.none) self.old.lines.connections self.new.lines.connections
+            self.old.jobs.slots.items self.new.jobs.slots.items }
         ensures over { result ≡ Ok true → NoneOver self.new.jobs.slots.items }
         ensures ended { result ≡ Ok false → AllEnded self.new.jobs.slots.items }
     {
@@ -231,8 +271,10 @@ impl Running {
         ensures sound { result ≡ Ok true → IsSound self.new.lines.connections }
         ensures room { 0 < length self.new.buf.items }
         ensures budget { result ≡ Ok true → budget self.new.lines < budget self.old.lines }
-        ensures stands { KeepsWaiting W.journal W.counts w.old w.new self.old.lines self.new.lines
-            self.old.jobs.slots.items self.new.jobs.slots.items }
+        ensures stands { NoneOver self.old.jobs.slots.items →
+            AreTaken self.old.lines.connections self.old.jobs.slots.items →
+            KeepsWaiting W.journal W.counts w.old w.new (after result owed.none) self.old.lines
+            self.new.lines self.old.jobs.slots.items self.new.jobs.slots.items }
         ensures left { waits_of self.new.lines ≤ waits_of self.old.lines }
         ensures over { result ≡ Ok true → NoneOver self.new.jobs.slots.items }
         ensures ended { result ≡ Ok false → AllEnded self.new.jobs.slots.items }
@@ -258,8 +300,10 @@ impl Running {
         ensures sound { result ≡ Ok true → IsSound self.new.lines.connections }
         ensures room { 0 < length self.new.buf.items }
         ensures budget { result ≡ Ok true → budget self.new.lines < budget self.old.lines }
-        ensures stands { KeepsWaiting W.journal W.counts w.old w.new self.old.lines self.new.lines
-            self.old.jobs.slots.items self.new.jobs.slots.items }
+        ensures stands { NoneOver self.old.jobs.slots.items →
+            AreTaken self.old.lines.connections self.old.jobs.slots.items →
+            KeepsWaiting W.journal W.counts w.old w.new (after result owed.none) self.old.lines
+            self.new.lines self.old.jobs.slots.items self.new.jobs.slots.items }
         ensures left { waits_of self.new.lines ≤ waits_of self.old.lines }
         ensures over { result ≡ Ok true → NoneOver self.new.jobs.slots.items }
         ensures ended { result ≡ Ok false → AllEnded self.new.jobs.slots.items }
@@ -280,8 +324,9 @@ impl Running {
         requires { ms < 2 ^ 47 }
         ensures left { IsKept self.old.lines.connections self.new.lines.connections }
         ensures buf { self.new.buf ≡ self.old.buf }
-        ensures stands { KeepsLines W.journal W.counts w.old w.new self.old.lines.connections
-            self.new.lines.connections self.old.jobs.slots.items self.new.jobs.slots.items }
+        ensures stands { KeepsLines W.journal W.counts w.old w.new (owed.turn_clock ms 0)
+            (after result owed.none) self.old.lines.connections self.new.lines.connections
+            self.old.jobs.slots.items self.new.jobs.slots.items }
         ensures over { OnOk result (NoneOver self.new.jobs.slots.items) }
     {
         for number in 0..16u8 {
@@ -296,8 +341,9 @@ impl Running {
     fn tell_looked<W: World>(&mut self, w: &mut W, looks: &[bool; 16]) -> Result<(), NoMemory>
         ensures left { IsKept self.old.lines.connections self.new.lines.connections }
         ensures buf { self.new.buf ≡ self.old.buf }
-        ensures stands { KeepsLines W.journal W.counts w.old w.new self.old.lines.connections
-            self.new.lines.connections self.old.jobs.slots.items self.new.jobs.slots.items }
+        ensures stands { KeepsLines W.journal W.counts w.old w.new owed.none
+            (after result owed.none) self.old.lines.connections self.new.lines.connections
+            self.old.jobs.slots.items self.new.jobs.slots.items }
         ensures over { OnOk result (NoneOver self.new.jobs.slots.items) }
     {
         for number in 0..16u8 {
@@ -316,8 +362,10 @@ impl Running {
         ensures sound { OnOk result (IsSound self.new.lines.connections) }
         ensures room { 0 < length self.new.buf.items }
         ensures linked { open_of self.new.lines ≤ open_of self.old.lines }
-        ensures stands { KeepsLines W.journal W.counts w.old w.new self.old.lines.connections
-            self.new.lines.connections self.old.jobs.slots.items self.new.jobs.slots.items }
+        ensures stands { NoneOver self.old.jobs.slots.items →
+            KeepsLines W.journal W.counts w.old w.new owed.none (after result owed.none)
+            self.old.lines.connections self.new.lines.connections self.old.jobs.slots.items
+            self.new.jobs.slots.items }
         ensures left { waits_of self.new.lines ≡ waits_of self.old.lines }
         ensures over { OnOk result (NoneOver self.old.jobs.slots.items →
             NoneOver self.new.jobs.slots.items) }
@@ -339,8 +387,10 @@ impl Running {
         ensures sound { OnOk result (IsSound self.new.lines.connections) }
         ensures room { 0 < length self.new.buf.items }
         ensures linked { open_of self.new.lines ≤ open_of self.old.lines }
-        ensures stands { KeepsLines W.journal W.counts w.old w.new self.old.lines.connections
-            self.new.lines.connections self.old.jobs.slots.items self.new.jobs.slots.items }
+        ensures stands { NoneOver self.old.jobs.slots.items →
+            KeepsLines W.journal W.counts w.old w.new owed.none (after result owed.none)
+            self.old.lines.connections self.new.lines.connections self.old.jobs.slots.items
+            self.new.jobs.slots.items }
         ensures left { waits_of self.new.lines ≡ waits_of self.old.lines }
         ensures reads { result ≡ Ok reading.GoesOn →
             reads_of self.new.lines < reads_of self.old.lines }
@@ -372,8 +422,10 @@ impl Running {
     fn hear<W: World>(&mut self, w: &mut W, conn: Conn, n: usize) -> Result<(), NoMemory>
         ensures left { IsKept self.old.lines.connections self.new.lines.connections }
         ensures buf { self.new.buf ≡ self.old.buf }
-        ensures stands { KeepsLines W.journal W.counts w.old w.new self.old.lines.connections
-            self.new.lines.connections self.old.jobs.slots.items self.new.jobs.slots.items }
+        ensures stands { KeepsLines W.journal W.counts w.old w.new
+            (owed.piece conn (take n self.old.buf.items)) (after result owed.none)
+            self.old.lines.connections self.new.lines.connections self.old.jobs.slots.items
+            self.new.jobs.slots.items }
         ensures others { KeepsOthers conn.job self.old.jobs.slots.items self.new.jobs.slots.items }
         ensures over { OnOk result
             (is_slot_over (slice_get self.new.jobs.slots.items conn.job) ≡ false) }

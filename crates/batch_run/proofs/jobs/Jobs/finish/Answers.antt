@@ -4,13 +4,13 @@ use Rattle.jtext.proofs.Lists.{slice_get-set_other}
 use Rattle.said_lines.specs.Between.{SayFailed}
 use Rattle.batch_run.specs.Stands.{SaysEndOf, is_slot_running}
 use Rattle.std.proofs.lemmas.Option.{slice_get_read}
-use Rattle.batch_run.proofs.SlotLemmas.{at_set, ended_past, over_past, over_set, running_within}
+use Rattle.batch_run.proofs.SlotLemmas.{at_set, ended_past, gone_past, gone_set, over_past, over_set, running_within}
 use Rattle.batch_run.proofs.jobs.Jobs.finish.Goals as goal
 
 pub returns-then-number-len-clause-stands : goal.returns-then-number-len-clause-stands
-returns-then-number-len-clause-stands g c = λ asks start from s.
+returns-then-number-len-clause-stands g c = λ asks start from wait closed s.
     let items = c.args.self.now.slots.items in
-    c.finish.ensures.stands asks start from items c.args.number (slice_get_read items _ c.args.number _ refl (omega (arith, c.args.self.now.slots.ok.0)) c.index_mut.ensures.value) s
+    c.finish.ensures.stands asks start from items c.args.number wait closed (slice_get_read items _ c.args.number _ refl (omega (arith, c.args.self.now.slots.ok.0)) c.index_mut.ensures.value) s
 
 pub returns-else-number-len-clause-ended : goal.returns-else-number-len-clause-ended
 returns-else-number-len-clause-ended g c = λ b. ended_past (omega (arith, c.args.self.now.slots.ok.0)) b
@@ -37,3 +37,9 @@ pub returns-else-number-len-clause-said : goal.returns-else-number-len-clause-sa
 returns-else-number-len-clause-said g c = λ ran.
     let low = running_within c.args.self.now.slots.items c.args.number ran in
     absurd (omega (arith, low, c.args.self.now.slots.ok.0))
+
+pub returns-then-number-len-clause-gone : goal.returns-then-number-len-clause-gone
+returns-then-number-len-clause-gone g c = gone_set c.args.self.now.slots.items c.args.number _ (omega (arith, c.args.self.now.slots.ok.0)) c.finish.ensures.ended
+
+pub returns-else-number-len-clause-gone : goal.returns-else-number-len-clause-gone
+returns-else-number-len-clause-gone g c = gone_past c.args.self.now.slots.items c.args.number (omega (arith, c.args.self.now.slots.ok.0))

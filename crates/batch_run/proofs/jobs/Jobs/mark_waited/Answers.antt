@@ -1,10 +1,16 @@
 use Rattle.std.proofs.Common.{refl, arith}
 use Rattle.std.proofs.lemmas.Option.{slice_get_read}
+use Rattle.batch_run.proofs.SlotLemmas.{over_set_same, over_start}
 use Rattle.batch_run.proofs.jobs.Jobs.mark_waited.Goals as goal
 
 pub returns-then-number-len : goal.returns-then-number-len
-returns-then-number-len c = record {
-  stands = λ asks start from journal counts s.
-      let items = c.args.self.now.slots.items in
-      c.on_waited.ensures asks start from items c.args.number journal counts (slice_get_read items _ c.args.number _ refl (omega (arith, c.args.self.now.slots.ok.0)) c.index_mut.ensures.value) s;
-}
+returns-then-number-len c =
+    let items = c.args.self.now.slots.items in
+    let found = (slice_get_read items _ c.args.number _ refl (omega (arith, c.args.self.now.slots.ok.0)) c.index_mut.ensures.value) in
+    record {
+      over = over_set_same items c.args.number _ _ found c.on_waited.ensures.over;
+      stands = λ asks start from journal counts opens s. c.on_waited.ensures.stays asks start from items c.args.number journal counts opens found s;
+    }
+
+pub returns-else-number-len-clause-over : goal.returns-else-number-len-clause-over
+returns-else-number-len-clause-over c = over_start c.args.self.now.slots.items

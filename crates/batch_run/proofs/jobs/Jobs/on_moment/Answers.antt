@@ -1,6 +1,7 @@
 use Rattle.std.proofs.Common.{refl, arith}
 use Rattle.std.proofs.lemmas.Option.{slice_get_read}
 use Rattle.jtext.proofs.Lists.{slice_get-set_other}
+use Rattle.batch_run.proofs.OweLemmas.{clock_past_all}
 use Rattle.batch_run.proofs.jobs.Jobs.on_moment.Goals as goal
 
 pub returns : goal.returns
@@ -10,3 +11,6 @@ returns g c = record {
       let items = c.args.self.now.slots.items in
       c.on_moment.ensures asks start from items c.args.number (slice_get_read items _ c.args.number _ refl (omega (arith, c.args.self.now.slots.ok.0)) c.index_mut.ensures.value) s;
 }
+
+pub returns-then-number-len-clause-stands : goal.returns-then-number-len-clause-stands
+returns-then-number-len-clause-stands g c = λ asks start from s. clock_past_all asks start from c.args.ms c.args.number (omega (arith, c.args.self.now.slots.ok.0)) s

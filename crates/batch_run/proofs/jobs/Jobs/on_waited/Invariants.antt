@@ -1,5 +1,8 @@
-use Rattle.batch_run.specs.Stands.{StayAll}
+use Rattle.batch_run.specs.Stands.{SameOver, StayAll}
 use Rattle.batch_run.proofs.jobs.Jobs.on_waited.Given as goal
 
 abbrev pub invariant-loop-number : goal.invariant-loop-number
-invariant-loop-number l = StayAll l.fn.self.slots.items l.self.slots.items
+invariant-loop-number l = record {
+  stands : StayAll l.fn.self.slots.items l.self.slots.items;
+  over : SameOver l.fn.self.slots.items l.self.slots.items;
+}

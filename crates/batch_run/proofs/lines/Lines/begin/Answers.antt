@@ -1,9 +1,11 @@
 use Rattle.world.specs.Counts.{Counts}
-use Rattle.std.proofs.Common.{◌+◌, ◌*◌, ◌<◌, arith, length, sym, subst, ap, refl}
+use Rattle.std.proofs.Common.{◌+◌, ◌*◌, ◌<◌, arith, length, suc, sym, subst, ap, refl}
 use Rattle.batch_run.specs.Kept.{AreBegun}
 use Rattle.batch_run.proofs.LineLemmas.{begun_begun, begun_failed, fresh_job, fresh_next}
 use Rattle.batch_run.proofs.KeptLemmas.{begun_but}
 use Rattle.world.proofs.CountsLemmas.{net_grows}
+use Rattle.batch_run.specs.Owed.{begins}
+use Rattle.batch_run.proofs.LoopLemmas.{begin_fails, begin_follow}
 use Rattle.batch_run.proofs.StandLemmas.{loop_begins}
 use Rattle.batch_run.proofs.lines.Lines.begin.Goals as goal
 
@@ -33,10 +35,14 @@ pub returns-in-Err-clause-fresh : goal.returns-in-Err-clause-fresh
 returns-in-Err-clause-fresh g c = fresh_next c.requires.fresh c.in-Err.ensures.others
 
 pub returns-in-Ok-clause-stands : goal.returns-in-Ok-clause-stands
-returns-in-Ok-clause-stands g c = λ slots asks start from given s. loop_begins c.args.job c.args.wanted.ports c.args.self.now.connections c.begin.new.self c.begin.ensures.ports c.begin.ensures.kept c.begin.ensures.wires c.begin.ensures.calls (net_grows c.begin.ensures.cause) (ap (λ (n : Counts). n.waits) c.begin.ensures.cause.others) asks start from slots given s
+returns-in-Ok-clause-stands g c = λ asks start from slots given runs s.
+    loop_begins c.args.job c.args.wanted.ports c.args.self.now.connections c.begin.new.self c.begin.ensures.ports c.begin.ensures.kept c.begin.ensures.wires c.begin.ensures.calls (net_grows c.begin.ensures.cause) (ap (λ (n : Counts). n.waits) c.begin.ensures.cause.others) asks start from slots (begins c.args.job) (begins (suc c.args.job)) given
+    (begin_follow asks start from slots (g.W.Journal.journal c.args.w.now) (g.W.Journal.journal c.begin.new.w) c.args.self.now.connections c.begin.new.self s.few c.args.job c.args.wanted.ports c.args.wanted.heart c.begin.result runs c.begin.ensures.goes c.begin.ensures.came c.begin.ensures.others c.in-Ok.ensures.begun.iopub) s
 
 pub returns-in-Err-clause-stands : goal.returns-in-Err-clause-stands
-returns-in-Err-clause-stands g c = λ slots asks start from given s. loop_begins c.args.job c.args.wanted.ports c.args.self.now.connections c.begin.new.self c.begin.ensures.ports c.begin.ensures.kept c.begin.ensures.wires c.begin.ensures.calls (net_grows c.begin.ensures.cause) (ap (λ (n : Counts). n.waits) c.begin.ensures.cause.others) asks start from slots given s
+returns-in-Err-clause-stands g c = λ asks start from slots given runs s.
+    loop_begins c.args.job c.args.wanted.ports c.args.self.now.connections c.begin.new.self c.begin.ensures.ports c.begin.ensures.kept c.begin.ensures.wires c.begin.ensures.calls (net_grows c.begin.ensures.cause) (ap (λ (n : Counts). n.waits) c.begin.ensures.cause.others) asks start from slots (begins c.args.job) (begins c.args.job) given
+    (begin_fails asks start from slots (g.W.Journal.journal c.args.w.now) (g.W.Journal.journal c.begin.new.w) c.args.self.now.connections c.begin.new.self s.few c.args.job c.args.wanted.ports c.args.wanted.heart c.begin.result runs c.begin.ensures.goes c.begin.ensures.came c.begin.ensures.others) s
 
 pub returns-in-Err-clause-cause : goal.returns-in-Err-clause-cause
 returns-in-Err-clause-cause g c = c.in-Err.ensures.cause.net.cause refl

@@ -7,6 +7,8 @@ use Rattle.batch_run.proofs.CauseLemmas.{net_other}
 use Rattle.batch_run.proofs.JournalLemmas.{look_fails, look_grows, look_waits, left_less}
 use Rattle.batch_run.proofs.KeptLemmas.{broken_by, sound_none, sound_spent}
 use Rattle.batch_run.proofs.LineLemmas.{begun_same}
+use Rattle.batch_run.specs.Owed.{none}
+use Rattle.batch_run.proofs.LoopLemmas.{links_same, looks_none, quiet_follow}
 use Rattle.batch_run.proofs.StandLemmas.{loop_waits}
 use Rattle.batch_run.proofs.lines.Lines.look.Goals as goal
 
@@ -17,7 +19,9 @@ pub invariant_of-self : goal.invariant_of-self
 invariant_of-self g c = record { begun_are = begun_same c.look.ensures.known.each c.args.self.now.begun_are }
 
 pub returns-in-Ok-clause-stands : goal.returns-in-Ok-clause-stands
-returns-in-Ok-clause-stands g c = loop_waits c.args.self.now.connections c.look.new.self c.look.ensures.ports c.look.ensures.wires c.look.ensures.calls (look_grows c.look.result (g.W.Journal.counts c.args.w.now) (g.W.Journal.counts c.look.new.w) c.look.ensures.cause) (waits_of c.args.self.now) (waits_left c.look.new.self) (look_waits c.look.result (g.W.Journal.counts c.args.w.now) (g.W.Journal.counts c.look.new.w) (waits_of c.args.self.now) (waits_left c.look.new.self) c.look.ensures.cause c.look.ensures.left c.look.ensures.spent).few (look_waits c.look.result (g.W.Journal.counts c.args.w.now) (g.W.Journal.counts c.look.new.w) (waits_of c.args.self.now) (waits_left c.look.new.self) c.look.ensures.cause c.look.ensures.left c.look.ensures.spent).all
+returns-in-Ok-clause-stands g c = λ asks start from slots s.
+    loop_waits c.args.self.now.connections c.look.new.self c.look.ensures.ports c.look.ensures.wires c.look.ensures.calls (look_grows c.look.result (g.W.Journal.counts c.args.w.now) (g.W.Journal.counts c.look.new.w) c.look.ensures.cause) (waits_of c.args.self.now) (waits_left c.look.new.self) (look_waits c.look.result (g.W.Journal.counts c.args.w.now) (g.W.Journal.counts c.look.new.w) (waits_of c.args.self.now) (waits_left c.look.new.self) c.look.ensures.cause c.look.ensures.left c.look.ensures.spent).few (look_waits c.look.result (g.W.Journal.counts c.args.w.now) (g.W.Journal.counts c.look.new.w) (waits_of c.args.self.now) (waits_left c.look.new.self) c.look.ensures.cause c.look.ensures.left c.look.ensures.spent).all asks start from slots none none
+    (quiet_follow asks start from slots (g.W.Journal.journal c.args.w.now) (g.W.Journal.journal c.look.new.w) c.args.self.now.connections c.look.new.self s.few (links_same c.look.ensures.known) none refl (looks_none c.look.ensures.looked)) s
 
 pub returns-in-Ok-clause-left : goal.returns-in-Ok-clause-left
 returns-in-Ok-clause-left g c = (look_waits c.look.result (g.W.Journal.counts c.args.w.now) (g.W.Journal.counts c.look.new.w) (waits_of c.args.self.now) (waits_left c.look.new.self) c.look.ensures.cause c.look.ensures.left c.look.ensures.spent).less
@@ -26,7 +30,9 @@ pub returns-in-Ok-clause-linked : goal.returns-in-Ok-clause-linked
 returns-in-Ok-clause-linked g c = open_same c.look.ensures.known
 
 pub returns-in-Err-NetFault-Some-clause-stands : goal.returns-in-Err-NetFault-Some-clause-stands
-returns-in-Err-NetFault-Some-clause-stands g c = loop_waits c.args.self.now.connections c.look.new.self c.look.ensures.ports c.look.ensures.wires c.look.ensures.calls (look_grows c.look.result (g.W.Journal.counts c.args.w.now) (g.W.Journal.counts c.look.new.w) c.look.ensures.cause) (waits_of c.args.self.now) (waits_left c.look.new.self) (look_waits c.look.result (g.W.Journal.counts c.args.w.now) (g.W.Journal.counts c.look.new.w) (waits_of c.args.self.now) (waits_left c.look.new.self) c.look.ensures.cause c.look.ensures.left c.look.ensures.spent).few (look_waits c.look.result (g.W.Journal.counts c.args.w.now) (g.W.Journal.counts c.look.new.w) (waits_of c.args.self.now) (waits_left c.look.new.self) c.look.ensures.cause c.look.ensures.left c.look.ensures.spent).all
+returns-in-Err-NetFault-Some-clause-stands g c = λ asks start from slots s.
+    loop_waits c.args.self.now.connections c.look.new.self c.look.ensures.ports c.look.ensures.wires c.look.ensures.calls (look_grows c.look.result (g.W.Journal.counts c.args.w.now) (g.W.Journal.counts c.look.new.w) c.look.ensures.cause) (waits_of c.args.self.now) (waits_left c.look.new.self) (look_waits c.look.result (g.W.Journal.counts c.args.w.now) (g.W.Journal.counts c.look.new.w) (waits_of c.args.self.now) (waits_left c.look.new.self) c.look.ensures.cause c.look.ensures.left c.look.ensures.spent).few (look_waits c.look.result (g.W.Journal.counts c.args.w.now) (g.W.Journal.counts c.look.new.w) (waits_of c.args.self.now) (waits_left c.look.new.self) c.look.ensures.cause c.look.ensures.left c.look.ensures.spent).all asks start from slots none none
+    (quiet_follow asks start from slots (g.W.Journal.journal c.args.w.now) (g.W.Journal.journal c.look.new.w) c.args.self.now.connections c.look.new.self s.few (links_same c.look.ensures.known) none refl (looks_none c.look.ensures.looked)) s
 
 pub returns-in-Err-NetFault-Some-clause-left : goal.returns-in-Err-NetFault-Some-clause-left
 returns-in-Err-NetFault-Some-clause-left g c = (look_waits c.look.result (g.W.Journal.counts c.args.w.now) (g.W.Journal.counts c.look.new.w) (waits_of c.args.self.now) (waits_left c.look.new.self) c.look.ensures.cause c.look.ensures.left c.look.ensures.spent).less
@@ -35,7 +41,9 @@ pub returns-in-Err-NetFault-Some-clause-linked : goal.returns-in-Err-NetFault-So
 returns-in-Err-NetFault-Some-clause-linked g c = open_same c.look.ensures.known
 
 pub returns-in-Err-NetFault-None-clause-stands : goal.returns-in-Err-NetFault-None-clause-stands
-returns-in-Err-NetFault-None-clause-stands g c = loop_waits c.args.self.now.connections c.look.new.self c.look.ensures.ports c.look.ensures.wires c.look.ensures.calls (look_grows c.look.result (g.W.Journal.counts c.args.w.now) (g.W.Journal.counts c.look.new.w) c.look.ensures.cause) (waits_of c.args.self.now) (waits_left c.look.new.self) (look_waits c.look.result (g.W.Journal.counts c.args.w.now) (g.W.Journal.counts c.look.new.w) (waits_of c.args.self.now) (waits_left c.look.new.self) c.look.ensures.cause c.look.ensures.left c.look.ensures.spent).few (look_waits c.look.result (g.W.Journal.counts c.args.w.now) (g.W.Journal.counts c.look.new.w) (waits_of c.args.self.now) (waits_left c.look.new.self) c.look.ensures.cause c.look.ensures.left c.look.ensures.spent).all
+returns-in-Err-NetFault-None-clause-stands g c = λ asks start from slots s.
+    loop_waits c.args.self.now.connections c.look.new.self c.look.ensures.ports c.look.ensures.wires c.look.ensures.calls (look_grows c.look.result (g.W.Journal.counts c.args.w.now) (g.W.Journal.counts c.look.new.w) c.look.ensures.cause) (waits_of c.args.self.now) (waits_left c.look.new.self) (look_waits c.look.result (g.W.Journal.counts c.args.w.now) (g.W.Journal.counts c.look.new.w) (waits_of c.args.self.now) (waits_left c.look.new.self) c.look.ensures.cause c.look.ensures.left c.look.ensures.spent).few (look_waits c.look.result (g.W.Journal.counts c.args.w.now) (g.W.Journal.counts c.look.new.w) (waits_of c.args.self.now) (waits_left c.look.new.self) c.look.ensures.cause c.look.ensures.left c.look.ensures.spent).all asks start from slots none none
+    (quiet_follow asks start from slots (g.W.Journal.journal c.args.w.now) (g.W.Journal.journal c.look.new.w) c.args.self.now.connections c.look.new.self s.few (links_same c.look.ensures.known) none refl (looks_none c.look.ensures.looked)) s
 
 pub returns-in-Err-NetFault-None-clause-left : goal.returns-in-Err-NetFault-None-clause-left
 returns-in-Err-NetFault-None-clause-left g c = (look_waits c.look.result (g.W.Journal.counts c.args.w.now) (g.W.Journal.counts c.look.new.w) (waits_of c.args.self.now) (waits_left c.look.new.self) c.look.ensures.cause c.look.ensures.left c.look.ensures.spent).less
@@ -44,7 +52,9 @@ pub returns-in-Err-NetFault-None-clause-linked : goal.returns-in-Err-NetFault-No
 returns-in-Err-NetFault-None-clause-linked g c = open_same c.look.ensures.known
 
 pub returns-in-Err-Spent-clause-stands : goal.returns-in-Err-Spent-clause-stands
-returns-in-Err-Spent-clause-stands g c = loop_waits c.args.self.now.connections c.look.new.self c.look.ensures.ports c.look.ensures.wires c.look.ensures.calls (look_grows c.look.result (g.W.Journal.counts c.args.w.now) (g.W.Journal.counts c.look.new.w) c.look.ensures.cause) (waits_of c.args.self.now) (waits_left c.look.new.self) (look_waits c.look.result (g.W.Journal.counts c.args.w.now) (g.W.Journal.counts c.look.new.w) (waits_of c.args.self.now) (waits_left c.look.new.self) c.look.ensures.cause c.look.ensures.left c.look.ensures.spent).few (look_waits c.look.result (g.W.Journal.counts c.args.w.now) (g.W.Journal.counts c.look.new.w) (waits_of c.args.self.now) (waits_left c.look.new.self) c.look.ensures.cause c.look.ensures.left c.look.ensures.spent).all
+returns-in-Err-Spent-clause-stands g c = λ asks start from slots s.
+    loop_waits c.args.self.now.connections c.look.new.self c.look.ensures.ports c.look.ensures.wires c.look.ensures.calls (look_grows c.look.result (g.W.Journal.counts c.args.w.now) (g.W.Journal.counts c.look.new.w) c.look.ensures.cause) (waits_of c.args.self.now) (waits_left c.look.new.self) (look_waits c.look.result (g.W.Journal.counts c.args.w.now) (g.W.Journal.counts c.look.new.w) (waits_of c.args.self.now) (waits_left c.look.new.self) c.look.ensures.cause c.look.ensures.left c.look.ensures.spent).few (look_waits c.look.result (g.W.Journal.counts c.args.w.now) (g.W.Journal.counts c.look.new.w) (waits_of c.args.self.now) (waits_left c.look.new.self) c.look.ensures.cause c.look.ensures.left c.look.ensures.spent).all asks start from slots none none
+    (quiet_follow asks start from slots (g.W.Journal.journal c.args.w.now) (g.W.Journal.journal c.look.new.w) c.args.self.now.connections c.look.new.self s.few (links_same c.look.ensures.known) none refl (looks_none c.look.ensures.looked)) s
 
 pub returns-in-Err-Spent-clause-left : goal.returns-in-Err-Spent-clause-left
 returns-in-Err-Spent-clause-left g c = (look_waits c.look.result (g.W.Journal.counts c.args.w.now) (g.W.Journal.counts c.look.new.w) (waits_of c.args.self.now) (waits_left c.look.new.self) c.look.ensures.cause c.look.ensures.left c.look.ensures.spent).less

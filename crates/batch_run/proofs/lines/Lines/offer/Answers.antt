@@ -4,6 +4,7 @@ use Rattle.world.proofs.CountsLemmas.{net_grows}
 use Rattle.ready_loop.proofs.JobLemmas.{open_same}
 use Rattle.batch_run.proofs.KeptLemmas.{broken}
 use Rattle.batch_run.proofs.LineLemmas.{begun_same}
+use Rattle.batch_run.proofs.LoopLemmas.{links_same, offers_none, quiet_follow}
 use Rattle.batch_run.proofs.StandLemmas.{loop_keeps}
 use Rattle.batch_run.proofs.lines.Lines.offer.Goals as goal
 
@@ -11,10 +12,14 @@ pub invariant_of-self : goal.invariant_of-self
 invariant_of-self g c = record { begun_are = begun_same c.offer.ensures.known.each c.args.self.now.begun_are }
 
 pub returns-in-Ok-clause-stands : goal.returns-in-Ok-clause-stands
-returns-in-Ok-clause-stands g c = loop_keeps c.args.self.now.connections c.offer.new.self c.offer.ensures.ports c.offer.ensures.wires c.offer.ensures.calls (net_grows c.offer.ensures.cause) (ap (λ (n : Counts). n.waits) c.offer.ensures.cause.others)
+returns-in-Ok-clause-stands g c = λ asks start from slots wait s.
+    loop_keeps c.args.self.now.connections c.offer.new.self c.offer.ensures.ports c.offer.ensures.wires c.offer.ensures.calls (net_grows c.offer.ensures.cause) (ap (λ (n : Counts). n.waits) c.offer.ensures.cause.others) asks start from slots from.owed from.owed
+    (quiet_follow asks start from slots (g.W.Journal.journal c.args.w.now) (g.W.Journal.journal c.offer.new.w) c.args.self.now.connections c.offer.new.self s.few (links_same c.offer.ensures.known) from.owed wait (offers_none c.offer.ensures.goes)) s
 
 pub returns-in-Err-clause-stands : goal.returns-in-Err-clause-stands
-returns-in-Err-clause-stands g c = loop_keeps c.args.self.now.connections c.offer.new.self c.offer.ensures.ports c.offer.ensures.wires c.offer.ensures.calls (net_grows c.offer.ensures.cause) (ap (λ (n : Counts). n.waits) c.offer.ensures.cause.others)
+returns-in-Err-clause-stands g c = λ asks start from slots wait s.
+    loop_keeps c.args.self.now.connections c.offer.new.self c.offer.ensures.ports c.offer.ensures.wires c.offer.ensures.calls (net_grows c.offer.ensures.cause) (ap (λ (n : Counts). n.waits) c.offer.ensures.cause.others) asks start from slots from.owed from.owed
+    (quiet_follow asks start from slots (g.W.Journal.journal c.args.w.now) (g.W.Journal.journal c.offer.new.w) c.args.self.now.connections c.offer.new.self s.few (links_same c.offer.ensures.known) from.owed wait (offers_none c.offer.ensures.goes)) s
 
 pub returns-in-Ok-clause-linked : goal.returns-in-Ok-clause-linked
 returns-in-Ok-clause-linked g c = open_same c.offer.ensures.known

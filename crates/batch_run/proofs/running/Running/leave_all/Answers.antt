@@ -1,6 +1,8 @@
 use Rattle.std.proofs.Common.{arith, refl, ◌∙◌}
+use Rattle.batch_run.specs.Owed.{none}
 use Rattle.batch_run.proofs.KeptLemmas.{kept_start, kept_then}
 use Rattle.batch_run.proofs.SlotLemmas.{ended_all, ended_start}
+use Rattle.batch_run.proofs.OweLemmas.{exits}
 use Rattle.batch_run.proofs.running.Running.leave_all.Goals as goal
 
 pub loop-number-init : goal.loop-number-init
@@ -14,7 +16,7 @@ loop-number-init g c = record {
 
 pub loop-number-preserved : goal.loop-number-preserved
 loop-number-preserved g c = record {
-  stands = λ asks start from s. c.leave.ensures.stands asks start from (c.loop-number.invariant.stands asks start from s);
+  stands = λ asks start from s. c.in_ok-leave.ensures.stands none refl refl asks start from (c.loop-number.invariant.stands asks start from s);
   left = kept_then c.loop-number.invariant.left c.leave.ensures.left.kept;
   ended = c.in_ok-leave.ensures.ended c.loop-number.invariant.ended;
   size = c.leave.ensures.size ∙ c.loop-number.invariant.size;
@@ -22,7 +24,9 @@ loop-number-preserved g c = record {
 }
 
 pub returns-in_err-leave-clause-stands : goal.returns-in_err-leave-clause-stands
-returns-in_err-leave-clause-stands g c = λ asks start from s. c.leave.ensures.stands asks start from (c.loop-number.invariant.stands asks start from s)
+returns-in_err-leave-clause-stands g c = λ asks start from s.
+    exits _ asks start from none c.leave.new.self.lines.connections c.from_residual.result c.from_residual.ensures.1
+    (c.in_err-leave.ensures.stands none refl refl asks start from (c.loop-number.invariant.stands asks start from s))
 
 pub returns-in_err-leave-clause-left : goal.returns-in_err-leave-clause-left
 returns-in_err-leave-clause-left g c = kept_then c.loop-number.invariant.left c.leave.ensures.left.kept

@@ -1,6 +1,8 @@
 use Rattle.std.proofs.Common.{arith, refl, ◌∙◌}
+use Rattle.batch_run.specs.Owed.{none}
 use Rattle.batch_run.proofs.KeptLemmas.{kept_start, kept_then}
 use Rattle.batch_run.proofs.SlotLemmas.{none_all, none_below, over_more}
+use Rattle.batch_run.proofs.OweLemmas.{exits}
 use Rattle.batch_run.proofs.running.Running.leave_over.Goals as goal
 
 pub loop-number-init : goal.loop-number-init
@@ -13,14 +15,16 @@ loop-number-init g c = record {
 
 pub loop-number-preserved : goal.loop-number-preserved
 loop-number-preserved g c = record {
-  stands = λ asks start from s. c.leave_where.ensures.stands asks start from (c.loop-number.invariant.stands asks start from s);
+  stands = λ asks start from s. c.in_ok-leave_where.ensures.stands none refl refl asks start from (c.loop-number.invariant.stands asks start from s);
   left = kept_then c.loop-number.invariant.left c.leave_where.ensures.left;
   over = over_more (c.leave_where.ensures.others) c.in_ok-leave_where.ensures.over c.loop-number.invariant.over;
   buf = c.leave_where.ensures.buf ∙ c.loop-number.invariant.buf;
 }
 
 pub returns-in_err-leave_where-clause-stands : goal.returns-in_err-leave_where-clause-stands
-returns-in_err-leave_where-clause-stands g c = λ asks start from s. c.leave_where.ensures.stands asks start from (c.loop-number.invariant.stands asks start from s)
+returns-in_err-leave_where-clause-stands g c = λ asks start from s.
+    exits _ asks start from none c.leave_where.new.self.lines.connections c.from_residual.result c.from_residual.ensures.1
+    (c.in_err-leave_where.ensures.stands none refl refl asks start from (c.loop-number.invariant.stands asks start from s))
 
 pub returns-in_err-leave_where-clause-left : goal.returns-in_err-leave_where-clause-left
 returns-in_err-leave_where-clause-left g c = kept_then c.loop-number.invariant.left c.leave_where.ensures.left

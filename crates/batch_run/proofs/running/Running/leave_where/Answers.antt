@@ -21,7 +21,7 @@ pub returns-then-is_over-clause-over : goal.returns-then-is_over-clause-over
 returns-then-is_over-clause-over g c = c.leave.ensures.over
 
 pub returns-else-is_over-clause-stands : goal.returns-else-is_over-clause-stands
-returns-else-is_over-clause-stands g c = λ asks start from s. s
+returns-else-is_over-clause-stands g c = λ o waits bare asks start from s. s
 
 pub returns-else-is_over-clause-left : goal.returns-else-is_over-clause-left
 returns-else-is_over-clause-left g c = kept_start c.args.self.now.lines.connections

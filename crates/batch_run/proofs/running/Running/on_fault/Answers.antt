@@ -1,7 +1,9 @@
-use Rattle.std.proofs.Common.{ap, arith, subst}
+use Rattle.std.proofs.Common.{ap, arith, refl, subst}
 use Rattle.batch_run.specs.Kept.{LeftBy, IsBroken, goes_on}
-use Rattle.batch_run.specs.Stands.{IsFaultOf, wired_by}
+use Rattle.batch_run.specs.Owed.{none}
+use Rattle.batch_run.specs.Stands.{IsFaultOf, served_by}
 use Rattle.batch_run.proofs.KeptLemmas.{kept_start, kept_then}
+use Rattle.batch_run.proofs.OweLemmas.{exits, forgets_lines}
 use Rattle.batch_run.proofs.running.Running.on_fault.Goals as goal
 
 pub lose_one-requires : goal.lose_one-requires
@@ -9,21 +11,23 @@ lose_one-requires g c = (subst (λ f. LeftBy f c.args.self.now.lines.connections
 
 pub returns-in_err-lose_one-in-OfJob-clause-stands : goal.returns-in_err-lose_one-in-OfJob-clause-stands
 returns-in_err-lose_one-in-OfJob-clause-stands g c = λ asks start from why s.
-    c.lose_one.ensures.stands asks start from (subst (λ f. IsFaultOf f from (g.W.Journal.counts c.args.w.now)) c.in-OfJob.is why) s
+    exits _ asks start from none c.lose_one.new.self.lines.connections c.from_residual.result c.from_residual.ensures.1
+    (c.in_err-lose_one-in-OfJob.ensures.stands none refl refl asks start from (subst (λ f. IsFaultOf f from (g.W.Journal.counts c.args.w.now)) c.in-OfJob.is why) s)
 
 pub returns-in_err-lose_one-in-OfJob-clause-left : goal.returns-in_err-lose_one-in-OfJob-clause-left
 returns-in_err-lose_one-in-OfJob-clause-left g c = c.lose_one.ensures.left
 
 pub returns-in_err-leave_over-in-OfJob-clause-stands : goal.returns-in_err-leave_over-in-OfJob-clause-stands
 returns-in_err-leave_over-in-OfJob-clause-stands g c = λ asks start from why s.
-    c.leave_over.ensures.stands asks start from (c.lose_one.ensures.stands asks start from (subst (λ f. IsFaultOf f from (g.W.Journal.counts c.args.w.now)) c.in-OfJob.is why) s)
+    exits _ asks start from none c.leave_over.new.self.lines.connections c.from_residual-in_err-leave_over-in-OfJob.result c.from_residual-in_err-leave_over-in-OfJob.ensures.1
+    (c.in_err-leave_over-in-OfJob.ensures.stands asks start from (c.in_ok-lose_one-in-OfJob.ensures.stands none refl refl asks start from (subst (λ f. IsFaultOf f from (g.W.Journal.counts c.args.w.now)) c.in-OfJob.is why) s))
 
 pub returns-in_err-leave_over-in-OfJob-clause-left : goal.returns-in_err-leave_over-in-OfJob-clause-left
 returns-in_err-leave_over-in-OfJob-clause-left g c = kept_then c.lose_one.ensures.left c.leave_over.ensures.left
 
 pub returns-in_ok-leave_over-in-OfJob-clause-stands : goal.returns-in_ok-leave_over-in-OfJob-clause-stands
 returns-in_ok-leave_over-in-OfJob-clause-stands g c = λ asks start from why s.
-    c.leave_over.ensures.stands asks start from (c.lose_one.ensures.stands asks start from (subst (λ f. IsFaultOf f from (g.W.Journal.counts c.args.w.now)) c.in-OfJob.is why) s)
+    c.in_ok-leave_over-in-OfJob.ensures.stands asks start from (c.in_ok-lose_one-in-OfJob.ensures.stands none refl refl asks start from (subst (λ f. IsFaultOf f from (g.W.Journal.counts c.args.w.now)) c.in-OfJob.is why) s)
 
 pub returns-in_ok-leave_over-in-OfJob-clause-left : goal.returns-in_ok-leave_over-in-OfJob-clause-left
 returns-in_ok-leave_over-in-OfJob-clause-left g c = kept_then c.lose_one.ensures.left c.leave_over.ensures.left
@@ -47,36 +51,40 @@ returns-in_ok-leave_over-in-OfJob-clause-over g c = λ e. c.in_ok-leave_over-in-
 
 pub returns-in_err-lose_all-in-OfAll-clause-stands : goal.returns-in_err-lose_all-in-OfAll-clause-stands
 returns-in_err-lose_all-in-OfAll-clause-stands g c = λ asks start from why s.
-    c.lose_all.ensures.stands asks start (wired_by c.args.self.now.lines.connections from) (g.W.Journal.journal c.args.w.now) (g.W.Journal.counts c.args.w.now)
-    (subst (λ f. IsFaultOf f from (g.W.Journal.counts c.args.w.now)) c.in-OfAll.is why) s
+    exits _ asks start from none c.args.self.now.lines.connections c.from_residual-in_err-lose_all-in-OfAll.result c.from_residual-in_err-lose_all-in-OfAll.ensures.1
+    (forgets_lines asks start from none c.args.self.now.lines.connections
+    (c.lose_all.ensures.stands asks start (served_by none c.args.self.now.lines.connections from) (g.W.Journal.journal c.args.w.now) (g.W.Journal.counts c.args.w.now) (subst (λ f. IsFaultOf f from (g.W.Journal.counts c.args.w.now)) c.in-OfAll.is why) s))
 
 pub returns-in_err-lose_all-in-OfAll-clause-left : goal.returns-in_err-lose_all-in-OfAll-clause-left
 returns-in_err-lose_all-in-OfAll-clause-left g c = kept_start c.args.self.now.lines.connections
 
 pub returns-in_err-leave_all-in-OfAll-clause-stands : goal.returns-in_err-leave_all-in-OfAll-clause-stands
 returns-in_err-leave_all-in-OfAll-clause-stands g c = λ asks start from why s.
-    c.leave_all.ensures.stands asks start from (c.lose_all.ensures.stands asks start (wired_by c.args.self.now.lines.connections from) (g.W.Journal.journal c.args.w.now) (g.W.Journal.counts c.args.w.now)
-    (subst (λ f. IsFaultOf f from (g.W.Journal.counts c.args.w.now)) c.in-OfAll.is why) s)
+    exits _ asks start from none c.leave_all.new.self.lines.connections c.from_residual-in_err-leave_all-in-OfAll.result c.from_residual-in_err-leave_all-in-OfAll.ensures.1
+    (c.in_err-leave_all-in-OfAll.ensures.stands asks start from
+    (c.lose_all.ensures.stands asks start (served_by none c.args.self.now.lines.connections from) (g.W.Journal.journal c.args.w.now) (g.W.Journal.counts c.args.w.now) (subst (λ f. IsFaultOf f from (g.W.Journal.counts c.args.w.now)) c.in-OfAll.is why) s))
 
 pub returns-in_ok-leave_all-in-OfAll-clause-stands : goal.returns-in_ok-leave_all-in-OfAll-clause-stands
 returns-in_ok-leave_all-in-OfAll-clause-stands g c = λ asks start from why s.
-    c.leave_all.ensures.stands asks start from (c.lose_all.ensures.stands asks start (wired_by c.args.self.now.lines.connections from) (g.W.Journal.journal c.args.w.now) (g.W.Journal.counts c.args.w.now)
-    (subst (λ f. IsFaultOf f from (g.W.Journal.counts c.args.w.now)) c.in-OfAll.is why) s)
+    c.in_ok-leave_all-in-OfAll.ensures.stands asks start from
+    (c.lose_all.ensures.stands asks start (served_by none c.args.self.now.lines.connections from) (g.W.Journal.journal c.args.w.now) (g.W.Journal.counts c.args.w.now) (subst (λ f. IsFaultOf f from (g.W.Journal.counts c.args.w.now)) c.in-OfAll.is why) s)
 
 pub returns-in_err-spend_all-in-Spent-clause-stands : goal.returns-in_err-spend_all-in-Spent-clause-stands
 returns-in_err-spend_all-in-Spent-clause-stands g c = λ asks start from why s.
-    c.spend_all.ensures.stands asks start (wired_by c.args.self.now.lines.connections from) (g.W.Journal.journal c.args.w.now) (g.W.Journal.counts c.args.w.now)
-    (subst (λ f. IsFaultOf f from (g.W.Journal.counts c.args.w.now)) c.in-Spent.is why) s
+    exits _ asks start from none c.args.self.now.lines.connections c.from_residual-in_err-spend_all-in-Spent.result c.from_residual-in_err-spend_all-in-Spent.ensures.1
+    (forgets_lines asks start from none c.args.self.now.lines.connections
+    (c.spend_all.ensures.stands asks start (served_by none c.args.self.now.lines.connections from) (g.W.Journal.journal c.args.w.now) (g.W.Journal.counts c.args.w.now) (subst (λ f. IsFaultOf f from (g.W.Journal.counts c.args.w.now)) c.in-Spent.is why) s))
 
 pub returns-in_err-spend_all-in-Spent-clause-left : goal.returns-in_err-spend_all-in-Spent-clause-left
 returns-in_err-spend_all-in-Spent-clause-left g c = kept_start c.args.self.now.lines.connections
 
 pub returns-in_err-leave_all-in-Spent-clause-stands : goal.returns-in_err-leave_all-in-Spent-clause-stands
 returns-in_err-leave_all-in-Spent-clause-stands g c = λ asks start from why s.
-    c.leave_all-in-Spent.ensures.stands asks start from (c.spend_all.ensures.stands asks start (wired_by c.args.self.now.lines.connections from) (g.W.Journal.journal c.args.w.now) (g.W.Journal.counts c.args.w.now)
-    (subst (λ f. IsFaultOf f from (g.W.Journal.counts c.args.w.now)) c.in-Spent.is why) s)
+    exits _ asks start from none c.leave_all-in-Spent.new.self.lines.connections c.from_residual-in_err-leave_all-in-Spent.result c.from_residual-in_err-leave_all-in-Spent.ensures.1
+    (c.in_err-leave_all-in-Spent.ensures.stands asks start from
+    (c.spend_all.ensures.stands asks start (served_by none c.args.self.now.lines.connections from) (g.W.Journal.journal c.args.w.now) (g.W.Journal.counts c.args.w.now) (subst (λ f. IsFaultOf f from (g.W.Journal.counts c.args.w.now)) c.in-Spent.is why) s))
 
 pub returns-in_ok-leave_all-in-Spent-clause-stands : goal.returns-in_ok-leave_all-in-Spent-clause-stands
 returns-in_ok-leave_all-in-Spent-clause-stands g c = λ asks start from why s.
-    c.leave_all-in-Spent.ensures.stands asks start from (c.spend_all.ensures.stands asks start (wired_by c.args.self.now.lines.connections from) (g.W.Journal.journal c.args.w.now) (g.W.Journal.counts c.args.w.now)
-    (subst (λ f. IsFaultOf f from (g.W.Journal.counts c.args.w.now)) c.in-Spent.is why) s)
+    c.in_ok-leave_all-in-Spent.ensures.stands asks start from
+    (c.spend_all.ensures.stands asks start (served_by none c.args.self.now.lines.connections from) (g.W.Journal.journal c.args.w.now) (g.W.Journal.counts c.args.w.now) (subst (λ f. IsFaultOf f from (g.W.Journal.counts c.args.w.now)) c.in-Spent.is why) s)

@@ -1,6 +1,10 @@
-use Rattle.std.proofs.Common.{arith, refl, ◌∙◌}
-use Rattle.batch_run.specs.Stands.{wired_by}
+use Rattle.std.proofs.Common.{suc, ap, arith, refl, ◌∙◌}
+use Rattle.job_turns.specs.OwedTo.{is_open}
+use Rattle.batch_run.specs.Owed.{none, turn_clock}
+use Rattle.batch_run.specs.Stands.{served_by}
+use Rattle.batch_run.proofs.FollowLemmas.{clock_told}
 use Rattle.batch_run.proofs.KeptLemmas.{kept_start, kept_then}
+use Rattle.batch_run.proofs.OweLemmas.{clock_done, exits, forgets_lines, next_owed}
 use Rattle.batch_run.proofs.SlotLemmas.{none_all, none_below, over_more}
 use Rattle.batch_run.proofs.running.Running.tell_moments.Goals as goal
 
@@ -14,26 +18,37 @@ loop-number-init g c = record {
 
 pub loop-number-preserved : goal.loop-number-preserved
 loop-number-preserved g c = record {
-  stands = λ asks start from s. c.leave_where.ensures.stands asks start from (c.on_moment.ensures.stands asks start (wired_by c.loop-number.self.lines.connections from) (c.loop-number.invariant.stands asks start from s));
+  stands = λ asks start from s.
+      next_owed (turn_clock c.args.ms) asks start (served_by none c.leave_where.new.self.lines.connections from) c.loop-number.number
+      (c.in_ok-leave_where.ensures.stands (turn_clock c.args.ms (suc c.loop-number.number)) refl (ap is_open (clock_told c.args.ms c.loop-number.number)) asks start from
+      (c.on_moment.ensures.stands asks start (served_by (turn_clock c.args.ms c.loop-number.number) c.loop-number.self.lines.connections from) (c.loop-number.invariant.stands asks start from s)));
   left = kept_then c.loop-number.invariant.left c.leave_where.ensures.left;
   over = over_more (λ k ne. c.leave_where.ensures.others k ne ∙ c.on_moment.ensures.others k ne) c.in_ok-leave_where.ensures.over c.loop-number.invariant.over;
   buf = c.leave_where.ensures.buf ∙ c.loop-number.invariant.buf;
 }
 
 pub returns-in_err-on_moment-clause-stands : goal.returns-in_err-on_moment-clause-stands
-returns-in_err-on_moment-clause-stands g c = λ asks start from s. c.on_moment.ensures.stands asks start (wired_by c.loop-number.self.lines.connections from) (c.loop-number.invariant.stands asks start from s)
+returns-in_err-on_moment-clause-stands g c = λ asks start from s.
+    exits _ asks start from none c.loop-number.self.lines.connections c.from_residual.result c.from_residual.ensures.1
+    (forgets_lines asks start from (turn_clock c.args.ms (suc c.loop-number.number)) c.loop-number.self.lines.connections
+    (c.on_moment.ensures.stands asks start (served_by (turn_clock c.args.ms c.loop-number.number) c.loop-number.self.lines.connections from) (c.loop-number.invariant.stands asks start from s)))
 
 pub returns-in_err-on_moment-clause-left : goal.returns-in_err-on_moment-clause-left
 returns-in_err-on_moment-clause-left g c = c.loop-number.invariant.left
 
 pub returns-in_err-leave_where-clause-stands : goal.returns-in_err-leave_where-clause-stands
-returns-in_err-leave_where-clause-stands g c = λ asks start from s. c.leave_where.ensures.stands asks start from (c.on_moment.ensures.stands asks start (wired_by c.loop-number.self.lines.connections from) (c.loop-number.invariant.stands asks start from s))
+returns-in_err-leave_where-clause-stands g c = λ asks start from s.
+    exits _ asks start from none c.leave_where.new.self.lines.connections c.from_residual-in_err-leave_where.result c.from_residual-in_err-leave_where.ensures.1
+    (c.in_err-leave_where.ensures.stands (turn_clock c.args.ms (suc c.loop-number.number)) refl (ap is_open (clock_told c.args.ms c.loop-number.number)) asks start from
+    (c.on_moment.ensures.stands asks start (served_by (turn_clock c.args.ms c.loop-number.number) c.loop-number.self.lines.connections from) (c.loop-number.invariant.stands asks start from s)))
 
 pub returns-in_err-leave_where-clause-left : goal.returns-in_err-leave_where-clause-left
 returns-in_err-leave_where-clause-left g c = kept_then c.loop-number.invariant.left c.leave_where.ensures.left
 
 pub returns-clause-stands : goal.returns-clause-stands
-returns-clause-stands g c = c.loop-number.invariant.stands
+returns-clause-stands g c = λ asks start from s.
+    let done = c.loop-number.invariant.stands asks start from s in
+    clock_done asks start (served_by (turn_clock c.args.ms c.loop-number.number) c.loop-number.self.lines.connections from) c.args.ms c.loop-number.number (omega (arith, c.loop-number.self.jobs.few)) done
 
 pub returns-clause-left : goal.returns-clause-left
 returns-clause-left g c = c.loop-number.invariant.left

@@ -1,16 +1,19 @@
-use Rattle.std.proofs.Common.{Some, inl, ap, ◌∙◌}
-use Rattle.batch_run.proofs.JobStandLemmas.{job_goes_on}
+use Rattle.std.proofs.Common.{Some, ap, sym, ◌∙◌}
+use Rattle.std.specs.Prelude.{is_some}
+use Rattle.batch_run.specs.Due.{is_slot_over}
+use Rattle.batch_run.proofs.TellingLemmas.{job_stays}
 use Rattle.batch_run.proofs.StandLemmas.{slot_rests}
 use Rattle.batch_run.proofs.slot.Slot.on_waited.Goals as goal
 
-pub returns-in-Running : goal.returns-in-Running
-returns-in-Running c = λ asks start from slots k journal counts found s.
-    job_goes_on asks start from slots journal journal counts counts k c.in-Running.job c.on_waited.new.self
-    (λ o r. c.on_waited.ensures.course o journal counts r) (λ path since then l. c.on_waited.ensures.calls path since then journal counts l) c.on_waited.ensures.keeps.task c.on_waited.ensures.keeps.output
-    (λ l. inl (c.on_waited.ensures.keeps.still.lost l)) (λ l. inl (c.on_waited.ensures.keeps.still.spent l)) (found ∙ ap Some c.in-Running.is) s
+pub returns-in-Running-clause-stays : goal.returns-in-Running-clause-stays
+returns-in-Running-clause-stays c = λ asks start from slots k journal counts opens found s.
+    job_stays asks start from slots journal counts k c.in-Running.job c.on_waited.new.self c.on_waited.ensures opens (found ∙ ap Some c.in-Running.is) s
 
-pub returns : goal.returns
-returns c = λ asks start from slots k journal counts found s. slot_rests asks start from slots k c.args.self.now journal counts found s
+pub returns-clause-stays : goal.returns-clause-stays
+returns-clause-stays c = λ asks start from slots k journal counts opens found s. slot_rests asks start from slots k c.args.self.now journal counts found s
 
-pub returns-2 : goal.returns-2
-returns-2 c = λ asks start from slots k journal counts found s. slot_rests asks start from slots k c.args.self.now journal counts found s
+pub returns-2-clause-stays : goal.returns-2-clause-stays
+returns-2-clause-stays c = λ asks start from slots k journal counts opens found s. slot_rests asks start from slots k c.args.self.now journal counts found s
+
+pub returns-in-Running-clause-over : goal.returns-in-Running-clause-over
+returns-in-Running-clause-over c = ap (λ o. is_some o) c.on_waited.ensures.outcome ∙ sym (ap (λ slot. is_slot_over (Some slot)) c.in-Running.is)
