@@ -1,5 +1,5 @@
 -- Between the waves of a graph no rename onto an output waits for the sync of its folder.
-use Rattle.std.proofs.Common.{◌≡◌, ◌≢◌, ◌⊎◌, inl, inr, ◌<◌, ℕ, zero, suc, ◌==◌, Bool, true, false, List, [], ◌∷◌, ◌++◌, length, append_assoc, Option, Some, None, refl, sym, ◌∙◌, ap, subst, arith, true≢false}
+use Rattle.std.proofs.Common.{◌≡◌, ◌≢◌, ◌⊎◌, inl, inr, ◌<◌, ◌+◌, ℕ, zero, suc, ◌==◌, Bool, true, false, List, [], ◌∷◌, ◌++◌, length, append_assoc, Option, Some, None, refl, sym, ◌∙◌, ap, subst, arith, true≢false}
 use Rattle.std.specs.Prelude.{Result, Ok, Err, Contains, slice_get}
 use Rattle.std.proofs.lemmas.Bool.{eq-eqb, eqb-true}
 use Rattle.std.proofs.lemmas.Option.{none-some, same_Some, slice_get_within}
@@ -92,9 +92,9 @@ ends_rest : (a : Ask) (n : Notebook) (begin : List Entry) (then new : Counts) (a
 ends_rest a n begin then new after (Some answer) ends = (ends.ends.told refl).is.rested
 ends_rest a n begin then new after None ends = (ends.ends.told refl).is.rested
 
-makes_rest : (a : Ask) (answer : Option Answer) {old new : Counts} {before after : List Entry} → Makes a answer old new before after → IsRested a.output before → IsRested a.output after
-makes_rest a answer (Makes.nothing ends spared) rested = spared_rest a.output rested spared
-makes_rest a answer {new = new} {after = after} (Makes.saves bytes n begin then later accepts read since grow split ends) rested = ends_rest a n begin then new after answer ends
+makes_rest : (i : ℕ) (a : Ask) (answer : Option Answer) {old new : Counts} {before after : List Entry} → Makes i a answer old new before after → IsRested a.output before → IsRested a.output after
+makes_rest i a answer (Makes.nothing ends spared) rested = spared_rest a.output rested spared
+makes_rest i a answer {new = new} {after = after} (Makes.saves bytes n begin then later accepts read since grow split ends follows) rested = ends_rest a n begin then new after answer ends
 
 -- ---- all jobs
 
@@ -122,7 +122,7 @@ module _ (f : Workflow) (apart : KeepsApart f) (ended : List Ended) (wave : List
       subst (λ o. IsOther c.output o) (sym path)
       (other_job f apart ended q.0 c q.2 p.0 p.2.in_file p.2.at (λ e. differ (passing_once tests once m k p.0 (subst (λ j. slice_get t.jobs m ≡ Some j) e q.1) p.1)))) in
       let begun : IsRested b.0.output before = subst (λ o. IsRested o before) (sym out) (rested job a at) in
-      subst (λ o. IsRested o after) out (makes_rest b.0 (answer_at k r) (ran.jobs k b.0 b.1 alone begun) begun)
+      subst (λ o. IsRested o after) out (makes_rest (first + k) b.0 (answer_at k r) (ran.jobs k b.0 b.1 alone begun) begun)
 
   -- or none of them writes to its output
   other_rests : (job : ℕ) (a : Ask) → slice_get f.asks job ≡ Some a → ((k x : ℕ) → slice_get t.jobs k ≡ Some x → x ≢ job) → IsRested a.output after

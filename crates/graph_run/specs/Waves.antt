@@ -16,7 +16,7 @@ use Rattle.graph_run.specs.Tests.{TestsWave, IsTakeRead}
 
 -- What a run makes of these jobs on its part of the journal. They have the numbers from the first on, and at most so many waits are made.
 pub record RanJobs (asks : List Ask) (first turns : ℕ) (here : List ℕ) (result : Result (List Answer) NoMemory) (old new : Counts) (before after : List Entry) : Type 0 where
-  pub jobs : MakesEach asks result old new before after
+  pub jobs : MakesEach first asks result old new before after
   pub calls : CallsOfRun (numbered first asks) here before after
   pub children : EndsChildren (numbered first asks) before after
   pub others : LeavesOthers asks before after
