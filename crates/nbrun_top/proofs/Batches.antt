@@ -22,7 +22,7 @@ use Rattle.nbrun_top.specs.declared.answer.Answer.{Answer as Last}
 use Rattle.nbrun_top.specs.Asked.{IsExecuting, IsExecuted, IsBatch}
 use Rattle.nbrun_top.specs.Codes.{code_of}
 use Rattle.nbrun_top.specs.Ended.{Answers, plain, not_said, Ended}
-use Rattle.nbrun_top.specs.Executed.{Executed, Runs, HaveRun, of_words, of_file, GivesAsks, GivesNone, IsQuiet, IsAlone, AreApart, IsCountedIn, IsSavedOnly, untouched, saved, DoesNotWrite, NoneWrites, first_fault, file_read}
+use Rattle.nbrun_top.specs.Executed.{Executed, Runs, HaveRun, of_words, of_file, GivesAsks, GivesNone, IsBare, IsAlone, AreApart, IsCountedIn, IsSavedOnly, untouched, saved, DoesNotWrite, NoneWrites, first_fault, file_read}
 use Rattle.nbrun_top.specs.Executed as executed
 use Rattle.nbrun_top.specs.Lines.{all_lines}
 use Rattle.nbrun_top.specs.Ran.{Ran, IsUntouched}
@@ -88,14 +88,30 @@ clean_read asks alone file bytes = record {
   apart = λ i a at. apart_of asks i a (alone.outputs i a at);
 }
 
+bare_start : IsBare []
+bare_start = record {
+  quiet = λ path. start;
+  shut = λ p less. record { begun = refl; awake = refl; writable = refl; up = refl; failed = refl; refused = refl };
+  unread = λ j. refl;
+  unrenamed = λ j. refl;
+}
+
+bare_read : (file bytes : List ℕ) → IsBare (file_read file (found.Whole bytes) [])
+bare_read file bytes = record {
+  quiet = λ path. later start refl;
+  shut = λ p less. record { begun = refl; awake = refl; writable = refl; up = refl; failed = refl; refused = refl };
+  unread = λ j. refl;
+  unrenamed = λ j. refl;
+}
+
 -- ---- the parts
 
 pub of_one : {here : List ℕ} (words : List (List ℕ)) (a : Ask) (asks : List Ask) (rose cut : Type 0) (code : ℕ) (before after : List Entry) → asks ≡ a ∷ [] → IsExecuted words a
-    → (IsQuiet before → IsClean (numbered 0 asks) before → AreApart asks → Runs asks here rose cut code before after) → before ≡ [] → Executed words here rose cut code after
+    → (IsBare before → IsClean (numbered 0 asks) before → AreApart asks → Runs asks here rose cut code before after) → before ≡ [] → Executed words here rose cut code after
 of_one {here} words a asks rose cut code before after same is runs new =
     executed.ran (a ∷ []) [] after code (of_words a is)
     (subst (λ b. Runs (a ∷ []) here rose cut code b after) new (subst (λ xs. Runs xs here rose cut code before after) same
-    (runs (λ path. subst (Since (Spares path) []) (sym new) start) (subst (IsClean (numbered 0 asks)) (sym new) (clean_start asks (subst AreApart (sym same) (one_apart words a is))))
+    (runs (subst IsBare (sym new) bare_start) (subst (IsClean (numbered 0 asks)) (sym new) (clean_start asks (subst AreApart (sym same) (one_apart words a is))))
     (subst AreApart (sym same) (one_apart words a is)))))
 
 pub of_starved : {here : List ℕ} (words : List (List ℕ)) (rose cut : Type 0) (code : ℕ) (before after : List Entry) → code ≡ 12 → Says (all_lines [] [] end.NoMemory) cut before after → before ≡ []
@@ -104,12 +120,12 @@ of_starved {here} words rose cut code before after is says new =
     subst (λ n. Executed words here rose cut n after) (sym is) (executed.starved after (subst (λ b. Says (all_lines [] [] end.NoMemory) cut b after) new says))
 
 pub of_batch : {here : List ℕ} (words : List (List ℕ)) (file : List ℕ) (common : Ask) (asks : List Ask) (rose cut : Type 0) (code : ℕ) (before read after : List Entry) → IsBatch words file common
-    → GivesAsks file common before (Ok asks) read → (IsQuiet read → IsClean (numbered 0 asks) read → AreApart asks → Runs asks here rose cut code read after) → before ≡ [] → Executed words here rose cut code after
+    → GivesAsks file common before (Ok asks) read → (IsBare read → IsClean (numbered 0 asks) read → AreApart asks → Runs asks here rose cut code read after) → before ≡ [] → Executed words here rose cut code after
 of_batch {here} words file common asks rose cut code before read after is (bytes, gives, entry) runs new =
     let begun : read ≡ file_read file (found.Whole bytes) [] = entry ∙ ap (λ b. file_read file (found.Whole bytes) b) new in
     executed.ran asks (file_read file (found.Whole bytes) []) after code (of_file file common bytes asks is gives)
     (subst (λ b. Runs asks here rose cut code b after) begun
-    (runs (λ path. subst (Since (Spares path) []) (sym begun) (later start refl)) (subst (IsClean (numbered 0 asks)) (sym begun) (clean_read asks (file_apart file common bytes asks gives) file bytes)) (file_apart file common bytes asks gives)))
+    (runs (subst IsBare (sym begun) (bare_read file bytes)) (subst (IsClean (numbered 0 asks)) (sym begun) (clean_read asks (file_apart file common bytes asks gives) file bytes)) (file_apart file common bytes asks gives)))
 
 pub of_none : {here : List ℕ} (words : List (List ℕ)) (file : List ℕ) (common : Ask) (answer : Last) (line : List ℕ) (rose cut : Type 0) (code : ℕ) (before read after : List Entry)
     → IsBatch words file common → code ≡ code_of answer.end → line ≡ all_lines file (codes "nbrun") answer.end → GivesNone file before answer.end read → Says line cut read after
@@ -154,25 +170,30 @@ counted_code : (a : Ask) (first : Notebook) (rose : Type 0) (status code : ℕ) 
 counted_code a first rose status code journal (plain heard) is = is
 counted_code a first rose status code journal (not_said f) is = uncounted a first 11 journal refl
 
-as_code : (a : Ask) (rose : Type 0) (status code : ℕ) (journal : List Entry) → Answers rose status code → IsSavedOnly a status journal → IsSavedOnly a code journal
-as_code a rose status code journal answers (untouched before is unread) = untouched before is (unread_code a rose status code before journal answers unread)
-as_code a rose status code journal answers (saved bytes n is_open before newer accepted split first so shut caused counted left kernel) =
+followed_code : (rose : Type 0) (status code : ℕ) → Answers rose status code → code ≢ 12 → status ≢ 12
+followed_code rose status code (plain heard) fed = fed
+followed_code rose status code (not_said f) fed = λ e. absurd (cc)
+
+as_code : (i : ℕ) (a : Ask) (rose : Type 0) (status code : ℕ) (journal : List Entry) → Answers rose status code → IsSavedOnly i a status journal → IsSavedOnly i a code journal
+as_code i a rose status code journal answers (untouched before is unread) = untouched before is (unread_code a rose status code before journal answers unread)
+as_code i a rose status code journal answers (saved bytes n is_open before newer accepted split first so shut caused counted left kernel follows) =
     saved bytes n is_open before newer accepted split first so (λ e. unsaved_code rose status code answers (shut e)) (caused_code a (first_of a n) rose status code answers caused)
     (counted_code a (first_of a n) rose status code journal answers counted)
     (left_as a (first_of a n) code journal (counted_code a (first_of a n) rose status code journal answers counted))
     (kernel_code a (first_of a n) rose status code (Read a.input 33554432 (found.Whole bytes) ∷ before) journal answers kernel)
+    (λ fed. follows (followed_code rose status code answers fed))
 
 one_saved : (a : Ask) (answers : List Answer) (rose : Type 0) (code : ℕ) (journal : List Entry) → HaveRun (a ∷ []) answers journal → Answers rose (first_fault answers) code
-    → IsSavedOnly a code journal
+    → IsSavedOnly 0 a code journal
 one_saved a [] rose code journal run status = let none = run.one_each in absurd (cc)
 one_saved a (x ∷ []) rose code journal run status =
-    as_code a rose x.status code journal (subst (λ n. Answers rose n code) (one_fault x) status) (run.outputs 0 a x refl refl)
+    as_code 0 a rose x.status code journal (subst (λ n. Answers rose n code) (one_fault x) status) (run.outputs 0 a x refl refl)
 one_saved a (x ∷ y ∷ more_) rose code journal run status = absurd (omega (arith, run.one_each))
 
-pub one_prefixes : {here : List ℕ} (words : List (List ℕ)) (rose cut : Type 0) (code : ℕ) (journal : List Entry) → Executed words here rose cut code journal → (a : Ask) → IsExecuted words a → IsSavedOnly a code journal
+pub one_prefixes : {here : List ℕ} (words : List (List ℕ)) (rose cut : Type 0) (code : ℕ) (journal : List Entry) → Executed words here rose cut code journal → (a : Ask) → IsExecuted words a → IsSavedOnly 0 a code journal
 one_prefixes words rose cut code journal (executed.ran _ _ _ _ (of_words b also) runs) a is =
     let same : b ≡ a = one_ask (sym also.asks ∙ is.asks) in
-    subst (λ c. IsSavedOnly c code journal) same (one_saved b runs.answers rose code journal runs.run runs.status)
+    subst (λ c. IsSavedOnly 0 c code journal) same (one_saved b runs.answers rose code journal runs.run runs.status)
 one_prefixes words rose cut code journal (executed.ran _ _ _ _ (of_file file common bytes asks also gives) runs) a is = absurd (no_batch_of_one words a common file is also)
 one_prefixes words rose cut code journal (executed.none file common e on_disk _ also gives says) a is = absurd (no_batch_of_one words a common file is also)
 one_prefixes words rose cut code journal (executed.starved _ says) a is =

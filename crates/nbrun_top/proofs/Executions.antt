@@ -1,5 +1,5 @@
 -- What runs that execute notebooks make of the world.
-use Rattle.std.proofs.Common.{◌≡◌, ◌⊎◌, inl, inr, ℕ, zero, suc, ◌<◌, ◌≤◌, Bool, true, false, List, [], ◌∷◌, ◌++◌, length, length-append, append_assoc, Option, Some, None, if◌then◌else◌, refl, sym, ◌∙◌, ap, subst, arith}
+use Rattle.std.proofs.Common.{◌≡◌, ◌≢◌, ◌⊎◌, inl, inr, ℕ, zero, suc, ◌+◌, ◌<◌, ◌≤◌, Bool, true, false, List, [], ◌∷◌, ◌++◌, length, length-append, append_assoc, Option, Some, None, if◌then◌else◌, refl, sym, ◌∙◌, ap, subst, arith}
 use Rattle.std.proofs.Math.Logic.{∥∥₁_map}
 use Rattle.std.specs.Prelude.{slice_get}
 use Rattle.std.specs.Str.{bytes_eq}
@@ -36,11 +36,14 @@ use Rattle.job_saves.specs.Reads.{first_of}
 use Rattle.job_begin.specs.Begun.{origin_of, IsCausedIn}
 use Rattle.job_begin.proofs.EndLemmas.{uncaused_in, unread_pass, unread_twelve, other_kernel, twelve_other}
 use Rattle.job_begin.specs.Begun.{HasKernel}
+use Rattle.batch_run.specs.Owed.{Follows}
+use Rattle.job_journal.specs.Plot.{facts}
+use Rattle.job_journal.specs.Standing.{HasEndedAs}
 use Rattle.batch_run.specs.Batch.{Makes, nothing, saves, IsNoPath, IsApart, LeavesOthers, CallsOfJobs, EndsChildren, numbered}
 use Rattle.said_lines.specs.Speech.{Says}
 use Rattle.nbrun_top.specs.declared.end.End.TheVariants as end
 use Rattle.nbrun_top.specs.Ended.{Answers, plain}
-use Rattle.nbrun_top.specs.Executed.{DoesNotWrite, IsAlone, AreApart, IsCountedIn, IsLeftAs, output_of, IsSavedOnly, untouched, saved, IsQuiet, NoneWrites, EndsSpeech, silence, last_line, Runs, first_fault}
+use Rattle.nbrun_top.specs.Executed.{DoesNotWrite, IsAlone, AreApart, IsCountedIn, IsLeftAs, output_of, IsSavedOnly, FollowsJournal, untouched, saved, IsBare, NoneWrites, EndsSpeech, silence, last_line, Runs, first_fault}
 use Rattle.nbrun_top.specs.Lines.{all_lines}
 use Rattle.nbrun_top.specs.Ran.{IsUntouched}
 use Rattle.nbrun_top.proofs.Spared.{apart_from, says_spare, said_childless, spared_moments, at_moment}
@@ -94,29 +97,40 @@ left_as a first status journal counted executes = record {
     broken_by (inl is) = left_for m task status why.KernelLost h (ap cause_of is)
     broken_by (inr is) = left_for m task status why.BadPeer h (ap cause_of is)
 
-module _ (a : Ask) (old new : Counts) (before after : List Entry) (quiet : IsQuiet before) where
+-- what a run makes of the notebook of a job, where nothing was done before it
+follows_journal : (i : ℕ) (a : Ask) (n : Notebook) (before after : List Entry) → IsBare before → Follows i a n before (λ p. HasEndedAs p after) → FollowsJournal i a n after
+follows_journal i a n before after bare f = record {
+  session = f.session;
+  key = f.key;
+  each = λ p plot undated runs session key.
+      f.each p plot (record { undated = undated; runs = runs; unread = bare.unread (facts p); unrenamed = bare.unrenamed (facts p) }) session key;
+}
+
+module _ (i : ℕ) (a : Ask) (old new : Counts) (before after : List Entry) (bare : IsBare before) where
   saved_by : (status : ℕ) (bytes : List ℕ) (n : Notebook) (begin : List Entry) (counts : Counts) (newer : List Entry) (is_open : Bool) → Accepts a bytes n
       → Since (Spares a.output) before begin → after ≡ newer ++ Read a.input 33554432 (found.Whole bytes) ∷ begin
       → Ends (origin_of a n begin counts) is_open (Some after) new → (is_open ≡ false → IsUnsaved status) → IsCausedIn a (first_of a n) status → (IsNew (origin_of a n begin counts) → IsCountedIn a (first_of a n) status after)
-      → HasKernel a (first_of a n) status (Read a.input 33554432 (found.Whole bytes) ∷ begin) after → IsSavedOnly a status after
-  saved_by status bytes n begin counts newer is_open accepted since split ends shut caused counted kernel =
-      let first = since_then (quiet a.output) since in
+      → HasKernel a (first_of a n) status (Read a.input 33554432 (found.Whole bytes) ∷ begin) after → (status ≢ 12 → FollowsJournal i a n after) → IsSavedOnly i a status after
+  saved_by status bytes n begin counts newer is_open accepted since split ends shut caused counted kernel follows =
+      let first = since_then (bare.quiet a.output) since in
       let course : HasSaved (origin_of a n begin counts) is_open after = ends.told refl in
       let by : IsCountedIn a (first_of a n) status after = counted (record { watched = refl; none = none_acked a.output first }) in
       saved bytes n is_open begin newer accepted split (untouched_path a.output first)
-      (course_safe a.output a.merge (first_of a n) 0 begin (untouched_since first refl) (none_acked a.output first) is_open course.settled after course.is.course) shut caused by (left_as a (first_of a n) status after by) kernel
+      (course_safe a.output a.merge (first_of a n) 0 begin (untouched_since first refl) (none_acked a.output first) is_open course.settled after course.is.course) shut caused by (left_as a (first_of a n) status after by) kernel follows
 
-  pub saved_only : (answer : Answer) → Makes a (Some answer) old new before after → IsSavedOnly a answer.status after
-  saved_only answer (nothing unread since) = untouched before (untouched_path a.output (since_then (quiet a.output) since)) unread
-  saved_only answer (saves bytes n begin then_ newer accepted caused since grow split ends) =
+  pub saved_only : (answer : Answer) → Makes i a (Some answer) old new before after → IsSavedOnly i a answer.status after
+  saved_only answer (nothing unread since) = untouched before (untouched_path a.output (since_then (bare.quiet a.output) since)) unread
+  saved_only answer (saves bytes n begin then_ newer accepted caused since grow split ends follows) =
       saved_by answer.status bytes n begin then_ newer ends.is_open accepted since split ends.ends ends.shut caused.0 (λ fresh task same. ends.counted task same fresh) caused.1
+      (λ fed. follows_journal i a n before after bare (follows bare.shut))
 
-  pub stopped_only : (status : ℕ) → status ≡ 12 → Makes a None old new before after → IsSavedOnly a status after
-  stopped_only status is (nothing unread since) = untouched before (untouched_path a.output (since_then (quiet a.output) since))
+  pub stopped_only : (status : ℕ) → status ≡ 12 → Makes i a None old new before after → IsSavedOnly i a status after
+  stopped_only status is (nothing unread since) = untouched before (untouched_path a.output (since_then (bare.quiet a.output) since))
       (unread_pass a status before after after after since start (unread_twelve a status after is))
-  stopped_only status is (saves bytes n begin then_ newer accepted caused since grow split ends) =
+  stopped_only status is (saves bytes n begin then_ newer accepted caused since grow split ends follows) =
       saved_by status bytes n begin then_ newer ends.is_open accepted since split ends.ends (λ e. inr is) (uncaused_in a (first_of a n) status (ap cause_of is)) (λ fresh. uncounted a (first_of a n) status after (ap cause_of is))
       (other_kernel a (first_of a n) status (Read a.input 33554432 (found.Whole bytes) ∷ begin) after (twelve_other status is))
+      (λ fed. absurd (fed is))
 
 -- ---- what is said behind the jobs
 
@@ -131,10 +145,10 @@ front (later {past} {entry} since is) = let f = front since in record { entries 
 append_both : (xs ys zs : List Entry) (past mid : List Entry) → past ≡ ys ++ mid → zs ≡ xs ++ past → zs ≡ (xs ++ ys) ++ mid
 append_both xs ys zs past mid e f = f ∙ ap (λ j. xs ++ j) e ∙ sym (append_assoc xs ys mid)
 
-said_after : (a : Ask) (old mid new : Counts) (before past after : List Entry) → Since (Spares a.output) past after → CountsGrow mid new
-    → Makes a None old mid before past → Makes a None old new before after
-said_after a old mid new before past after say grow (nothing unread since) = nothing tt (since_then since say)
-said_after a old mid new before past after say grow (saves bytes n begin then_ newer accepted caused since grown split ends) =
+said_after : (i : ℕ) (a : Ask) (old mid new : Counts) (before past after : List Entry) → Since (Spares a.output) past after → CountsGrow mid new
+    → Makes i a None old mid before past → Makes i a None old new before after
+said_after i a old mid new before past after say grow (nothing unread since) = nothing tt (since_then since say)
+said_after i a old mid new before past after say grow (saves bytes n begin then_ newer accepted caused since grown split ends follows) =
     let f = front say in
     saves bytes n begin then_ (f.entries ++ newer) accepted tt since grown
     (append_both f.entries newer after past (Read a.input 33554432 (found.Whole bytes) ∷ begin) split f.split)
@@ -142,6 +156,7 @@ said_after a old mid new before past after say grow (saves bytes n begin then_ n
       is_open = ends.is_open;
       ends = ends_pass (origin_of a n begin then_) ends.is_open (Some past) (Some after) mid new (record { so = say }) grow ends.ends;
     })
+    (λ shut. tt)
 
 -- ---- all jobs
 
@@ -198,10 +213,10 @@ far_others (a ∷ rest) path long (suc k) b is =
     let last = length-append a.output (far rest) in
     far_others rest path (omega (arith, long, whole, next, last)) k b is
 
-module _ (asks : List Ask) (here : List ℕ) (rose cut : Type 0) (code : ℕ) (before done after : List Entry) (others : LeavesOthers asks before after) (quiet : IsQuiet before)
+module _ (asks : List Ask) (here : List ℕ) (rose cut : Type 0) (code : ℕ) (before done after : List Entry) (others : LeavesOthers asks before after) (bare : IsBare before)
     (alone : AreApart asks) (calls : CallsOfJobs (numbered 0 asks) here true before done) (speech : EndsSpeech cut code done after) where
   runs_with : (answers : List Answer) → length answers ≡ length asks
-      → ((i : ℕ) (a : Ask) (answer : Answer) → slice_get asks i ≡ Some a → IsApart (numbered 0 asks) i a → slice_get answers i ≡ Some answer → IsSavedOnly a answer.status after)
+      → ((i : ℕ) (a : Ask) (answer : Answer) → slice_get asks i ≡ Some a → IsApart (numbered 0 asks) i a → slice_get answers i ≡ Some answer → IsSavedOnly i a answer.status after)
       → Answers rose (first_fault answers) code → EndsChildren (numbered 0 asks) before after → Runs asks here rose cut code before after
   runs_with answers count jobs status children =
       let f = front (others (far asks) (far_others asks (far asks) (omega arith))) in
@@ -212,8 +227,8 @@ module _ (asks : List Ask) (here : List ℕ) (rose cut : Type 0) (code : ℕ) (b
         run = record {
           one_each = count;
           outputs = λ i a answer at is. jobs i a answer at (apart_of asks i a (alone.outputs i a at)) is;
-          inputs = λ i a at. untouched_path a.input (since_then (quiet a.input) (others a.input (none_of asks a.input (alone.inputs i a at))));
-          others = λ path none. untouched_path path (since_then (quiet path) (others path (none_of asks path none)));
+          inputs = λ i a at. untouched_path a.input (since_then (bare.quiet a.input) (others a.input (none_of asks a.input (alone.inputs i a at))));
+          others = λ path none. untouched_path path (since_then (bare.quiet path) (others path (none_of asks path none)));
         };
         status = status;
         done = done;
@@ -223,25 +238,27 @@ module _ (asks : List Ask) (here : List ℕ) (rose cut : Type 0) (code : ℕ) (b
       }
 
 -- at a journal in which a path was not touched none waits for the sync of its folder
-rested : (output : List ℕ) {before : List Entry} → IsQuiet before → IsRested output before
-rested output quiet = spared_rest output refl (quiet output)
+rested : (output : List ℕ) {before : List Entry} → IsBare before → IsRested output before
+rested output bare = spared_rest output refl (bare.quiet output)
 
 pub runs_done : {here : List ℕ} (asks : List Ask) (answers : List Answer) (old new : Counts) (rose cut : Type 0) (code : ℕ) (before after : List Entry)
     → LeavesOthers asks before after → CallsOfJobs (numbered 0 asks) here true before after → EndsChildren (numbered 0 asks) before after
-    → ((i : ℕ) (a : Ask) → slice_get asks i ≡ Some a → IsApart (numbered 0 asks) i a → IsRested a.output before → Makes a (slice_get answers i) old new before after)
-    → length answers ≡ length asks → Answers rose (first_fault answers) code → IsQuiet before → AreApart asks → Runs asks here rose cut code before after
-runs_done {here} asks answers old new rose cut code before after others calls children jobs count status quiet alone =
-    runs_with asks here rose cut code before after after others quiet alone calls silence answers count
-    (λ i a answer at apart is. saved_only a old new before after quiet answer (subst (λ o. Makes a o old new before after) is (jobs i a at apart (rested a.output quiet)))) status children
+    → ((i : ℕ) (a : Ask) → slice_get asks i ≡ Some a → IsApart (numbered 0 asks) i a → IsRested a.output before → Makes (0 + i) a (slice_get answers i) old new before after)
+    → length answers ≡ length asks → Answers rose (first_fault answers) code → IsBare before → AreApart asks → Runs asks here rose cut code before after
+runs_done {here} asks answers old new rose cut code before after others calls children jobs count status bare alone =
+    runs_with asks here rose cut code before after after others bare alone calls silence answers count
+    (λ i a answer at apart is. saved_only i a old new before after bare answer
+    (subst (λ k. Makes k a (Some answer) old new before after) (omega arith) (subst (λ o. Makes (0 + i) a o old new before after) is (jobs i a at apart (rested a.output bare))))) status children
 
 pub runs_starved : {here : List ℕ} (asks : List Ask) (old mid new : Counts) (rose cut : Type 0) (line : List ℕ) (code : ℕ) (before past after : List Entry)
     → LeavesOthers asks before past → CallsOfJobs (numbered 0 asks) here true before past → EndsChildren (numbered 0 asks) before past
-    → ((i : ℕ) (a : Ask) → slice_get asks i ≡ Some a → IsApart (numbered 0 asks) i a → IsRested a.output before → Makes a None old mid before past)
-    → CountsGrow mid new → line ≡ all_lines [] [] end.NoMemory → Says line cut past after → 1 ≤ length asks → code ≡ 12 → IsQuiet before → AreApart asks → Runs asks here rose cut code before after
-runs_starved {here} asks old mid new rose cut line code before past after others calls children jobs grow text says some is quiet alone =
-    runs_with asks here rose cut code before past after (λ path apart. says_spare path (others path apart) says) quiet alone calls
+    → ((i : ℕ) (a : Ask) → slice_get asks i ≡ Some a → IsApart (numbered 0 asks) i a → IsRested a.output before → Makes (0 + i) a None old mid before past)
+    → CountsGrow mid new → line ≡ all_lines [] [] end.NoMemory → Says line cut past after → 1 ≤ length asks → code ≡ 12 → IsBare before → AreApart asks → Runs asks here rose cut code before after
+runs_starved {here} asks old mid new rose cut line code before past after others calls children jobs grow text says some is bare alone =
+    runs_with asks here rose cut code before past after (λ path apart. says_spare path (others path apart) says) bare alone calls
     (last_line is (subst (λ t. Says t cut past after) text says)) (all_starved asks) (starved_count asks)
-    (λ i a answer at apart got. stopped_only a old new before after quiet answer.status (starved_at asks i answer got)
-    (said_after a old mid new before past after (says_spare a.output start says) grow (jobs i a at apart (rested a.output quiet))))
+    (λ i a answer at apart got. stopped_only i a old new before after bare answer.status (starved_at asks i answer got)
+    (said_after i a old mid new before past after (says_spare a.output start says) grow
+    (subst (λ k. Makes k a None old mid before past) (omega arith) (jobs i a at apart (rested a.output bare)))))
     (subst (λ n. Answers rose n code) (sym (starved_fault asks some)) (subst (λ n. Answers rose 12 n) (sym is) (plain (λ zero_ failed. cc))))
     (λ i a at none. said_childless i says (children i a at none))

@@ -1,6 +1,7 @@
 -- What a run of one job makes, and what is told of a world that was opened.
 use Rattle.std.proofs.Common.{
   ◌≡◌,
+  ◌+◌,
   ℕ,
   zero,
   suc,
@@ -43,15 +44,15 @@ alone a (suc k) b at other = absurd (cc)
 -- what a run makes of each output, where these are its answers
 abbrev MakesBy : List Ask → List Answer → Counts → Counts → List Entry → List Entry → Type 0
 MakesBy asks answers old new before after = (i : ℕ) (a : Ask) → slice_get asks i ≡ Some a → IsApart (numbered 0 asks) i a → IsRested a.output before
-    → Makes a (slice_get answers i) old new before after
+    → Makes (0 + i) a (slice_get answers i) old new before after
 
 -- what a run makes of the output of its one job
 pub one_job : (asks : List Ask) (a : Ask) (answers : List Answer) (answer : Answer) (i j : Option (List Entry))
     (old new : Counts) → asks ≡ a ∷ [] → slice_get answers 0 ≡ Some answer → Told i j (MakesBy asks answers old new)
-    → Told i j (λ before after. IsRested a.output before → Makes a (Some answer) old new before after)
+    → Told i j (λ before after. IsRested a.output before → Makes 0 a (Some answer) old new before after)
 one_job asks a answers answer i j old new one at told =
     told_as (subst (λ all. Told i j (MakesBy all answers old new)) one told)
-    (λ x y each rested. subst (λ o. Makes a o old new x y) at (each 0 a refl (alone a) rested))
+    (λ x y each rested. subst (λ o. Makes 0 a o old new x y) at (each 0 a refl (alone a) rested))
 
 -- one ask was added to none
 pub one_ask : (new old : List Ask) (x a : Ask) → new ≡ old ++ x ∷ [] → old ≡ [] → x ≡ a → new ≡ a ∷ []
@@ -67,7 +68,7 @@ told_at {i} {j} {R} x y e f told =
 -- the job has run over a world that was opened, where it ended so and was tallied so
 pub has_run : {E : Type 0} (n : ℕ) (old new : Near) (answer : Answer) (r : Result Tally E) → IsOpened n old
     → Told (journal_of old) (journal_of new) (λ before after. IsRested output before
-    → Makes ask (Some answer) (counts_of old) (counts_of new) before after)
+    → Makes 0 ask (Some answer) (counts_of old) (counts_of new) before after)
     → Told (journal_of old) (journal_of new) (LeavesOthers (ask ∷ []))
     → IfOk r (λ t. t.answer ≡ answer) → OnOk r (IsWhole new)
     → IfOk r (λ t. AreNumbers (file_at output (files_of new.store)) t.cells t.outputs) → IfOk r (HasRun new)
@@ -79,8 +80,8 @@ has_run n old new answer (Ok t) o job others is whole numbers =
       told = whole.told;
       fed = whole.fed;
       job =
-          subst (λ a. Makes ask (Some a) no_counts (counts_of new) [] whole.journal) (sym is)
-          (subst (λ c. Makes ask (Some answer) c (counts_of new) [] whole.journal) o.counts made);
+          subst (λ a. Makes 0 ask (Some a) no_counts (counts_of new) [] whole.journal) (sym is)
+          (subst (λ c. Makes 0 ask (Some answer) c (counts_of new) [] whole.journal) o.counts made);
       others = told_at [] whole.journal o.journal whole.told others;
       numbers = numbers;
     }

@@ -1,5 +1,5 @@
 -- What a run makes of the world that executes notebooks, over a journal that was empty at its start, its newest entry first.
-use Rattle.std.specs.Prelude.{◌≡◌, ◌≢◌, ◌⊎◌, ◌==◌, ◌+◌, ◌≤◌, ℕ, List, [], ◌∷◌, ◌++◌, Bool, true, false, not, length, slice_get, Some, None, Result, Ok, Err, find, option_map, unwrap_or, codes}
+use Rattle.std.specs.Prelude.{◌≡◌, ◌≢◌, ◌⊎◌, ◌==◌, ◌+◌, ◌<◌, ◌≤◌, ℕ, List, [], ◌∷◌, ◌++◌, Bool, true, false, not, length, slice_get, Some, None, Result, Ok, Err, find, option_map, unwrap_or, codes}
 use Rattle.jtext.specs.declared.json.Json.{Json}
 use Rattle.nb_model.specs.declared.notebook.Notebook.{Notebook}
 use Rattle.nb_load.specs.Loaded.{Accepts}
@@ -16,6 +16,12 @@ use Rattle.world.specs.declared.entry.Entry.TheVariants.{Read}
 use Rattle.world.specs.declared.read_file.ReadFile.{ReadFile}
 use Rattle.world.specs.declared.read_file.ReadFile.TheVariants as found
 use Rattle.world.specs.Save.{temporary_of}
+use Rattle.ready_loop.specs.Standing.{AllShut}
+use Rattle.run_journal.specs.Job.{Job}
+use Rattle.run_journal.specs.Saves.{renamed_texts}
+use Rattle.job_journal.specs.Plot.{Plot, facts}
+use Rattle.job_journal.specs.Quiet.{is_unread}
+use Rattle.job_journal.specs.Standing.{HasEndedAs}
 use Rattle.cell_core.specs.Task.{Task}
 use Rattle.job_run.specs.Counted.{IsCausedAfter}
 use Rattle.job_run.specs.Left.{NamesFailed}
@@ -30,6 +36,7 @@ use Rattle.job_end.specs.declared.answer.Answer.{Answer}
 use Rattle.job_saves.specs.Reads.{first_of}
 use Rattle.job_begin.specs.Begun.{counted_task, IsCausedIn, IsUnread, HasKernel}
 use Rattle.job_begin.specs.Causes.{HasCause}
+use Rattle.job_begin.specs.Standing.{IsPlotWith}
 use Rattle.batch_run.specs.Batch.{CallsOfJobs, EndsChildren, HasWaited, numbered}
 use Rattle.nbrun_top.specs.declared.answer.Answer.{Answer as Last}
 use Rattle.nbrun_top.specs.declared.end.End.{End}
@@ -121,23 +128,34 @@ pub record IsLeftAs (a : Ask) (first : Notebook) (status : ℕ) (journal : List 
   -- with 7 that of the notebook with no cell settled
   pub not_ready : status ≡ 7 → ∥ IsLeft (output_of a first journal) 0 None ∥₁
 
+-- The saves of the job of this number follow the journal. In the session that was drawn for it, and under its key, whatever plot it has: the
+-- texts that were renamed onto its output are the first of the saves that are due by the kernel's signed messages. It holds of a job that
+-- executes a cell and wants no interrupts.
+pub record FollowsJournal (i : ℕ) (a : Ask) (n : Notebook) (journal : List Entry) : Type 0 where
+  pub session : List ℕ
+  pub key : List ℕ
+  pub each : (p : Plot) → IsPlotWith p i a n → (facts p).task.times.interrupt ≡ false → 0 < length (facts p).task.plan
+      → p.setting.session ≡ session → p.setting.key ≡ key → HasEndedAs p journal
+
 -- The output of a job that ended with this status wasn't touched; or the bytes of its input give a notebook with the
 -- parameters, nothing had touched the output before they were read, and then it was saved by prefixes of that notebook,
 -- without a failed save unless the status says so. A status that names a cause comes only where there are events that stop the job for
 -- it, with as many saves as were acknowledged, and a crash then leaves just the text of the last save, which the status asks for. 4 and
--- 5 come only where the input gave no notebook, or 5 where no kernel was found for it.
-pub data IsSavedOnly (a : Ask) (status : ℕ) (journal : List Entry) : Type 0 where
-  untouched : (before : List Entry) → IsUntouched a.output journal → IsUnread a status before journal → IsSavedOnly a status journal
+-- 5 come only where the input gave no notebook, or 5 where no kernel was found for it. Unless memory was refused, the saves follow the
+-- journal. `i`: the job's number.
+pub data IsSavedOnly (i : ℕ) (a : Ask) (status : ℕ) (journal : List Entry) : Type 0 where
+  untouched : (before : List Entry) → IsUntouched a.output journal → IsUnread a status before journal → IsSavedOnly i a status journal
   saved : (bytes : List ℕ) (n : Notebook) (is_open : Bool) (before later : List Entry) → Accepts a bytes n
       → journal ≡ later ++ Read a.input 33554432 (found.Whole bytes) ∷ before → IsUntouched a.output before
       → IsSavedSo a.output a.merge (first_of a n) 0 is_open before journal → (is_open ≡ false → IsUnsaved status)
       → IsCausedIn a (first_of a n) status → IsCountedIn a (first_of a n) status journal → (a.prepare ≡ false → IsLeftAs a (first_of a n) status journal)
-      → HasKernel a (first_of a n) status (Read a.input 33554432 (found.Whole bytes) ∷ before) journal → IsSavedOnly a status journal
+      → HasKernel a (first_of a n) status (Read a.input 33554432 (found.Whole bytes) ∷ before) journal
+      → (status ≢ 12 → FollowsJournal i a n journal) → IsSavedOnly i a status journal
 
 -- jobs have ended with these answers, one each, and no other path was written to, each input among them
 pub record HaveRun (asks : List Ask) (answers : List Answer) (journal : List Entry) : Type 0 where
   pub one_each : length answers ≡ length asks
-  pub outputs : (i : ℕ) (a : Ask) (answer : Answer) → slice_get asks i ≡ Some a → slice_get answers i ≡ Some answer → IsSavedOnly a answer.status journal
+  pub outputs : (i : ℕ) (a : Ask) (answer : Answer) → slice_get asks i ≡ Some a → slice_get answers i ≡ Some answer → IsSavedOnly i a answer.status journal
   pub inputs : (i : ℕ) (a : Ask) → slice_get asks i ≡ Some a → IsUntouched a.input journal
   pub others : (path : List ℕ) → NoneWrites asks path → IsUntouched path journal
 
@@ -145,9 +163,12 @@ pub record HaveRun (asks : List Ask) (answers : List Answer) (journal : List Ent
 abbrev pub first_fault : List Answer → ℕ
 first_fault answers = unwrap_or (option_map (λ (a : Answer). a.status) (find (λ (a : Answer). not (a.status == 0)) answers)) 0
 
--- no path was touched
-abbrev pub IsQuiet : List Entry → Type 0
-IsQuiet journal = (path : List ℕ) → Since (Spares path) [] journal
+-- No path was touched, no connection is open, and for no job was a byte got or a text renamed onto its output.
+pub record IsBare (journal : List Entry) : Type 0 where
+  pub quiet : (path : List ℕ) → Since (Spares path) [] journal
+  pub shut : AllShut journal
+  pub unread : (j : Job) → is_unread j journal ≡ true
+  pub unrenamed : (j : Job) → renamed_texts j journal ≡ []
 
 -- behind the jobs nothing more is said, or where memory was refused the line that says so
 pub data EndsSpeech (cut : Type 0) (code : ℕ) (done : List Entry) : List Entry → Type 0 where

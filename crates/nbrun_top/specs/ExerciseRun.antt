@@ -22,7 +22,7 @@ pub record HasRun (near : Near) (t : Tally) : Type 0 where
   pub journal : List Entry
   pub told : journal_of near ≡ Some journal
   pub fed : near.store.starved ≡ 0
-  pub job : Makes ask (Some t.answer) no_counts (counts_of near) [] journal
+  pub job : Makes 0 ask (Some t.answer) no_counts (counts_of near) [] journal
   pub others : LeavesOthers (ask ∷ []) [] journal
   pub numbers : AreNumbers (file_at output (files_of near.store)) t.cells t.outputs
 

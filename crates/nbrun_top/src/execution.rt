@@ -6,7 +6,7 @@ ghost use Rattle.world.specs.Told.{Between};
 ghost use Rattle.said_lines.specs.Between.{FromStart, SayRose, SayFailed};
 ghost use Rattle.batch_run.specs.Batch.{IsClean, numbered};
 ghost use Rattle.nbrun_top.specs.Asked.{IsExecuted, IsBatch};
-ghost use Rattle.nbrun_top.specs.Executed.{Executed, Runs, IsCounted, IsQuiet, AreApart};
+ghost use Rattle.nbrun_top.specs.Executed.{Executed, Runs, IsBare, IsCounted, AreApart};
 ghost use Rattle.nbrun_top.specs.Executed.{WaitsAtMost};
 ghost use Rattle.said_lines.specs.Speech.{Says};
 ghost use Rattle.nbrun_top.specs.declared.end.End.TheVariants as ending;
@@ -72,7 +72,7 @@ fn run_all<W: World>(alloc: Global, asks: Asks, limits: &Limits, w: &mut W) -> u
     requires some { 1 ≤ length asks }
     requires few { length asks ≤ 16 }
     requires runnable { AllByRecursion IsRunnable asks }
-    ensures runs { Between W.journal w.old w.new (λ before after. IsQuiet before →
+    ensures runs { Between W.journal w.old w.new (λ before after. IsBare before →
         IsClean (numbered 0 asks) before → AreApart asks → Runs asks limits.now.here
         (SayRose W.counts w.old w.new) (SayFailed W.counts w.new) result before after) }
     ensures counted { IsCounted limits.now.turns (W.counts w.old) (W.counts w.new) result }

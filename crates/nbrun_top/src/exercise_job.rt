@@ -81,7 +81,7 @@ fn is_whole(v: &MemWorld<Toy>) -> bool
 fn answer_of_run<W: World>(alloc: Global, turns: u64, w: &mut W) -> Result<Answer, NoMemory>
     ensures job { IfOk result (λ answer. Told (W.journal w.old) (W.journal w.new)
         (λ before after. IsRested spec.output before →
-        Makes spec.ask (Some answer) (W.counts w.old) (W.counts w.new) before after)) }
+        Makes 0 spec.ask (Some answer) (W.counts w.old) (W.counts w.new) before after)) }
     ensures others { IfOk result (λ answer.
         Told (W.journal w.old) (W.journal w.new) (LeavesOthers (spec.ask ∷ []))) }
 {
