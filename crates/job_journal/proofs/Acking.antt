@@ -337,15 +337,13 @@ module _ (p : Plot) (number : ℕ) (x : Parts) (past : List Entry) (h : StandsBy
   -- ---- the job may have ended
 
   -- whatever the core answers, the saves that were made are the first of those that are due
-  ended_then : HasEndedAs p acked
-  ended_then = elim (requests_grow j sync renamed) [
-    | inl e ↦
-        record {
-          cause = core_saves.why j.task told;
-          count = saves_of j acked;
-          made = subst (λ rs. HasMade j (run_saves j rs (core_saves.why j.task told)) (saves_of j acked) acked) (sym (none_more_now e ∙ same)) made_one;
-        }
-    | inr e ↦ record { cause = None; count = saves_of j acked; made = (made_grows j (saves_of j acked) (requests j past) (requests j acked) acked grown (few e)).1 None }
+  made_then : (w : Option Why) × HasMade j (run_saves j (requests j acked) w) (saves_of j acked) acked
+  made_then = elim (requests_grow j sync renamed) [
+    | inl e ↦ (
+      core_saves.why j.task told,
+      subst (λ rs. HasMade j (run_saves j rs (core_saves.why j.task told)) (saves_of j acked) acked) (sym (none_more_now e ∙ same)) made_one,
+    )
+    | inr e ↦ (None, (made_grows j (saves_of j acked) (requests j past) (requests j acked) acked grown (few e)).1 None)
   ]
     where
       next_holds : length (requests j acked) ≡ length (requests j renamed) + 1
@@ -379,5 +377,11 @@ module _ (p : Plot) (number : ℕ) (x : Parts) (past : List Entry) (h : StandsBy
     pub saved_waits : (answer : Act) → act_of j.task event.Saved told ≡ answer → is_calm answer ≡ true → StandsBy p number (record x { core = next; book = book }) [] [] now
     saved_waits answer f calm = subst (λ xs. StandsBy p number (record x { core = next; book = book }) [] [] xs) is_now (waits_then next book is_for kept hears answer f calm)
 
+  pub saved_agrees : Agrees j (event.Saved ∷ told) now
+  saved_agrees = subst (Agrees j (event.Saved ∷ told)) is_now then_agreed
+
+  pub saved_made : (w : Option Why) × HasMade j (run_saves j (requests j now) w) (saves_of j now) now
+  saved_made = subst (λ xs. (w : Option Why) × HasMade j (run_saves j (requests j xs) w) (saves_of j xs) xs) is_now made_then
+
   pub saved_ends : HasEndedAs p now
-  saved_ends = subst (λ xs. HasEndedAs p xs) is_now ended_then
+  saved_ends = record { cause = saved_made.0; count = saves_of j now; made = saved_made.1 }

@@ -37,7 +37,7 @@ begins_short made front more due e h b = by made front b.rest h (sym b.joined �
         record { rest = b.rest; joined = ap (λ x. x ∷ front) (sym (head_is e)) ∙ ap (λ v. m ∷ v) b.joined }
 
 -- the saves of passed requests, and those of a stop and of the whole
-parts_of_run : (j : Job) (rs : List Request) (w : Option Why) → run_saves j rs w ≡ passing_saves j rs ++ (stopping j rs w ++ closing j rs)
+pub parts_of_run : (j : Job) (rs : List Request) (w : Option Why) → run_saves j rs w ≡ passing_saves j rs ++ (stopping j rs w ++ closing j rs)
 parts_of_run j rs w = append_assoc (passing_saves j rs) (stopping j rs w) (closing j rs)
 
 -- what was made of all saves that are due is of passed requests, where it isn't more than they are

@@ -23,6 +23,7 @@ pub mod Sending
 pub mod Dues
 pub mod Acking
 pub mod Ending
+pub mod Ended
 pub mod Clocked
 pub mod Handing
 pub mod Again

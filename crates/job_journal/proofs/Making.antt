@@ -37,7 +37,7 @@ use Rattle.job_journal.proofs.Saving.{whole_is}
 pub made_first : (j : Job) (due : List Save) (now : List Entry) → renamed_texts j now ≡ [] → HasMade j due 0 now
 made_first j due now e = record { made = []; texts = e; counted = refl; are_first = record { rest = due; joined = refl } }
 
-same_texts : (j : Job) (entry : Entry) (past : List Entry) → renames (temporary_of j.output) j.output entry ≡ false → renamed_texts j (entry ∷ past) ≡ renamed_texts j past
+pub same_texts : (j : Job) (entry : Entry) (past : List Entry) → renames (temporary_of j.output) j.output entry ≡ false → renamed_texts j (entry ∷ past) ≡ renamed_texts j past
 same_texts j entry past e = cond-false (renames (temporary_of j.output) j.output entry) (renamed_texts j past ++ (disk.place past (temporary_of j.output)).fresh ∷ []) (renamed_texts j past) e
 
 -- an entry that renames nothing onto the output changes nothing

@@ -11,7 +11,8 @@ use Rattle.cell_core.specs.declared.act.Act.{Act}
 use Rattle.cell_core.specs.declared.act.Act.TheVariants as act
 use Rattle.cell_core.specs.declared.event.Event.TheVariants as event
 use Rattle.cell_core.specs.declared.why.Why.{Why}
-use Rattle.cell_core.specs.Acts.{act_at, act_by, act_of, answers, has_stopped, heard, is_empty_list, last_asked}
+use Rattle.cell_core.specs.Acts.{act_at, act_by, act_of, answers, due_at, has_stopped, heard, is_empty_list, is_late, is_queued_now, last_asked}
+use Rattle.cell_core.specs.Deadlines.{first_deadline}
 use Rattle.cell_core.specs.Holds.{is_save}
 use Rattle.cell_core.specs.Requests as core
 use Rattle.cell_core.specs.Saves as core_saves
@@ -59,6 +60,13 @@ match_at j us zero zero (q ∷ ps) (s ∷ ss) p h m e = ap (λ x. Some x) (m.0 �
 match_at j us (suc n) zero (q ∷ ps) (s ∷ ss) p h m e = absurd (omega (arith, h))
 match_at j us zero (suc i) (q ∷ ps) (s ∷ ss) p h m e = match_at j us zero i ps ss p (omega arith) m.1 e
 match_at j us (suc n) (suc i) (q ∷ ps) (s ∷ ss) p h m e = match_at j us n i ps ss p (omega (arith, h)) m e
+
+match_length : (j : Job) (us : List Used) (n : ℕ) (ps : List core_saves.Prefix) (ss : List Save) → Match j us n ps ss → length ps ≡ length ss
+match_length j us n [] [] m = refl
+match_length j us n [] (s ∷ ss) m = absurd m
+match_length j us n (p ∷ ps) [] m = absurd m
+match_length j us zero (p ∷ ps) (s ∷ ss) m = ap suc (match_length j us zero ps ss m.1)
+match_length j us (suc n) (p ∷ ps) (s ∷ ss) m = ap suc (match_length j us n ps ss m)
 
 -- ---- the saves of passed requests
 
@@ -254,14 +262,10 @@ module _ (j : Job) (told : List Event) (past : List Entry) (a : Agrees j told pa
   -- ---- all saves
 
   long : length (requests j past) ≤ length (core_saves.after_preparation ∷ P)
-  long = by (core_saves.after_preparation ∷ P) (save j [] 0 None ∷ Q) (length (requests j past)) first_match (few_saves j [] 0 j.task.plan (requests j past) (few_requests j past).1 (all_but_last j past))
-    where
-      by : (ps : List core_saves.Prefix) (ss : List Save) (n : ℕ) → Match j us n ps ss → n ≤ length ss → n ≤ length ps
-      by [] [] n m h = h
-      by [] (s ∷ ss) n m h = absurd m
-      by (p ∷ ps) [] n m h = absurd m
-      by (p ∷ ps) (s ∷ ss) zero m h = omega arith
-      by (p ∷ ps) (s ∷ ss) (suc n) m h = let r = by ps ss n m (omega (arith, h)) in omega (arith, r)
+  long =
+      let same = match_length j us (length (requests j past)) (core_saves.after_preparation ∷ P) (save j [] 0 None ∷ Q) first_match in
+      let few = few_saves j [] 0 j.task.plan (requests j past) (few_requests j past).1 (all_but_last j past) in
+      omega (arith, same, few)
 
   saves_match : 0 < length j.task.plan → Match j us (length (requests j past)) (core_saves.saves j.task told) (run_saves j (requests j past) (core_saves.why j.task told))
   saves_match p =
@@ -272,6 +276,11 @@ module _ (j : Job) (told : List Event) (past : List Entry) (a : Agrees j told pa
       (save j [] 0 None ∷ Q) (stopping j (requests j past) (core_saves.why j.task told)) long first_match
       (stopping_match (core_saves.why j.task told) (core.standing j.task told) (stands j told past a)))
       (closing_match p)
+
+  -- as many are due
+  pub saves_count : 0 < length j.task.plan → length (core_saves.saves j.task told) ≡ length (run_saves j (requests j past) (core_saves.why j.task told))
+  saves_count p =
+      match_length j us (length (requests j past)) (core_saves.saves j.task told) (run_saves j (requests j past) (core_saves.why j.task told)) (saves_match p)
 
   -- The core's save at a number that is at least that of the requests is the journal's, of what was used for the requests.
   pub saves_are : 0 < length j.task.plan → (i : ℕ) (p : core_saves.Prefix) → length (requests j past) ≤ i → slice_get (core_saves.saves j.task told) i ≡ Some p
@@ -327,30 +336,42 @@ last_at_number n [] p before e = cc
 last_at_number zero (q ∷ ps) p before e = same_Some _ _ e
 last_at_number (suc n) (q ∷ ps) p before e = last_at_number n ps p q e
 
-neither : (b : Bool) (x y : Act) → is_save x ≡ false → is_save y ≡ false → is_save (cond b x y) ≡ false
-neither true x y e f = e
-neither false x y e f = f
+-- while no save is due and there is no cause, the act is one of five kinds
+module _ (P : Act → Type 0) (idle : P act.Nothing) (start : P act.Start) (look : P act.Look) (interrupt : P act.Interrupt) (send : (n : ℕ) → P (act.Send n)) where
+  either : (b : Bool) (x y : Act) → P x → P y → P (cond b x y)
+  either true x y p q = p
+  either false x y p q = q
 
--- while no save is due none is asked for
+  sends_or : (b : Bool) (n : ℕ) → P (cond b (act.Send n) act.Nothing)
+  sends_or b n = either b (act.Send n) act.Nothing (send n) idle
+
+  looks_or : (b : Bool) → P (cond b act.Look act.Nothing)
+  looks_or b = either b act.Look act.Nothing look idle
+
+  pub answer_is : (task : Task) (o : Option core.Standing) (now : List Event) → P (answers task o now)
+  answer_is task None [] = idle
+  answer_is task (Some s) [] = idle
+  answer_is task None (event.Saved ∷ past) = either (events.ack_count past == 0) act.Start act.Nothing start idle
+  answer_is task None (event.Ready ∷ past) = idle
+  answer_is task None (event.Io b ∷ past) = idle
+  answer_is task None (event.Reply f ∷ past) = idle
+  answer_is task None (event.Moment t ∷ past) = looks_or (is_late (due_at task None (event.Moment t ∷ past)) (event.Moment t ∷ past))
+  answer_is task None (event.Looked ∷ past) = idle
+  answer_is task None (event.Lost ∷ past) = look
+  answer_is task None (event.Broken ∷ past) = idle
+  answer_is task (Some s) (event.Saved ∷ past) = sends_or (is_empty_list s.later) (cell_of task s.request)
+  answer_is task (Some s) (event.Ready ∷ past) = sends_or (is_empty_list s.later) (cell_of task s.request)
+  answer_is task (Some s) (event.Io b ∷ past) = sends_or (is_empty_list s.later) (cell_of task s.request)
+  answer_is task (Some s) (event.Reply f ∷ past) = sends_or (is_empty_list s.later) (cell_of task s.request)
+  answer_is task (Some s) (event.Moment t ∷ past) = looks_or (is_late (due_at task (Some s) (event.Moment t ∷ past)) (event.Moment t ∷ past))
+  answer_is task (Some s) (event.Looked ∷ past) =
+      either (is_queued_now task s.request (first_deadline task s (event.Looked ∷ past)) (event.Looked ∷ past)) act.Interrupt act.Nothing interrupt idle
+  answer_is task (Some s) (event.Lost ∷ past) = look
+  answer_is task (Some s) (event.Broken ∷ past) = sends_or (is_empty_list s.later) (cell_of task s.request)
+
+-- so none is asked for
 not_save : (task : Task) (o : Option core.Standing) (now : List Event) → is_save (answers task o now) ≡ false
-not_save task None [] = refl
-not_save task (Some s) [] = refl
-not_save task None (event.Saved ∷ past) = neither (events.ack_count past == 0) act.Start act.Nothing refl refl
-not_save task None (event.Ready ∷ past) = refl
-not_save task None (event.Io b ∷ past) = refl
-not_save task None (event.Reply f ∷ past) = refl
-not_save task None (event.Moment t ∷ past) = neither _ act.Look act.Nothing refl refl
-not_save task None (event.Looked ∷ past) = refl
-not_save task None (event.Lost ∷ past) = refl
-not_save task None (event.Broken ∷ past) = refl
-not_save task (Some s) (event.Saved ∷ past) = neither (is_empty_list s.later) (act.Send (cell_of task s.request)) act.Nothing refl refl
-not_save task (Some s) (event.Ready ∷ past) = neither (is_empty_list s.later) (act.Send (cell_of task s.request)) act.Nothing refl refl
-not_save task (Some s) (event.Io b ∷ past) = neither (is_empty_list s.later) (act.Send (cell_of task s.request)) act.Nothing refl refl
-not_save task (Some s) (event.Reply f ∷ past) = neither (is_empty_list s.later) (act.Send (cell_of task s.request)) act.Nothing refl refl
-not_save task (Some s) (event.Moment t ∷ past) = neither _ act.Look act.Nothing refl refl
-not_save task (Some s) (event.Looked ∷ past) = neither _ act.Interrupt act.Nothing refl refl
-not_save task (Some s) (event.Lost ∷ past) = refl
-not_save task (Some s) (event.Broken ∷ past) = neither (is_empty_list s.later) (act.Send (cell_of task s.request)) act.Nothing refl refl
+not_save = answer_is (λ x. is_save x ≡ false) refl refl refl refl (λ n. refl)
 
 asked_by : (task : Task) (now : List Event) (settled : ℕ) (rest : List core_saves.Prefix) (cause : Option Why) → core_saves.pending_saves task now ≡ rest
     → act_by task now rest cause ≡ act.Save settled → IsAsked task now settled

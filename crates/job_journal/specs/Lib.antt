@@ -10,3 +10,4 @@ pub mod Starting
 pub mod Standing
 pub mod Quiet
 pub mod Piece
+pub mod Ended

@@ -1,6 +1,7 @@
 //! How the parts of an execution go on with the journal, each law the contract of a function
 //! without a body.
 
+pub mod ended;
 pub mod first;
 pub mod heard;
 pub mod lines;

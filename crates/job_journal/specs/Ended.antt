@@ -1,0 +1,78 @@
+-- How a job has ended, by the journal: what its requests tell of the cause, what was saved by then, and what its answer says (papermill and
+-- nbclient; the statuses are nbrun's own).
+use Rattle.std.specs.Prelude.{◌≡◌, ℕ, ◌==◌, true, false, List, [], map, Option, Some, None, if◌then◌else◌, is_some}
+use Rattle.world.specs.declared.entry.Entry.{Entry}
+use Rattle.said_lines.specs.Lines.{spoken_line}
+use Rattle.cell_core.specs.declared.why.Why.{Why}
+use Rattle.cell_core.specs.declared.why.Why.TheVariants as why
+use Rattle.job_end.specs.declared.answer.Answer.{Answer}
+use Rattle.run_journal.specs.Job.{Job}
+use Rattle.run_journal.specs.Parts.{saves_of}
+use Rattle.run_journal.specs.Requests.{Request, is_over, last_request, reply, requests}
+use Rattle.run_journal.specs.Saves.{Save, renamed_texts, run_saves}
+use Rattle.run_journal.specs.Why.{is_done, is_error}
+use Rattle.run_journal.specs.Ends.{end_by, reason}
+use Rattle.job_journal.specs.Plot.{Plot, facts}
+use Rattle.job_journal.specs.Standing.{HasEndedAs}
+
+-- ---- the cause
+
+-- the cause that a status names (the exit statuses of nbrun)
+abbrev pub cause_of : ℕ → Option Why
+cause_of n =
+    if n == 0 then Some why.Done else if n == 1 then Some why.CellError else if n == 7 then Some why.NotReady else if n == 8 then Some why.KernelLost
+    else if n == 9 then Some why.TimedOut else if n == 13 then Some why.NoIdle else if n == 15 then Some why.BadPeer else None
+
+-- not each request of the plan is passed, and no reply to the last one stops the run
+pub record IsUnfinished (j : Job) (now : List Entry) : Type 0 where
+  pub plan : is_done j (saves_of j now) (requests j now) ≡ false
+  pub reply : is_error j (last_request 0 (requests j now)) ≡ false
+
+-- the last request has a reply, and its idle hasn't come
+abbrev pub LacksIdle : Option (ℕ × Request) → Type 0
+LacksIdle None = ⊥
+LacksIdle (Some r) = (is_some (reply r.1) ≡ true) × (is_over r.1 ≡ false)
+
+-- the last request has no reply
+abbrev pub LacksReply : Option (ℕ × Request) → Type 0
+LacksReply None = ⊥
+LacksReply (Some r) = is_some (reply r.1) ≡ false
+
+-- What the requests of the journal tell of a cause (nbclient). Where all is executed each request of the plan has its reply and its idle, and no
+-- reply stops the run. With an error the last request has both, and its reply stops the run. Where the kernel was never ready no request stands.
+-- Where a time is over, the last request lacks its idle or its reply. A loss and a broken stream come before the plan is executed, and before an error.
+abbrev pub ShowsCause : Job → Why → List Entry → Type 0
+ShowsCause j why.Done now = is_done j (saves_of j now) (requests j now) ≡ true
+ShowsCause j why.CellError now = is_error j (last_request 0 (requests j now)) ≡ true
+ShowsCause j why.NotReady now = requests j now ≡ []
+ShowsCause j why.NoIdle now = LacksIdle (last_request 0 (requests j now))
+ShowsCause j why.TimedOut now = LacksReply (last_request 0 (requests j now))
+ShowsCause j why.KernelLost now = IsUnfinished j now
+ShowsCause j why.BadPeer now = IsUnfinished j now
+
+-- ---- the stop
+
+-- The job of a plot has stopped for this cause, and its requests tell of it. The texts that were renamed onto its output are exactly those of the
+-- saves that are due then, in order.
+pub record HasStoppedFor (p : Plot) (cause : Why) (now : List Entry) : Type 0 where
+  pub shown : ShowsCause (facts p) cause now
+  pub texts : renamed_texts (facts p) now ≡ map (λ (s : Save). Some s.text) (run_saves (facts p) (requests (facts p) now) (Some cause))
+
+-- ---- the answer
+
+-- A line says how a job ends that stops for this cause: with the cell of the last request, and with the exception that its reply names. What the
+-- line says of a broken stream is left open.
+abbrev pub SaysCause : Plot → Why → List ℕ → List Entry → Type 0
+SaysCause p why.BadPeer line now = Unit {0}
+SaysCause p cause line now = line ≡ spoken_line p.ask.output (reason (end_by (facts p) now cause))
+
+-- the job of a plot has stopped for this cause, and this line says so
+pub record IsStopSaid (p : Plot) (cause : Why) (line : List ℕ) (now : List Entry) : Type 0 where
+  pub stopped : HasStoppedFor p cause now
+  pub says : SaysCause p cause line now
+
+-- The job of a plot has ended with this answer. The texts that were saved are the first of the saves that are due. Where the status names a cause,
+-- the job has stopped for it, and its line says so.
+pub record HasAnswered (p : Plot) (a : Answer) (now : List Entry) : Type 0 where
+  pub ended : HasEndedAs p now
+  pub stopped : (cause : Why) → cause_of a.status ≡ Some cause → IsStopSaid p cause a.line now
