@@ -1,15 +1,12 @@
 -- Jobs that have ended while others go on, and what is renamed onto a job's output.
 use Rattle.std.proofs.Common.{◌≡◌, ℕ, ◌+◌, List, [], ◌∷◌, ◌++◌, length, Bool, true, false, cond, Some, Option, Result, Ok, Err, refl, sym, ◌∙◌, ap, subst}
 use Rattle.std.specs.Str.{bytes_eq}
-use Rattle.std.proofs.lemmas.Bool.{cond-false}
 use Rattle.words.specs.declared.ask.Ask.{Ask}
 use Rattle.world.specs.declared.entry.Entry.{Entry}
 use Rattle.world.specs.declared.entry.Entry.TheVariants as made
-use Rattle.world.specs.Acked.{renames}
-use Rattle.world.specs.Disk as disk
 use Rattle.world.specs.Moments.{Since, start, more}
-use Rattle.world.specs.Save.{temporary_of}
 use Rattle.save_course.specs.Course.{IsRested}
+use Rattle.job_end.specs.declared.answer.Answer.{Answer}
 use Rattle.job_saves.specs.Calls.{Cast, IsCall, IsCallOf}
 use Rattle.kernel_talk.specs.Asking.{Asked, asks}
 use Rattle.kernel_talk.specs.Asking as asking
@@ -22,13 +19,15 @@ use Rattle.run_journal.specs.Job.{Job}
 use Rattle.run_journal.specs.Arrivals.{ask_state, can_ask, is_ready}
 use Rattle.run_journal.specs.Requests.{requests}
 use Rattle.run_journal.specs.Saves.{renamed_texts, run_saves}
+use Rattle.job_journal.specs.Ended.{HasAnswered}
 use Rattle.job_journal.specs.Made.{HasMade}
 use Rattle.job_journal.specs.Plot.{Plot, facts}
 use Rattle.job_journal.specs.Quiet.{IsQuietNow}
 use Rattle.job_journal.specs.Standing.{HasEndedAs}
 use Rattle.job_journal.proofs.Books.{none_anew}
-use Rattle.job_journal.proofs.Making.{made_stays}
-use Rattle.job_journal.proofs.Quiet.{ended_on, requests_same}
+use Rattle.job_journal.proofs.Ended.{answer_stays, answered_on, texts_on}
+use Rattle.job_journal.proofs.Making.{made_stays, same_texts}
+use Rattle.job_journal.proofs.Quiet.{requests_same}
 use Rattle.job_journal.proofs.Talks.{asks_at}
 use Rattle.other_jobs.specs.Elsewhere.{SavesElsewhere}
 use Rattle.other_jobs.specs.Turns.{TurnBrings}
@@ -55,60 +54,61 @@ clock_requests : (j : Job) (ms : ℕ) (past : List Entry) → j.task.times.inter
 clock_requests j ms past plain =
     none_anew j (made.Moment ms) past refl (clock_ready j ms past) ∙ requests_same j plain (made.Moment ms) past (λ c. refl) (requests j past)
 
-pub ended_clock : (p : Plot) (ms : ℕ) (past : List Entry) → (facts p).task.times.interrupt ≡ false → HasEndedAs p past → HasEndedAs p (made.Moment ms ∷ past)
-ended_clock p ms past plain g = record {
+pub still_ended : (p : Plot) (ms : ℕ) (past : List Entry) → (facts p).task.times.interrupt ≡ false → HasEndedAs p past → HasEndedAs p (made.Moment ms ∷ past)
+still_ended p ms past plain g = record {
   cause = g.cause;
   count = g.count;
   made = subst (λ rs. HasMade (facts p) (run_saves (facts p) rs g.cause) g.count (made.Moment ms ∷ past)) (sym (clock_requests (facts p) ms past plain))
       (made_stays (facts p) (run_saves (facts p) (requests (facts p) past) g.cause) g.count (made.Moment ms) past refl g.made);
 }
 
+pub ended_clock : (p : Plot) (a : Answer) (ms : ℕ) (past : List Entry) → (facts p).task.times.interrupt ≡ false → HasAnswered p a past
+    → HasAnswered p a (made.Moment ms ∷ past)
+ended_clock p a ms past plain g =
+    answer_stays p past (made.Moment ms ∷ past)
+    (record { requests_are = clock_requests (facts p) ms past plain; saves_are = refl; texts_are = refl }) a (still_ended p ms past plain g.ended) g
+
 -- ---- turns
 
-ended_brings : (p : Plot) (result : Result ℕ LoopFault) (before now : List Entry) → (facts p).task.times.interrupt ≡ false → TurnBrings result before now
-    → HasEndedAs p before → HasEndedAs p now
-ended_brings p (Ok ms) before now plain came g =
-    subst (HasEndedAs p) (sym came.newest) (ended_clock p ms came.past plain (ended_on p before came.past plain (came.quiet (facts p)) g))
-ended_brings p (Err fault) before now plain came g = ended_on p before now plain (came (facts p)) g
+ended_brings : (p : Plot) (a : Answer) (result : Result ℕ LoopFault) (before now : List Entry) → (facts p).task.times.interrupt ≡ false → TurnBrings result before now
+    → HasAnswered p a before → HasAnswered p a now
+ended_brings p a (Ok ms) before now plain came g =
+    subst (HasAnswered p a) (sym came.newest) (ended_clock p a ms came.past plain (answered_on p a before came.past plain (came.quiet (facts p)) g))
+ended_brings p a (Err fault) before now plain came g = answered_on p a before now plain (came (facts p)) g
 
-pub ended_turns : (p : Plot) (due : Option ℕ) (result : Result ℕ LoopFault) (last : ℕ) (old new : Loop) (h : History) (before now : List Entry)
-    → (facts p).task.times.interrupt ≡ false → StandsFor old h before → Turned due result last old new before now → HasEndedAs p before → HasEndedAs p now
-ended_turns p due result last old new h before now plain stand turned g =
-    ended_brings p result before now plain (turn_brings due result last old new h before now stand turned) g
+pub ended_turns : (p : Plot) (a : Answer) (due : Option ℕ) (result : Result ℕ LoopFault) (last : ℕ) (old new : Loop) (h : History) (before now : List Entry)
+    → (facts p).task.times.interrupt ≡ false → StandsFor old h before → Turned due result last old new before now → HasAnswered p a before → HasAnswered p a now
+ended_turns p a due result last old new h before now plain stand turned g =
+    ended_brings p a result before now plain (turn_brings due result last old new h before now stand turned) g
 
 -- ---- calls of jobs that save elsewhere
 
-ended_call : (p : Plot) (here : List ℕ) (starts clean : Bool) (n : ℕ) (a : Ask) → bytes_eq a.output (facts p).output ≡ false
-    → (facts p).task.times.interrupt ≡ false → (entry : Entry) (past : List Entry) → IsCallOf here starts clean n a past entry → IsRested (facts p).output past
-    → HasEndedAs p past → HasEndedAs p (entry ∷ past)
-ended_call p here starts clean n a apart plain (made.Moment ms) past is rested g = ended_clock p ms past plain g
-ended_call p here starts clean n a apart plain entry past is rested g =
-    ended_on p past (entry ∷ past) plain (more start (call_quiet (facts p) here starts clean n a apart entry past is (λ e. absurd (cc)) rested)) g
+ended_call : (p : Plot) (a : Answer) (here : List ℕ) (starts clean : Bool) (n : ℕ) (ask : Ask) → bytes_eq ask.output (facts p).output ≡ false
+    → (facts p).task.times.interrupt ≡ false → (entry : Entry) (past : List Entry) → IsCallOf here starts clean n ask past entry → IsRested (facts p).output past
+    → HasAnswered p a past → HasAnswered p a (entry ∷ past)
+ended_call p a here starts clean n ask apart plain (made.Moment ms) past is rested g = ended_clock p a ms past plain g
+ended_call p a here starts clean n ask apart plain entry past is rested g =
+    answered_on p a past (entry ∷ past) plain (more start (call_quiet (facts p) here starts clean n ask apart entry past is (λ e. absurd (cc)) rested)) g
 
-pub ended_calls : (p : Plot) (c : Cast) {before now : List Entry} → (facts p).task.times.interrupt ≡ false → SavesElsewhere c (facts p).output
-    → Since (IsCall c) before now → IsRested (facts p).output before → HasEndedAs p before → HasEndedAs p now
-ended_calls p c plain elsewhere start rested g = g
-ended_calls p c plain elsewhere (more {past} {entry} since is) rested g =
-    ended_call p c.here c.starts c.clean is.number is.ask (elsewhere.each is.number is.ask is.has) plain entry past is.is
-    (calls_rest (facts p).output c elsewhere since rested) (ended_calls p c plain elsewhere since rested g)
+pub ended_calls : (p : Plot) (a : Answer) (c : Cast) {before now : List Entry} → (facts p).task.times.interrupt ≡ false → SavesElsewhere c (facts p).output
+    → Since (IsCall c) before now → IsRested (facts p).output before → HasAnswered p a before → HasAnswered p a now
+ended_calls p a c plain elsewhere start rested g = g
+ended_calls p a c plain elsewhere (more {past} {entry} since is) rested g =
+    ended_call p a c.here c.starts c.clean is.number is.ask (elsewhere.each is.number is.ask is.has) plain entry past is.is
+    (calls_rest (facts p).output c elsewhere since rested) (ended_calls p a c plain elsewhere since rested g)
 
 -- ---- what is renamed onto the output
 
 module _ (j : Job) where
-  one_renamed : (entry : Entry) (past : List Entry) → renames (temporary_of j.output) j.output entry ≡ false → renamed_texts j (entry ∷ past) ≡ renamed_texts j past
-  one_renamed entry past e =
-      cond-false (renames (temporary_of j.output) j.output entry) (renamed_texts j past ++ (disk.place past (temporary_of j.output)).fresh ∷ []) (renamed_texts j past) e
-
   pub renamed_quiet : (before now : List Entry) → Since (IsQuietNow j) before now → renamed_texts j now ≡ renamed_texts j before
-  renamed_quiet before now start = refl
-  renamed_quiet before now (more {past} {entry} since q) = one_renamed entry past q.unrenamed ∙ renamed_quiet before past since
+  renamed_quiet = texts_on j
 
   pub renamed_calls : (c : Cast) (before now : List Entry) → SavesElsewhere c j.output → Since (IsCall c) before now → renamed_texts j now ≡ renamed_texts j before
   renamed_calls c before now elsewhere start = refl
   renamed_calls c before now elsewhere (more {past} {entry} since is) =
-      one_renamed entry past (call_rests j.output c.here c.starts c.clean is.number is.ask (elsewhere.each is.number is.ask is.has) entry past is.is)
+      same_texts j entry past (call_rests j.output c.here c.starts c.clean is.number is.ask (elsewhere.each is.number is.ask is.has) entry past is.is)
       ∙ renamed_calls c before past elsewhere since
 
   pub renamed_loops : (before now : List Entry) → Since IsOfLoop before now → renamed_texts j now ≡ renamed_texts j before
   renamed_loops before now start = refl
-  renamed_loops before now (more {past} {entry} since is) = one_renamed entry past (loop_rests j.output entry is) ∙ renamed_loops before past since
+  renamed_loops before now (more {past} {entry} since is) = same_texts j entry past (loop_rests j.output entry is) ∙ renamed_loops before past since

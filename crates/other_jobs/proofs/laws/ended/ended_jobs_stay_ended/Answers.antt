@@ -5,5 +5,5 @@ pub returns : goal.returns
 returns g = record {
   clock = ended_clock;
   turns = ended_turns;
-  calls = λ p c before now plain elsewhere since rested h. ended_calls p c plain elsewhere since rested h;
+  calls = λ p a c before now plain elsewhere since rested h. ended_calls p a c plain elsewhere since rested h;
 }
