@@ -18,11 +18,15 @@ use Rattle.cell_core.specs.Saves.{pending_saves, why}
 use Rattle.cell_core.specs.StandsFor.{StandsFor, awaits_saved_of, task_of}
 use Rattle.cell_core.proofs.Answering.{answers_kind}
 use Rattle.job_end.specs.declared.end.End.{End}
+use Rattle.job_end.specs.declared.end.End.TheVariants.{NoMemory}
 use Rattle.run_journal.specs.Requests.{requests}
 use Rattle.job_journal.specs.Plot.{Plot, facts}
 use Rattle.job_run.specs.Told.{Hears}
 use Rattle.job_run.specs.declared.execution.Execution.{Execution}
-use Rattle.job_run.specs.Standing.{DoesAct, IsToSendCell, MovesOn, Stands, StandsTo, StandsToOrEnds, StaysStill, is_idle}
+use Rattle.job_run.specs.Standing.{DoesAct, EndsSo, IsToSendCell, IsToStop, MovesOn, Stands, StandsOrEnds, StandsTo, StandsToOrEnds, StaysStill, is_idle}
+use Rattle.job_run.specs.Stopping.{IsStopBy}
+use Rattle.job_run.proofs.EndLemmas.{starved_so, stop_so, stopped_ended}
+use Rattle.job_run.proofs.StandingLemmas.{ended_so}
 
 -- there is something to do for a save
 pub busy_save : {act : Act} {n : ℕ} → is_idle act ≡ true → act ≡ Save n → ⊥
@@ -45,7 +49,7 @@ acts_on p number x y z first last r before after stands same kind does t =
 pub ended_does : {U : Type 0} (p : Plot) (number : ℕ) (x y z : Execution) (act : Act) (r : Result U End) (e : End) (before after : List Entry) → IsErrAnd r (λ k. k ≡ e)
     → StandsToOrEnds p number y (Err e) after → DoesAct p number x act z r before after
 ended_does p number x y z act (Ok u) e before after is h t = absurd is
-ended_does p number x y z act (Err k) e before after is h t = (h, λ s. tt)
+ended_does p number x y z act (Err k) e before after is h t = (subst (λ (v : End). EndsSo p v after) (sym is) h, λ s. tt)
 
 -- nothing was done before, and nothing was then
 pub stays_from : {U : Type 0} (x y z : Execution) (r : Result U End) → y ≡ x → StaysStill y z r → StaysStill x z r
@@ -63,9 +67,20 @@ does_look p number x now t = (t, λ e. absurd (true≢false (sym e)))
 pub does_start : (p : Plot) (number : ℕ) (x : Execution) (now : List Entry) → DoesAct {U = Unit {0}} p number x Start x (Ok tt) now now
 does_start p number x now t = (t.0, λ e. inl t.1)
 
-pub does_stop : {U : Type 0} (p : Plot) (number : ℕ) (x y : Execution) (cause : Why) (r : Result U End) (e : End) (now : List Entry) → IsErrAnd r (λ k. k ≡ e) → DoesAct p number x (Stop cause) y r now now
-does_stop p number x y cause (Ok u) e now is t = absurd is
-does_stop p number x y cause (Err k) e now is t = (t, λ s. tt)
+-- the job is stopped
+pub does_stop : (p : Plot) (number : ℕ) (x : Execution) (cause : Why) (e : End) (now : List Entry) → IsStopBy cause x.request e
+    → DoesAct {U = Unit {0}} p number x (Stop cause) x (Err e) now now
+does_stop p number x cause e now is t = (stop_so p x now cause e t is, λ s. tt)
+
+-- or memory is wanted for its end
+pub starved_stop : {U : Type 0} (p : Plot) (number : ℕ) (x y : Execution) (cause : Why) (r : Result U End) (now : List Entry) → IsErrAnd r (λ k. k ≡ NoMemory)
+    → IsToStop p x cause now → StandsOrEnds p number y r now
+starved_stop p number x y cause r now is t = ended_so p number y r NoMemory now is (starved_so p now (stopped_ended p cause now t.stopped))
+
+pub starves_stop : {U : Type 0} (p : Plot) (number : ℕ) (x y : Execution) (cause : Why) (r : Result U End) (now : List Entry) → IsErrAnd r (λ k. k ≡ NoMemory)
+    → DoesAct p number x (Stop cause) y r now now
+starves_stop p number x y cause (Ok u) now is t = absurd is
+starves_stop {U} p number x y cause (Err k) now is t = (starved_stop {U = U} p number x y cause (Err k) now is t, λ s. tt)
 
 -- ---- where an act is nothing, no call was made
 

@@ -1,6 +1,6 @@
 -- What the clock, a loss and a last look make of what an execution stands for.
 use Rattle.std.proofs.Common.{◌≡◌, ◌⊎◌, inl, inr, ◌+◌, ◌≤◌, arith, ℕ, Bool, true, false, List, [], ◌∷◌, ◌++◌, length, Some, Result, Ok, Err, refl, sym, ◌∙◌, ap, subst}
-use Rattle.std.specs.Prelude.{codes, OnOk}
+use Rattle.std.specs.Prelude.{codes, if◌then◌else◌, OnOk}
 use Rattle.std.proofs.Math.Bool.{true≢false}
 use Rattle.std.proofs.Math.Bridge.{le_prop}
 use Rattle.std.proofs.Math.Logic.{∥∥₁_elim}
@@ -16,7 +16,7 @@ use Rattle.zmtp_wire.specs.Meaning.{messages_in, contexts_in, answer_to}
 use Rattle.zmtp_peer.proofs.OwedLemmas.{owed_grows, owed_none}
 use Rattle.jmsg.specs.Encoded.{encode}
 use Rattle.jcontent.specs.Requests.{empty}
-use Rattle.kernel_talk.specs.Asking.{Asked, asks}
+use Rattle.kernel_talk.specs.Asking.{Asked, asks, is_ready as has_answer}
 use Rattle.kernel_talk.specs.Pinging.{Pinged}
 use Rattle.kernel_talk.specs.Requests.{Identity, message_id, request}
 use Rattle.kernel_lines.specs.Happened.{Given, History}
@@ -40,28 +40,34 @@ use Rattle.cell_core.specs.StandsFor.{IsAt, StandsFor, awaits_saved_of, task_of}
 use Rattle.cell_core.specs.Task.{Task}
 use Rattle.cell_core.proofs.Moving.{is_stopped}
 use Rattle.job_end.specs.declared.end.End.{End}
+use Rattle.job_end.specs.declared.end.End.TheVariants.{NoMemory}
 use Rattle.run_journal.specs.Agreement.{IsOther, moment, lost}
-use Rattle.run_journal.specs.Arrivals.{can_ask}
+use Rattle.run_journal.specs.Arrivals.{ask_state, can_ask, is_ready}
 use Rattle.run_journal.specs.Codec.{Info}
 use Rattle.run_journal.specs.Job.{Job}
 use Rattle.run_journal.specs.Parts.{bytes_put}
+use Rattle.run_journal.specs.Requests.{requests}
 use Rattle.job_journal.specs.Line.{parts_of as message_of}
 use Rattle.job_journal.specs.Plot.{Plot, IsFor, facts, speaker}
 use Rattle.job_journal.specs.Quiet.{IsQuietNow}
 use Rattle.job_journal.specs.Standing.{HasEndedAs, Sends, StandsBy, question}
+use Rattle.job_journal.proofs.Acking.{requests_on}
+use Rattle.job_journal.proofs.Books.{none_anew}
 use Rattle.job_journal.proofs.Clocked.{clock_asks, clock_passes, question_sent}
 use Rattle.job_journal.proofs.Ending.{ends_standing}
 use Rattle.job_journal.proofs.Handing.{sends_ping}
 use Rattle.job_journal.proofs.Plots.{for_still}
-use Rattle.job_journal.proofs.Quiet.{stands_on}
+use Rattle.job_journal.proofs.Quiet.{requests_same, stands_on}
 use Rattle.job_journal.proofs.Subscribing.{OwedLaws, asks_by_lines}
+use Rattle.job_journal.proofs.Talks.{asks_at}
 use Rattle.job_run.specs.declared.execution.Execution.{Execution}
 use Rattle.job_run.specs.Held.{IsSaid}
 use Rattle.job_run.specs.Said.{QueuesNext, next_message}
-use Rattle.job_run.specs.Standing.{GoesBy, HasTurned, IsTurned, PassesBy, Stands, StandsOrEnds, StandsTo, StaysStill, is_idle, is_passing, parts_of}
+use Rattle.job_run.specs.Standing.{EndsSo, GoesBy, HasTurned, IsTurned, NotesError, PassesBy, Stands, StandsOrEnds, StandsTo, StaysStill, is_idle, is_passing, parts_of}
 use Rattle.job_run.specs.Told.{Hears, MayCome}
 use Rattle.job_run.specs.Used.{TakesEvent}
 use Rattle.job_run.proofs.ActLemmas.{idle_stands}
+use Rattle.job_run.proofs.EndLemmas.{starved_so}
 use Rattle.job_run.proofs.StandingLemmas.{answered_kind, told_other}
 use Rattle.job_run.proofs.ToldLemmas.{timely_by}
 
@@ -198,6 +204,22 @@ turned_on p number x y r before after pass h =
 pub turned_goes : (p : Plot) (number : ℕ) (x y : Execution) (e : End) (before after : List Entry) → PassesBy {U = Unit {0}} p number x y (Err e) before after → HasTurned p number x before → ⊥
 turned_goes p number x y e before after pass h = (pass (places.time h.past) h.past h.stands).1
 
+-- ---- the requests at a clock entry
+
+-- no request comes to stand with it, and those that stand go on as they are
+ready_clocked : (j : Job) (ms : ℕ) (past : List Entry) → is_ready j (made.Moment ms ∷ past) ≡ is_ready j past
+ready_clocked j ms past = ap (λ (a : Asked). has_answer a) (asks_at j ms past) ∙ by (asks (ask_state j past) (can_ask j past) ms)
+  where
+    by : (b : Bool)
+        → has_answer (if b then record { ids = (ask_state j past).ids ++ j.msg_id (length (ask_state j past).ids + 1) ∷ []; at = Some ms; told = (ask_state j past).told; heard = (ask_state j past).heard } else ask_state j past)
+        ≡ is_ready j past
+    by true = refl
+    by false = refl
+
+pub requests_clocked : (j : Job) (ms : ℕ) (past : List Entry) → j.task.times.interrupt ≡ false → requests j (made.Moment ms ∷ past) ≡ requests j past
+requests_clocked j ms past plain =
+    none_anew j (made.Moment ms) past refl (ready_clocked j ms past) ∙ requests_same j plain (made.Moment ms) past (λ c. refl) (requests j past)
+
 -- ---- the kernel is asked
 
 -- what the wire promises
@@ -224,12 +246,19 @@ module _ (p : Plot) (number : ℕ) (x : Execution) (now : List Entry) (h : HasTu
       is ls.shell.past ls.iopub.past ls.shell.out ls.iopub.out ls.shell.stands ls.iopub.stands
       ∙ asks_by_lines wire_laws p x.lines [] [] h.past ls.shell ls.iopub h.taken
 
+  -- the same requests stand
+  turned_noted : NotesError j x.request (requests j now)
+  turned_noted =
+      subst (NotesError j x.request)
+      (sym (requests_on j (made.Moment x.clock ∷ h.past) now h.stands.parts.undated h.since ∙ requests_clocked j x.clock h.past h.stands.parts.undated)) h.stands.noted
+
   -- it isn't asked
   pub unasked_stands : (can : Bool) → can ≡ can_ask j h.past → asks x.asking can x.clock ≡ false → Stands p number x now
   unasked_stands can is e = record {
     parts = stands_on p number (parts_of x) [] [] (made.Moment x.clock ∷ h.past) now h.since
         (clock_passes p number (parts_of (record x { clock = places.time h.past })) h.past x.clock h.stands.parts can is e);
     asked = record { terms = h.stands.asked.terms; tagged = h.stands.asked.tagged };
+    noted = turned_noted;
   }
 
   -- the asking with one question more
@@ -244,13 +273,17 @@ module _ (p : Plot) (number : ℕ) (x : Execution) (now : List Entry) (h : HasTu
       (clock_asks p number (parts_of (record x { clock = places.time h.past })) h.past x.clock h.stands.parts can is e)
 
   -- wherever a job ends then, the saves that were made are the first that are due
-  pub turned_ends : HasEndedAs p now
+  turned_ends : HasEndedAs p now
   turned_ends = by (cases_Bool (asks x.asking (can_ask j h.past) x.clock))
     where
       by : (asks x.asking (can_ask j h.past) x.clock ≡ true) ⊎ (asks x.asking (can_ask j h.past) x.clock ≡ false) → HasEndedAs p now
       by (inl e) =
           ends_standing p number (parts_of (record x { asking = more })) (question (x.session.made + 1) x.clock ∷ []) [] now (asked_parts (can_ask j h.past) refl e)
       by (inr e) = ends_standing p number (parts_of x) [] [] now (unasked_stands (can_ask j h.past) refl e).parts
+
+  -- so it ends for want of memory
+  pub turned_starved : EndsSo p NoMemory now
+  turned_starved = starved_so p now turned_ends
 
   module _ (z : Execution) (said : IsSaid x z) (q : QueuesNext Shell (codes "kernel_info_request") empty x z) where
     made_is : z.session.made ≡ x.session.made + 1
@@ -289,6 +322,7 @@ module _ (p : Plot) (number : ℕ) (x : Execution) (now : List Entry) (h : HasTu
         subst (λ (v : Execution). Stands p number v now) (sym full) (record {
           parts = question_sent p number (parts_of (record x { asking = more })) now z.lines z.session (asked_parts can is e) is_for sends made_is;
           asked = record { terms = h.stands.asked.terms; tagged = h.stands.asked.tagged };
+          noted = turned_noted;
         })
 
 -- ---- the kernel is pinged
@@ -300,6 +334,7 @@ pub pinged_stands : (p : Plot) (number : ℕ) (x : Execution) (now : List Entry)
 pinged_stands p number x now lines pings parts others role stands s = record {
   parts = sends_ping p number (parts_of x) [] [] now lines parts others role stands s.parts;
   asked = record { terms = s.asked.terms; tagged = s.asked.tagged };
+  noted = s.noted;
 }
 
 -- ---- asked, and then pinged

@@ -1,8 +1,7 @@
 -- What a job stands for, by its execution and its end.
-use Rattle.std.proofs.Common.{◌≡◌, ◌⊎◌, inl, inr, ◌≤◌, arith, ℕ, true, false, List, ◌∷◌, [], Option, None, Result, Ok, Err, sym, ◌∙◌, ap, subst}
-use Rattle.std.specs.Prelude.{is_some, IfOk, IfErr}
+use Rattle.std.proofs.Common.{◌≡◌, ◌≤◌, arith, ℕ, true, false, List, ◌∷◌, [], Option, Some, None, Result, Ok, Err, refl, sym, ◌∙◌, ap, subst}
+use Rattle.std.specs.Prelude.{is_some, IfOk, IfErr, IfSome}
 use Rattle.std.proofs.Math.Bool.{true≢false}
-use Rattle.std.proofs.lemmas.Bool.{cases_Bool}
 use Rattle.world.specs.declared.chan.Chan.{Chan}
 use Rattle.world.specs.declared.entry.Entry.{Entry}
 use Rattle.world.specs.Moments.{Since, more}
@@ -10,21 +9,31 @@ use Rattle.world.specs.Places.{time}
 use Rattle.kernel_lines.specs.declared.lines.Lines.{Lines}
 use Rattle.job_end.specs.declared.answer.Answer.{Answer}
 use Rattle.job_end.specs.declared.end.End.{End}
+use Rattle.job_end.specs.Answers.{Answers}
+use Rattle.job_journal.specs.Ended.{HasAnswered}
 use Rattle.job_journal.specs.Plot.{Plot, facts}
 use Rattle.job_journal.specs.Quiet.{IsQuietNow, is_quiet}
 use Rattle.job_journal.specs.Standing.{Hands, HasEndedAs}
+use Rattle.job_journal.proofs.Acking.{requests_on}
+use Rattle.job_journal.proofs.Ended.{answered_on}
 use Rattle.job_journal.proofs.Ending.{ends_standing}
 use Rattle.job_journal.proofs.Handing.{hands_out}
-use Rattle.job_journal.proofs.Quiet.{ended_on, quiet_kind, stands_on}
+use Rattle.job_journal.proofs.Quiet.{quiet_kind, stands_on}
 use Rattle.job_run.specs.declared.execution.Execution.{Execution}
 use Rattle.job_run.specs.declared.job.Job.{Job}
 use Rattle.job_run.specs.JobStanding.{IsGotFor, IsTurnedFor, JobStands, JobStandsAs, JobStandsUntold, KeepsStanding}
-use Rattle.job_run.specs.Standing.{IsGot, IsTurned, Stands, StandsOrEnds, StandsUntold, parts_of}
+use Rattle.job_run.specs.Standing.{IsGot, IsTurned, NotesError, Stands, StandsOrEnds, StandsUntold, parts_of}
+use Rattle.job_run.specs.Told.{IsOutside}
+use Rattle.job_run.proofs.EndLemmas.{outside_so}
 
 -- ---- executions
 
 pub stands_quiet : (p : Plot) (number : ℕ) (x : Execution) (before now : List Entry) → Since (IsQuietNow (facts p)) before now → Stands p number x before → Stands p number x now
-stands_quiet p number x before now w s = record { parts = stands_on p number (parts_of x) [] [] before now w s.parts; asked = s.asked }
+stands_quiet p number x before now w s = record {
+  parts = stands_on p number (parts_of x) [] [] before now w s.parts;
+  asked = s.asked;
+  noted = subst (NotesError (facts p) x.request) (sym (requests_on (facts p) before now s.parts.undated w)) s.noted;
+}
 
 pub untold_quiet : (p : Plot) (number : ℕ) (x : Execution) (before now : List Entry) → Since (IsQuietNow (facts p)) before now → StandsUntold p number x before → StandsUntold p number x now
 untold_quiet p number x before now w u =
@@ -46,6 +55,7 @@ pub served_stands : (p : Plot) (number : ℕ) (x : Execution) (c : Chan) (lines 
 served_stands p number x c lines now g s = record {
   parts = hands_out p number (parts_of x) [] [] now c lines g s.parts;
   asked = record { terms = s.asked.terms; tagged = s.asked.tagged };
+  noted = s.noted;
 }
 
 -- ---- jobs
@@ -55,9 +65,10 @@ job_on : (R : Plot → ℕ → Execution → List Entry → Type 0) (p : Plot) (
     → Since (IsQuietNow (facts p)) before now → JobStandsAs R p j before → JobStandsAs R p j now
 job_on R p j before now turns w s = record {
   number_is = s.number_is;
+  output_is = s.output_is;
   undated = s.undated;
   runs = λ e. turns (s.runs e);
-  ended = λ e. ended_on p before now s.undated w (s.ended e);
+  ended = λ a is. answered_on p a before now s.undated w (s.ended a is);
 }
 
 pub job_quiet : (p : Plot) (j : Job) (before now : List Entry) → Since (IsQuietNow (facts p)) before now → JobStands p j before → JobStands p j now
@@ -67,38 +78,36 @@ pub job_quiet_untold : (p : Plot) (j : Job) (before now : List Entry) → Since 
 job_quiet_untold p j before now w s = job_on StandsUntold p j before now (untold_quiet p j.number j.run before now w) w s
 
 pub job_untold : (p : Plot) (j : Job) (now : List Entry) → JobStands p j now → JobStandsUntold p j now
-job_untold p j now s = record { number_is = s.number_is; undated = s.undated; runs = λ e. untold_of p j.number j.run now (s.runs e); ended = s.ended }
+job_untold p j now s = record { number_is = s.number_is; output_is = s.output_is; undated = s.undated; runs = λ e. untold_of p j.number j.run now (s.runs e); ended = s.ended }
 
 -- the texts that were saved are the first of the saves that are due
 pub job_saved : (p : Plot) (j : Job) (now : List Entry) → JobStandsUntold p j now → HasEndedAs p now
-job_saved p j now s = by (cases_Bool (is_some j.outcome))
+job_saved p j now s = by j.outcome refl
   where
-    by : (is_some j.outcome ≡ true) ⊎ (is_some j.outcome ≡ false) → HasEndedAs p now
-    by (inl e) = s.ended e
-    by (inr e) = untold_ends p j.number j.run now (s.runs e)
+    by : (o : Option Answer) → j.outcome ≡ o → HasEndedAs p now
+    by (Some a) is = (s.ended a is).ended
+    by None is = untold_ends p j.number j.run now (s.runs (ap (λ (o : Option Answer). is_some o) is))
 
 -- ---- what a job is told without a call of the world
 
 -- a change of its execution alone
-pub keeps_standing : (was now : Job) → now.number ≡ was.number → now.outcome ≡ was.outcome → now.run.clock ≡ was.run.clock
+pub keeps_standing : (was now : Job) → now.number ≡ was.number → now.paths.output ≡ was.paths.output → now.outcome ≡ was.outcome → now.run.clock ≡ was.run.clock
     → ((p : Plot) (number clock : ℕ) (journal : List Entry) → Stands p number (record was.run { clock = clock }) journal → Stands p number (record now.run { clock = clock }) journal)
     → KeepsStanding was now
-keeps_standing was now number outcome clock turns = record { stands = told; untold = unclocked }
+keeps_standing was now number output outcome clock turns = record { stands = told; untold = unclocked }
   where
     running : is_some now.outcome ≡ false → is_some was.outcome ≡ false
     running e = ap (λ (a : Option Answer). is_some a) (sym outcome) ∙ e
 
-    over : is_some now.outcome ≡ true → is_some was.outcome ≡ true
-    over e = ap (λ (a : Option Answer). is_some a) (sym outcome) ∙ e
-
     told : (p : Plot) (journal : List Entry) → JobStands p was journal → JobStands p now journal
     told p journal s = record {
       number_is = number ∙ s.number_is;
+      output_is = output ∙ s.output_is;
       undated = s.undated;
       runs = λ e.
           subst (λ n. Stands p n now.run journal) (sym number)
           (subst (λ c. Stands p was.number (record now.run { clock = c }) journal) (sym clock) (turns p was.number was.run.clock journal (s.runs (running e))));
-      ended = λ e. s.ended (over e);
+      ended = λ a is. s.ended a (sym outcome ∙ is);
     }
 
     unclocked_run : (p : Plot) (journal : List Entry) → StandsUntold p was.number was.run journal → StandsUntold p was.number now.run journal
@@ -110,57 +119,72 @@ keeps_standing was now number outcome clock turns = record { stands = told; unto
     unclocked : (p : Plot) (journal : List Entry) → JobStandsUntold p was journal → JobStandsUntold p now journal
     unclocked p journal s = record {
       number_is = number ∙ s.number_is;
+      output_is = output ∙ s.output_is;
       undated = s.undated;
       runs = λ e. subst (λ n. StandsUntold p n now.run journal) (sym number) (unclocked_run p journal (s.runs (running e)));
-      ended = λ e. s.ended (over e);
+      ended = λ a is. s.ended a (sym outcome ∙ is);
     }
 
 -- nothing that it stands for was touched
-pub keeps_still : (was now : Job) → now.number ≡ was.number → now.outcome ≡ was.outcome → now.run ≡ was.run → KeepsStanding was now
-keeps_still was now number outcome run =
-    keeps_standing was now number outcome (ap (λ (x : Execution). x.clock) run)
+pub keeps_still : (was now : Job) → now.number ≡ was.number → now.paths.output ≡ was.paths.output → now.outcome ≡ was.outcome → now.run ≡ was.run → KeepsStanding was now
+keeps_still was now number output outcome run =
+    keeps_standing was now number output outcome (ap (λ (x : Execution). x.clock) run)
     (λ p n clock journal s. subst (λ (x : Execution). Stands p n (record x { clock = clock }) journal) (sym run) s)
 
 -- a connection of its is served
-pub keeps_served : (was now : Job) (c : Chan) (lines : Lines) → now.number ≡ was.number → now.outcome ≡ was.outcome → now.run ≡ record was.run { lines = lines } → Hands c was.run.lines lines
+pub keeps_served : (was now : Job) (c : Chan) (lines : Lines) → now.number ≡ was.number → now.paths.output ≡ was.paths.output → now.outcome ≡ was.outcome → now.run ≡ record was.run { lines = lines } → Hands c was.run.lines lines
     → KeepsStanding was now
-keeps_served was now c lines number outcome run g =
-    keeps_standing was now number outcome (ap (λ (x : Execution). x.clock) run)
+keeps_served was now c lines number output outcome run g =
+    keeps_standing was now number output outcome (ap (λ (x : Execution). x.clock) run)
     (λ p n clock journal s.
     subst (λ (x : Execution). Stands p n (record x { clock = clock }) journal) (sym run) (served_stands p n (record was.run { clock = clock }) c lines journal g s))
 
--- a job that ran has ended
-pub keeps_ended : (was now : Job) → now.number ≡ was.number → is_some was.outcome ≡ false → is_some now.outcome ≡ true → KeepsStanding was now
-keeps_ended was now number running over = record {
+-- the answer of a job that has ended is that of its end
+answer_of : (output to : List ℕ) (e : End) (o : Option Answer) (a : Answer) → output ≡ to → IfSome o (Answers output e) → o ≡ Some a → Answers to e a
+answer_of output to e o a same answers is = subst (λ path. Answers path e a) same (subst (λ v. IfSome v (Answers output e)) is answers)
+
+-- a job that ran has ended from outside
+pub keeps_ended : (was now : Job) (e : End) → now.number ≡ was.number → now.paths.output ≡ was.paths.output → is_some now.outcome ≡ true → IsOutside e
+    → IfSome now.outcome (Answers was.paths.output e) → KeepsStanding was now
+keeps_ended was now e number output over outside answers = record {
   stands = λ p journal s. record {
     number_is = number ∙ s.number_is;
+    output_is = output ∙ s.output_is;
     undated = s.undated;
-    runs = λ e. absurd (true≢false (sym over ∙ e));
-    ended = λ e. job_saved p was journal (job_untold p was journal s);
+    runs = λ off. absurd (true≢false (sym over ∙ off));
+    ended = λ a is. so p journal (job_untold p was journal s) a is;
   };
   untold = λ p journal s. record {
     number_is = number ∙ s.number_is;
+    output_is = output ∙ s.output_is;
     undated = s.undated;
-    runs = λ e. absurd (true≢false (sym over ∙ e));
-    ended = λ e. job_saved p was journal s;
+    runs = λ off. absurd (true≢false (sym over ∙ off));
+    ended = λ a is. so p journal s a is;
   };
 }
+  where
+    so : (p : Plot) (journal : List Entry) → JobStandsUntold p was journal → (a : Answer) → now.outcome ≡ Some a → HasAnswered p a journal
+    so p journal s a is =
+        outside_so p e journal outside (job_saved p was journal s) a (answer_of was.paths.output p.ask.output e now.outcome a s.output_is answers is)
 
 -- ---- what a call of its execution leaves
 
-pub job_stands : (p : Plot) (j : Job) (mid : Execution) (done : Result (Unit {0}) End) (now : List Entry) → j.number ≡ p.setting.number → (facts p).task.times.interrupt ≡ false
-    → IfOk done (λ u. (j.run ≡ mid) × (j.outcome ≡ None)) → IfErr done (λ e. is_some j.outcome ≡ true) → StandsOrEnds p j.number mid done now → JobStands p j now
-job_stands p j mid (Ok u) now number undated goes ends s = record {
+pub job_stands : (p : Plot) (j : Job) (mid : Execution) (done : Result (Unit {0}) End) (now : List Entry) → j.number ≡ p.setting.number → j.paths.output ≡ p.ask.output
+    → (facts p).task.times.interrupt ≡ false → IfOk done (λ u. (j.run ≡ mid) × (j.outcome ≡ None)) → IfErr done (λ e. is_some j.outcome ≡ true)
+    → IfErr done (λ e. IfSome j.outcome (Answers j.paths.output e)) → StandsOrEnds p j.number mid done now → JobStands p j now
+job_stands p j mid (Ok u) now number output undated goes ends answers s = record {
   number_is = number;
+  output_is = output;
   undated = undated;
   runs = λ e. subst (λ (x : Execution). Stands p j.number x now) (sym goes.0) s;
-  ended = λ e. absurd (true≢false (sym e ∙ ap (λ (a : Option Answer). is_some a) goes.1));
+  ended = λ a is. (let both : None ≡ Some a = sym goes.1 ∙ is in absurd (cc));
 }
-job_stands p j mid (Err k) now number undated goes ends s = record {
+job_stands p j mid (Err k) now number output undated goes ends answers s = record {
   number_is = number;
+  output_is = output;
   undated = undated;
   runs = λ e. absurd (true≢false (sym ends ∙ e));
-  ended = λ e. s;
+  ended = λ a is. s a (answer_of j.paths.output p.ask.output k j.outcome a output answers is);
 }
 
 -- a piece that was got for a job was got for its execution
@@ -187,13 +211,14 @@ told_clock p number x y ms now rest turns at u =
     subst (λ (v : Execution). Stands p number v now) (sym is) u.stands
 
 -- a job was told the moment of the last clock entry
-pub job_clocked : (p : Plot) (was now : Job) (ms : ℕ) (journal : List Entry) → now.number ≡ was.number → now.outcome ≡ was.outcome → now.run ≡ record was.run { clock = now.run.clock }
+pub job_clocked : (p : Plot) (was now : Job) (ms : ℕ) (journal : List Entry) → now.number ≡ was.number → now.paths.output ≡ was.paths.output → now.outcome ≡ was.outcome → now.run ≡ record was.run { clock = now.run.clock }
     → (was.run.clock ≤ ms → now.run.clock ≡ ms) → time journal ≡ ms → JobStandsUntold p was journal → JobStands p now journal
-job_clocked p was now ms journal number outcome rest turns at s = record {
+job_clocked p was now ms journal number output outcome rest turns at s = record {
   number_is = number ∙ s.number_is;
+  output_is = output ∙ s.output_is;
   undated = s.undated;
   runs = λ e.
       subst (λ n. Stands p n now.run journal) (sym number)
       (told_clock p was.number was.run now.run ms journal rest turns at (s.runs (ap (λ (a : Option Answer). is_some a) (sym outcome) ∙ e)));
-  ended = λ e. s.ended (ap (λ (a : Option Answer). is_some a) (sym outcome) ∙ e);
+  ended = λ a is. s.ended a (sym outcome ∙ is);
 }

@@ -1,8 +1,10 @@
 -- What messages that are heard make of the asking.
-use Rattle.std.proofs.Common.{◌≡◌, ℕ, zero, suc, ◌+◌, ◌<◌, arith, Bool, true, false, ◌||◌, List, [], ◌∷◌, ◌++◌, take, length, get_or, Result, Ok, Err, Option, Some, None, refl, sym, ap, subst, ◌∙◌}
+use Rattle.std.proofs.Common.{◌≡◌, ℕ, zero, suc, ◌+◌, ◌<◌, arith, Bool, true, false, ◌&&◌, ◌||◌, List, [], ◌∷◌, ◌++◌, take, length, get_or, Result, Ok, Err, Option, Some, None, refl, sym, ap, subst, ◌∙◌}
 use Rattle.std.specs.Prelude.{IfSome, OnOk, slice_get}
 use Rattle.std.proofs.Math.Seq.{take-suc}
+use Rattle.std.proofs.lemmas.Bool.{cond-false}
 use Rattle.std.proofs.lemmas.List.{map-append}
+use Rattle.jcontent.specs.declared.reply.ReplyIs.{ReplyIs}
 use Rattle.jmsg.specs.declared.message.Message.{Message}
 use Rattle.kernel_talk.specs.Asking.{Asked}
 use Rattle.kernel_talk.specs.Pinging.{after_echo}
@@ -14,7 +16,7 @@ use Rattle.job_journal.specs.Seen.{HasHeard, and_heard}
 use Rattle.job_run.specs.Heard.{AreContents, HearsOf, IsContent, Listens, arrivals_of, echoed}
 use Rattle.job_run.proofs.HeardLemmas.{heard_content}
 use Rattle.job_run.specs.Held.{Holds}
-use Rattle.job_run.specs.Used.{SameRequest, none, some}
+use Rattle.job_run.specs.Used.{NotesReply, SameRequest, none, noted_with, some}
 use Rattle.job_run.specs.declared.execution.Execution.{Execution}
 use Rattle.job_run.specs.declared.request.Request.{Request}
 
@@ -72,6 +74,13 @@ some_echo x (body ∷ bodies) none_not = refl
 pub same_request : (o : Option Request) → SameRequest o o
 same_request None = none
 same_request (Some r) = some refl refl refl
+
+-- where a reply isn't taken, or doesn't stop the run, what is noted stays
+pub notes_still : (takes fatal : Bool) (rep : ReplyIs) (o : Option Request) → (takes && fatal) ≡ false → NotesReply takes fatal rep o o
+notes_still takes fatal rep o off = λ r s is at.
+    let both : Some r ≡ Some s = sym is ∙ at in
+    let same : s ≡ r = cc in
+    ap (λ (v : Request). v.error) same ∙ sym (cond-false (takes && fatal) (noted_with rep r.error) r.error off)
 
 -- ---- what follows of a call that succeeded
 

@@ -1,12 +1,12 @@
 -- One message of a piece, and what the core's answer to it makes of what an execution stands for.
-use Rattle.std.proofs.Common.{◌≡◌, ◌≢◌, ◌⊎◌, inl, inr, ℕ, zero, suc, ◌+◌, ◌<◌, ◌≤◌, ◌==◌, arith, Bool, true, false, ◌&&◌, not, List, [], ◌∷◌, ◌++◌, length, take, drop, get_or, Option, Some, None, Result, Ok, Err, refl, sym, ◌∙◌, ap, subst}
-use Rattle.std.specs.Prelude.{if◌then◌else◌, slice_get}
+use Rattle.std.proofs.Common.{◌≡◌, ◌≢◌, ◌⊎◌, inl, inr, ℕ, zero, suc, ◌+◌, ◌<◌, ◌≤◌, ◌==◌, arith, Bool, true, false, ◌&&◌, List, [], ◌∷◌, ◌++◌, length, take, drop, get_or, Option, Some, None, Result, Ok, Err, refl, sym, ◌∙◌, ap, subst}
+use Rattle.std.specs.Prelude.{if◌then◌else◌}
 use Rattle.std.specs.Result.{IsErrAnd}
 use Rattle.std.proofs.Math.Bool.{true≢false}
 use Rattle.std.proofs.Math.ListN.{drop_of_length-le}
 use Rattle.std.proofs.Math.Seq.{drop-cons}
 use Rattle.std.proofs.lemmas.Bool.{and_parts, cases_Bool, eqb-true}
-use Rattle.std.proofs.lemmas.List.{length-map}
+use Rattle.std.proofs.lemmas.List.{append-nil, length-map}
 use Rattle.world.specs.declared.chan.Chan.{Chan}
 use Rattle.world.specs.declared.chan.Chan.TheVariants.{Shell, Control, Iopub, Heart}
 use Rattle.world.specs.declared.entry.Entry.{Entry}
@@ -17,11 +17,10 @@ use Rattle.jcontent.specs.declared.reply.ReplyIs.{ReplyIs}
 use Rattle.cell_core.specs.declared.act.Act.{Act}
 use Rattle.cell_core.specs.declared.act.Act.TheVariants.{Nothing, Save}
 use Rattle.cell_core.specs.declared.event.Event.{Event}
-use Rattle.cell_core.specs.declared.event.Event.TheVariants.{Io, Reply}
+use Rattle.cell_core.specs.declared.event.Event.TheVariants.{Io}
 use Rattle.cell_core.specs.declared.machine.Core.{Core}
 use Rattle.cell_core.specs.declared.step.Step.{Step}
 use Rattle.cell_core.specs.Acts.{IsTimely, act_of, takes_of, has_stopped, heard}
-use Rattle.cell_core.specs.Allowed.{is_allowed}
 use Rattle.cell_core.specs.Answering.{is_message, save_at_end}
 use Rattle.cell_core.specs.Events.{is_saved}
 use Rattle.cell_core.specs.Requests.{Standing, standing}
@@ -31,24 +30,24 @@ use Rattle.cell_core.proofs.Answering.{messages_end}
 use Rattle.nb_model.specs.declared.notebook.Notebook.{Notebook}
 use Rattle.out_fold.specs.Cells as cells
 use Rattle.job_end.specs.declared.end.End.{End}
+use Rattle.job_end.specs.declared.end.End.TheVariants.{NoMemory}
 use Rattle.job_notebook.specs.declared.notebook.JobNotebook.{JobNotebook}
 use Rattle.job_notebook.specs.State.{Keeps, KeepsParts}
-use Rattle.run_journal.specs.Asked.{may_raise, stops_run}
 use Rattle.run_journal.specs.Arrivals.{arrive}
 use Rattle.run_journal.specs.Codec.{Arrival}
 use Rattle.run_journal.specs.Course.{brief_of}
 use Rattle.run_journal.specs.Job.{Job}
 use Rattle.run_journal.specs.Jupyter.{arrival_of}
-use Rattle.run_journal.specs.Requests.{Request as Asked, goes_on as goes_with, is_exec_reply, last_request, requests}
-use Rattle.job_journal.specs.Piece.{RepliesBy, TakesBy, Within, has_ended, is_of}
+use Rattle.run_journal.specs.Requests.{Request as Asked, goes_on as goes_with, is_exec_reply, requests}
+use Rattle.job_journal.specs.Piece.{TakesBy, Within, has_ended, is_of, on_shell}
 use Rattle.job_journal.specs.Plot.{Plot, IsFor, facts, first}
 use Rattle.job_journal.specs.Saved.{IsAsked}
 use Rattle.job_journal.specs.Standing.{HasEndedAs, Parts, StandsBy}
 use Rattle.job_journal.specs.Told.{AgreesBut, Hears, is_stop}
-use Rattle.job_journal.specs.Used.{OnBook, OnRequest, Sent, last, so_far}
+use Rattle.job_journal.specs.Used.{OnBook, so_far}
 use Rattle.job_journal.proofs.Books.{book_ends, none_anew, request_stays}
 use Rattle.job_journal.proofs.Ending.{ends_standing, ends_within}
-use Rattle.job_journal.proofs.Messages.{io_all, io_ends, io_goes_on, io_other, reply_ends, reply_goes_on, shell_all, shell_other}
+use Rattle.job_journal.proofs.Messages.{io_all, io_ends, io_goes_on, io_other, shell_all, shell_other}
 use Rattle.job_journal.proofs.Pieces.{piece_facts}
 use Rattle.job_journal.proofs.Plots.{for_still}
 use Rattle.job_journal.proofs.Saving.{asked_save}
@@ -56,9 +55,11 @@ use Rattle.job_journal.proofs.Steps.{hears_next}
 use Rattle.job_run.specs.declared.execution.Execution.{Execution}
 use Rattle.job_run.specs.declared.request.Request.{Request}
 use Rattle.job_run.specs.Heard.{arrivals_of, is_of as is_of_message, is_parent_of}
+use Rattle.job_run.proofs.EndLemmas.{starved_so}
 use Rattle.job_run.proofs.ListenLemmas.{arrivals_more, one_more}
-use Rattle.job_run.specs.Standing.{DoesAct, IsAskedFor, IsOwn, IsToSave, MovesOn, Stands, StandsOrEnds, StaysStill, Uses, UsesOrEnds, all_used, open_request, parts_of, sent_of}
-use Rattle.job_run.specs.Used.{SameRequest, TakesEvent, UsesMessage, UsesReply, brief_in, is_tagged_in, none, some}
+use Rattle.job_run.proofs.NotedLemmas.{noted_all, noted_passes}
+use Rattle.job_run.specs.Standing.{DoesAct, EndsSo, IsAskedFor, IsOwn, IsToSave, MovesOn, NotesSoFar, Stands, StandsOrEnds, StaysStill, Uses, UsesOrEnds, all_used, open_request, parts_of, sent_of}
+use Rattle.job_run.specs.Used.{TakesEvent, UsesMessage, brief_in}
 
 -- ---- the act at a message
 
@@ -106,18 +107,18 @@ module _ (p : Plot) (core next : Core) (e : Event) (answer : Step) (told : List 
 
 -- What is dealt with by a message: the request goes on, and nothing is to be done; or it is over, and its save is to be made.
 pub data IsDealt (p : Plot) (number : ℕ) (z : Execution) (c : Chan) (done rest : List Arrival) (entry : Entry) (past : List Entry) : Act → Type 0 where
-  goes_on : Within p number (parts_of z) c done rest entry past → IsDealt p number z c done rest entry past Nothing
+  goes_on : Within p number (parts_of z) c done rest entry past → NotesSoFar (facts p) z.request c done past → IsDealt p number z c done rest entry past Nothing
   saves : (settled : ℕ) → IsToSave p number z settled (entry ∷ past) → IsDealt p number z c done rest entry past (Save settled)
 
 -- by whether the request is over with it
-dealt : (p : Plot) (number : ℕ) (z : Execution) (c : Chan) (done rest : List Arrival) (entry : Entry) (past : List Entry) (o : Option Standing) (act : Act) → act ≡ save_at_end (facts p).task o
-    → (has_ended o ≡ false → Within p number (parts_of z) c done rest entry past) → (has_ended o ≡ true → (settled : ℕ) → act ≡ Save settled → IsToSave p number z settled (entry ∷ past))
-    → IsDealt p number z c done rest entry past act
-dealt p number z c done rest entry past o act act_is on over = elim (cases_Bool (has_ended o)) [
+pub dealt : (p : Plot) (number : ℕ) (z : Execution) (c : Chan) (done rest : List Arrival) (entry : Entry) (past : List Entry) (o : Option Standing) (act : Act) → act ≡ save_at_end (facts p).task o
+    → NotesSoFar (facts p) z.request c done past → (has_ended o ≡ false → Within p number (parts_of z) c done rest entry past)
+    → (has_ended o ≡ true → (settled : ℕ) → act ≡ Save settled → IsToSave p number z settled (entry ∷ past)) → IsDealt p number z c done rest entry past act
+dealt p number z c done rest entry past o act act_is noted on over = elim (cases_Bool (has_ended o)) [
   | inl t ↦
       let s = over_act (facts p).task o t in
       subst (IsDealt p number z c done rest entry past) (sym (act_is ∙ s.1)) (saves s.0 (over t s.0 (act_is ∙ s.1)))
-  | inr f ↦ subst (IsDealt p number z c done rest entry past) (sym (act_is ∙ open_act (facts p).task o f)) (goes_on (on f))
+  | inr f ↦ subst (IsDealt p number z c done rest entry past) (sym (act_is ∙ open_act (facts p).task o f)) (goes_on (on f) noted)
 ]
 
 -- the request that stood when the piece came isn't the one that stands
@@ -126,30 +127,34 @@ left_by z y before same (inl gone) = inl gone
 left_by z y before same (inr one) = inr (λ e. omega (arith, e, one, same))
 
 -- the act that answers a message is done
-dealt_does : {U : Type 0} (p : Plot) (number : ℕ) (z y : Execution) (standing : ℕ) (c : Chan) (done rest : List Arrival) (entry : Entry) (past after : List Entry) (r : Result U End) (act : Act)
+pub dealt_does : {U : Type 0} (p : Plot) (number : ℕ) (z y : Execution) (standing : ℕ) (c : Chan) (done rest : List Arrival) (entry : Entry) (past after : List Entry) (r : Result U End) (act : Act)
     → IsDealt p number z c done rest entry past act → z.sent ≡ standing → IsAskedFor p z → DoesAct p number z act y r (entry ∷ past) after
     → (act ≡ Nothing → StaysStill z y r) → (act ≡ Nothing → after ≡ entry ∷ past) → UsesOrEnds p number y r standing c done rest after
-dealt_does p number z y standing c done rest entry past after (Ok u) act (goes_on w) same asked does still journal =
-    subst (λ k. Uses p number k standing c done rest after) (sym (still refl).same) (subst (Uses p number z standing c done rest) (sym (journal refl)) (open_request same w asked))
-dealt_does p number z y standing c done rest entry past after (Err e) act (goes_on w) same asked does still journal = absurd (still refl).no_end
+dealt_does p number z y standing c done rest entry past after (Ok u) act (goes_on w noted) same asked does still journal =
+    subst (λ k. Uses p number k standing c done rest after) (sym (still refl).same) (subst (Uses p number z standing c done rest) (sym (journal refl)) (open_request same w asked noted))
+dealt_does p number z y standing c done rest entry past after (Err e) act (goes_on w noted) same asked does still journal = absurd (still refl).no_end
 dealt_does p number z y standing c done rest entry past after (Ok u) act (saves settled t) same asked does still journal =
     let d = does t in all_used d.0 (left_by z y standing same (d.1 refl))
 dealt_does p number z y standing c done rest entry past after (Err e) act (saves settled t) same asked does still journal = (does t).0
 
 -- wherever a job ends in the midst of a piece, the saves that were made are the first that are due
-pub uses_end : (p : Plot) (number : ℕ) (x : Execution) (standing : ℕ) (c : Chan) (done rest : List Arrival) (now : List Entry) → Uses p number x standing c done rest now → HasEndedAs p now
-uses_end p number x standing c done rest now (open_request {entry} {past} same w asked) = ends_within p number (parts_of x) c done rest entry past w
+uses_end : (p : Plot) (number : ℕ) (x : Execution) (standing : ℕ) (c : Chan) (done rest : List Arrival) (now : List Entry) → Uses p number x standing c done rest now → HasEndedAs p now
+uses_end p number x standing c done rest now (open_request {entry} {past} same w asked noted) = ends_within p number (parts_of x) c done rest entry past w
 uses_end p number x standing c done rest now (all_used s left) = ends_standing p number (parts_of x) [] [] now s.parts
 
+-- so it ends for want of memory
+pub uses_starved : (p : Plot) (number : ℕ) (x : Execution) (standing : ℕ) (c : Chan) (done rest : List Arrival) (now : List Entry) → Uses p number x standing c done rest now → EndsSo p NoMemory now
+uses_starved p number x standing c done rest now u = starved_so p now (uses_end p number x standing c done rest now u)
+
 -- a message is of the request that stands, by its parts
-parent_is : (o : Option Request) (parent : Option (List ℕ)) → is_of (sent_of o) parent ≡ is_parent_of o parent
+pub parent_is : (o : Option Request) (parent : Option (List ℕ)) → is_of (sent_of o) parent ≡ is_parent_of o parent
 parent_is None parent = refl
 parent_is (Some r) None = refl
 parent_is (Some r) (Some id) = refl
 
 -- a message of the request that stands is no message of another
 module _ (m : Arrival) (standing : ℕ) (content : Content) (date : Option (List ℕ)) (x : Execution) (own : IsOwn m standing content date x) where
-  own_left : (x.request ≡ None) ⊎ (x.sent ≢ standing) → ⊥
+  pub own_left : (x.request ≡ None) ⊎ (x.sent ≢ standing) → ⊥
   own_left (inl gone) = true≢false (sym own.parent ∙ ap (λ o. is_parent_of o m.parent) gone)
   own_left (inr other) = other own.sent
 
@@ -175,7 +180,8 @@ module _ (p : Plot) (number : ℕ) (x : Execution) (standing_then : ℕ) (done r
   taken : TakesEvent e answer x.core core
   taken = subst (λ (v : Content). TakesEvent (Io (brief_in v)) answer x.core core) own.content_is took
 
-  module _ (entry : Entry) (past : List Entry) (w : Within p number (parts_of x) Iopub done (m ∷ rest) entry past) (asked : IsAskedFor p x) where
+  module _ (entry : Entry) (past : List Entry) (w : Within p number (parts_of x) Iopub done (m ∷ rest) entry past) (asked : IsAskedFor p x)
+      (noted : NotesSoFar (facts p) x.request Iopub done past) where
     abbrev told : List Event
     told = w.core.told
 
@@ -204,135 +210,27 @@ module _ (p : Plot) (number : ℕ) (x : Execution) (standing_then : ℕ) (done r
     over t settled is =
         let two = io_ends p number (parts_of x) m done rest entry past w core book answer.takes mine is_for hears takes_is used t in
         record {
-          stands = record { parts = two.0; asked = record { terms = asked.terms; tagged = asked.tagged } };
+          stands = record {
+            parts = two.0;
+            asked = record { terms = asked.terms; tagged = asked.tagged };
+            noted = noted_all p number (parts_of x) Iopub done (m ∷ rest) entry past w x.request done refl noted;
+          };
           due = subst (λ es. IsAsked (facts p).task es settled) (sym two.1) (asked_save (facts p) told e settled w.core.hears.goes_on (sym answered ∙ is));
         }
 
     io_dealt : IsDealt p number z Iopub (done ++ m ∷ []) rest entry past answer.act
     io_dealt =
-        dealt p number z Iopub (done ++ m ∷ []) rest entry past (standing (facts p).task (e ∷ told)) answer.act act_is
+        dealt p number z Iopub (done ++ m ∷ []) rest entry past (standing (facts p).task (e ∷ told)) answer.act act_is noted
         (λ off. io_goes_on p number (parts_of x) m done rest entry past w core book answer.takes mine is_for hears takes_is used off) over
 
   -- it is dealt with, and what it asks for is done
   pub io_deals : {U : Type 0} (r : Result U End) (y : Execution) (before after : List Entry) → DoesAct p number z answer.act y r before after
       → (answer.act ≡ Nothing → StaysStill z y r) → (answer.act ≡ Nothing → after ≡ before) → Uses p number x standing_then Iopub done (m ∷ rest) before
       → UsesOrEnds p number y r standing_then Iopub (done ++ m ∷ []) rest after
-  io_deals r y before after does stays journal (open_request {entry} {past} same w asked) =
-      dealt_does p number z y standing_then Iopub (done ++ m ∷ []) rest entry past after r answer.act (io_dealt entry past w asked) same (record { terms = asked.terms; tagged = asked.tagged })
+  io_deals r y before after does stays journal (open_request {entry} {past} same w asked noted) =
+      dealt_does p number z y standing_then Iopub (done ++ m ∷ []) rest entry past after r answer.act (io_dealt entry past w asked noted) same (record { terms = asked.terms; tagged = asked.tagged })
       does stays journal
   io_deals r y before after does stays journal (all_used s left) = absurd (own_left m standing_then content date x own left)
-
--- ---- a reply on shell
-
-replies_by : (takes : Bool) (date : Option (List ℕ)) (given : Notebook) (old new : JobNotebook) (m : Arrival) → date ≡ m.date → (takes ≡ false → new ≡ old)
-    → UsesReply takes date old new → RepliesBy takes given old new m
-replies_by true date given old new m date_is still uses = λ us u k. subst (λ d. Keeps new given (us ++ cells.with_reply u d ∷ [])) date_is (uses given us u k)
-replies_by false date given old new m date_is still uses = still refl
-
-same_sent : (o q : Option Request) → SameRequest o q → sent_of q ≡ sent_of o
-same_sent o q none = refl
-same_sent o q (some {r} {s} id cell tagged) = ap (λ i. Some (record { id = i; cell = s.cell })) id ∙ ap (λ i. Some (record { id = r.id; cell = i })) cell
-
-same_tag : (n : Notebook) (o q : Option Request) → SameRequest o q → ((r : Request) → o ≡ Some r → r.is_tagged ≡ may_raise (slice_get n.cells r.cell))
-    → (s : Request) → q ≡ Some s → s.is_tagged ≡ may_raise (slice_get n.cells s.cell)
-same_tag n o q none tag v e = absurd (cc)
-same_tag n o q (some {r} {s} id cell tagged) tag v e =
-    let same : s ≡ v = cc in
-    subst (λ (u : Request). u.is_tagged ≡ may_raise (slice_get n.cells u.cell)) same (tagged ∙ tag r refl ∙ ap (λ i. may_raise (slice_get n.cells i)) (sym cell))
-
-same_place : (i k : ℕ) (s r : Asked) (o : Option (ℕ × Asked)) → o ≡ Some (i, s) → o ≡ Some (k, r) → i ≡ k
-same_place i k s r o f g =
-    let whole : Some (i, s) ≡ Some (k, r) = sym f ∙ g in
-    let both : (i, s) ≡ (k, r) = cc in
-    ap (λ (q : ℕ × Asked). q.0) both
-
-cell_known : (j : Job) (sent : Sent) (rs : List Asked) (k : ℕ) (r : Asked) → OnRequest j (Some sent) rs → last_request 0 rs ≡ Some (k, r) → sent.cell ≡ cell_of j.task k
-cell_known j sent rs k r (last i s f id cell) is = cell ∙ ap (cell_of j.task) (same_place i k s r (last_request 0 rs) f is)
-
-tag_known : (p : Plot) (o : Option Request) (rs : List Asked) (k : ℕ) (r : Asked) (parent : Option (List ℕ)) → OnRequest (facts p) (sent_of o) rs → last_request 0 rs ≡ Some (k, r)
-    → ((q : Request) → o ≡ Some q → q.is_tagged ≡ may_raise (slice_get p.given.cells q.cell)) → is_parent_of o parent ≡ true
-    → is_tagged_in o ≡ may_raise (slice_get p.given.cells (cell_of (facts p).task k))
-tag_known p None rs k r parent on is tag own = absurd (true≢false (sym own))
-tag_known p (Some q) rs k r parent on is tag own = tag q refl ∙ ap (λ i. may_raise (slice_get p.given.cells i)) (cell_known (facts p) (record { id = q.id; cell = q.cell }) rs k r on is)
-
-module _ (p : Plot) (number : ℕ) (x : Execution) (standing_then : ℕ) (done rest : List Arrival) (m : Arrival) (reply : ReplyIs) (fatal : Bool) (date : Option (List ℕ))
-    (own : IsOwn m standing_then (ExecReply reply) date x) (fatal_is : fatal ≡ not (is_allowed reply x.terms.all_errors x.terms.names (is_tagged_in x.request)))
-    (core : Core) (answer : Step) (book : JobNotebook) (request : Option Request) (took : TakesEvent (Reply fatal) answer x.core core)
-    (calm : awaits_saved_of x.core ≡ false) (parts : KeepsParts x.book book) (still : answer.takes ≡ false → book ≡ x.book)
-    (uses : UsesReply answer.takes date x.book book) (kept : SameRequest x.request request) where
-  abbrev replied : Execution
-  replied = record x { core = core; book = book; request = request }
-
-  parts_are : parts_of replied ≡ record (parts_of x) { core = core; book = book }
-  parts_are = ap (λ (s : Option Sent). record (parts_of x) { core = core; book = book; request = s }) (same_sent x.request request kept)
-
-  module _ (entry : Entry) (past : List Entry) (w : Within p number (parts_of x) Shell done (m ∷ rest) entry past) (asked : IsAskedFor p x) where
-    abbrev told_before : List Event
-    told_before = w.core.told
-
-    abbrev reply_told : Event
-    reply_told = Reply ((facts p).fatal w.k m.content)
-
-    tag_is : is_tagged_in x.request ≡ may_raise (slice_get p.given.cells (cell_of (facts p).task w.k))
-    tag_is = tag_known p x.request (requests (facts p) past) w.k w.r m.parent w.request w.last asked.tagged own.parent
-
-    fatal_known : fatal ≡ (facts p).fatal w.k m.content
-    fatal_known =
-        fatal_is
-        ∙ ap (λ b. not (is_allowed reply b x.terms.names (is_tagged_in x.request))) asked.terms.errors
-        ∙ ap (λ names. not (is_allowed reply p.ask.all_errors names (is_tagged_in x.request))) asked.terms.names
-        ∙ ap (λ b. not (is_allowed reply p.ask.all_errors p.ask.names b)) tag_is
-        ∙ ap (λ (v : Content). stops_run p.ask (may_raise (slice_get p.given.cells (cell_of (facts p).task w.k))) v) own.content_is
-
-    reply_taken : TakesEvent reply_told answer x.core core
-    reply_taken = subst (λ b. TakesEvent (Reply b) answer x.core core) fatal_known took
-
-    reply_act : answer.act ≡ save_at_end (facts p).task (standing (facts p).task (reply_told ∷ told_before))
-    reply_act = message_act p x.core core reply_told answer told_before w.core.hears w.is_for.task_is calm refl refl (λ task. tt) reply_taken
-
-    reply_answered : answer.act ≡ act_of (facts p).task reply_told told_before
-    reply_answered = message_answer p x.core core reply_told answer told_before w.core.hears w.is_for.task_is calm refl refl (λ task. tt) reply_taken
-
-    reply_takes : answer.takes ≡ takes_of (facts p).task reply_told told_before
-    reply_takes = message_takes p x.core core reply_told answer told_before w.core.hears w.is_for.task_is calm refl refl (λ task. tt) reply_taken
-
-    reply_heard : Hears (facts p) core (reply_told ∷ told_before)
-    reply_heard = message_heard p x.core core reply_told answer told_before w.core.hears w.is_for.task_is calm refl refl (λ task. tt) reply_taken
-
-    reply_for : IsFor p number x.session core book
-    reply_for = for_still p number x.session x.session x.core core x.book book w.is_for refl refl took.same parts.output parts.merge
-
-    reply_used : RepliesBy answer.takes (first p) x.book book m
-    reply_used = replies_by answer.takes date (first p) x.book book m own.date_is still uses
-
-    reply_mine : (is_exec_reply m.content && is_of (sent_of x.request) m.parent) ≡ true
-    reply_mine = ap (λ (v : Content). is_exec_reply v && is_of (sent_of x.request) m.parent) (sym own.content_is) ∙ parent_is x.request m.parent ∙ own.parent
-
-    abbrev asked_then : IsAskedFor p replied
-    asked_then = record { terms = asked.terms; tagged = same_tag p.given x.request request kept asked.tagged }
-
-    reply_over : has_ended (standing (facts p).task (reply_told ∷ told_before)) ≡ true → (settled : ℕ) → answer.act ≡ Save settled → IsToSave p number replied settled (entry ∷ past)
-    reply_over t settled is =
-        let two = reply_ends p number (parts_of x) m done rest entry past w core book answer.takes reply_mine reply_for reply_heard reply_takes reply_used t in
-        let asks = subst (λ es. IsAsked (facts p).task es settled) (sym two.1) (asked_save (facts p) told_before reply_told settled w.core.hears.goes_on (sym reply_answered ∙ is)) in
-        let both : (s : StandsBy p number (parts_of replied) [] [] (entry ∷ past)) × IsAsked (facts p).task s.core.told settled
-        = subst (λ (q : Parts). (s : StandsBy p number q [] [] (entry ∷ past)) × IsAsked (facts p).task s.core.told settled) (sym parts_are) (two.0, asks) in
-        record { stands = record { parts = both.0; asked = asked_then }; due = both.1 }
-
-    reply_dealt : IsDealt p number replied Shell (done ++ m ∷ []) rest entry past answer.act
-    reply_dealt =
-        dealt p number replied Shell (done ++ m ∷ []) rest entry past (standing (facts p).task (reply_told ∷ told_before)) answer.act reply_act
-        (λ off.
-        subst (λ (q : Parts). Within p number q Shell (done ++ m ∷ []) rest entry past) (sym parts_are)
-        (reply_goes_on p number (parts_of x) m done rest entry past w core book answer.takes reply_mine reply_for reply_heard reply_takes reply_used off)) reply_over
-
-  -- it is dealt with, and what it asks for is done
-  pub reply_deals : {U : Type 0} (r : Result U End) (y : Execution) (before after : List Entry) → DoesAct p number replied answer.act y r before after
-      → (answer.act ≡ Nothing → StaysStill replied y r) → (answer.act ≡ Nothing → after ≡ before) → Uses p number x standing_then Shell done (m ∷ rest) before
-      → UsesOrEnds p number y r standing_then Shell (done ++ m ∷ []) rest after
-  reply_deals r y before after does stays journal (open_request {entry} {past} same w asked) =
-      dealt_does p number replied y standing_then Shell (done ++ m ∷ []) rest entry past after r answer.act (reply_dealt entry past w asked) same (asked_then entry past w asked) does stays journal
-  reply_deals r y before after does stays journal (all_used s left) = absurd (own_left m standing_then (ExecReply reply) date x own left)
 
 -- ---- messages that aren't used
 
@@ -416,10 +314,11 @@ pub passes_over : (p : Plot) (number : ℕ) (x : Execution) (standing_then : ℕ
     → (x.sent ≡ standing_then → c ≡ Iopub → is_parent_of x.request m.parent ≡ false)
     → (x.sent ≡ standing_then → c ≡ Shell → (is_exec_reply m.content && is_parent_of x.request m.parent) ≡ false)
     → Uses p number x standing_then c done (m ∷ rest) now → Uses p number x standing_then c (done ++ m ∷ []) rest now
-passes_over p number x standing_then c done rest m now i s (open_request {entry} {past} same w asked) =
+passes_over p number x standing_then c done rest m now i s (open_request {entry} {past} same w asked noted) =
     open_request same
     (passes p number (parts_of x) c done rest m entry past (λ on. parent_is x.request m.parent ∙ i same on)
     (λ on. ap (λ b. is_exec_reply m.content && b) (parent_is x.request m.parent) ∙ s same on) w) asked
+    (noted_passes p number (parts_of x) c done rest m entry past x.request (λ on. ap (λ b. is_exec_reply m.content && b) (parent_is x.request m.parent) ∙ s same on) w noted)
 passes_over p number x standing_then c done rest m now i s (all_used stands left) = all_used stands left
 
 -- one that isn't of the request that stood
@@ -464,7 +363,11 @@ all_within p number q Heart done entry past w = silent_all p number q Heart done
 
 -- once all messages were dealt with the execution stands for the journal
 pub uses_all : (p : Plot) (number : ℕ) (x : Execution) (standing_then : ℕ) (c : Chan) (done : List Arrival) (now : List Entry) → Uses p number x standing_then c done [] now → Stands p number x now
-uses_all p number x standing_then c done now (open_request {entry} {past} same w asked) = record { parts = all_within p number (parts_of x) c done entry past w; asked = asked }
+uses_all p number x standing_then c done now (open_request {entry} {past} same w asked noted) = record {
+  parts = all_within p number (parts_of x) c done entry past w;
+  asked = asked;
+  noted = noted_all p number (parts_of x) c done [] entry past w x.request done (ap (on_shell c) (append-nil done)) noted;
+}
 uses_all p number x standing_then c done now (all_used s left) = s
 
 -- by how the job goes on
@@ -475,9 +378,9 @@ uses_all_or_ends p number x (Err e) standing_then c done now h = h
 
 -- the job has ended, and that is passed on
 pub uses_ended : {U : Type 0} (p : Plot) (number : ℕ) (x : Execution) (r : Result U End) (k : End) (standing_then : ℕ) (c : Chan) (done rest : List Arrival) (now : List Entry) → IsErrAnd r (λ e. e ≡ k)
-    → HasEndedAs p now → UsesOrEnds p number x r standing_then c done rest now
+    → EndsSo p k now → UsesOrEnds p number x r standing_then c done rest now
 uses_ended p number x (Ok u) k standing_then c done rest now is h = absurd is
-uses_ended p number x (Err e) k standing_then c done rest now is h = h
+uses_ended p number x (Err e) k standing_then c done rest now is h = subst (λ (v : End). EndsSo p v now) (sym is) h
 
 -- ---- messages, one after another
 

@@ -12,6 +12,7 @@ use Rattle.kernel_lines.specs.Line.{StandsFor, role_of}
 use Rattle.kernel_lines.specs.Lines.{OthersStay, line_on}
 use Rattle.kernel_lines.specs.declared.lines.Lines.{Lines}
 use Rattle.jmsg.specs.declared.message.Message.{Message}
+use Rattle.job_end.specs.declared.end.End.TheVariants.{NoMemory}
 use Rattle.kernel_talk.specs.Asking.{Asked}
 use Rattle.kernel_talk.specs.Pinging.{Pinged, after_echo}
 use Rattle.run_journal.specs.Jupyter.{bodies_in}
@@ -33,7 +34,8 @@ use Rattle.job_journal.proofs.Pieces.{piece_facts, piece_keeps_made}
 use Rattle.job_run.specs.declared.execution.Execution.{Execution}
 use Rattle.job_run.specs.declared.histories.Histories.{Histories}
 use Rattle.job_run.specs.Heard.{HearsAll, HearsOn, Listens, arrivals_of, echoed}
-use Rattle.job_run.specs.Standing.{HasFed, HasListened, IsGot, parts_of}
+use Rattle.job_run.specs.Standing.{EndsSo, HasFed, HasListened, IsGot, parts_of}
+use Rattle.job_run.proofs.EndLemmas.{starved_so}
 
 module _ (p : Plot) (number : ℕ) (x : Execution) (c : Chan) (bodies : List (List (List ℕ))) (ms : List Message) (now : List Entry) (f : HasFed p number x c bodies now) where
   key_is : x.session.key ≡ p.setting.key
@@ -80,6 +82,7 @@ module _ (p : Plot) (number : ℕ) (x : Execution) (c : Chan) (bodies : List (Li
       is = f.is;
       parts = has_come p number f.before (parts_of z) f.conn f.room f.bytes (arrivals_of ms) f.past f.stands brings c f.at (receives hears);
       asked = record { terms = f.asked.terms; tagged = f.asked.tagged };
+      noted = f.noted;
     }
 
 -- by its channel
@@ -118,7 +121,7 @@ pub heard_on : (p : Plot) (number : ℕ) (x y : Execution) (c : Chan) (bodies : 
     → (f : HasFed p number x c bodies now) → HearsOn c bodies x y ms → HasListened p number y c (arrivals_of ms) now
 heard_on p number x y c bodies ms now l f h = heard_by p number x y c bodies ms now brought l f h
 
--- ---- where a job ends at a piece
+-- ---- where a job ends at a piece for want of memory
 
 -- the saves that were made are the first that are due
 piece_ends : (p : Plot) (c : Chan) (entry : Entry) (past : List Entry) → IsPiece (facts p) c entry
@@ -129,11 +132,11 @@ piece_ends p c entry past at made =
     let kept = piece_keeps_made j entry past (piece_facts j c past at) made in
     record { cause = None; count = saves_of j now; made = (made_grows j (saves_of j now) (requests j now) (requests j now) now (go_self (requests j now)) kept).1 None }
 
-pub got_ends : (p : Plot) (number : ℕ) (x : Execution) (c : Chan) (bytes : List ℕ) (now : List Entry) → IsGot p number x c bytes now → HasEndedAs p now
-got_ends p number x c bytes now g = subst (HasEndedAs p) (sym g.is) (piece_ends p c (Got g.conn g.room bytes) g.past (piece.piece g.at) g.stands.parts.made)
+pub got_ends : (p : Plot) (number : ℕ) (x : Execution) (c : Chan) (bytes : List ℕ) (now : List Entry) → IsGot p number x c bytes now → EndsSo p NoMemory now
+got_ends p number x c bytes now g = starved_so p now (subst (HasEndedAs p) (sym g.is) (piece_ends p c (Got g.conn g.room bytes) g.past (piece.piece g.at) g.stands.parts.made))
 
-pub fed_ends : (p : Plot) (number : ℕ) (x : Execution) (c : Chan) (bodies : List (List (List ℕ))) (now : List Entry) → HasFed p number x c bodies now → HasEndedAs p now
-fed_ends p number x c bodies now f = subst (HasEndedAs p) (sym f.is) (piece_ends p c (Got f.conn f.room f.bytes) f.past (piece.piece f.at) f.stands.made)
+pub fed_ends : (p : Plot) (number : ℕ) (x : Execution) (c : Chan) (bodies : List (List (List ℕ))) (now : List Entry) → HasFed p number x c bodies now → EndsSo p NoMemory now
+fed_ends p number x c bodies now f = starved_so p now (subst (HasEndedAs p) (sym f.is) (piece_ends p c (Got f.conn f.room f.bytes) f.past (piece.piece f.at) f.stands.made))
 
 -- ---- a piece is fed
 
@@ -147,6 +150,7 @@ has_fed p number x lines c bytes bodies answer now others role line brings g = r
   past = g.past;
   stands = g.stands.parts;
   asked = record { terms = g.stands.asked.terms; tagged = g.stands.asked.tagged };
+  noted = g.stands.noted;
   rest = refl;
   conn = g.conn;
   room = g.room;

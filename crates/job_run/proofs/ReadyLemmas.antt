@@ -23,22 +23,18 @@ use Rattle.run_journal.specs.Requests.{requests}
 use Rattle.run_journal.proofs.Hearing.{none_unready}
 use Rattle.job_journal.specs.Piece.{has_ended}
 use Rattle.job_journal.specs.Plot.{Plot, IsFor, facts}
-use Rattle.job_journal.specs.Standing.{HasEndedAs}
 use Rattle.job_journal.specs.Told.{Hears, is_stop}
-use Rattle.job_journal.proofs.Ending.{ends_coming}
-use Rattle.job_journal.proofs.Pieces.{none_waits, some_wait}
+use Rattle.job_journal.proofs.Pieces.{none_done, none_waits, some_wait}
 use Rattle.job_journal.proofs.Plots.{for_still}
 use Rattle.job_journal.proofs.Readying.{ready_sends, ready_waits, stays_so}
 use Rattle.job_journal.proofs.Steps.{hears_next}
 use Rattle.job_run.specs.declared.execution.Execution.{Execution}
 use Rattle.job_run.specs.declared.request.Request.{Request}
-use Rattle.job_run.specs.Standing.{DoesAct, HasListened, IsAskedFor, StandsTo, StaysStill, Uses, UsesOrEnds, all_used, open_request, parts_of, sent_of}
+use Rattle.job_run.specs.Standing.{DoesAct, HasListened, IsAskedFor, NotesErrorOf, NotesSoFar, StandsTo, StaysStill, Uses, UsesOrEnds, all_used, open_request, parts_of, sent_of}
 use Rattle.job_run.specs.Used.{TakesEvent}
 use Rattle.job_run.proofs.MessageLemmas.{left_by}
+use Rattle.job_run.proofs.NotedLemmas.{noted_none}
 use Rattle.job_run.proofs.SaveLemmas.{none_sent, unsent}
-
-pub listened_ends : (p : Plot) (number : ℕ) (x : Execution) (c : Chan) (ms : List Arrival) (now : List Entry) → HasListened p number x c ms now → HasEndedAs p now
-listened_ends p number x c ms now h = subst (HasEndedAs p) (sym h.is) (ends_coming p number (parts_of x) c ms h.entry h.past h.parts)
 
 -- ---- where the kernel doesn't become ready
 
@@ -67,11 +63,15 @@ module _ (p : Plot) (number : ℕ) (x : Execution) (c : Chan) (ms : List Arrival
   steady : (x.is_ready ≡ true) ⊎ (asking.is_ready x.asking ≡ false) → is_ready (facts p) (h.entry ∷ h.past) ≡ is_ready (facts p) h.past
   steady so = stays_so p number (parts_of x) c ms h.entry h.past h.parts so
 
+  -- before any of its messages
+  noted_first : NotesSoFar (facts p) x.request c [] h.past
+  noted_first = λ k q at. subst (NotesErrorOf (facts p) x.request k) (sym (none_done (facts p) c q h.past)) (h.noted k q at)
+
   by_request : (x.is_ready ≡ true) ⊎ (asking.is_ready x.asking ≡ false) → (o : Option Request) → x.request ≡ o → Uses p number x x.sent c [] ms (h.entry ∷ h.past)
   by_request so None e =
-      all_used (record { parts = none_waits p number (parts_of x) c ms h.entry h.past h.parts (steady so) (ap sent_of e); asked = h.asked }) (inl e)
+      all_used (record { parts = none_waits p number (parts_of x) c ms h.entry h.past h.parts (steady so) (ap sent_of e); asked = h.asked; noted = noted_none (facts p) x.request (requests (facts p) (h.entry ∷ h.past)) e }) (inl e)
   by_request so (Some r) e =
-      open_request refl (some_wait p number (parts_of x) c ms h.entry h.past h.parts (steady so) (record { id = r.id; cell = r.cell }) (ap sent_of e) unended) h.asked
+      open_request refl (some_wait p number (parts_of x) c ms h.entry h.past h.parts (steady so) (record { id = r.id; cell = r.cell }) (ap sent_of e) unended) h.asked noted_first
 
   pub unready_uses : (x.is_ready ≡ true) ⊎ (asking.is_ready x.asking ≡ false) → Uses p number x x.sent c [] ms now
   unready_uses so = subst (Uses p number x x.sent c [] ms) (sym h.is) (by_request so x.request refl)
@@ -111,6 +111,7 @@ module _ (p : Plot) (number : ℕ) (x : Execution) (c : Chan) (ms : List Arrival
     ready_by Nothing is = record {
       parts = ready_waits p number (parts_of x) c ms h.entry h.past h.parts unready answered core is_for (more (ap is_stop is)) Nothing (sym act_is ∙ is) refl;
       asked = asked;
+      noted = noted_none (facts p) x.request (requests (facts p) (h.entry ∷ h.past)) none_then;
     }
     ready_by (Send cell) is = record {
       parts = ready_sends p number (parts_of x) c ms h.entry h.past h.parts unready answered core is_for (more (ap is_stop is)) cell (sym act_is ∙ is);

@@ -35,6 +35,7 @@ use Rattle.job_notebook.specs.declared.notebook.JobNotebook.{JobNotebook}
 use Rattle.job_notebook.specs.State.{Keeps, merge_of, notebook_of, output_of}
 use Rattle.job_end.specs.declared.end.End.{End}
 use Rattle.job_end.specs.declared.end.End.TheVariants as end
+use Rattle.job_saves.specs.Course.{IsEndOfSave}
 use Rattle.job_saves.specs.Saving.{OnTried, SavesOrEnds}
 use Rattle.run_journal.specs.Agreement.{Agrees}
 use Rattle.run_journal.specs.Job.{Job}
@@ -48,17 +49,21 @@ use Rattle.job_journal.specs.Standing.{HasEndedAs, StandsBy}
 use Rattle.job_journal.specs.Starting.{is_ongoing}
 use Rattle.job_journal.specs.Told.{Hears, is_stop}
 use Rattle.job_journal.specs.Used.{OnBook, OnRequest, Sent, last}
-use Rattle.job_journal.proofs.Acking.{agrees_on, saved_ends, saved_sends, saved_waits, unnamed_going}
+use Rattle.job_journal.proofs.Acking.{agrees_on, requests_on, saved_sends, saved_waits, unnamed_going}
 use Rattle.job_journal.proofs.Again.{saves_again, unnamed_again}
+use Rattle.job_journal.proofs.Ended.{stopped_on, stops_by_save}
 use Rattle.job_journal.proofs.Ending.{ends_standing, failed_ends}
 use Rattle.job_journal.proofs.Plots.{for_still, text_is}
-use Rattle.job_journal.proofs.Quiet.{ended_on, refusal_quiet, sends_on, speech_quiet, stands_on}
+use Rattle.job_journal.proofs.Quiet.{refusal_quiet, sends_on, speech_quiet, stands_on}
 use Rattle.job_journal.proofs.Saving.{asked_save}
 use Rattle.job_journal.proofs.Steps.{hears_next}
 use Rattle.job_run.specs.declared.execution.Execution.{Execution}
 use Rattle.job_run.specs.declared.request.Request.{Request}
-use Rattle.job_run.specs.Standing.{IsAskedFor, IsToSave, StandsTo, parts_of, sent_of}
+use Rattle.job_run.specs.Standing.{EndsSo, IsAskedFor, IsToSave, NotesError, StandsTo, parts_of, sent_of}
 use Rattle.job_run.specs.Used.{TakesEvent}
+use Rattle.job_run.proofs.EndLemmas.{starved_so, uncaused_ends}
+use Rattle.job_run.proofs.NotedLemmas.{noted_none}
+use Rattle.job_run.proofs.StayLemmas.{is_final, requests_kept}
 
 -- ---- the kernel is started before any request
 
@@ -185,6 +190,15 @@ module _ (p : Plot) (number : ℕ) (x : Execution) (settled : ℕ) (before : Lis
           let few : length (requests j before) ≤ 0 = subst (λ n. length (requests j before) ≤ n) acks (few_requests j before).0 in
           unsent x.request (none_sent j (sent_of x.request) (requests j before) t.stands.parts.request (none_left (requests j before) few))
 
+      -- where the job is saved again or stops, the same requests stand
+      requests_behind : is_final answer.act ≡ true → requests (facts p) after ≡ requests (facts p) before
+      requests_behind final =
+          requests_on (facts p) mid after t.stands.parts.undated quiet
+          ∙ requests_kept p number (parts_of x) before t.stands.parts settled t.due (text_of (notebook_of book)) same_text mid saved awaited (ap is_final (sym act_is) ∙ final)
+
+      noted_behind : is_final answer.act ≡ true → NotesError (facts p) x.request (requests (facts p) after)
+      noted_behind final = subst (NotesError (facts p) x.request) (sym (requests_behind final)) t.stands.noted
+
       -- another save follows: the core has been told of this one
       module _ (n : ℕ) (is : answer.act ≡ Save n) where
         abbrev ongoing : Hears (facts p) next (Saved ∷ told)
@@ -223,6 +237,7 @@ module _ (p : Plot) (number : ℕ) (x : Execution) (settled : ℕ) (before : Lis
               clock = at_end.clock;
             };
             asked = asked;
+            noted = noted_behind (ap is_final is);
           };
           due = asked_save (facts p) told Saved n t.stands.parts.core.hears.goes_on (sym act_is ∙ is);
         }
@@ -237,6 +252,7 @@ module _ (p : Plot) (number : ℕ) (x : Execution) (settled : ℕ) (before : Lis
               (saved_waits p number (parts_of x) before t.stands.parts settled t.due (text_of (notebook_of book)) same_text mid saved next book is_for
               (kept_going Start is refl) (more (ap is_stop is)) Start (sym act_is ∙ is) refl);
           asked = asked;
+          noted = noted_none (facts p) x.request (requests (facts p) after) (none_yet is);
         },
         none_yet is,
       )
@@ -247,8 +263,12 @@ module _ (p : Plot) (number : ℕ) (x : Execution) (settled : ℕ) (before : Lis
         asked = asked;
       }
       saved_by (Save n) is = then_saves n is
-      saved_by (Stop cause) is =
-          ended_on p mid after t.stands.parts.undated quiet (saved_ends p number (parts_of x) before t.stands.parts settled t.due (text_of (notebook_of book)) same_text mid saved)
+      saved_by (Stop cause) is = record {
+        stopped = stopped_on p cause mid after t.stands.parts.undated quiet
+            (stops_by_save p number (parts_of x) before t.stands.parts settled t.due (text_of (notebook_of book)) same_text mid saved cause (sym act_is ∙ is));
+        request = subst (OnRequest (facts p) (sent_of x.request)) (sym (requests_behind (ap is_final is))) t.stands.parts.request;
+        noted = noted_behind (ap is_final is);
+      }
 
       -- what the core answers is due by the journal
       pub saved_to : StandsTo p number z answer.act after
@@ -263,6 +283,8 @@ says_quiet j line failed before after (speech.refused {rest} {past} f s) = refus
 -- a save that ended the job
 pub unsaved_ends : (p : Plot) (number : ℕ) (x : Execution) (settled : ℕ) (before after : List Entry) (book : JobNotebook) (line : List ℕ) (failed : Type 0) (e : End) → IsToSave p number x settled before
     → OnTried {U = Unit {0}} (Err e) ((given : Notebook) (us : List Used) → Keeps x.book given us → notebook_of book ≡ prefix (merge_of x.book) us settled (stopping_of x.core) given)
-    → SavesOrEnds {U = Unit {0}} (output_of x.book) (text_of (notebook_of book)) line failed (Err e) before after → HasEndedAs p after
-unsaved_ends p number x settled before after book line failed (end.NotSaved f) t tried so = failed_as p number x settled before t book tried after f so
-unsaved_ends p number x settled before after book line failed _ t tried so = subst (HasEndedAs p) (sym so) (ends_standing p number (parts_of x) [] [] before t.stands.parts)
+    → SavesOrEnds {U = Unit {0}} (output_of x.book) (text_of (notebook_of book)) line failed (Err e) before after → IsEndOfSave e → EndsSo p e after
+unsaved_ends p number x settled before after book line failed (end.NotSaved f) t tried so own = uncaused_ends p (end.NotSaved f) after refl (failed_as p number x settled before t book tried after f so)
+unsaved_ends p number x settled before after book line failed end.NoMemory t tried so own =
+    starved_so p after (subst (HasEndedAs p) (sym so) (ends_standing p number (parts_of x) [] [] before t.stands.parts))
+unsaved_ends p number x settled before after book line failed _ t tried so own = absurd own

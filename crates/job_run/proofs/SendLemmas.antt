@@ -1,7 +1,7 @@
 -- A request that is due is sent.
-use Rattle.std.proofs.Common.{◌≡◌, inl, inr, ◌+◌, ◌<◌, ◌≤◌, arith, ℕ, ◌||◌, not, List, [], ◌∷◌, length, Some, Result, Ok, Err, refl, sym, ◌∙◌, ap, subst}
-use Rattle.std.specs.Prelude.{codes, slice_get, OnOk}
-use Rattle.std.proofs.lemmas.Option.{slice_get_cases}
+use Rattle.std.proofs.Common.{◌≡◌, inl, inr, ◌+◌, ◌<◌, ◌≤◌, arith, ℕ, ◌||◌, not, List, [], ◌∷◌, length, Some, None, Result, Ok, Err, refl, sym, ◌∙◌, ap, subst}
+use Rattle.std.specs.Prelude.{codes, slice_get, IfErr, OnOk}
+use Rattle.std.proofs.lemmas.Option.{same_Some, slice_get_cases}
 use Rattle.world.specs.declared.chan.Chan.TheVariants.{Shell}
 use Rattle.world.specs.declared.entry.Entry.{Entry}
 use Rattle.nb_model.specs.declared.cell.Cell.{Cell}
@@ -16,20 +16,25 @@ use Rattle.kernel_lines.specs.Lines.{line_on}
 use Rattle.cell_core.specs.declared.act.Act.TheVariants.{Send}
 use Rattle.job_notebook.specs.State.{merge_of, notebook_of, settled_of}
 use Rattle.job_end.specs.declared.end.End.{End}
+use Rattle.job_end.specs.declared.end.End.TheVariants.{NoMemory}
 use Rattle.run_journal.specs.Asked.{code_in, may_raise as may_raise_in}
 use Rattle.run_journal.specs.Codec.{Execute}
+use Rattle.run_journal.specs.Requests.{Request as Asked, first as first_of, last_request, reply, requests}
 use Rattle.job_journal.specs.Line.{parts_of as message_of}
-use Rattle.job_journal.specs.Plot.{Plot, IsFor, first, speaker}
+use Rattle.job_journal.specs.Plot.{Plot, IsFor, facts, first, speaker}
 use Rattle.job_journal.specs.Standing.{Parts, Sends, StandsBy}
+use Rattle.job_journal.proofs.Books.{last_after}
 use Rattle.job_journal.proofs.Ending.{ends_sending}
 use Rattle.job_journal.proofs.Plots.{for_still}
 use Rattle.job_journal.proofs.Sending.{is_sent}
 use Rattle.job_run.specs.declared.execution.Execution.{Execution}
 use Rattle.job_run.specs.declared.request.Request.{Request}
 use Rattle.job_run.specs.Said.{SendsCell, asks_for, may_raise, next_message, stops_kernel}
-use Rattle.job_run.specs.Standing.{DoesAct, IsAskedFor, IsToSendCell, Stands, parts_of, sent_of}
+use Rattle.job_run.specs.Standing.{DoesAct, EndsSo, IsAskedFor, IsToSendCell, NotesError, Stands, error_by, parts_of, sent_of}
 use Rattle.job_run.specs.Task.{AreTermsOf}
 use Rattle.job_run.proofs.CellLemmas.{cell_as_read, waiting_as_first}
+use Rattle.job_run.proofs.EndLemmas.{starved_so}
+use Rattle.job_run.proofs.NotedLemmas.{place}
 
 module _ (p : Plot) (number : ℕ) (x y : Execution) (cell : ℕ) (now : List Entry) (t : IsToSendCell p number x cell now) (above : settled_of x.book ≤ cell) (c : Cell)
     (at : slice_get (notebook_of x.book).cells cell ≡ Some c) (s : SendsCell cell c x y) where
@@ -97,18 +102,31 @@ module _ (p : Plot) (number : ℕ) (x y : Execution) (cell : ℕ) (now : List En
   asked : IsAskedFor p y
   asked = record { terms = subst (λ (e : Execution). AreTermsOf p.ask e.terms) (sym s.rest) t.asked.terms; tagged = tagged_is }
 
+  -- nothing has come for it
+  noted : NotesError (facts p) y.request (requests (facts p) now)
+  noted = λ i q is r e.
+      let both : Some s.request ≡ Some r = sym s.stands ∙ e in
+      let same : s.request ≡ r = cc in
+      let last_is : Some (place (0 + length t.parts.earlier) t.parts.newest) ≡ Some (place i q)
+      = sym (ap (last_request 0) t.parts.next.stands ∙ last_after 0 t.parts.earlier t.parts.newest) ∙ is in
+      let newest_is : t.parts.newest ≡ q = ap (λ (v : ℕ × Asked). v.1) (same_Some (place (0 + length t.parts.earlier) t.parts.newest) (place i q) last_is) in
+      let none : None ≡ reply q = sym (ap first_of t.parts.next.replies) ∙ ap (λ (v : Asked). reply v) newest_is in
+      ap (λ (v : Request). v.error) (sym same) ∙ s.is.calm ∙ ap (error_by (facts p) i) none
+
   sent_stands : Stands p number y now
   sent_stands = record {
     parts = subst (λ (q : Parts). StandsBy p number q [] [] now) (sym parts_are)
         (is_sent p number (parts_of x) cell now t.parts y.lines y.session y.book s.request.id is_for sends made_is id_is (λ us kept. s.begun (first p) us kept));
     asked = asked;
+    noted = noted;
   }
 
 -- the execution stands for the journal with it, where memory was had
 pub does_send : {U : Type 0} (p : Plot) (number : ℕ) (x y : Execution) (cell : ℕ) (now : List Entry) (r : Result U End) → settled_of x.book ≤ cell → cell < length (notebook_of x.book).cells
-    → OnOk r ((c : Cell) → slice_get (notebook_of x.book).cells cell ≡ Some c → SendsCell cell c x y) → DoesAct p number x (Send cell) y r now now
-does_send p number x y cell now (Err e) above within sends t = (ends_sending p number (parts_of x) cell now t.parts, λ is. tt)
-does_send p number x y cell now (Ok u) above within sends t = elim (slice_get_cases (notebook_of x.book).cells cell).1 [
+    → OnOk r ((c : Cell) → slice_get (notebook_of x.book).cells cell ≡ Some c → SendsCell cell c x y) → IfErr r (λ e. e ≡ NoMemory) → DoesAct p number x (Send cell) y r now now
+does_send p number x y cell now (Err e) above within sends starved t =
+    (subst (λ (k : End). EndsSo p k now) (sym starved) (starved_so p now (ends_sending p number (parts_of x) cell now t.parts)), λ is. tt)
+does_send p number x y cell now (Ok u) above within sends starved t = elim (slice_get_cases (notebook_of x.book).cells cell).1 [
   | inl f ↦ let s = sends f.0 f.2 in (sent_stands p number x y cell now t above f.0 f.2 s, λ is. inr s.sent)
   | inr f ↦ absurd (omega (arith, within, f.0))
 ]

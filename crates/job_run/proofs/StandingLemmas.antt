@@ -17,15 +17,16 @@ use Rattle.cell_core.proofs.Answering.{answers_kind, no_interrupt, sent_at_start
 use Rattle.run_journal.specs.Agreement.{IsOther, moment, looked, lost, broken}
 use Rattle.job_journal.specs.Plot.{Plot, facts}
 use Rattle.job_journal.specs.Saved.{IsAsked}
-use Rattle.job_journal.specs.Standing.{StandsBy, HasEndedAs}
+use Rattle.job_journal.specs.Standing.{StandsBy}
 use Rattle.job_journal.specs.Told.{Hears, is_stop}
-use Rattle.job_journal.proofs.Ending.{ends_standing, other_told}
+use Rattle.job_journal.proofs.Ended.{stops_by_other}
+use Rattle.job_journal.proofs.Ending.{other_told}
 use Rattle.job_journal.proofs.Plots.{for_still}
 use Rattle.job_journal.proofs.Saving.{asked_save}
 use Rattle.job_journal.proofs.Steps.{hears_next}
 use Rattle.job_end.specs.declared.end.End.{End}
 use Rattle.job_run.specs.declared.execution.Execution.{Execution}
-use Rattle.job_run.specs.Standing.{Stands, StandsOrEnds, StandsTo, StandsToOrEnds, parts_of}
+use Rattle.job_run.specs.Standing.{EndsSo, Stands, StandsOrEnds, StandsTo, StandsToOrEnds, parts_of}
 use Rattle.job_run.specs.Used.{TakesEvent}
 
 other_unsaved : (e : Event) → IsOther e → is_saved e ≡ false
@@ -70,6 +71,7 @@ module _ (p : Plot) (number : ℕ) (x : Execution) (core : Core) (e : Event) (an
   other_stands o go = record {
     parts = (told_parts o go).0;
     asked = record { terms = s.asked.terms; tagged = s.asked.tagged };
+    noted = s.noted;
   }
 
   kind : can_answer e (act_of (task_of x.core) e told) ≡ true
@@ -92,7 +94,11 @@ module _ (p : Plot) (number : ℕ) (x : Execution) (core : Core) (e : Event) (an
     due = subst (λ es. IsAsked (facts p).task es settled) (sym (told_parts o (ap is_stop is)).1)
         (asked_save (facts p) told e settled s.parts.core.hears.goes_on (sym answered ∙ is));
   }
-  other_by o (Stop cause) is = ends_standing p number (parts_of x) [] [] now s.parts
+  other_by o (Stop cause) is = record {
+    stopped = stops_by_other p number (parts_of x) now s.parts e cause o (sym answered ∙ is);
+    request = s.parts.request;
+    noted = s.noted;
+  }
 
   -- an event of the clock, a look, a loss or a broken stream was told: what its act is for is due by the journal
   pub told_other : (y : Execution) → y ≡ record x { core = core } → IsOther e → StandsTo p number y answer.act now
@@ -100,17 +106,17 @@ module _ (p : Plot) (number : ℕ) (x : Execution) (core : Core) (e : Event) (an
 
 -- ---- where a job ends, and that is passed on
 
-pub ended_to : (p : Plot) (number : ℕ) (x : Execution) (r : Result Act End) (k : End) (now : List Entry) → IsErrAnd r (λ e. e ≡ k) → HasEndedAs p now → StandsToOrEnds p number x r now
+pub ended_to : (p : Plot) (number : ℕ) (x : Execution) (r : Result Act End) (k : End) (now : List Entry) → IsErrAnd r (λ e. e ≡ k) → EndsSo p k now → StandsToOrEnds p number x r now
 ended_to p number x (Ok act) k now is h = absurd is
-ended_to p number x (Err e) k now is h = h
+ended_to p number x (Err e) k now is h = subst (λ (v : End). EndsSo p v now) (sym is) h
 
-pub ended_so : {U : Type 0} (p : Plot) (number : ℕ) (x : Execution) (r : Result U End) (k : End) (now : List Entry) → IsErrAnd r (λ e. e ≡ k) → HasEndedAs p now → StandsOrEnds p number x r now
+pub ended_so : {U : Type 0} (p : Plot) (number : ℕ) (x : Execution) (r : Result U End) (k : End) (now : List Entry) → IsErrAnd r (λ e. e ≡ k) → EndsSo p k now → StandsOrEnds p number x r now
 ended_so p number x (Ok u) k now is h = absurd is
-ended_so p number x (Err e) k now is h = h
+ended_so p number x (Err e) k now is h = subst (λ (v : End). EndsSo p v now) (sym is) h
 
 -- ---- where a stream broke
 
 -- what an execution stands for doesn't depend on which stream broke
 pub broken_stands : (p : Plot) (number : ℕ) (x y : Execution) (now : List Entry) → y ≡ record x { broken = y.broken } → Stands p number x now → Stands p number y now
 broken_stands p number x y now rest s =
-    subst (λ k. Stands p number k now) (sym rest) (record { parts = s.parts; asked = record { terms = s.asked.terms; tagged = s.asked.tagged } })
+    subst (λ k. Stands p number k now) (sym rest) (record { parts = s.parts; asked = record { terms = s.asked.terms; tagged = s.asked.tagged }; noted = s.noted })

@@ -1,5 +1,5 @@
 -- What an execution and its job stand for at their start.
-use Rattle.std.proofs.Common.{◌≡◌, ◌⊎◌, inl, inr, ◌<◌, ◌≤◌, ◌==◌, ◌&&◌, ◌||◌, ◌+◌, ◌++◌, arith, replicate, ℕ, Bool, true, false, not, List, [], ◌∷◌, length, Option, Some, None, Result, Ok, Err, refl, sym, ◌∙◌, ap, subst}
+use Rattle.std.proofs.Common.{◌≡◌, ◌⊎◌, inl, inr, ◌<◌, ◌≤◌, ◌==◌, ◌&&◌, ◌||◌, ◌+◌, ◌++◌, arith, replicate, ℕ, Bool, true, false, not, List, [], ◌∷◌, length, map, Option, Some, None, Result, Ok, Err, refl, sym, ◌∙◌, ap, subst}
 use Rattle.std.specs.Prelude.{is_some, nat_lt, IfOk, if◌then◌else◌}
 use Rattle.std.proofs.Math.Bool.{true≢false}
 use Rattle.std.proofs.lemmas.Bool.{cases_Bool, cond-true, cond-false, cond_both, eqb-true}
@@ -21,8 +21,9 @@ use Rattle.kernel_start.specs.declared.connection_fault.ConnectionFault.TheVaria
 use Rattle.kernel_talk.specs.Asking.{Asked, asks}
 use Rattle.cell_core.specs.declared.event.Event.TheVariants.{Saved}
 use Rattle.cell_core.specs.declared.why.Why.{Why}
+use Rattle.cell_core.specs.declared.why.Why.TheVariants as why
 use Rattle.cell_core.specs.Acts.{has_stopped, heard, is_empty}
-use Rattle.cell_core.specs.Saves.{after_preparation, pending_saves, why}
+use Rattle.cell_core.specs.Saves.{after_preparation, pending_saves, why as cause_by}
 use Rattle.cell_core.specs.StandsFor.{task_of}
 use Rattle.cell_core.specs.Task.{Task}
 use Rattle.job_notebook.specs.State.{merge_of, output_of}
@@ -33,9 +34,10 @@ use Rattle.run_journal.specs.Agreement.{Agrees, is_got}
 use Rattle.run_journal.specs.Arrivals.{ask_state, can_ask}
 use Rattle.run_journal.specs.Job.{Job as Facts}
 use Rattle.run_journal.specs.Parts.{saves_of}
-use Rattle.run_journal.specs.Requests.{is_last_passed, requests}
-use Rattle.run_journal.specs.Saves.{closing, is_marked, last_cell, passes, renamed_texts, run_saves, save, stop_save, stopping}
-use Rattle.run_journal.specs.Why.{plan_end}
+use Rattle.run_journal.specs.Requests.{is_last_passed, last_request, requests}
+use Rattle.run_journal.specs.Saves.{Save, closing, is_marked, last_cell, passes, renamed_texts, run_saves, save, stop_save, stopping}
+use Rattle.run_journal.specs.Why.{are_acked, is_done, is_error, plain_count, plan_end}
+use Rattle.job_journal.specs.Ended.{HasAnswered, LacksIdle, LacksReply, SaysCause, ShowsCause}
 use Rattle.job_journal.specs.Made.{HasMade, passing_saves}
 use Rattle.job_journal.specs.Plot.{Plot, facts}
 use Rattle.job_journal.specs.Quiet.{IsQuietNow, is_quiet, is_unread}
@@ -44,6 +46,7 @@ use Rattle.job_journal.specs.Standing.{AreNew, HasEndedAs, StandsBy}
 use Rattle.job_journal.specs.Told.{AgreesBut}
 use Rattle.job_journal.proofs.Acking.{none_told, writes_quiet}
 use Rattle.job_journal.proofs.Clocked.{clock_passes}
+use Rattle.job_journal.proofs.Ended.{answer_stays}
 use Rattle.job_journal.proofs.Firsts.{none_acked}
 use Rattle.job_journal.proofs.Making.{made_first, made_stays}
 use Rattle.job_journal.proofs.Quiet.{quiet_kind}
@@ -56,6 +59,7 @@ use Rattle.job_run.specs.declared.request.Request.{Request}
 use Rattle.job_run.specs.JobStanding.{JobStands, JobStandsUntold}
 use Rattle.job_run.specs.Standing.{IsToSave, Stands, parts_of}
 use Rattle.job_run.specs.Task.{AreTermsOf, task_for}
+use Rattle.job_run.proofs.NotedLemmas.{noted_none, noted_unsent}
 use Rattle.job_run.proofs.SaveLemmas.{unsent}
 
 -- ---- no byte is got
@@ -76,7 +80,7 @@ none_requested p now e = unrequested shaken_none messages_none p now e
 -- ---- before the first save
 
 unstopped : (task : Task) → has_stopped task (heard task []) ≡ false
-unstopped task = by (is_some (why task []))
+unstopped task = by (is_some (cause_by task []))
   where
     by : (b : Bool) → (b && is_empty (pending_saves task [])) ≡ false
     by true = refl
@@ -121,7 +125,11 @@ module _ (p : Plot) (number : ℕ) (x : Execution) (now : List Entry) (b : IsToB
   untagged r e = let none : None ≡ Some r = sym (unsent x.request b.unbegun.parts.request) ∙ e in absurd (cc)
 
   stands : Stands p number k now
-  stands = record { parts = parts; asked = record { terms = b.terms; tagged = λ r e. absurd (untagged r e) } }
+  stands = record {
+    parts = parts;
+    asked = record { terms = b.terms; tagged = λ r e. absurd (untagged r e) };
+    noted = noted_none j x.request (requests j now) (unsent x.request b.unbegun.parts.request);
+  }
 
   told_none : stands.parts.core.told ≡ []
   told_none = none_told j.task stands.parts.core.told stands.parts.core.hears.meets (stands.parts.core.agrees.acked ∙ none_yet)
@@ -172,6 +180,7 @@ clock_on p number x ms past unread s =
     record {
       parts = clock_passes p number (parts_of (record x { clock = time past })) past ms s.parts (can_ask (facts p) past) refl no;
       asked = record { terms = s.asked.terms; tagged = s.asked.tagged };
+      noted = noted_unsent (facts p) x.request (requests (facts p) (made.Moment ms ∷ past)) (none_requested p (made.Moment ms ∷ past) unread);
     }
 
 pub clock_read : (p : Plot) (number : ℕ) (x y : Execution) (ms : ℕ) (past : List Entry) → HasSavedFirst p number x past → y ≡ record x { clock = y.clock } → (x.clock ≤ ms → y.clock ≡ ms)
@@ -185,17 +194,20 @@ clock_read p number x y ms past h rest turns =
 pub told_later : (p : Plot) (j : Job) (ms : ℕ) (past : List Entry) → is_unread (facts p) past ≡ true → time past ≤ ms → JobStandsUntold p j past → JobStandsUntold p j (made.Moment ms ∷ past)
 told_later p j ms past unread rises s = record {
   number_is = s.number_is;
+  output_is = s.output_is;
   undated = s.undated;
   runs = λ e. let u = s.runs e in record { stands = clock_on p j.number j.run ms past unread u.stands; earlier = omega (arith, u.earlier, rises) };
-  ended = λ e.
-      let h = s.ended e in
+  ended = λ a is.
+      let answer = s.ended a is in
+      let h = answer.ended in
       let same : requests (facts p) past ≡ requests (facts p) (made.Moment ms ∷ past) = none_requested p past unread ∙ sym (none_requested p (made.Moment ms ∷ past) unread) in
-      record {
+      answer_stays p past (made.Moment ms ∷ past) (record { requests_are = sym same; saves_are = refl; texts_are = refl }) a
+      (record {
         cause = h.cause;
         count = h.count;
         made = made_stays (facts p) (run_saves (facts p) (requests (facts p) (made.Moment ms ∷ past)) h.cause) h.count (made.Moment ms) past refl
             (subst (λ rs. HasMade (facts p) (run_saves (facts p) rs h.cause) h.count past) same h.made);
-      };
+      }) answer;
 }
 
 -- ---- entries of a start are quiet
@@ -292,18 +304,83 @@ module _ (p : Plot) (x : Execution) where
   fresh_in_session : (now : List Entry) → IsFresh p now → IsFresh (in_session p x) now
   fresh_in_session now f = record { undated = f.undated; runs = f.runs; unread = same_unread now ∙ f.unread; unrenamed = same_texts now ∙ f.unrenamed }
 
+  saves_in_session : (now : List Entry) → requests (facts (in_session p x)) now ≡ [] → requests (facts p) now ≡ [] → 0 < length (facts p).task.plan → (w : Option Why)
+      → run_saves (facts (in_session p x)) (requests (facts (in_session p x)) now) w ≡ run_saves (facts p) (requests (facts p) now) w
+  saves_in_session now was is runs w =
+      let k : Facts = facts (in_session p x) in
+      let j : Facts = facts p in
+      ap (λ rs. run_saves k rs w) was ∙ one_save k w runs ∙ sym (one_save j w runs) ∙ ap (λ rs. run_saves j rs w) (sym is)
+
   -- where no request stands a job has ended in whichever session
   ended_in_session : (now : List Entry) → requests (facts (in_session p x)) now ≡ [] → requests (facts p) now ≡ [] → 0 < length (facts p).task.plan → HasEndedAs (in_session p x) now → HasEndedAs p now
   ended_in_session now was is runs h =
-      let k : Facts = facts (in_session p x) in
-      let j : Facts = facts p in
-      let same : run_saves k (requests k now) h.cause ≡ run_saves j (requests j now) h.cause
-      = ap (λ rs. run_saves k rs h.cause) was ∙ one_save k h.cause runs ∙ sym (one_save j h.cause runs) ∙ ap (λ rs. run_saves j rs h.cause) (sym is) in
       record {
         cause = h.cause;
         count = h.count;
-        made = record { made = h.made.made; texts = sym (same_texts now) ∙ h.made.texts; counted = h.made.counted; are_first = subst (Begins h.made.made) same h.made.are_first };
+        made = record {
+          made = h.made.made;
+          texts = sym (same_texts now) ∙ h.made.texts;
+          counted = h.made.counted;
+          are_first = subst (Begins h.made.made) (saves_in_session now was is runs h.cause) h.made.are_first;
+        };
       }
+
+-- nothing is executed where no request stands
+not_empty : (n : ℕ) → 0 < n → (n == 0) ≡ false
+not_empty n e = by (cases_Bool (n == 0))
+  where
+    by : ((n == 0) ≡ true) ⊎ ((n == 0) ≡ false) → (n == 0) ≡ false
+    by (inl f) = let z : n ≡ 0 = eqb-true n 0 f in absurd (omega (arith, e, z))
+    by (inr f) = f
+
+not_done : (j : Facts) (count : ℕ) → 0 < length j.task.plan → is_done j count [] ≡ false
+not_done j count runs =
+    cond-false (length j.task.plan == 0) (are_acked (plain_count j j.given) count) (0 == length j.task.plan && false) (not_empty (length j.task.plan) runs)
+    ∙ not_zero (length j.task.plan) false runs
+
+module _ (p : Plot) (x : Execution) (now : List Entry) (was : requests (facts (in_session p x)) now ≡ []) (is : requests (facts p) now ≡ []) (runs : 0 < length (facts p).task.plan) where
+  abbrev elsewhere : Plot
+  elsewhere = in_session p x
+
+  undone : (p : Plot) → requests (facts p) now ≡ [] → 0 < length (facts p).task.plan → is_done (facts p) (saves_of (facts p) now) (requests (facts p) now) ≡ false
+  undone p none some = ap (is_done (facts p) (saves_of (facts p) now)) none ∙ not_done (facts p) (saves_of (facts p) now) some
+
+  no_error : (p : Plot) → requests (facts p) now ≡ [] → is_error (facts p) (last_request 0 (requests (facts p) now)) ≡ false
+  no_error p none = ap (λ rs. is_error (facts p) (last_request 0 rs)) none
+
+  -- what a cause shows where no request stands
+  shown_in : (cause : Why) → ShowsCause (facts elsewhere) cause now → ShowsCause (facts p) cause now
+  shown_in why.Done e = absurd (true≢false (sym e ∙ undone elsewhere was runs))
+  shown_in why.CellError e = absurd (true≢false (sym e ∙ no_error elsewhere was))
+  shown_in why.NotReady e = is
+  shown_in why.NoIdle e = absurd (subst (λ rs. LacksIdle (last_request 0 rs)) was e)
+  shown_in why.TimedOut e = absurd (subst (λ rs. LacksReply (last_request 0 rs)) was e)
+  shown_in why.KernelLost e = record { plan = undone p is runs; reply = no_error p is }
+  shown_in why.BadPeer e = record { plan = undone p is runs; reply = no_error p is }
+
+  said_in : (cause : Why) (line : List ℕ) → ShowsCause (facts elsewhere) cause now → SaysCause elsewhere cause line now → SaysCause p cause line now
+  said_in why.Done line e s = s
+  said_in why.CellError line e s = absurd (true≢false (sym e ∙ no_error elsewhere was))
+  said_in why.NotReady line e s = s
+  said_in why.NoIdle line e s = absurd (subst (λ rs. LacksIdle (last_request 0 rs)) was e)
+  said_in why.TimedOut line e s = absurd (subst (λ rs. LacksReply (last_request 0 rs)) was e)
+  said_in why.KernelLost line e s = s
+  said_in why.BadPeer line e s = tt
+
+  -- so a job has ended with an answer in whichever session
+  answered_in : (a : Answer) → HasAnswered elsewhere a now → HasAnswered p a now
+  answered_in a h = record {
+    ended = ended_in_session p x now was is runs h.ended;
+    stopped = λ cause e.
+        let t = h.stopped cause e in
+        record {
+          stopped = record {
+            shown = shown_in cause t.stopped.shown;
+            texts = sym (same_texts p x now) ∙ t.stopped.texts ∙ ap (λ (ss : List Save). map (λ (s : Save). Some s.text) ss) (saves_in_session p x now was is runs (Some cause));
+          };
+          says = said_in cause a.line t.stopped.shown t.says;
+        };
+  }
 
 -- an execution of this job is to begin
 pub to_begin : (p : Plot) (number : ℕ) (ask : Ask) (given : Notebook) (x : Execution) (now : List Entry) → IsPlotOf p number ask given → IsFresh p now → IsUnbegun given x → output_of x.book ≡ ask.output
@@ -334,15 +411,16 @@ starts_as p number ask given x before now (Ok j) is fresh unbegun output merge t
 starts_as p number ask given x before now (Err e) is fresh unbegun output merge task terms speaks so other none other_none =
     let of : IsPlotOf (in_session p x) number ask given = record { number_is = is.number_is; ask_is = is.ask_is; first_is = is.first_is; task_is = is.task_is } in
     let begins : IsFresh (in_session p x) before = fresh_in_session p x before fresh in
-    ended_in_session p x now (other_none begins) (none fresh) fresh.runs
-    (other (to_begin (in_session p x) number ask given x before of begins unbegun output merge task terms refl refl))
+    let so = other (to_begin (in_session p x) number ask given x before of begins unbegun output merge task terms refl refl) in
+    λ a answers. answered_in p x now (other_none begins) (none fresh) fresh.runs a (so a answers)
 
 -- a job whose first save was made
-pub job_begun : (p : Plot) (j : Job) (number : ℕ) (x : Execution) (now : List Entry) → j.run ≡ x → j.number ≡ number → j.outcome ≡ None → number ≡ p.setting.number → (facts p).task.times.interrupt ≡ false
-    → Stands p number x now → JobStands p j now
-job_begun p j number x now run of outcome own undated s = record {
+pub job_begun : (p : Plot) (j : Job) (number : ℕ) (x : Execution) (now : List Entry) → j.run ≡ x → j.number ≡ number → j.outcome ≡ None → number ≡ p.setting.number → j.paths.output ≡ p.ask.output
+    → (facts p).task.times.interrupt ≡ false → Stands p number x now → JobStands p j now
+job_begun p j number x now run of outcome own output undated s = record {
   number_is = of ∙ own;
+  output_is = output;
   undated = undated;
   runs = λ e. subst (λ n. Stands p n j.run now) (sym of) (subst (λ (v : Execution). Stands p number v now) (sym run) s);
-  ended = λ e. absurd (true≢false (sym e ∙ ap (λ (a : Option Answer). is_some a) outcome));
+  ended = λ a is. (let both : None ≡ Some a = sym outcome ∙ is in absurd (cc));
 }

@@ -20,24 +20,9 @@ use Rattle.job_run.specs.Steps.{Proceeds, ProceedsFirst}
 use Rattle.job_run.proofs.CountLemmas.{counts_by, counts_kept, told_counted, starved_on}
 
 module _ {W : Type 0} {journal : W → Option (List Entry)} {tally : W → Counts} where
-  -- one step, and then another
-  pub goes_then : {U V : Type 0} {p q r : W} {x y z : Execution} {act : Act} {u : U} {result : Result V End}
-      → Proceeds journal tally p q x y act (Ok u) → Proceeds journal tally q r y z Nothing result → Proceeds journal tally p r x z act result
-  goes_then g h = record {
-    holds = h.holds;
-    calm = h.calm;
-    course = λ o s. h.course o (g.course o s);
-    calls = λ cast since from s. h.calls cast since from (g.calls cast since from s);
-    task = h.task ∙ g.task;
-    terms = h.terms ∙ g.terms;
-    own = h.own;
-    counts = λ o on s at. h.counts o on (g.course o s) (g.counts o on s at);
-    clock = told_then g.clock h.clock (λ a b c v w. since_then v w);
-  }
-
   -- a step may read the clock
   pub goes_first : {U : Type 0} {p q : W} {x y : Execution} {act : Act} {result : Result U End} → Proceeds journal tally p q x y act result → ProceedsFirst journal tally p q x y act result
-  goes_first g = record { holds = g.holds; calm = g.calm; course = g.course; calls = g.calls; task = g.task; terms = g.terms; own = g.own; counts = g.counts }
+  goes_first g = g.step
 
   -- one step, and then another that may read the clock
   pub goes_reading : {U V : Type 0} {p q r : W} {x y z : Execution} {act : Act} {u : U} {result : Result V End}
@@ -45,39 +30,48 @@ module _ {W : Type 0} {journal : W → Option (List Entry)} {tally : W → Count
   goes_reading g h = record {
     holds = h.holds;
     calm = h.calm;
-    course = λ o s. h.course o (g.course o s);
-    calls = λ cast since from s. h.calls cast since from (g.calls cast since from s);
-    task = h.task ∙ g.task;
-    terms = h.terms ∙ g.terms;
+    course = λ o s. h.course o (g.step.course o s);
+    calls = λ cast since from s. h.calls cast since from (g.step.calls cast since from s);
+    task = h.task ∙ g.step.task;
+    terms = h.terms ∙ g.step.terms;
     own = h.own;
-    counts = λ o on s at. h.counts o on (g.course o s) (g.counts o on s at);
+    counts = λ o on s at. h.counts o on (g.step.course o s) (g.step.counts o on s at);
   }
+
+  -- one step, and then another
+  pub goes_then : {U V : Type 0} {p q r : W} {x y z : Execution} {act : Act} {u : U} {result : Result V End}
+      → Proceeds journal tally p q x y act (Ok u) → Proceeds journal tally q r y z Nothing result → Proceeds journal tally p r x z act result
+  goes_then g h = record { step = goes_reading g h.step; clock = told_then g.clock h.clock (λ a b c v w. since_then v w) }
 
   -- nothing was done
   pub goes_still : {U : Type 0} {p : W} {x : Execution} {u : U} → Holds x → IsCalm x → Proceeds journal tally p p x x Nothing (Ok u)
   goes_still holds calm = record {
-    holds = holds;
-    calm = calm;
-    course = λ o s. s;
-    calls = λ cast since from s. s;
-    task = refl;
-    terms = refl;
-    own = tt;
-    counts = λ o on s at. at;
+    step = record {
+      holds = holds;
+      calm = calm;
+      course = λ o s. s;
+      calls = λ cast since from s. s;
+      task = refl;
+      terms = refl;
+      own = tt;
+      counts = λ o on s at. at;
+    };
     clock = told_start (λ now. start);
   }
 
   -- memory was wanted
   pub goes_starved : {U : Type 0} {p : W} {x : Execution} {act : Act} → Holds x → Proceeds {U = U} journal tally p p x x act (Err NoMemory)
   goes_starved {U} {p} {x} holds = record {
-    holds = holds;
-    calm = tt;
-    course = λ o s. s;
-    calls = λ cast since from s. s;
-    task = refl;
-    terms = refl;
-    own = tt;
-    counts = λ o on s at. starved_on U o x (journal p);
+    step = record {
+      holds = holds;
+      calm = tt;
+      course = λ o s. s;
+      calls = λ cast since from s. s;
+      task = refl;
+      terms = refl;
+      own = tt;
+      counts = λ o on s at. starved_on U o x (journal p);
+    };
     clock = told_start (λ now. start);
   }
 
@@ -85,14 +79,16 @@ module _ {W : Type 0} {journal : W → Option (List Entry)} {tally : W → Count
   pub goes_told : {U : Type 0} {p q : W} {x y z : Execution} {a b : Act} {result : Result U End} → y.book ≡ x.book → task_of y.core ≡ task_of x.core → y.terms ≡ x.terms
       → ((n : OutputAt) → IsCounted x a n → IsCounted y b n) → Proceeds journal tally p q y z b result → Proceeds journal tally p q x z a result
   goes_told {U} {p} {q} {x} {y} {z} {a} {b} book task terms counts g = record {
-    holds = g.holds;
-    calm = g.calm;
-    course = λ o s. g.course o (subst (λ k. Stands o k true (journal p) (tally p)) (sym book) s);
-    calls = λ cast since from s. g.calls cast since from (subst (λ k. HasPart cast since from k (journal p) (tally p)) (sym book) s);
-    task = g.task ∙ task;
-    terms = g.terms ∙ terms;
-    own = g.own;
-    counts = λ o on s at. g.counts o on (subst (λ k. Stands o k true (journal p) (tally p)) (sym book) s) (counts_by o x y a b (journal p) counts at);
+    step = record {
+      holds = g.step.holds;
+      calm = g.step.calm;
+      course = λ o s. g.step.course o (subst (λ k. Stands o k true (journal p) (tally p)) (sym book) s);
+      calls = λ cast since from s. g.step.calls cast since from (subst (λ k. HasPart cast since from k (journal p) (tally p)) (sym book) s);
+      task = g.step.task ∙ task;
+      terms = g.step.terms ∙ terms;
+      own = g.step.own;
+      counts = λ o on s at. g.step.counts o on (subst (λ k. Stands o k true (journal p) (tally p)) (sym book) s) (counts_by o x y a b (journal p) counts at);
+    };
     clock = g.clock;
   }
 
@@ -105,14 +101,16 @@ module _ {W : Type 0} {journal : W → Option (List Entry)} {tally : W → Count
   pub goes_used : {U : Type 0} {p q : W} {x y z : Execution} {act : Act} {result : Result U End} → StaysOn x.book y.book → KeepsPart x.book y.book → KeepsTold x y
       → Proceeds journal tally p q y z act result → Proceeds journal tally p q x z act result
   goes_used {U} {p} {q} {x} {y} {z} {act} stays part told g = record {
-    holds = g.holds;
-    calm = g.calm;
-    course = λ o s. g.course o (stays o true (journal p) (tally p) s);
-    calls = λ cast since from s. g.calls cast since from (part cast since from (journal p) (tally p) s);
-    task = g.task ∙ ap task_of told.core;
-    terms = g.terms ∙ told.terms;
-    own = g.own;
-    counts = λ o on s at. g.counts o on (stays o true (journal p) (tally p) s) (counts_kept o x y act (journal p) told at);
+    step = record {
+      holds = g.step.holds;
+      calm = g.step.calm;
+      course = λ o s. g.step.course o (stays o true (journal p) (tally p) s);
+      calls = λ cast since from s. g.step.calls cast since from (part cast since from (journal p) (tally p) s);
+      task = g.step.task ∙ ap task_of told.core;
+      terms = g.step.terms ∙ told.terms;
+      own = g.step.own;
+      counts = λ o on s at. g.step.counts o on (stays o true (journal p) (tally p) s) (counts_kept o x y act (journal p) told at);
+    };
     clock = g.clock;
   }
 

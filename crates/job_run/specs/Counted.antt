@@ -16,7 +16,8 @@ use Rattle.job_end.specs.declared.end.End.TheVariants as end
 use Rattle.job_saves.specs.Course.{Origin}
 use Rattle.job_saves.specs.Left.{OutputAt, output_at, acks_at, IsLeft}
 use Rattle.job_run.specs.Left.{Leaves}
-use Rattle.job_run.specs.Told.{Tells, Stopping, EndsFor, cause_of}
+use Rattle.job_journal.specs.Ended.{cause_of}
+use Rattle.job_run.specs.Told.{Tells, Stopping, EndsFor}
 use Rattle.job_run.specs.declared.execution.Execution.{Execution}
 
 -- the core was told such events, and as many of them are saves as were acknowledged at the output

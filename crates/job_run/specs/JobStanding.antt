@@ -1,5 +1,5 @@
 -- What a job stands for, by the journal of its world, and what each of its calls makes of that. It holds of jobs that want no interrupts.
-use Rattle.std.specs.Prelude.{◌≡◌, ◌∷◌, ◌≤◌, ℕ, true, false, List, is_some, length}
+use Rattle.std.specs.Prelude.{◌≡◌, ◌∷◌, ◌≤◌, ℕ, true, false, List, Some, is_some, length}
 use Rattle.world.specs.declared.chan.Chan.{Chan}
 use Rattle.world.specs.declared.chan.Chan.TheVariants.{Iopub}
 use Rattle.world.specs.declared.conn.Conn.{Conn}
@@ -8,23 +8,26 @@ use Rattle.world.specs.declared.entry.Entry.TheVariants.{Got, Moment}
 use Rattle.world.specs.Moments.{Since}
 use Rattle.world.specs.Places.{is_at, time}
 use Rattle.kernel_lines.specs.Line.{taken_of}
+use Rattle.job_end.specs.declared.answer.Answer.{Answer}
 use Rattle.run_journal.specs.Parts.{place, bytes_put}
+use Rattle.job_journal.specs.Ended.{HasAnswered}
 use Rattle.job_journal.specs.Plot.{Plot, facts}
 use Rattle.job_journal.specs.Quiet.{IsQuietNow}
-use Rattle.job_journal.specs.Standing.{HasEndedAs}
 use Rattle.job_run.specs.declared.execution.Execution.{Execution}
 use Rattle.job_run.specs.declared.job.Job.{Job}
 use Rattle.job_run.specs.Queues.{line_of}
 use Rattle.job_run.specs.Run.{number_of, outcome_of}
 use Rattle.job_run.specs.Standing.{Stands, StandsUntold}
+use Rattle.job_run.specs.Task.{output_of_job}
 
--- A job has the number of the plot's. While it runs its execution stands for the journal in this sense. Once it has ended, the texts that
--- were saved are the first of the saves that are due.
+-- A job has the number and the output of the plot's. While it runs its execution stands for the journal in this sense. Once it has ended, it has
+-- ended with its answer by the journal.
 pub record JobStandsAs (stands : Plot → ℕ → Execution → List Entry → Type 0) (p : Plot) (j : Job) (now : List Entry) : Type 0 where
   pub number_is : number_of j ≡ p.setting.number
+  pub output_is : output_of_job j ≡ p.ask.output
   pub undated : (facts p).task.times.interrupt ≡ false
   pub runs : is_some (outcome_of j) ≡ false → stands p (number_of j) j.run now
-  pub ended : is_some (outcome_of j) ≡ true → HasEndedAs p now
+  pub ended : (a : Answer) → outcome_of j ≡ Some a → HasAnswered p a now
 
 -- a job stands for the journal
 abbrev pub JobStands : Plot → Job → List Entry → Type 0

@@ -11,6 +11,7 @@ pub mod Run
 pub mod Said
 pub mod Standing
 pub mod Steps
+pub mod Stopping
 pub mod Task
 pub mod Told
 pub mod Used

@@ -1,6 +1,6 @@
 -- What an execution stands for, by the journal of its world, and what each of its steps makes of that (Jupyter messaging 5.3; nbclient,
 -- `async_execute_cell`; papermill, which saves after each cell). It holds of jobs that want no interrupts.
-use Rattle.std.specs.Prelude.{◌≡◌, ◌≢◌, ◌⊎◌, ◌∷◌, ◌++◌, ◌+◌, ◌≤◌, ℕ, Bool, true, false, List, [], Option, Some, None, Result, Ok, Err, IfErr, OnOk, length, slice_get}
+use Rattle.std.specs.Prelude.{◌≡◌, ◌≢◌, ◌⊎◌, ◌∷◌, ◌++◌, ◌+◌, ◌≤◌, ℕ, Bool, true, false, if◌then◌else◌, List, [], Option, Some, None, Result, Ok, Err, IfErr, OnOk, length, slice_get}
 use Rattle.world.specs.declared.chan.Chan.{Chan}
 use Rattle.world.specs.declared.chan.Chan.TheVariants.{Iopub}
 use Rattle.world.specs.declared.conn.Conn.{Conn}
@@ -14,22 +14,30 @@ use Rattle.kernel_lines.specs.Happened.{History, Came, came_in}
 use Rattle.kernel_lines.specs.Line.{StandsFor, role_of, taken_of}
 use Rattle.kernel_lines.specs.Lines.{OthersStay, line_on}
 use Rattle.jcontent.specs.declared.content.Content.{Content}
+use Rattle.jcontent.specs.declared.content.Content.TheVariants as content
+use Rattle.jcontent.specs.declared.reply.ReplyIs.TheVariants as reply_is
 use Rattle.cell_core.specs.declared.act.Act.{Act}
 use Rattle.cell_core.specs.declared.act.Act.TheVariants.{Nothing, Start, Send, Look, Save, Stop, Interrupt}
 use Rattle.cell_core.specs.declared.event.Event.{Event}
 use Rattle.cell_core.specs.declared.event.Event.TheVariants as event
 use Rattle.cell_core.specs.declared.event.Event.TheVariants.{Saved}
 use Rattle.cell_core.specs.Answering.{can_answer}
+use Rattle.cell_core.specs.declared.why.Why.{Why}
+use Rattle.job_end.specs.declared.answer.Answer.{Answer as JobAnswer}
 use Rattle.job_end.specs.declared.end.End.{End}
+use Rattle.job_end.specs.Answers.{Answers}
 use Rattle.run_journal.specs.Asked.{may_raise}
 use Rattle.run_journal.specs.Codec.{Arrival}
+use Rattle.run_journal.specs.Job.{Job as Facts}
+use Rattle.run_journal.specs.Requests.{Request as Asked, last_request, reply, requests}
 use Rattle.run_journal.specs.Parts.{place, bytes_put}
-use Rattle.job_journal.specs.Piece.{HasCome, Within}
+use Rattle.job_journal.specs.Ended.{HasAnswered, HasStoppedFor}
+use Rattle.job_journal.specs.Piece.{HasCome, Within, with_done}
 use Rattle.job_journal.specs.Plot.{Plot, facts}
 use Rattle.job_journal.specs.Quiet.{IsQuietNow}
 use Rattle.job_journal.specs.Saved.{IsAsked}
-use Rattle.job_journal.specs.Standing.{Parts, StandsBy, IsToSend, HasEndedAs}
-use Rattle.job_journal.specs.Used.{Sent}
+use Rattle.job_journal.specs.Standing.{Parts, StandsBy, IsToSend}
+use Rattle.job_journal.specs.Used.{OnRequest, Sent}
 use Rattle.job_run.specs.Heard.{is_parent_of}
 use Rattle.job_run.specs.Task.{AreTermsOf}
 use Rattle.job_run.specs.declared.execution.Execution.{Execution}
@@ -64,10 +72,33 @@ pub record IsAskedFor (p : Plot) (x : Execution) : Type 0 where
   pub terms : AreTermsOf p.ask x.terms
   pub tagged : (r : Request) → x.request ≡ Some r → r.is_tagged ≡ may_raise (slice_get p.given.cells r.cell)
 
+-- the exception that a reply names, where it is an error (Jupyter messaging 5.3, "Execution results")
+abbrev pub error_in : Content → Option (List ℕ)
+error_in (content.ExecReply (reply_is.Error ename)) = Some ename
+error_in _ = None
+
+-- the exception that the reply to this request of the plan names, once it has come and stops the run
+abbrev pub error_by : Facts → ℕ → Option (Arrival × ℕ) → Option (List ℕ)
+error_by j k None = None
+error_by j k (Some m) = if j.fatal k m.0.content then error_in m.0.content else None
+
+-- the exception that is noted with the request that stands is the one that its reply names: this is the request with what came for it
+abbrev pub NotesErrorOf : Facts → Option Request → ℕ → Asked → Type 0
+NotesErrorOf j request k q = (r : Request) → request ≡ Some r → r.error ≡ error_by j k (reply q)
+
+-- the same, where that request is the last of these
+abbrev pub NotesError : Facts → Option Request → List Asked → Type 0
+NotesError j request rs = (k : ℕ) (q : Asked) → last_request 0 rs ≡ Some (k, q) → NotesErrorOf j request k q
+
+-- the same of the last request that stood before a piece on this channel, with the messages so far of the piece
+abbrev pub NotesSoFar : Facts → Option Request → Chan → List Arrival → List Entry → Type 0
+NotesSoFar j request c done past = (k : ℕ) (q : Asked) → last_request 0 (requests j past) ≡ Some (k, q) → NotesErrorOf j request k (with_done j c q done past)
+
 -- An execution stands for the journal: all messages were sent that the job has queued, and all events were told.
 pub record Stands (p : Plot) (number : ℕ) (x : Execution) (now : List Entry) : Type 0 where
   pub parts : StandsBy p number (parts_of x) [] [] now
   pub asked : IsAskedFor p x
+  pub noted : NotesError (facts p) x.request (requests (facts p) now)
 
 -- An execution stands for the journal but for its clock: it may still have to be told the last clock entries. So an execution stands once
 -- a job has begun behind it and has read the clock.
@@ -87,27 +118,37 @@ pub record IsToSave (p : Plot) (number : ℕ) (x : Execution) (settled : ℕ) (n
   pub stands : Stands p number x now
   pub due : IsAsked (facts p).task stands.parts.core.told settled
 
--- What stands of an execution whose core has answered this act last, which is still to be done. Where it stops the job, what was saved
--- are the first of the saves that are due.
+-- The core stops the job for this cause: by the journal it has stopped for it. The request that the job has is the last one, and the exception that
+-- is noted with it is the one that its reply names.
+pub record IsToStop (p : Plot) (x : Execution) (cause : Why) (now : List Entry) : Type 0 where
+  pub stopped : HasStoppedFor p cause now
+  pub request : OnRequest (facts p) (sent_of x.request) (requests (facts p) now)
+  pub noted : NotesError (facts p) x.request (requests (facts p) now)
+
+-- The job of a plot ends so: whatever answer that end gives, the job has ended with it by the journal.
+abbrev pub EndsSo : Plot → End → List Entry → Type 0
+EndsSo p e now = (a : JobAnswer) → Answers p.ask.output e a → HasAnswered p a now
+
+-- What stands of an execution whose core has answered this act last, which is still to be done.
 abbrev pub StandsTo : Plot → ℕ → Execution → Act → List Entry → Type 0
 StandsTo p number x (Send cell) now = IsToSendCell p number x cell now
 StandsTo p number x (Save settled) now = IsToSave p number x settled now
-StandsTo p number x (Stop cause) now = HasEndedAs p now
+StandsTo p number x (Stop cause) now = IsToStop p x cause now
 StandsTo p number x Start now = Stands p number x now × (x.request ≡ None)
 StandsTo p number x Interrupt now = ⊥
 StandsTo p number x _ now = Stands p number x now
 
 -- ---- what a step leaves
 
--- the execution stands for the journal, or it has ended and what was saved are the first of the saves that are due
+-- the execution stands for the journal, or the job ends so
 abbrev pub StandsOrEnds : {U : Type 0} → Plot → ℕ → Execution → Result U End → List Entry → Type 0
 StandsOrEnds p number x (Ok u) now = Stands p number x now
-StandsOrEnds p number x (Err e) now = HasEndedAs p now
+StandsOrEnds p number x (Err e) now = EndsSo p e now
 
 -- the same where the next act is still to be done
 abbrev pub StandsToOrEnds : Plot → ℕ → Execution → Result Act End → List Entry → Type 0
 StandsToOrEnds p number x (Ok act) now = StandsTo p number x act now
-StandsToOrEnds p number x (Err e) now = HasEndedAs p now
+StandsToOrEnds p number x (Err e) now = EndsSo p e now
 
 -- no request was sent yet, or one more was sent than before
 abbrev pub MovesOn : Execution → Execution → Type 0
@@ -183,6 +224,7 @@ pub record HasFed (p : Plot) (number : ℕ) (x : Execution) (c : Chan) (bodies :
   pub past : List Entry
   pub stands : StandsBy p number before [] [] past
   pub asked : IsAskedFor p x
+  pub noted : NotesError (facts p) x.request (requests (facts p) past)
   pub rest : parts_of x ≡ record before { lines = x.lines }
   pub conn : Conn
   pub room : ℕ
@@ -204,6 +246,7 @@ pub record HasListened (p : Plot) (number : ℕ) (x : Execution) (c : Chan) (ms 
   pub is : now ≡ entry ∷ past
   pub parts : HasCome p number (parts_of x) c ms entry past
   pub asked : IsAskedFor p x
+  pub noted : NotesError (facts p) x.request (requests (facts p) past)
 
 -- ---- a piece, message after message
 
@@ -211,13 +254,13 @@ pub record HasListened (p : Plot) (number : ℕ) (x : Execution) (c : Chan) (ms 
 -- when it came. Either the request that stood then is open, or what the journal has is used, and no further message of the piece is.
 pub data Uses (p : Plot) (number : ℕ) (x : Execution) (standing : ℕ) (c : Chan) (done rest : List Arrival) : List Entry → Type 0 where
   open_request : {entry : Entry} {past : List Entry} → x.sent ≡ standing → Within p number (parts_of x) c done rest entry past → IsAskedFor p x
-      → Uses p number x standing c done rest (entry ∷ past)
+      → NotesSoFar (facts p) x.request c done past → Uses p number x standing c done rest (entry ∷ past)
   all_used : {now : List Entry} → Stands p number x now → (x.request ≡ None) ⊎ (x.sent ≢ standing) → Uses p number x standing c done rest now
 
--- a message was dealt with, or the job has ended and what was saved are the first of the saves that are due
+-- a message was dealt with, or the job ends so
 abbrev pub UsesOrEnds : {U : Type 0} → Plot → ℕ → Execution → Result U End → ℕ → Chan → List Arrival → List Arrival → List Entry → Type 0
 UsesOrEnds p number x (Ok u) standing c done rest now = Uses p number x standing c done rest now
-UsesOrEnds p number x (Err e) standing c done rest now = HasEndedAs p now
+UsesOrEnds p number x (Err e) standing c done rest now = EndsSo p e now
 
 -- a message with this content and this date is of the request that stands, which is the one that stood when its piece came
 pub record IsOwn (m : Arrival) (standing : ℕ) (content : Content) (date : Option (List ℕ)) (x : Execution) : Type 0 where

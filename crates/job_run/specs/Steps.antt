@@ -24,28 +24,7 @@ use Rattle.job_run.specs.declared.job.Job.{Job}
 abbrev pub ReadsNoClock : {W : Type 0} → (W → Option (List Entry)) → W → W → Type 0
 ReadsNoClock journal old new = Told (journal old) (journal new) (Since (IsNotOf OnClock))
 
--- a step that did this act goes on with what stood before it, and was answered so
-pub record Proceeds {W U : Type 0} (journal : W → Option (List Entry)) (tally : W → Counts) (old new : W) (was now : Execution) (act : Act) (result : Result U End) : Type 0 where
-  -- the parts of the execution agree
-  pub holds : Holds now
-  -- no save is awaited where the job goes on
-  pub calm : OnOk result (IsCalm now)
-  -- its saves go on with the course of the job
-  pub course : GoesOn journal tally old new was.book now.book (stays_open result)
-  -- its calls are those of the job
-  pub calls : CallsOwn journal tally old new was.book now.book
-  -- the core has the task that it had
-  pub task : task_of now.core ≡ task_of was.core
-  -- what is asked of it stays
-  pub terms : now.terms ≡ was.terms
-  -- where the job ends, it ends as a run does
-  pub own : IfErr result (EndsBy (task_of now.core))
-  -- the core was told of as many saves as were acknowledged, and they left what it has asked for, where it was so
-  pub counts : (o : Origin) → o.is_watched ≡ true → Stands o was.book true (journal old) (tally old) → IsCountedAt o was act (journal old) → CountsOn o now result (journal new)
-  -- its calls are none of the clock
-  pub clock : ReadsNoClock journal old new
-
--- the same of a step that may read the clock, as the first one of a job does
+-- A step that did this act goes on with what stood before it, and was answered so. It may read the clock, as the first one of a job does.
 pub record ProceedsFirst {W U : Type 0} (journal : W → Option (List Entry)) (tally : W → Counts) (old new : W) (was now : Execution) (act : Act) (result : Result U End) : Type 0 where
   -- the parts of the execution agree
   pub holds : Holds now
@@ -63,6 +42,12 @@ pub record ProceedsFirst {W U : Type 0} (journal : W → Option (List Entry)) (t
   pub own : IfErr result (EndsBy (task_of now.core))
   -- the core was told of as many saves as were acknowledged, and they left what it has asked for, where it was so
   pub counts : (o : Origin) → o.is_watched ≡ true → Stands o was.book true (journal old) (tally old) → IsCountedAt o was act (journal old) → CountsOn o now result (journal new)
+
+-- The same of a step that doesn't read the clock.
+pub record Proceeds {W U : Type 0} (journal : W → Option (List Entry)) (tally : W → Counts) (old new : W) (was now : Execution) (act : Act) (result : Result U End) : Type 0 where
+  pub step : ProceedsFirst journal tally old new was now act result
+  -- its calls are none of the clock
+  pub clock : ReadsNoClock journal old new
 
 -- all that was asked of the world is saves of this notebook, lines that were said and readings of the clock
 abbrev pub OnlySaves : {W : Type 0} → (W → Option (List Entry)) → W → W → JobNotebook → Type 0

@@ -1,5 +1,5 @@
 -- What the core of a job was told, and by which cause it stopped. Events have the newest first.
-use Rattle.std.specs.Prelude.{◌≡◌, ℕ, ◌==◌, List, ◌∷◌, ◌≤◌, Bool, true, if◌then◌else◌, Option, Some, None}
+use Rattle.std.specs.Prelude.{◌≡◌, ℕ, List, ◌∷◌, ◌≤◌, Bool, true, Some}
 use Rattle.cell_core.specs.declared.event.Event.{Event}
 use Rattle.cell_core.specs.declared.event.Event.TheVariants.{Moment, Broken}
 use Rattle.cell_core.specs.declared.machine.Core.{Core}
@@ -14,6 +14,7 @@ use Rattle.job_end.specs.declared.answer.Answer.{Answer}
 use Rattle.job_end.specs.declared.end.End.{End}
 use Rattle.job_end.specs.declared.end.End.TheVariants as end
 use Rattle.job_end.specs.Answers.{Answers}
+use Rattle.job_journal.specs.Ended.{cause_of}
 
 -- the core was told these events, which came where they may and in time; no clock entry is after this one, and a broken stream is named
 pub record Tells (core : Core) (clock : ℕ) (is_named : Bool) : Type 0 where
@@ -97,12 +98,6 @@ pub record Ending (output : List ℕ) (task : Task) (a : Answer) : Type 0 where
 -- the answer of a job on this output is that of some end of its run, or of one from outside
 abbrev pub IsEnding : List ℕ → Task → Answer → Type 0
 IsEnding output task a = ∥ Ending output task a ∥₁
-
--- the cause that a status names (the exit statuses of nbrun)
-abbrev pub cause_of : ℕ → Option Why
-cause_of n =
-    if n == 0 then Some why.Done else if n == 1 then Some why.CellError else if n == 7 then Some why.NotReady else if n == 8 then Some why.KernelLost
-    else if n == 9 then Some why.TimedOut else if n == 13 then Some why.NoIdle else if n == 15 then Some why.BadPeer else None
 
 -- a status that names a cause comes only where there are events that stop the job for it
 abbrev pub IsCaused : Task → ℕ → Type 0

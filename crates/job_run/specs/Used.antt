@@ -1,5 +1,5 @@
 -- What is used of the messages that were heard (nbclient, `async_execute_cell`).
-use Rattle.std.specs.Prelude.{◌≡◌, ℕ, Bool, false, List, [], ◌∷◌, ◌++◌, Option, Some, None, if◌then◌else◌}
+use Rattle.std.specs.Prelude.{◌≡◌, ℕ, Bool, false, List, [], ◌∷◌, ◌++◌, ◌&&◌, Option, Some, None, if◌then◌else◌}
 use Rattle.nb_model.specs.declared.notebook.Notebook.{Notebook}
 use Rattle.cell_core.specs.declared.brief.Brief.{Brief}
 use Rattle.cell_core.specs.declared.brief.Brief.TheVariants as brief
@@ -9,6 +9,8 @@ use Rattle.cell_core.specs.declared.step.Step.{Step}
 use Rattle.cell_core.specs.Acts.{IsTimely, act_of, takes_of}
 use Rattle.cell_core.specs.StandsFor.{StandsFor, task_of}
 use Rattle.jcontent.specs.declared.content.Content.{Content}
+use Rattle.jcontent.specs.declared.reply.ReplyIs.{ReplyIs}
+use Rattle.jcontent.specs.declared.reply.ReplyIs.TheVariants as reply_is
 use Rattle.out_fold.specs.declared.used.Used.{Used}
 use Rattle.out_fold.specs.Cells.{says_idle, with_message, with_reply}
 use Rattle.job_notebook.specs.declared.notebook.JobNotebook.{JobNotebook}
@@ -38,6 +40,15 @@ is_tagged_in (Some r) = r.is_tagged
 pub data SameRequest : Option Request → Option Request → Type 0 where
   none : SameRequest None None
   some : {r s : Request} → s.id ≡ r.id → s.cell ≡ r.cell → s.is_tagged ≡ r.is_tagged → SameRequest (Some r) (Some s)
+
+-- the exception of a reply that is an error, in place of the one that was noted
+abbrev pub noted_with : ReplyIs → Option (List ℕ) → Option (List ℕ)
+noted_with (reply_is.Error ename) old = Some ename
+noted_with reply_is.Fine old = old
+
+-- the exception of a reply that is taken and stops the run is noted with the request that stands; else what is noted stays
+abbrev pub NotesReply : Bool → Bool → ReplyIs → Option Request → Option Request → Type 0
+NotesReply takes fatal reply old new = (r s : Request) → old ≡ Some r → new ≡ Some s → s.error ≡ (if takes && fatal then noted_with reply r.error else r.error)
 
 -- a core was told this event after all that it was told before, and answered so
 pub record TakesEvent (e : Event) (answer : Step) (old new : Core) : Type 0 where

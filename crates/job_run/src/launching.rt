@@ -15,7 +15,7 @@ ghost use Rattle.job_run.specs.Run.{number_of, outcome_of};
 ghost use Rattle.run_journal.specs.Job.{Job as Facts};
 ghost use Rattle.job_journal.specs.Plot.{Plot, facts};
 ghost use Rattle.job_journal.specs.Quiet.{IsQuietNow};
-ghost use Rattle.job_run.specs.Beginning.{BeginsOrEnds, SpeaksOn};
+ghost use Rattle.job_run.specs.Beginning.{AsksPorts, BeginsOrEnds, SpeaksOn};
 ghost use Rattle.job_run.specs.JobStanding.{JobStands};
 
 use crate::Job;
@@ -39,6 +39,7 @@ impl Job {
     ghost use Rattle.world.specs.Moments.{Since, Told};
     ghost use Rattle.run_journal.specs.Job.{Job as Facts};
     ghost use Rattle.job_journal.specs.Quiet.{IsQuietNow};
+    ghost use Rattle.job_run.specs.Beginning.{AsksPorts, IsLater};
     ghost use Rattle.job_run.specs.JobStanding.{KeepsStanding};
 
     // Draws the ports, writes the connection file and starts the child.
@@ -57,6 +58,8 @@ impl Job {
         ensures ends { EndsLaunch (W.counts w.old) (W.counts w.new) result }
         ensures run { self.new.run ≡ self.old.run }
         ensures keeps { KeepsStanding self.old self.new }
+        ensures asks { IfOk result (λ _. Told (W.journal w.old) (W.journal w.new)
+            (AsksPorts (number_of self.old))) }
         ensures quiet { (facts : Facts) →
             Told (W.journal w.old) (W.journal w.new) (Since (IsQuietNow facts)) }
     {
@@ -76,6 +79,7 @@ impl Job {
             self.now }
         ensures given { KeepsPorts W.journal w.old w.new }
         ensures ends { EndsLaunch (W.counts w.old) (W.counts w.new) result }
+        ensures later { Told (W.journal w.old) (W.journal w.new) IsLater }
         ensures quiet { (facts : Facts) →
             Told (W.journal w.old) (W.journal w.new) (Since (IsQuietNow facts)) }
     {
@@ -92,6 +96,7 @@ impl Job {
         ensures left { KeepsEnd (number_of self.now) (W.journal w.old) (W.journal w.new) }
         ensures given { KeepsPorts W.journal w.old w.new }
         ensures ends { EndsLaunch (W.counts w.old) (W.counts w.new) result }
+        ensures later { Told (W.journal w.old) (W.journal w.new) IsLater }
         ensures quiet { (facts : Facts) →
             Told (W.journal w.old) (W.journal w.new) (Since (IsQuietNow facts)) }
     {
@@ -105,6 +110,7 @@ impl Job {
         ensures calls { RunsInRole W.journal W.counts w.old w.new kernel.now here.now self.now }
         ensures given { KeepsPorts W.journal w.old w.new }
         ensures ends { EndsLaunch (W.counts w.old) (W.counts w.new) result }
+        ensures later { Told (W.journal w.old) (W.journal w.new) IsLater }
         ensures quiet { (facts : Facts) →
             Told (W.journal w.old) (W.journal w.new) (Since (IsQuietNow facts)) }
     {
@@ -143,6 +149,8 @@ pub(crate) fn with_kernel<W: World>(
     ensures quiet { (facts : Facts) →
         Told (W.journal w.old) (W.journal w.new) (Since (IsQuietNow facts)) }
     ensures speaks { IfOk result (SpeaksOn job.run) }
+    ensures asks { IfOk result (λ j. Told (W.journal w.old) (W.journal w.new)
+        (AsksPorts (number_of job))) }
 {
     laws::jobs_begin_and_end();
     let mut job = job;

@@ -5,6 +5,7 @@ ghost use Rattle.cell_core.specs.Task.{Task};
 ghost use Rattle.job_saves.specs.Course.{StaysOn, KeepsPart, stays_open, keeps_open};
 ghost use Rattle.job_run.specs.Held.{Holds, IsCalm, AsksOnce};
 ghost use Rattle.job_end.specs.declared.end.End.TheVariants as ending;
+ghost use Rattle.job_end.specs.Answers.{Answers, starved_answer};
 ghost use Rattle.job_run.specs.Run.{HasEnded, HasFailed, IsUnsaved, IsFileStatus, IsLost, IsSpent};
 ghost use Rattle.job_run.specs.Run.{EndCause};
 ghost use Rattle.kernel_start.specs.declared.connection_fault.ConnectionFault.TheVariants as file;
@@ -48,6 +49,8 @@ pub(crate) fn outcome_of(
     // It ends just where what was done ended it; else the execution is as it was.
     ensures goes { IfOk done (λ u. (run.new ≡ run.old) × (result ≡ None)) }
     ensures ends { IfErr done (λ e. is_some result ≡ true) }
+    // The answer is that of the end, unless memory was wanted for it.
+    ensures answers { IfErr done (λ e. IfSome result (Answers output.now e)) }
 {
     match done {
         Ok(()) => None,
@@ -69,6 +72,7 @@ fn farewell(alloc: Global, output: &Text, run: &mut Execution, end: &End) -> Ans
     ensures task { task_of run.new.core ≡ task_of run.old.core }
     ensures terms { run.new.terms ≡ run.old.terms }
     ensures end { IsEnding output.now (task_of run.new.core) result }
+    ensures answers { Answers output.now end.now result }
     ensures once { AsksOnce run.old run.new }
     ensures counts { (n : OutputAt) → EndsJobAfter n (task_of run.old.core) end.now →
         IsCausedAfter n (task_of run.old.core) result.status }
@@ -89,6 +93,7 @@ pub(crate) fn is_starved(answer: &Answer) -> bool
 }
 
 fn memory_answer(alloc: Global) -> Answer
+    ensures is { result ≡ starved_answer }
     ensures shut { IsUnsaved result.status }
     ensures fails { IsFileStatus result.status → ⊥ }
     ensures lost { result.status ≡ 14 → ⊥ }
@@ -100,6 +105,7 @@ fn memory_answer(alloc: Global) -> Answer
 }
 
 fn answer_for(alloc: Global, output: &Text, end: &End) -> Answer
+    ensures answers { Answers output.now end.now result }
     ensures shut { keeps_open end.now ≡ false → IsUnsaved result.status }
     ensures fails { (task : Task) → EndsJob task end.now → IsFileStatus result.status →
         keeps_open end.now ≡ false }

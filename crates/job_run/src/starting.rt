@@ -12,6 +12,7 @@ ghost use Rattle.job_notebook.specs.State.{merge_of, output_of, KeepsRead};
 ghost use Rattle.job_saves.specs.Calls.{Cast};
 ghost use Rattle.job_saves.specs.Children.{KeepsEnd};
 ghost use Rattle.job_saves.specs.Sessions.{key_of};
+ghost use Rattle.kernel_talk.specs.Requests.{identifier};
 ghost use Rattle.kernel_start.specs.RandomWords.{Draws};
 ghost use Rattle.job_saves.specs.Course.{Origin, Stands, HasPart, CountsWork, stays_open};
 ghost use Rattle.cell_core.specs.StandsFor.{task_of};
@@ -30,6 +31,7 @@ ghost use Rattle.kernel_lines.specs.Lines.{line_on, role_on};
 ghost use Rattle.run_journal.specs.Requests.{requests};
 ghost use Rattle.job_journal.specs.Plot.{Plot, facts};
 ghost use Rattle.job_run.specs.Beginning.{BeginsOrEnds, IsFresh, IsToBegin, IsUnbegun, SpeaksOn};
+ghost use Rattle.job_run.specs.Beginning.{SavesAndAsks};
 
 use crate::execution::Execution;
 use crate::histories::Histories;
@@ -51,7 +53,7 @@ use words::Ask;
 use world::World;
 
 impl Job {
-    ghost use Rattle.std.specs.Prelude.{◌≡◌, ◌<◌, List, None, IfOk, IfErr, IfSome};
+    ghost use Rattle.std.specs.Prelude.{◌≡◌, ◌<◌, List, None, Some, IfOk, IfErr, IfSome};
     ghost use Rattle.world.specs.declared.entry.Entry.{Entry};
     ghost use Rattle.world.specs.Counts.{Counts};
     ghost use Rattle.job_saves.specs.Course.{Origin, IsFor, HasCalled, Begins};
@@ -59,6 +61,7 @@ impl Job {
     ghost use Rattle.job_saves.specs.Reads.{IsKernelOf};
     ghost use Rattle.job_saves.specs.Children.{KeepsEnd};
     ghost use Rattle.job_saves.specs.Sessions.{HasDrawn};
+    ghost use Rattle.kernel_start.specs.RandomWords.{Draws};
     ghost use Rattle.job_run.specs.Run.{IsCastAs, BeginsNew, StartsAs, StartsCounted, StartsInRole};
     ghost use Rattle.job_run.specs.Run.{HasNoChild, HasNoPorts, EndCause};
     ghost use Rattle.job_run.specs.Run.{OnlyReads};
@@ -68,7 +71,7 @@ impl Job {
     ghost use Rattle.job_run.specs.Told.{StartsBy};
     ghost use Rattle.world.specs.Moments.{Told};
     ghost use Rattle.job_journal.specs.Plot.{Plot};
-    ghost use Rattle.job_run.specs.Beginning.{IsFresh, IsPlotOf, StartsOrEnds};
+    ghost use Rattle.job_run.specs.Beginning.{HasSession, IsFresh, IsPlotOf, StartsOrEnds};
 
     /// Saves the notebook with no cell settled and starts the kernel that was found for it. Where
     /// the start fails nothing is left of the kernel. `here` is the working folder.
@@ -112,9 +115,13 @@ impl Job {
         ensures fresh { IfOk result (λ j. outcome_of j ≡ None) }
         ensures pings { IfOk result (λ j. pings_kernel j ≡ ask.heartbeat) }
         ensures terms { IfOk result (λ j. AreTermsOf ask (terms_of_job j)) }
+        // Where it runs it speaks in the session, and under the key, of the words that were drawn for
+        // it in this call.
+        ensures spoken { IfOk result (λ j. Told (W.journal w.old) (W.journal w.new)
+            (HasSession number ask.output j)) }
         // Where nothing had happened to the job of a plot, and it is this one, the job stands for
-        // the journal in the plot's session. Where it ends, the texts that were saved are the first
-        // of the saves that are due, in whichever session.
+        // the journal in the plot's session. Where it ends, it ends so by the journal, in whichever
+        // session.
         ensures stands { (p : Plot) → Told (W.journal w.old) (W.journal w.new) (λ before after.
             IsPlotOf p number ask agenda.notebook → IsFresh p before →
             StartsOrEnds p result after) }
@@ -166,6 +173,9 @@ impl Job {
         ensures pings { IfOk result (λ j. pings_kernel j ≡ ask.heartbeat) }
         ensures terms { IfOk result (λ j. AreTermsOf ask (terms_of_job j)) }
         ensures ports { IfOk result (λ j. HasPorts number (ports_of_job j) (W.journal w.new)) }
+        ensures spoken { IfOk result (λ j. Told (W.journal w.old) (W.journal w.new)
+            (λ before after. (start : List Entry) → Draws (Some pairs) start before →
+            HasSession number ask.output j start after)) }
         ensures stands { (p : Plot) → Told (W.journal w.old) (W.journal w.new) (λ before after.
             IsPlotOf p number ask agenda.notebook → IsFresh p before →
             StartsOrEnds p result after) }
@@ -257,10 +267,13 @@ fn start_saved<W: World>(
     ensures terms { IfOk result (λ j. terms_of_job j ≡ run.terms) }
     ensures ports { IfOk result (λ j. HasPorts number (ports_of_job j) (W.journal w.new)) }
     ensures stands { (p : Plot) → Told (W.journal w.old) (W.journal w.new) (λ before after.
-        IsToBegin p number run before → BeginsOrEnds p result after) }
+        paths.output ≡ p.ask.output → IsToBegin p number run before →
+        BeginsOrEnds p result after) }
     ensures unsent { (p : Plot) → Told (W.journal w.old) (W.journal w.new) (λ before after.
         IsFresh p before → requests (facts p) after ≡ []) }
     ensures speaks { IfOk result (SpeaksOn run) }
+    ensures asks { IfOk result (λ j. Told (W.journal w.old) (W.journal w.new)
+        (SavesAndAsks number (output_of run.book))) }
 {
     laws::jobs_begin_and_end();
     let mut run = run;
@@ -329,6 +342,8 @@ fn parts_of(
     ensures task { IfOk result (λ p. task_of p.1.core ≡ task_for ask agenda.notebook) }
     ensures terms { IfOk result (λ p. AreTermsOf ask p.1.terms) }
     ensures key { IfOk result (λ p. p.1.session.key ≡ key_of pairs) }
+    ensures name { IfOk result (λ p.
+        p.1.session.name ≡ identifier pairs.name.0 pairs.name.1) }
     ensures paths { IfOk result (λ p. p.0.output ≡ ask.output) }
     ensures unbegun { IfOk result (λ p. IsUnbegun agenda.notebook p.1) }
 {
@@ -394,6 +409,7 @@ fn execution_of(
     ensures task { IfOk result (λ x. task_of x.core ≡
         task_in terms.times agenda.notebook) }
     ensures key { IfOk result (λ x. x.session.key ≡ key_of pairs) }
+    ensures name { IfOk result (λ x. x.session.name ≡ identifier pairs.name.0 pairs.name.1) }
     ensures unbegun { IfOk result (IsUnbegun agenda.notebook) }
 {
     nb_model::laws::plan_in_order();
@@ -430,6 +446,7 @@ fn execution_of(
 /// What an execution speaks with its kernel by, under the key of these random words.
 fn talk_of(alloc: Global, pairs: RandomPairs) -> Result<(Lines, Session, Histories), NoMemory>
     ensures key { IfOk result (λ t. t.1.key ≡ key_of pairs) }
+    ensures name { IfOk result (λ t. t.1.name ≡ identifier pairs.name.0 pairs.name.1) }
     ensures made { IfOk result (λ t. t.1.made ≡ 0) }
     ensures roles { IfOk result (λ t. (c : Channel) → role_of (line_on t.0 c) ≡ role_on c) }
     ensures lines { IfOk result (λ t. (c : Channel) → LineStandsFor (line_on t.0 c) [] []) }

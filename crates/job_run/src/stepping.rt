@@ -63,6 +63,8 @@ impl Execution {
     ghost use Rattle.progress_save.specs.Saved.{line_of};
     ghost use Rattle.job_notebook.specs.State.{Keeps, merge_of, notebook_of};
     ghost use Rattle.job_saves.specs.Saving.{OnTried, SavesOrEnds, SavesOrEndsSilently};
+    ghost use Rattle.job_end.specs.declared.end.End.TheVariants as ending;
+    ghost use Rattle.job_run.specs.Stopping.{IsStopBy, cell_in, name_noted};
     ghost use Rattle.job_run.specs.Said.{IsRequestOf, QueuesNext, SendsCell, ShutsDown, asks_for};
 
     /// Tells the core of one event, and does what it answers. `Err` where the job ends so.
@@ -270,6 +272,7 @@ impl Execution {
         ensures own { IfErr result (EndsBy (task_of self.new.core)) }
         ensures counts { (n : OutputAt) → IsCounted self.old Act.Nothing n →
             IsCountedOn self.new result n }
+        ensures starved { IfErr result (λ e. e ≡ ending.NoMemory) }
         ensures asks { OnOk result (Asks 1 self.old self.new) }
         ensures clock { self.new.clock ≡ self.old.clock }
         ensures sends { OnOk result ((c : Cell) →
@@ -372,6 +375,8 @@ impl Execution {
         ensures own { IfOk result (EndsBy (task_of self.now.core)) }
         ensures counts { (n : OutputAt) → StopsAfter n (task_of self.now.core) why →
             IfOk result (EndsAfter n (task_of self.now.core)) }
+        // It names the cell of the request that stands, and the exception that is noted with it.
+        ensures names { IfOk result (IsStopBy why self.now.request) }
     {
         match why {
             Why::Done => Ok(End::Done),
@@ -385,7 +390,9 @@ impl Execution {
     }
 
     // The cell of the request that stands.
-    fn cell(&self) -> u32 {
+    fn cell(&self) -> u32
+        ensures { result ≡ cell_in self.now.request }
+    {
         match &self.request {
             Some(request) => request.cell,
             None => 0,
@@ -398,6 +405,7 @@ impl Execution {
         ensures own { IfOk result (EndsBy (task_of self.now.core)) }
         ensures counts { (n : OutputAt) → StopsAfter n (task_of self.now.core) cause.CellError →
             IfOk result (EndsAfter n (task_of self.now.core)) }
+        ensures names { IfOk result (IsStopBy cause.CellError self.now.request) }
     {
         let name = self.error_name()?;
         Ok(End::CellError {
@@ -413,12 +421,16 @@ impl Execution {
         ensures own { EndsBy (task_of self.now.core) result }
         ensures counts { (n : OutputAt) → StopsAfter n (task_of self.now.core) cause.BadPeer →
             EndsAfter n (task_of self.now.core) result }
+        ensures names { IsStopBy cause.BadPeer self.now.request result }
     {
         let (chan, fault) = self.broken.unwrap();
         End::BadPeer { chan, fault }
     }
 
-    fn error_name(&self) -> Result<Text, NoMemory> {
+    // The exception that is noted with it.
+    fn error_name(&self) -> Result<Text, NoMemory>
+        ensures { IfOk result (λ name. name ≡ name_noted self.now.request) }
+    {
         match &self.request {
             Some(request) => match &request.error {
                 Some(name) => name.copy(self.alloc),

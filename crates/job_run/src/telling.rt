@@ -33,7 +33,7 @@ impl Job {
     ghost use Rattle.run_journal.specs.Job.{Job as Facts};
     ghost use Rattle.job_journal.specs.Plot.{Plot};
     ghost use Rattle.job_journal.specs.Quiet.{IsQuietNow};
-    ghost use Rattle.job_journal.specs.Standing.{HasEndedAs};
+    ghost use Rattle.job_journal.specs.Ended.{HasAnswered};
     ghost use Rattle.job_run.specs.JobStanding.{IsGotFor, IsTurnedFor, JobStands};
     ghost use Rattle.job_run.specs.JobStanding.{JobStandsUntold, KeepsStanding};
 
@@ -268,10 +268,9 @@ impl Job {
             HasCalled c since from (W.journal w.new) (W.counts w.new) }
         // Its child has its end.
         ensures left { HasEnd (number_of self) (W.journal w.new) }
-        // Where it stood for the journal, the texts that were saved are the first of the saves
-        // that are due.
+        // Where it stood for the journal, it has ended with this answer by the journal.
         ensures stands { (p : Plot) → Told (W.journal w.old) (W.journal w.new) (λ before after.
-            JobStandsUntold p self before → HasEndedAs p after) }
+            JobStandsUntold p self before → HasAnswered p result after) }
         // It is the answer of an end of its run, by a cause for which such a core may stop, or of
         // one from outside.
         ensures end { IsEnding (output_of_job self) (task_of_job self) result }

@@ -23,7 +23,8 @@ impl Execution {
     ghost use Rattle.job_saves.specs.Course.{StaysOn, KeepsPart};
     ghost use Rattle.cell_core.specs.declared.act.Act.TheVariants.{Nothing};
     ghost use Rattle.job_run.specs.Steps.{Proceeds};
-    ghost use Rattle.job_run.specs.Used.{SameRequest, UsesMessage, UsesReply, is_tagged_in};
+    ghost use Rattle.job_run.specs.Used.{NotesReply, SameRequest, UsesMessage, UsesReply};
+    ghost use Rattle.job_run.specs.Used.{is_tagged_in};
     ghost use Rattle.std.specs.Prelude.{ℕ, List as Plain, []};
     ghost use Rattle.world.specs.Moments.{Told};
     ghost use Rattle.world.specs.declared.chan.Chan.TheVariants.{Shell, Iopub};
@@ -226,6 +227,8 @@ impl Execution {
         ensures parts { KeepsParts self.old.book self.new.book }
         ensures still { takes ≡ false → self.new.book ≡ self.old.book }
         ensures request { SameRequest self.old.request self.new.request }
+        ensures notes { OnOk result
+            (NotesReply takes fatal reply self.old.request self.new.request) }
         ensures uses { OnOk result (UsesReply takes (option_copied date.entry)
             self.old.book self.new.book) }
     {
@@ -258,6 +261,7 @@ impl Execution {
         ensures book { self.new.book ≡ self.old.book }
         ensures rest { self.new ≡ record self.old { request = self.new.request } }
         ensures request { SameRequest self.old.request self.new.request }
+        ensures notes { NotesReply true true reply self.old.request self.new.request }
     {
         if let Some(request) = &mut self.request {
             if let ReplyIs::Error { ename } = reply {

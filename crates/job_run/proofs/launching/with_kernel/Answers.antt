@@ -11,6 +11,7 @@ use Rattle.world.proofs.MomentsLemmas.{since_then, told_as, told_then}
 use Rattle.std.proofs.Common.{ap}
 use Rattle.job_journal.specs.Plot.{facts}
 use Rattle.job_run.specs.declared.execution.Execution.{Execution}
+use Rattle.job_run.proofs.EndLemmas.{unstarted_so}
 use Rattle.job_run.proofs.JobLemmas.{job_quiet, job_saved, job_untold}
 
 pub returns-in-Ok-clause-course : goal.returns-in-Ok-clause-course
@@ -49,7 +50,8 @@ pub returns-in-Err-clause-stands : goal.returns-in-Err-clause-stands
 returns-in-Err-clause-stands g c p =
     let j = c.launch.new.self in
     told_then (c.launch.ensures.quiet (facts p)) (c.end_child.ensures.quiet (facts p))
-    (λ x y z w v s. job_saved p j z (job_untold p j z (job_quiet p j y z v (job_quiet p j x y w (c.launch.ensures.keeps.stands p x s)))))
+    (λ x y z w v s.
+    unstarted_so p c.in-Err.end z c.in-Err.ensures.ends.own (job_saved p j z (job_untold p j z (job_quiet p j y z v (job_quiet p j x y w (c.launch.ensures.keeps.stands p x s))))))
 
 pub returns-in-Ok-clause-quiet : goal.returns-in-Ok-clause-quiet
 returns-in-Ok-clause-quiet g c facts = c.launch.ensures.quiet facts
@@ -59,3 +61,6 @@ returns-in-Err-clause-quiet g c facts = told_then (c.launch.ensures.quiet facts)
 
 pub returns-in-Ok-clause-speaks : goal.returns-in-Ok-clause-speaks
 returns-in-Ok-clause-speaks g c = record { name = ap (λ (x : Execution). x.session.name) c.launch.ensures.run; key = ap (λ (x : Execution). x.session.key) c.launch.ensures.run }
+
+pub returns-in-Ok-clause-asks : goal.returns-in-Ok-clause-asks
+returns-in-Ok-clause-asks g c = c.in-Ok.ensures.asks

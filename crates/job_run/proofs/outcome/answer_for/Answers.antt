@@ -20,3 +20,6 @@ returns-clause-spent c spent = spent_by c.args.output.now c.args.end.now c.answe
 
 pub returns-clause-counts : goal.returns-clause-counts
 returns-clause-counts c n task ends = answer_after n task c.args.output.now c.args.end.now c.answer.result c.answer.ensures ends
+
+pub returns-clause-answers : goal.returns-clause-answers
+returns-clause-answers c = c.answer.ensures

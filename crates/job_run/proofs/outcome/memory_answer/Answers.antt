@@ -21,3 +21,6 @@ returns-clause-spent c h = starved_spent c.starved.result (ap (λ a. a.status) c
 
 pub returns-clause-counts : goal.returns-clause-counts
 returns-clause-counts c n task = starved_after n task c.starved.result c.starved.ensures
+
+pub returns-clause-is : goal.returns-clause-is
+returns-clause-is c = c.starved.ensures

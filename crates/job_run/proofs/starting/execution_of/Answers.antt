@@ -75,3 +75,6 @@ returns-in-Ok-clause-unbegun c =
       keeps = c.in_ok-book.ensures.keeps;
       clock = refl;
     }
+
+pub returns-in-Ok-clause-name : goal.returns-in-Ok-clause-name
+returns-in-Ok-clause-name c = c.in-Ok.ensures.name

@@ -17,3 +17,6 @@ returns-clause-terms c = subst (AreTermsOf c.args.ask) (sym c.in_ok-run.ensures.
 
 pub returns-clause-unbegun : goal.returns-clause-unbegun
 returns-clause-unbegun c = c.in_ok-run.ensures.unbegun
+
+pub returns-clause-name : goal.returns-clause-name
+returns-clause-name c = c.in_ok-run.ensures.name

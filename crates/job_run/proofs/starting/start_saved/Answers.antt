@@ -20,7 +20,8 @@ use Rattle.std.proofs.lemmas.Result.{IfOk-weaker}
 use Rattle.job_notebook.specs.State.{output_of}
 use Rattle.job_journal.specs.Plot.{facts}
 use Rattle.job_journal.proofs.Acking.{requests_on}
-use Rattle.job_run.specs.Beginning.{SpeaksOn}
+use Rattle.job_run.specs.Beginning.{AsksPorts, SpeaksOn}
+use Rattle.job_run.specs.declared.paths.Paths.{Paths}
 use Rattle.job_run.proofs.StartLemmas.{job_begun, none_requested, saves_unread}
 
 pub returns-in-Ok-clause-course : goal.returns-in-Ok-clause-course
@@ -108,11 +109,12 @@ returns-in-Ok-clause-terms g c =
 pub returns-in-Ok-clause-stands : goal.returns-in-Ok-clause-stands
 returns-in-Ok-clause-stands g c p =
     told_then (c.in-Ok.ensures.stands p c.args.number) (c.with_kernel.ensures.stands p)
-    (λ x y z first then b.
-    then (job_begun p c.job_of.result c.args.number c.save_first.new.self y c.job_of.ensures.run c.job_of.ensures.number c.job_of.ensures.outcome b.is_for.number_is b.fresh.undated (first b)))
+    (λ x y z first then output b.
+    then (job_begun p c.job_of.result c.args.number c.save_first.new.self y c.job_of.ensures.run c.job_of.ensures.number c.job_of.ensures.outcome b.is_for.number_is
+    (ap (λ (q : Paths). q.output) c.job_of.ensures.paths ∙ output) b.fresh.undated (first b)))
 
 pub returns-in-Err-clause-stands : goal.returns-in-Err-clause-stands
-returns-in-Err-clause-stands g c p = told_as (c.in-Err.ensures.stands p c.args.number) (λ x y first b. first b)
+returns-in-Err-clause-stands g c p = told_as (c.in-Err.ensures.stands p c.args.number) (λ x y first output b. first b)
 
 pub returns-in-Ok-clause-unsent : goal.returns-in-Ok-clause-unsent
 returns-in-Ok-clause-unsent g c p =
@@ -130,3 +132,8 @@ returns-in-Ok-clause-speaks g c =
       name = on.name ∙ ap (λ (x : Execution). x.session.name) c.job_of.ensures.run ∙ c.in-Ok.ensures.name;
       key = on.key ∙ ap (λ (x : Execution). x.session.key) c.job_of.ensures.run ∙ c.in-Ok.ensures.key;
     }) c.with_kernel.ensures.speaks
+
+pub returns-in-Ok-clause-asks : goal.returns-in-Ok-clause-asks
+returns-in-Ok-clause-asks g c =
+    IfOk-weaker c.with_kernel.result _ _
+    (λ j asks. told_then c.save_first.ensures.saves asks (λ x y z w a. record { asked = y; saves = w; asks = subst (λ n. AsksPorts n y z) c.job_of.ensures.number a })) c.with_kernel.ensures.asks

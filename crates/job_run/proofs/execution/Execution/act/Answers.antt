@@ -63,15 +63,17 @@ returns g c =
     let p = c.perform.ensures in
     record {
       goes = record {
-        holds = p.holds;
-        calm = p.calm;
-        course = λ o s. subst (λ b. Stands o c.perform.new.self.book b (g.W.Journal.journal c.loop-act.w) (g.W.Journal.counts c.loop-act.w)) (sym p.saved)
-            (p.course o _ _ _ (i.course o s));
-        calls = λ cast since from s. p.calls cast since from _ _ (i.calls cast since from s);
-        task = p.task ∙ i.task;
-        terms = p.terms ∙ i.terms;
-        own = p.own;
-        counts = λ o on s h. counts_on o c.loop-act.self c.perform.new.self c.loop-act.act c.perform.result (g.W.Journal.journal c.loop-act.w) p.counts (i.counts o on s h);
+        step = record {
+          holds = p.holds;
+          calm = p.calm;
+          course = λ o s. subst (λ b. Stands o c.perform.new.self.book b (g.W.Journal.journal c.loop-act.w) (g.W.Journal.counts c.loop-act.w)) (sym p.saved)
+              (p.course o _ _ _ (i.course o s));
+          calls = λ cast since from s. p.calls cast since from _ _ (i.calls cast since from s);
+          task = p.task ∙ i.task;
+          terms = p.terms ∙ i.terms;
+          own = p.own;
+          counts = λ o on s h. counts_on o c.loop-act.self c.perform.new.self c.loop-act.act c.perform.result (g.W.Journal.journal c.loop-act.w) p.counts (i.counts o on s h);
+        };
         clock = i.reads;
       };
       saves = i.saves;
@@ -96,14 +98,16 @@ returns-in_err-act-clause-goes g c =
     let i = c.loop-act.invariant in
     let e = c.in_err-act.ensures in
     goes_err {q = c.save_on.new.w} {y = c.save_on.new.self} c.from_residual.ensures.1 (record {
-      holds = e.holds;
-      calm = tt;
-      course = λ o s. e.course o (i.course o s);
-      calls = λ cast since from s. e.calls cast since from (i.calls cast since from s);
-      task = e.task ∙ i.task;
-      terms = e.terms ∙ i.terms;
-      own = e.own;
-      counts = λ o on s h. e.counts o on (i.course o s) (quiet_at o c.loop-act.self c.loop-act.act (g.W.Journal.journal c.loop-act.w) (i.counts o on s h));
+      step = record {
+        holds = e.holds;
+        calm = tt;
+        course = λ o s. e.course o (i.course o s);
+        calls = λ cast since from s. e.calls cast since from (i.calls cast since from s);
+        task = e.task ∙ i.task;
+        terms = e.terms ∙ i.terms;
+        own = e.own;
+        counts = λ o on s h. e.counts o on (i.course o s) (quiet_at o c.loop-act.self c.loop-act.act (g.W.Journal.journal c.loop-act.w) (i.counts o on s h));
+      };
       clock = told_then i.reads e.reads (λ x y z v w. since_then v w);
     })
 

@@ -10,7 +10,7 @@ use Rattle.job_run.proofs.execution.Execution.lose_or_ask.Goals as goal
 
 pub returns-in-Ok-clause-goes : goal.returns-in-Ok-clause-goes
 returns-in-Ok-clause-goes g c =
-    let l = c.in-Ok.ensures.goes in
+    let l = c.in-Ok.ensures.goes.step in
     let x = c.lose.new.self in
     let y = c.ask_or_end.new.self in
     let e = c.ask_or_end.ensures in
@@ -18,15 +18,17 @@ returns-in-Ok-clause-goes g c =
     let k = g.W.Journal.counts c.lose.new.w in
     let book : y.book ≡ x.book = ap (λ (z : Execution). z.book) e.asked in
     record {
-      holds = search rules;
-      calm = search rules;
-      course = λ o s. subst (λ b. Stands o b (stays_open c.ask_or_end.result) j k) (sym book) (subst (λ q. Stands o x.book q j k) (sym e.saved) (l.course o s));
-      calls = λ cast since from s. subst (λ b. HasPart cast since from b j k) (sym book) (l.calls cast since from s);
-      task = ap (λ (z : Execution). task_of z.core) e.asked ∙ l.task;
-      terms = ap (λ (z : Execution). z.terms) e.asked ∙ l.terms;
-      own = e.own;
-      counts = λ o on s h. counts_on o x y Nothing c.ask_or_end.result j e.counts (l.counts o on s h);
-      clock = l.clock;
+      step = record {
+        holds = search rules;
+        calm = search rules;
+        course = λ o s. subst (λ b. Stands o b (stays_open c.ask_or_end.result) j k) (sym book) (subst (λ q. Stands o x.book q j k) (sym e.saved) (l.course o s));
+        calls = λ cast since from s. subst (λ b. HasPart cast since from b j k) (sym book) (l.calls cast since from s);
+        task = ap (λ (z : Execution). task_of z.core) e.asked ∙ l.task;
+        terms = ap (λ (z : Execution). z.terms) e.asked ∙ l.terms;
+        own = e.own;
+        counts = λ o on s h. counts_on o x y Nothing c.ask_or_end.result j e.counts (l.counts o on s h);
+      };
+      clock = c.in-Ok.ensures.goes.clock;
     }
 
 pub returns-in-Ok-clause-stands : goal.returns-in-Ok-clause-stands

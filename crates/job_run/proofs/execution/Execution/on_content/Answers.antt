@@ -10,7 +10,7 @@ use Rattle.job_notebook.specs.State.{KeepsParts}
 use Rattle.job_run.specs.Standing.{DoesAct, StaysStill, is_idle}
 use Rattle.job_run.specs.Used.{TakesEvent, UsesMessage}
 use Rattle.job_run.proofs.ActLemmas.{told_while}
-use Rattle.job_run.proofs.MessageLemmas.{io_deals, uses_end}
+use Rattle.job_run.proofs.MessageLemmas.{io_deals, uses_starved}
 use Rattle.job_run.proofs.execution.Execution.on_content.Goals as goal
 
 pub returns-in-Ok-clause-goes : goal.returns-in-Ok-clause-goes
@@ -41,4 +41,4 @@ returns-in-Ok-clause-uses g c p number standing done rest m own =
     (λ e. subst (λ (d : Execution). StaysStill d c.act.new.self c.act.result) same (c.act.ensures.still (ap is_idle e)).0) does.1 u)
 
 pub returns-in-Err-clause-uses : goal.returns-in-Err-clause-uses
-returns-in-Err-clause-uses g c p number standing done rest m own = told_start (λ now u. uses_end p number c.args.self.now standing Iopub done _ now u)
+returns-in-Err-clause-uses g c p number standing done rest m own = told_start (λ now u. uses_starved p number c.args.self.now standing Iopub done _ now u)

@@ -12,7 +12,7 @@ use Rattle.job_run.proofs.RunLemmas.{told_spares, entry_called}
 use Rattle.job_run.proofs.WorkLemmas.{moment_works}
 use Rattle.job_run.proofs.PartLemmas.{clock_quiet}
 use Rattle.job_run.proofs.CountLemmas.{counts_passed, later_counts}
-use Rattle.job_run.proofs.StepLemmas.{goes_told}
+use Rattle.job_run.proofs.StepLemmas.{goes_first, goes_told}
 use Rattle.cell_core.specs.declared.act.Act.TheVariants.{Nothing}
 use Rattle.cell_core.specs.StandsFor.{task_of}
 use Rattle.job_notebook.specs.State.{output_of}
@@ -23,7 +23,7 @@ returns-clause-goes g c =
     let x = c.args.self.now in
     let m = c.now-ms.ensures in
     let t = c.turn_clock in
-    let rest = goes_told {x = x} t.ensures.book (ap task_of t.ensures.core) t.ensures.terms (λ n i. later_counts x t.new.self n t.ensures.core t.ensures.later t.ensures.broken i) c.hear_clock.ensures.goes in
+    let rest = goes_first (goes_told {x = x} t.ensures.book (ap task_of t.ensures.core) t.ensures.terms (λ n i. later_counts x t.new.self n t.ensures.core t.ensures.later t.ensures.broken i) c.hear_clock.ensures.goes) in
     record {
       holds = rest.holds;
       calm = rest.calm;

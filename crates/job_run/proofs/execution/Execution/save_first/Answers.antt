@@ -21,7 +21,7 @@ returns-in_err-act-clause-goes g c = goes_first (goes_err c.from_residual.ensure
 pub returns-clause-saves : goal.returns-clause-saves
 returns-clause-saves g c =
     saves_then (output_of c.args.self.now.book) (output_of c.act.new.self.book)
-    (calls_output c.args.self.now.book c.act.new.self.book (g.W.Journal.journal c.args.w.now) (g.W.Journal.journal c.act.new.w) (g.W.Journal.counts c.args.w.now) (g.W.Journal.counts c.act.new.w) c.act.ensures.goes.calls)
+    (calls_output c.args.self.now.book c.act.new.self.book (g.W.Journal.journal c.args.w.now) (g.W.Journal.journal c.act.new.w) (g.W.Journal.counts c.args.w.now) (g.W.Journal.counts c.act.new.w) c.act.ensures.goes.step.calls)
     c.act.ensures.saves c.read_clock.ensures.saves
 
 pub returns-in_err-act-clause-saves : goal.returns-in_err-act-clause-saves

@@ -117,7 +117,7 @@ returns-in_err-save-clause-stands g c p number =
     (λ before after so clock t.
     ended_to p number (record c.save.new.self { clock = clock }) c.from_residual.result e after c.from_residual.ensures.1
     (unsaved_ends p number (record c.args.self.now { clock = clock }) c.args.settled before after c.save.new.self.book
-    (line_of (output_of c.args.self.now.book) c.args.settled (notebook_of c.save.new.self.book)) (SayFailed g.W.Journal.counts c.save.new.w) e t c.in_err-save.ensures.prefix so))
+    (line_of (output_of c.args.self.now.book) c.args.settled (notebook_of c.save.new.self.book)) (SayFailed g.W.Journal.counts c.save.new.w) e t c.in_err-save.ensures.prefix so c.in_err-save.ensures.kind))
 
 pub returns-clause-kind : goal.returns-clause-kind
 returns-clause-kind g c =

@@ -40,4 +40,4 @@ pub returns-clause-stands : goal.returns-clause-stands
 returns-clause-stands c =
     let j = c.args.self.now in
     let e = c.outcome_of in
-    keeps_ended j _ refl c.requires.running e.ensures.ends
+    keeps_ended j _ c.args.end refl refl e.ensures.ends c.requires.outside e.ensures.answers

@@ -1,6 +1,9 @@
 use Rattle.std.proofs.Common.{sym, subst, ap}
 use Rattle.world.proofs.MomentsLemmas.{told_as}
+use Rattle.job_end.specs.declared.answer.Answer.{Answer}
+use Rattle.job_journal.specs.Ended.{cause_of}
 use Rattle.job_journal.specs.Plot.{facts}
+use Rattle.job_run.proofs.EndLemmas.{uncaused_answer}
 use Rattle.job_run.proofs.JobLemmas.{job_quiet_untold, job_saved}
 use Rattle.job_run.proofs.OutcomeLemmas.{answer_same, some_none, starved_lost, starved_spent}
 use Rattle.job_run.specs.Run.{IsLost, IsSpent}
@@ -40,10 +43,13 @@ pub returns-clause-spent : goal.returns-clause-spent
 returns-clause-spent g c h = absurd (starved_spent c.starved.result (ap (λ a. a.status) c.starved.ensures) h)
 
 pub returns-in-Some-clause-stands : goal.returns-in-Some-clause-stands
-returns-in-Some-clause-stands g c p = told_as (c.end_child.ensures.quiet (facts p)) (λ x y w s. job_saved p c.args.self y (job_quiet_untold p c.args.self x y w s))
+returns-in-Some-clause-stands g c p =
+    told_as (c.end_child.ensures.quiet (facts p)) (λ x y w s. (job_quiet_untold p c.args.self x y w s).ended c.in-Some.answer c.in-Some.is)
 
 pub returns-clause-stands : goal.returns-clause-stands
-returns-clause-stands g c p = told_as (c.end_child.ensures.quiet (facts p)) (λ x y w s. job_saved p c.args.self y (job_quiet_untold p c.args.self x y w s))
+returns-clause-stands g c p =
+    told_as (c.end_child.ensures.quiet (facts p))
+    (λ x y w s. uncaused_answer p c.starved.result y (ap (λ (a : Answer). cause_of a.status) c.starved.ensures) (job_saved p c.args.self y (job_quiet_untold p c.args.self x y w s)))
 
 pub returns-in-Some-clause-over : goal.returns-in-Some-clause-over
 returns-in-Some-clause-over g c answer is = answer_same c.args.self.outcome c.in-Some.answer answer c.in-Some.is is

@@ -11,7 +11,7 @@ returns-clause-stays c =
       calls = search (rules);
       keeps = search (rules);
       outcome = refl;
-      stands = keeps_served c.args.self.now _ c.args.chan c.take.new.self refl refl refl
+      stands = keeps_served c.args.self.now _ c.args.chan c.take.new.self refl refl refl refl
           (record { others = e.others; role = e.role; stands = λ h out s. (_, e.stands h out s) });
     }
 

@@ -10,7 +10,7 @@ use Rattle.job_run.proofs.CauseLemmas.{causes_stay}
 use Rattle.job_run.proofs.PartLemmas.{wire_quiet, wire_childless}
 use Rattle.job_run.proofs.job.Job.launch.Goals as goal
 use Rattle.world.proofs.MomentsLemmas.{since_then, tells_as, told_then}
-use Rattle.world.specs.Moments.{more, start}
+use Rattle.world.specs.Moments.{Since, more, start}
 use Rattle.job_journal.proofs.Quiet.{quiet_kind}
 use Rattle.job_run.proofs.JobLemmas.{keeps_still}
 
@@ -75,7 +75,15 @@ pub returns-in-None-clause-quiet : goal.returns-in-None-clause-quiet
 returns-in-None-clause-quiet g c facts = tells_as c.free_ports.ensures.tells (λ past. more start (quiet_kind facts _ past refl))
 
 pub returns-in-Some-clause-keeps : goal.returns-in-Some-clause-keeps
-returns-in-Some-clause-keeps g c = keeps_still c.args.self.now _ refl refl refl
+returns-in-Some-clause-keeps g c = keeps_still c.args.self.now _ refl refl refl refl
 
 pub returns-in-None-clause-keeps : goal.returns-in-None-clause-keeps
-returns-in-None-clause-keeps g c = keeps_still c.args.self.now _ refl refl refl
+returns-in-None-clause-keeps g c = keeps_still c.args.self.now _ refl refl refl refl
+
+pub returns-in-Some-clause-asks : goal.returns-in-Some-clause-asks
+returns-in-Some-clause-asks g c =
+    let number = c.args.self.now.number in
+    let j = g.W.Journal.journal c.args.w.now in
+    let k = g.W.Journal.journal c.free_ports.new.self in
+    let tells = subst (λ (q : _). Tells j k (made.Ports number q)) c.in-Some.is c.free_ports.ensures.tells in
+    either_way c.start_on_ports.result (told_then tells c.start_on_ports.ensures.later (λ x y z is w. record { ports = c.in-Some.ports; later = subst (λ mid. Since (λ n. Unit {0}) mid z) is w }))

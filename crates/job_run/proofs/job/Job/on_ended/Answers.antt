@@ -11,5 +11,5 @@ returns-in-Still c =
       calls = search rules;
       keeps = search rules;
       outcome = refl;
-      stands = keeps_standing c.args.self.now _ refl refl (ap (λ (x : Execution). x.clock) e.rest) (λ p number clock journal s. (e.stands p number clock journal s).stands);
+      stands = keeps_standing c.args.self.now _ refl refl refl (ap (λ (x : Execution). x.clock) e.rest) (λ p number clock journal s. (e.stands p number clock journal s).stands);
     }

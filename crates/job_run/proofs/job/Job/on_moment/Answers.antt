@@ -20,7 +20,7 @@ use Rattle.job_run.proofs.PartLemmas.{kids_quiet, kids_unclocked}
 use Rattle.job_run.proofs.job.Job.on_moment.Goals as goal
 
 pub outcome_of-requires-clause-own : goal.outcome_of-requires-clause-own
-outcome_of-requires-clause-own g c = job_ends (task_of c.on_moment-turned.new.self.core) c.on_moment-turned.result c.on_moment-turned.ensures.goes.own
+outcome_of-requires-clause-own g c = job_ends (task_of c.on_moment-turned.new.self.core) c.on_moment-turned.result c.on_moment-turned.ensures.goes.step.own
 
 pub returns-clause-goes : goal.returns-clause-goes
 returns-clause-goes g c =
@@ -29,16 +29,16 @@ returns-clause-goes g c =
     record {
       course = λ o r.
           turns o c.args.self.now _ t.new.self.book _ _ _ _ (stays_open t.result) (sym c.is_over.ensures ∙ c.if-is_over.false)
-          (λ s. t.ensures.goes.course o (others_pass o _ true _ _ _ _ (told_spares o.output _ _ _ refl c.look.ensures.tells) (grow_same c.look.ensures.same) s)) e.course refl e.shut e.fails
+          (λ s. t.ensures.goes.step.course o (others_pass o _ true _ _ _ _ (told_spares o.output _ _ _ refl c.look.ensures.tells) (grow_same c.look.ensures.same) s)) e.course refl e.shut e.fails
           (λ fresh s h. turn_counts o c.args.self.now.run t.new.self c.outcome_of.new.run t.result c.outcome_of.result
           (g.W.Journal.journal c.args.w.now) (g.W.Journal.journal t.new.w)
-          (λ at. t.ensures.goes.counts o fresh.watched (others_pass o _ true _ _ _ _ (told_spares o.output _ _ _ refl c.look.ensures.tells) (grow_same c.look.ensures.same) s)
+          (λ at. t.ensures.goes.step.counts o fresh.watched (others_pass o _ true _ _ _ _ (told_spares o.output _ _ _ refl c.look.ensures.tells) (grow_same c.look.ensures.same) s)
           (counts_passed o c.args.self.now.run Nothing _ _ _ (λ past. refl) (λ past. refl) c.look.ensures.tells at)) e.counts h) r;
       calls = λ cast since from r.
           plays_on cast since from c.args.self.now _ t.new.self.book _ _ _ _
-          (λ s. t.ensures.goes.calls cast since from (entry_called cast since from _ _ _ _ _ _ (λ past. record { number = c.args.self.now.number; ask = r.role.ask; has = r.role.has; is = refl }) kids_quiet (λ past. tt) c.look.ensures.tells (same_works c.look.ensures.same) s)) e.calls refl refl r;
+          (λ s. t.ensures.goes.step.calls cast since from (entry_called cast since from _ _ _ _ _ _ (λ past. record { number = c.args.self.now.number; ask = r.role.ask; has = r.role.has; is = refl }) kids_quiet (λ past. tt) c.look.ensures.tells (same_works c.look.ensures.same) s)) e.calls refl refl r;
       clock = told_then (tells_as {R = Since (IsNotOf OnClock)} c.look.ensures.tells (λ past. more start kids_unclocked)) t.ensures.goes.clock (λ x y z v w. since_then v w);
-      keeps = keeps_on t.new.self t.result e.task t.ensures.goes.task e.terms t.ensures.goes.terms refl t.ensures.goes.own e.lost e.spent;
+      keeps = keeps_on t.new.self t.result e.task t.ensures.goes.step.task e.terms t.ensures.goes.step.terms refl t.ensures.goes.step.own e.lost e.spent;
       ends = ends_told c.args.self.now.outcome c.outcome_of.result c.unless_starved.result (sym c.is_over.ensures ∙ c.if-is_over.false) c.unless_starved.ensures.starved c.unless_starved.ensures.fed;
     }
 
@@ -49,7 +49,7 @@ returns-clause-stands g c p =
     let t = c.on_moment-turned in
     told_then c.look.ensures.tells (t.ensures.stands p j.number)
     (λ x y z is so turned.
-    job_stands p _ t.new.self t.result z turned.stands.number_is turned.stands.undated e.ensures.goes e.ensures.ends
+    job_stands p _ t.new.self t.result z turned.stands.number_is turned.stands.output_is turned.stands.undated e.ensures.goes e.ensures.ends e.ensures.answers
     (so (subst (IsTurned p j.number j.run c.args.ms) (sym is) (turned_run p j c.args.ms (Looked j.number c.look.result) x refl turned))))
 
 pub returns-then-is_over-clause-stands : goal.returns-then-is_over-clause-stands

@@ -11,7 +11,7 @@ use Rattle.job_run.proofs.RunLemmas.{ends_told, keeps_on, turns, plays_on}
 use Rattle.job_run.proofs.job.Job.on_piece.Goals as goal
 
 pub outcome_of-requires-clause-own : goal.outcome_of-requires-clause-own
-outcome_of-requires-clause-own g c = job_ends (task_of c.on_piece-heard.new.self.core) c.on_piece-heard.result c.on_piece-heard.ensures.goes.own
+outcome_of-requires-clause-own g c = job_ends (task_of c.on_piece-heard.new.self.core) c.on_piece-heard.result c.on_piece-heard.ensures.goes.step.own
 
 pub returns-clause-goes : goal.returns-clause-goes
 returns-clause-goes g c =
@@ -20,13 +20,13 @@ returns-clause-goes g c =
     record {
       course = λ o r.
           turns o c.args.self.now _ t.new.self.book _ _ _ _ (stays_open t.result) (sym c.is_over.ensures ∙ c.if-is_over.false)
-          (t.ensures.goes.course o) e.course refl e.shut e.fails
+          (t.ensures.goes.step.course o) e.course refl e.shut e.fails
           (λ fresh s h. turn_counts o c.args.self.now.run t.new.self c.outcome_of.new.run t.result c.outcome_of.result
-          (g.W.Journal.journal c.args.w.now) (g.W.Journal.journal t.new.w) (t.ensures.goes.counts o fresh.watched s) e.counts h) r;
+          (g.W.Journal.journal c.args.w.now) (g.W.Journal.journal t.new.w) (t.ensures.goes.step.counts o fresh.watched s) e.counts h) r;
       calls = λ cast since from r.
-          plays_on cast since from c.args.self.now _ t.new.self.book _ _ _ _ (t.ensures.goes.calls cast since from) e.calls refl refl r;
+          plays_on cast since from c.args.self.now _ t.new.self.book _ _ _ _ (t.ensures.goes.step.calls cast since from) e.calls refl refl r;
       clock = t.ensures.goes.clock;
-      keeps = keeps_on t.new.self t.result e.task t.ensures.goes.task e.terms t.ensures.goes.terms refl t.ensures.goes.own e.lost e.spent;
+      keeps = keeps_on t.new.self t.result e.task t.ensures.goes.step.task e.terms t.ensures.goes.step.terms refl t.ensures.goes.step.own e.lost e.spent;
       ends = ends_told c.args.self.now.outcome c.outcome_of.result c.unless_starved.result (sym c.is_over.ensures ∙ c.if-is_over.false) c.unless_starved.ensures.starved c.unless_starved.ensures.fed;
     }
 
@@ -36,7 +36,7 @@ returns-clause-stands g c p =
     let e = c.outcome_of in
     told_as (c.on_piece-heard.ensures.stands p j.number)
     (λ before after so got.
-    job_stands p _ c.on_piece-heard.new.self c.on_piece-heard.result after got.stands.number_is got.stands.undated e.ensures.goes e.ensures.ends
+    job_stands p _ c.on_piece-heard.new.self c.on_piece-heard.result after got.stands.number_is got.stands.output_is got.stands.undated e.ensures.goes e.ensures.ends e.ensures.answers
     (so (got_run p j c.args.chan c.args.piece.now before got)))
 
 pub returns-then-is_over-clause-stands : goal.returns-then-is_over-clause-stands

@@ -8,4 +8,4 @@ returns-clause-notes c = let e = c.on_taken.ensures in record { taken = e.taken;
 pub returns-clause-stands : goal.returns-clause-stands
 returns-clause-stands c =
     let e = c.on_taken.ensures in
-    keeps_served c.args.self.now _ c.args.chan c.on_taken.new.self refl refl refl (record { others = e.others; role = e.role; stands = λ h out s. (out, e.stands h out s) })
+    keeps_served c.args.self.now _ c.args.chan c.on_taken.new.self refl refl refl refl (record { others = e.others; role = e.role; stands = λ h out s. (out, e.stands h out s) })

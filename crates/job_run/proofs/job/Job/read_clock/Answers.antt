@@ -36,11 +36,12 @@ returns-clause-keeps c = record {
 }
 
 pub returns-clause-stands : goal.returns-clause-stands
-returns-clause-stands c p journal at s = job_clocked p c.args.self.now _ c.args.ms journal refl refl c.turn_clock.ensures.rest c.turn_clock.ensures.turns at s
+returns-clause-stands c p journal at s = job_clocked p c.args.self.now _ c.args.ms journal refl refl refl c.turn_clock.ensures.rest c.turn_clock.ensures.turns at s
 
 pub returns-then-is_over-clause-stands : goal.returns-then-is_over-clause-stands
 returns-then-is_over-clause-stands c p journal at s = record {
   number_is = s.number_is;
+  output_is = s.output_is;
   undated = s.undated;
   runs = λ e. absurd (true≢false (sym (sym c.is_over.ensures ∙ c.if-is_over.true) ∙ e));
   ended = s.ended;

@@ -1,4 +1,6 @@
 use Rattle.std.proofs.Common.{true, ◌≡◌, sym, subst}
+use Rattle.std.proofs.lemmas.Result.{IfOk-weaker}
+use Rattle.job_run.proofs.EndLemmas.{unstarted_so}
 use Rattle.job_saves.specs.Course.{Ends, keeps_open, stays_open}
 use Rattle.job_saves.proofs.CourseLemmas.{begins_pass, calls_on}
 use Rattle.job_run.proofs.TurnLemmas.{new_passes, begins_rested, launch_counted}
@@ -76,4 +78,8 @@ returns-in-Ok-clause-stands g c p =
     told_then c.draw_pairs.ensures.part (c.start_session.ensures.stands p) (λ x y z w so plot fresh. so plot (fresh_on p x y w fresh))
 
 pub returns-in-Err-clause-stands : goal.returns-in-Err-clause-stands
-returns-in-Err-clause-stands g c p = told_as c.draw_pairs.ensures.part (λ x y w plot fresh. fresh_ends p y (fresh_on p x y w fresh))
+returns-in-Err-clause-stands g c p = told_as c.draw_pairs.ensures.part (λ x y w plot fresh. unstarted_so p c.in-Err.end y c.in-Err.ensures.own (fresh_ends p y (fresh_on p x y w fresh)))
+
+pub returns-in-Ok-clause-spoken : goal.returns-in-Ok-clause-spoken
+returns-in-Ok-clause-spoken g c =
+    IfOk-weaker c.start_session.result _ _ (λ j spoken. told_then c.in-Ok.ensures.words spoken (λ x y z draws so. so x draws)) c.start_session.ensures.spoken

@@ -9,7 +9,7 @@ use Rattle.job_run.proofs.LaunchLemmas.{role_of}
 use Rattle.job_saves.proofs.TellingLemmas.{part_saves_none}
 use Rattle.job_run.proofs.PartLemmas.{kids_quiet, kids_portless, kids_diskless}
 use Rattle.job_run.proofs.job.Job.start_child.Goals as goal
-use Rattle.world.proofs.MomentsLemmas.{told_as}
+use Rattle.world.proofs.MomentsLemmas.{since_as, told_as}
 use Rattle.job_run.proofs.StartLemmas.{kids_are_quiet}
 
 pub returns-clause-course : goal.returns-clause-course
@@ -42,3 +42,6 @@ returns-clause-ends g c =
 
 pub returns-clause-quiet : goal.returns-clause-quiet
 returns-clause-quiet g c facts = told_as c.start.ensures.part (λ x y w. kids_are_quiet facts x y w)
+
+pub returns-clause-later : goal.returns-clause-later
+returns-clause-later g c = told_as c.start.ensures.part (λ x y w. since_as (λ now h. tt) w)

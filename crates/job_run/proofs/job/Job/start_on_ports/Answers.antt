@@ -49,3 +49,9 @@ returns-in-Ok-clause-quiet g c facts = told_then (c.write_file.ensures.quiet fac
 
 pub returns-in-Err-clause-quiet : goal.returns-in-Err-clause-quiet
 returns-in-Err-clause-quiet g c facts = c.write_file.ensures.quiet facts
+
+pub returns-in-Ok-clause-later : goal.returns-in-Ok-clause-later
+returns-in-Ok-clause-later g c = told_then c.write_file.ensures.later c.start_child.ensures.later (λ x y z w v. since_then w v)
+
+pub returns-in-Err-clause-later : goal.returns-in-Err-clause-later
+returns-in-Err-clause-later g c = c.write_file.ensures.later

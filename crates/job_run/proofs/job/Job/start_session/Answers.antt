@@ -1,4 +1,7 @@
-use Rattle.std.proofs.Common.{◌≡◌, sym, subst}
+use Rattle.std.proofs.Common.{◌≡◌, ap, sym, subst, ◌∙◌}
+use Rattle.words.specs.declared.ask.Ask.{Ask}
+use Rattle.job_run.proofs.EndLemmas.{starved_so}
+use Rattle.job_run.proofs.SpeakLemmas.{session_spoken}
 use Rattle.std.proofs.lemmas.Result.{IfOk-at_ok, IfOk-weaker}
 use Rattle.job_run.proofs.BeginLemmas.{stands_first, part_first, cells_first, apart_first, ends_unsaved}
 use Rattle.std.specs.Prelude.{IfOk, IfErr}
@@ -95,7 +98,15 @@ returns-in-Ok-clause-stands g c p =
     told_as (told_both (told_both (s.ensures.stands p) (s.ensures.stands (in_session p x))) (told_both (s.ensures.unsent p) (s.ensures.unsent (in_session p x))))
     (λ before after so plot fresh.
     starts_as p c.args.number c.args.ask c.args.agenda.notebook x before after s.result plot fresh (IfOk-at_ok _ is e.unbegun) (IfOk-at_ok _ is e.output) (IfOk-at_ok _ is e.merge) (IfOk-at_ok _ is e.task)
-    (IfOk-at_ok _ is e.terms) s.ensures.speaks so.0.0 so.0.1 so.1.0 so.1.1)
+    (IfOk-at_ok _ is e.terms) s.ensures.speaks
+    (so.0.0 (IfOk-at_ok _ is e.paths ∙ ap (λ (a : Ask). a.output) (sym plot.ask_is))) (so.0.1 (IfOk-at_ok _ is e.paths ∙ ap (λ (a : Ask). a.output) (sym plot.ask_is))) so.1.0 so.1.1)
 
 pub returns-in-Err-clause-stands : goal.returns-in-Err-clause-stands
-returns-in-Err-clause-stands g c p = told_start (λ now plot fresh. fresh_ends p now fresh)
+returns-in-Err-clause-stands g c p = told_start (λ now plot fresh. starved_so p now (fresh_ends p now fresh))
+
+pub returns-in-Ok-clause-spoken : goal.returns-in-Ok-clause-spoken
+returns-in-Ok-clause-spoken g c =
+    let e = c.parts_of.ensures in
+    let is = c.in-Ok.is in
+    session_spoken (g.W.Journal.journal c.args.w.now) (g.W.Journal.journal c.start_saved.new.w) c.args.number c.args.ask.output c.args.pairs c.in-Ok.run' c.start_saved.result (IfOk-at_ok _ is e.output) (IfOk-at_ok _ is e.name) (IfOk-at_ok _ is e.key) c.start_saved.ensures.speaks
+    c.start_saved.ensures.asks

@@ -10,7 +10,7 @@ use Rattle.job_saves.proofs.LaunchLemmas.{file_called, file_ready}
 use Rattle.job_saves.proofs.TellingLemmas.{file_saves_none}
 use Rattle.job_run.proofs.PartLemmas.{disk_quiet, disk_childless, disk_portless}
 use Rattle.job_run.proofs.job.Job.write_file.Goals as goal
-use Rattle.world.proofs.MomentsLemmas.{told_as}
+use Rattle.world.proofs.MomentsLemmas.{since_as, told_as}
 use Rattle.job_run.proofs.StartLemmas.{file_quiet}
 
 pub returns-clause-course : goal.returns-clause-course
@@ -52,3 +52,6 @@ returns-clause-ends g c =
 
 pub returns-clause-quiet : goal.returns-clause-quiet
 returns-clause-quiet g c facts = told_as c.write_connection.ensures.entries (λ x y w. file_quiet facts _ _ c.write_connection.result x y w)
+
+pub returns-clause-later : goal.returns-clause-later
+returns-clause-later g c = told_as c.write_connection.ensures.part (λ x y w. since_as (λ now h. tt) w)
