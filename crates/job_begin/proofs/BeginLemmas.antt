@@ -1,5 +1,5 @@
 -- What the steps of a job's begin make together.
-use Rattle.std.proofs.Common.{◌≡◌, inl, inr, ℕ, Bool, true, false, List, [], ◌∷◌, ◌++◌, length, Option, Some, None, Result, Ok, Err, refl, sym, ap, subst, ◌∙◌, arith, length-append}
+use Rattle.std.proofs.Common.{◌≡◌, inl, inr, ℕ, Bool, true, false, List, [], ◌∷◌, ◌++◌, length, append_assoc, Option, Some, None, Result, Ok, Err, refl, sym, ap, subst, ◌∙◌, arith, length-append}
 use Rattle.std.specs.Prelude.{IfSome, IfOk, IfErr, if◌then◌else◌}
 use Rattle.nb_model.specs.declared.notebook.Notebook.{Notebook}
 use Rattle.nb_model.specs.Prepared.{prepared_notebook}
@@ -10,7 +10,7 @@ use Rattle.world.specs.Counts.{Counts, CountsGrow, Rose}
 use Rattle.world.specs.Moments.{Since, start, more as later, Told}
 use Rattle.world.specs.Touched.{Spares}
 use Rattle.world.proofs.CountsLemmas.{grow_start}
-use Rattle.world.proofs.MomentsLemmas.{told_as as moments_as}
+use Rattle.world.proofs.MomentsLemmas.{told_as as moments_as, told_then}
 use Rattle.world.specs.Parts.{OnDisk, IsOf}
 use Rattle.world.specs.declared.read_file.ReadFile.{ReadFile}
 use Rattle.world.specs.declared.read_file.ReadFile.TheVariants as answer
@@ -33,7 +33,7 @@ use Rattle.job_notebook.specs.State.{merge_of, output_of}
 use Rattle.job_saves.proofs.CourseLemmas.{told_as, told_on, calls_on, begins_pass, work_start}
 use Rattle.job_journal.specs.Plot.{Plot}
 use Rattle.job_run.specs.declared.job.Job.{Job}
-use Rattle.job_run.specs.Beginning.{IsFresh}
+use Rattle.job_run.specs.Beginning.{HasSession, IsFresh}
 use Rattle.cell_core.specs.Task.{Task}
 use Rattle.job_run.proofs.TurnLemmas.{new_passes, begins_rested}
 use Rattle.job_run.specs.Run.{StartsAs, BeginsAs, BeginsNew, Runs, IsCastAs, HasNoChild, HasNoPorts, HasNoSave, OnlyReads, StartsInRole, HasRole}
@@ -41,7 +41,7 @@ use Rattle.job_run.proofs.OutcomeLemmas.{shut_by}
 use Rattle.job_begin.specs.Causes.{HasCause}
 use Rattle.job_begin.proofs.CountLemmas.{answer_counts}
 use Rattle.job_begin.specs.Steps.{EndsCounted}
-use Rattle.job_begin.specs.Standing.{IsPlotWith, BeginsAsPlot}
+use Rattle.job_begin.specs.Standing.{IsPlotWith, BeginsAsPlot, BeginsSpeaking}
 use Rattle.job_begin.specs.Begun.{counted_task, Begun, with_notebook, HasRead, AnswersAs, BeginsWith, FindsKernel, IsOpen, origin_of}
 
 -- ---- an end without a save
@@ -117,6 +117,37 @@ module _ {E : Type 0} (a : Ask) (number : ℕ) (here : List ℕ) (result : Resul
     where
       told_adds : {i m : Option (List Entry)} {P : List Entry → Type 0} → Told i m (Since P) → Told i m Appends
       told_adds told = moments_as told (λ x y s. appends s)
+
+-- ---- the session of a job
+
+-- its words were drawn since an earlier moment too
+earlier_session : (number : ℕ) (output : List ℕ) (j : Job) (before mid after : List Entry) → Appends before mid → HasSession number output j mid after → HasSession number output j before after
+earlier_session number output j before mid after a s = record {
+  pairs = s.pairs;
+  session_is = s.session_is;
+  key_is = s.key_is;
+  asked = s.asked;
+  drawn = s.drawn;
+  earlier = s.earlier ++ a.added;
+  since = s.since ∙ ap (λ past. s.earlier ++ past) a.is ∙ sym (append_assoc s.earlier a.added before);
+  ports = s.ports;
+  later = s.later;
+  split = s.split;
+}
+
+-- some calls, and then the start of the job
+pub spoken_since : {P : List Entry → Type 0} (number : ℕ) (output : List ℕ) (r : Result Job End) (i j k : Option (List Entry)) → Told i j (Since P)
+    → IfOk r (λ job. Told j k (HasSession number output job)) → IfOk r (λ job. Told i k (HasSession number output job))
+spoken_since number output (Ok job) i j k told spoken = told_then told spoken (λ x y z s h. earlier_session number output job x y z (appends s) h)
+spoken_since number output (Err e) i j k told spoken = tt
+
+-- so it speaks, by its answer
+begun_speaks : (number : ℕ) (output : List ℕ) (begun : Result Job End) (result : Result Job Answer) (before mid after : List Entry) → AnswersAs output begun result → Appends before mid
+    → IfOk begun (λ job. Told (Some mid) (Some after) (HasSession number output job)) → BeginsSpeaking number output result before after
+begun_speaks number output (Ok j) (Ok k) before mid after same a spoken = subst (λ job. HasSession number output job before after) (sym same) (earlier_session number output j before mid after a spoken.so)
+begun_speaks number output (Err e) (Err answer) before mid after answers a spoken = tt
+begun_speaks number output (Ok j) (Err answer) before mid after wrong a spoken = absurd wrong
+begun_speaks number output (Err e) (Ok k) before mid after wrong a spoken = absurd wrong
 
 -- ---- children
 
@@ -279,12 +310,13 @@ module _ (a : Ask) (n : Notebook) (begun : Result Job End) (mid new : Counts) wh
 
   pub begun_so : (number : ℕ) (result : Result Job Answer) (old : Counts) (i j k : Option (List Entry)) → AnswersAs a.output begun result → IfErr result (λ answer. HasCause old new answer.status)
       → BeginsWith a (first_of a n) result → ((x y : List Entry) → j ≡ Some x → k ≡ Some y → FindsKernel a (first_of a n) result x y) → Told i j (HasRead a n) → Told i j (Since (Spares a.output)) → CountsGrow old mid → SavesOn j k → CountsOn j k → Told j k Appends
+      → IfOk begun (λ job. Told j k (HasSession number a.output job))
       → ((p : Plot) → Told i k (λ before after. IsPlotWith p number a n → IsFresh p before → BeginsAsPlot p result after))
       → Told i k (λ before after. IsRested a.output before → Begun number a result old new before after)
-  begun_so number result old i j None answers caused task kernel read spared grow goes counts more plots = record { so = tt }
-  begun_so number result old i None (Some y) answers caused task kernel read spared grow goes counts more plots = absurd more.so
-  begun_so number result old None (Some x) (Some y) answers caused task kernel read spared grow goes counts more plots = absurd read.so
-  begun_so number result old (Some before) (Some x) (Some y) answers caused task kernel read spared grow goes counts more plots =
+  begun_so number result old i j None answers caused task kernel read spared grow goes counts more spoken plots = record { so = tt }
+  begun_so number result old i None (Some y) answers caused task kernel read spared grow goes counts more spoken plots = absurd more.so
+  begun_so number result old None (Some x) (Some y) answers caused task kernel read spared grow goes counts more spoken plots = absurd read.so
+  begun_so number result old (Some before) (Some x) (Some y) answers caused task kernel read spared grow goes counts more spoken plots =
       let h : HasRead a n before x = read.so in
       let m : Appends x y = more.so in
       let o : Origin = origin_of a n before old in
@@ -294,5 +326,6 @@ module _ (a : Ask) (n : Notebook) (begun : Result Job End) (mid new : Counts) wh
             let b : Begins o (Some x) mid = begins_pass o (Some before) (Some x) old mid spared grow first in
             let fresh : BeginsNew o (Some x) = new_passes o (Some before) (Some x) (begins_rested o (Some before) old first) spared (λ fresh. fresh.none) in
             let for : IsFor a.output a.merge (first_of a n) o = record { output_is = refl; merge_is = refl; first_is = refl } in
-            with_notebook h.bytes n m.added h.accepted (m.is ∙ ap (λ past. m.added ++ past) h.is) task (subst (λ z. FindsKernel a (first_of a n) result z y) h.is (kernel x y refl refl)) (answered a.output begun result answers o (counted_task a (first_of a n)) (Some y) new (counts o for b fresh) caused (goes o for b fresh)) (λ p. (plots p).so);
+            with_notebook h.bytes n m.added h.accepted (m.is ∙ ap (λ past. m.added ++ past) h.is) task (subst (λ z. FindsKernel a (first_of a n) result z y) h.is (kernel x y refl refl)) (answered a.output begun result answers o (counted_task a (first_of a n)) (Some y) new (counts o for b fresh) caused (goes o for b fresh))
+            (begun_speaks number a.output begun result before x y answers (record { added = made.Read a.input 33554432 (answer.Whole h.bytes) ∷ []; is = h.is }) spoken) (λ p. (plots p).so);
       }

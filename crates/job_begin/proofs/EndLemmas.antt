@@ -33,7 +33,8 @@ use Rattle.job_run.specs.declared.job.Job.{Job}
 use Rattle.job_run.specs.Run.{Runs, RunsCounted, BeginsNew, StartsAs}
 use Rattle.job_run.specs.Task.{task_for, task_of_job}
 use Rattle.job_saves.specs.Speaking.{IsAnswer}
-use Rattle.job_run.specs.Told.{EndsJob, StartsBy, IsEnding, IsCaused, cause_of}
+use Rattle.job_journal.specs.Ended.{cause_of}
+use Rattle.job_run.specs.Told.{EndsJob, StartsBy, IsEnding, IsCaused}
 use Rattle.job_run.proofs.StopLemmas.{why_in, start_caused}
 use Rattle.job_saves.specs.Reads.{first_of}
 use Rattle.job_begin.specs.Begun.{AnswersAs, IsCausedIn, IsUncaused, IsEndOfSaving, StartsWith, BeginsWith, FindsKernel, GivesNone, not_read, too_large, refused, no_memory, not_asked, IsUnread, end_for, KernelEnds, HasKernel}

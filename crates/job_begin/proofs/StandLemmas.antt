@@ -29,6 +29,7 @@ use Rattle.nb_model.proofs.PreparedLaws.{field-set_other}
 use Rattle.cell_core.specs.Task.{Task}
 use Rattle.job_end.specs.declared.answer.Answer.{Answer}
 use Rattle.job_end.specs.declared.end.End.{End}
+use Rattle.job_end.specs.Answers.{Answers}
 use Rattle.job_saves.specs.Reads.{first_of}
 use Rattle.run_journal.specs.Agreement.{is_got}
 use Rattle.run_journal.specs.Job.{Job as Facts}
@@ -144,15 +145,10 @@ has_cells p number a n now t none = omega (arith, t.fresh.runs, ap (λ (s : Task
 
 -- ---- how it begins
 
--- by how its start has ended
-pub start_begins : (p : Plot) (r : Result Job End) (now : List Entry) → StartsOrEnds p r now → BeginsAsPlot p r now
-start_begins p (Ok j) now h = h
-start_begins p (Err e) now h = h
-
 -- by its answer
-pub answer_begins : (output : List ℕ) (p : Plot) (begun : Result Job End) (result : Result Job Answer) (now : List Entry) → AnswersAs output begun result
-    → BeginsAsPlot p begun now → BeginsAsPlot p result now
-answer_begins output p (Ok j) (Ok k) now same h = subst (λ x. SpeaksAs p x → JobStands p x now) (sym same) h
-answer_begins output p (Err e) (Err answer) now answers h = h
-answer_begins output p (Ok j) (Err answer) now wrong h = absurd wrong
-answer_begins output p (Err e) (Ok k) now wrong h = absurd wrong
+pub answer_begins : (output : List ℕ) (p : Plot) (begun : Result Job End) (result : Result Job Answer) (now : List Entry) → p.ask.output ≡ output → AnswersAs output begun result
+    → StartsOrEnds p begun now → BeginsAsPlot p result now
+answer_begins output p (Ok j) (Ok k) now on same h = subst (λ x. SpeaksAs p x → JobStands p x now) (sym same) h
+answer_begins output p (Err e) (Err answer) now on answers h = h answer (subst (λ path. Answers path e answer) (sym on) answers)
+answer_begins output p (Ok j) (Err answer) now on wrong h = absurd wrong
+answer_begins output p (Err e) (Ok k) now on wrong h = absurd wrong

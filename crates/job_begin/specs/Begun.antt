@@ -28,8 +28,9 @@ use Rattle.job_saves.specs.Reads.{first_of}
 use Rattle.job_run.specs.declared.job.Job.{Job}
 use Rattle.job_run.specs.Run.{BeginsAs}
 use Rattle.job_run.specs.Task.{task_for, task_of_job}
-use Rattle.job_run.specs.Told.{StopsFor, cause_of}
-use Rattle.job_begin.specs.Standing.{BeginsFollowing}
+use Rattle.job_journal.specs.Ended.{cause_of}
+use Rattle.job_run.specs.Told.{StopsFor}
+use Rattle.job_begin.specs.Standing.{BeginsFollowing, BeginsSpeaking}
 
 -- the saves of a job with this notebook begin so
 abbrev pub origin_of : Ask → Notebook → List Entry → Counts → Origin
@@ -144,15 +145,15 @@ FindsKernel a first (Ok j) before after = Unit {0}
 FindsKernel a first (Err answer) before after = HasKernel a first answer.status before after
 
 -- The job of this number began so: its input gave no notebook, and its output wasn't touched; or it was the first entry of the job, its bytes
--- give the notebook with its parameters, its cells are the task of the job, and the saves since are a course of its prefixes. By each plot with
--- that notebook the job stands for the journal, where nothing had happened to it before.
+-- give the notebook with its parameters, its cells are the task of the job, and the saves since are a course of its prefixes. Where it runs it speaks
+-- in the session that was drawn for it. By each plot with that notebook the job stands for the journal, where nothing had happened to it before.
 pub data Begun (number : ℕ) (a : Ask) (result : Result Job Answer) (old new : Counts) (before : List Entry) : List Entry → Type 0 where
   without : {answer : Answer} {after : List Entry} → result ≡ Err answer → IsUnread a answer.status before after → Since (Spares a.output) before after → Begun number a result old new before after
   with_notebook : (bytes : List ℕ) (n : Notebook) (later : List Entry) {after : List Entry} → Accepts a bytes n
       → after ≡ later ++ Read a.input 33554432 (found.Whole bytes) ∷ before
       → BeginsWith a (first_of a n) result → FindsKernel a (first_of a n) result (Read a.input 33554432 (found.Whole bytes) ∷ before) after
       → BeginsAs (origin_of a n before old) (counted_task a (first_of a n)) result (Some after) new
-      → BeginsFollowing number a n result before after → Begun number a result old new before after
+      → BeginsSpeaking number a.output result before after → BeginsFollowing number a n result before after → Begun number a result old new before after
 
 -- the notebook of an input that was read so
 abbrev pub IsGivenBy : Ask → ReadFile → Notebook → Type 0

@@ -14,7 +14,8 @@ ghost use Rattle.job_begin.specs.Steps.{SavesFor, StartsFor, CountsEnd, EndsInRo
 ghost use Rattle.job_begin.specs.Steps.{Acknowledges, LeavesWhole, closing_saves, end_by};
 ghost use Rattle.job_saves.specs.Left.{IsLeft, output_at};
 ghost use Rattle.job_begin.specs.Steps.{BeginsInRole, LeavesNone};
-ghost use Rattle.job_begin.specs.Standing.{IsToBeginWith, BeginsAsPlot};
+ghost use Rattle.job_begin.specs.Standing.{IsToBeginWith};
+ghost use Rattle.job_run.specs.Beginning.{HasSession, StartsOrEnds};
 ghost use Rattle.job_journal.specs.Plot.{Plot};
 ghost use Rattle.job_notebook.specs.State.{notebook_of, settled_of, merge_of, output_of, KeepsRead};
 ghost use Rattle.job_saves.specs.Calls.{Cast, IsCall};
@@ -67,8 +68,8 @@ pub fn begin<W: World>(
     // What its saves are a course of, where no rename onto the output waited for its folder's sync;
     // where none was acknowledged before, as many saves as were since are among the events that the
     // core of the job was told, or that brought the end of one that was to be executed. Where it runs
-    // in the session of a plot with its notebook, and nothing had happened to it before, it stands for
-    // the journal.
+    // it speaks in the session that was drawn for it. By each plot with its notebook, where nothing
+    // had happened to it before, it stands for the journal, or has ended by it with its answer.
     ensures begun { Told (W.journal w.old) (W.journal w.new) (λ before after.
         IsRested ask.output before →
         Begun number ask result (W.counts w.old) (W.counts w.new) before after) }
@@ -203,7 +204,9 @@ fn begin_with<W: World>(
     ensures ports { IfOk result (λ j. HasPorts number (ports_of_job j) (W.journal w.new)) }
     ensures stands { (p : Plot) → Told (W.journal w.old) (W.journal w.new) (λ before after.
         IsToBeginWith p number ask (first_of ask notebook) before →
-        BeginsAsPlot p result after) }
+        StartsOrEnds p result after) }
+    ensures spoken { IfOk result (λ j. Told (W.journal w.old) (W.journal w.new)
+        (HasSession number ask.output j)) }
 {
     jobs_end_unsaved();
     if ask.prepare {
@@ -347,7 +350,9 @@ fn execute<W: World>(
     ensures pings { IfOk result (λ j. pings_kernel j ≡ ask.heartbeat) }
     ensures ports { IfOk result (λ j. HasPorts number (ports_of_job j) (W.journal w.new)) }
     ensures stands { (p : Plot) → Told (W.journal w.old) (W.journal w.new) (λ before after.
-        IsToBeginWith p number ask notebook before → BeginsAsPlot p result after) }
+        IsToBeginWith p number ask notebook before → StartsOrEnds p result after) }
+    ensures spoken { IfOk result (λ j. Told (W.journal w.old) (W.journal w.new)
+        (HasSession number ask.output j)) }
 {
     laws::other_calls_pass();
     jobs_end_unsaved();

@@ -1,4 +1,4 @@
-use Rattle.std.proofs.Common.{◌≡◌, None, refl, subst}
+use Rattle.std.proofs.Common.{◌≡◌, None, refl, ap, subst}
 use Rattle.world.specs.Moments.{start}
 use Rattle.world.proofs.MomentsLemmas.{told_start, told_as, told_both, told_then}
 use Rattle.job_saves.specs.Reads.{first_of}
@@ -12,6 +12,7 @@ use Rattle.job_begin.proofs.CauseLemmas.{unsaved_caused, all_caused, answer_unsp
 use Rattle.job_begin.proofs.EndLemmas.{unread_starved, unread_answer, answered_kernel, at_moments, answered_with, answered_end, starved_end, answered_ok, counted}
 use Rattle.std.specs.Prelude.{IfErr}
 use Rattle.job_end.specs.Answers.{Answers}
+use Rattle.words.specs.declared.ask.Ask.{Ask}
 use Rattle.job_saves.specs.Speaking.{IsAnswer}
 use Rattle.job_begin.proofs.RefusalLemmas.{starved_refuses, input_refuses, begun_refuses}
 use Rattle.job_begin.proofs.StandLemmas.{answer_begins, plot_read}
@@ -46,8 +47,8 @@ returns-in-Ok-input_of-clause-begun g c =
     let caused = all_caused _ _ a.output _ begun c.answer_of.result answers e.work.grow c.begin_with-begun.ensures.cause (save_rose a n begun _ _ _ _ _ e.read c.begin_with-begun.ensures.course) in
     let task = answered_with a.output a (first_of a n) begun c.answer_of.result answers c.begin_with-begun.ensures.task in
     let so = c.begin_with-begun.ensures in
-    begun_so a n begun _ _ c.args.number c.answer_of.result _ _ _ _ answers caused task (λ x y f g_. answered_kernel a (first_of a n) a.output begun c.answer_of.result x y answers (at_moments a (first_of a n) begun _ _ x y f g_ c.begin_with-begun.ensures.kernel)) e.read (e.others a.output) e.work.grow so.course so.counted (told_appends a c.args.number c.args.here.now begun _ _ _ _ (so.calls (input_read a n _ _ e.read)))
-    (λ p. told_then (told_both e.part (e.others p.ask.output)) (so.stands p) (λ x y z s t of fresh. answer_begins a.output p begun c.answer_of.result z answers (t (plot_read p c.args.number a n x y of fresh s.0 s.1))))
+    begun_so a n begun _ _ c.args.number c.answer_of.result _ _ _ _ answers caused task (λ x y f g_. answered_kernel a (first_of a n) a.output begun c.answer_of.result x y answers (at_moments a (first_of a n) begun _ _ x y f g_ c.begin_with-begun.ensures.kernel)) e.read (e.others a.output) e.work.grow so.course so.counted (told_appends a c.args.number c.args.here.now begun _ _ _ _ (so.calls (input_read a n _ _ e.read))) so.spoken
+    (λ p. told_then (told_both e.part (e.others p.ask.output)) (so.stands p) (λ x y z s t of fresh. answer_begins a.output p begun c.answer_of.result z (ap (λ (q : Ask). q.output) of.ask_is) answers (t (plot_read p c.args.number a n x y of fresh s.0 s.1))))
 
 pub returns-in-Ok-input_of-clause-calls : goal.returns-in-Ok-input_of-clause-calls
 returns-in-Ok-input_of-clause-calls g c cast since from who childless portless lacks so =

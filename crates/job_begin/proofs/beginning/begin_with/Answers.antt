@@ -7,7 +7,9 @@ use Rattle.job_saves.specs.Reads.{first_of}
 use Rattle.job_begin.specs.Begun.{counted_task, StartsWith, KernelEnds}
 use Rattle.std.specs.Prelude.{IfErr}
 use Rattle.job_begin.proofs.BeginLemmas.{none_started_in, input_prepared, end_unsaved, only_given, saving_told}
-use Rattle.job_begin.specs.Standing.{BeginsAsPlot, IsToBeginWith}
+use Rattle.job_begin.specs.Standing.{IsToBeginWith}
+use Rattle.job_run.specs.Beginning.{StartsOrEnds}
+use Rattle.job_run.proofs.EndLemmas.{uncaused_ends}
 use Rattle.job_run.proofs.StartLemmas.{fresh_ends}
 use Rattle.world.specs.Moments.{Told}
 use Rattle.world.proofs.MomentsLemmas.{told_as, told_start}
@@ -111,12 +113,12 @@ returns-then-ask-clause-stands g c p =
     let no : true ≡ false = sym c.if-ask.true ∙ t.executes in absurd (cc))
 
 pub returns-in_default-clause-stands : goal.returns-in_default-clause-stands
-returns-in_default-clause-stands g c p = told_start (λ now t. fresh_ends p now t.fresh)
+returns-in_default-clause-stands g c p = told_start (λ now t. uncaused_ends p end.NoMemory now refl (fresh_ends p now t.fresh))
 
 pub returns-clause-stands : goal.returns-clause-stands
 returns-clause-stands g c p =
     let a = c.args.ask in
     let n = c.args.notebook in
     let same : c.in-Ok.notebook ≡ first_of a n = c.in-Ok.ensures ∙ sym (ap (λ b. if b then n else prepared_notebook n) c.if-ask.false) in
-    subst (λ first. Told (g.W.Journal.journal c.args.w.now) (g.W.Journal.journal c.execute.new.w) (λ before after. IsToBeginWith p c.args.number a first before → BeginsAsPlot p c.execute.result after)) same
+    subst (λ first. Told (g.W.Journal.journal c.args.w.now) (g.W.Journal.journal c.execute.new.w) (λ before after. IsToBeginWith p c.args.number a first before → StartsOrEnds p c.execute.result after)) same
     (c.execute.ensures.stands p)

@@ -1,7 +1,8 @@
 use Rattle.job_saves.proofs.CourseLemmas.{begins_pass}
 use Rattle.job_saves.proofs.TellingLemmas.{only_later}
-use Rattle.job_begin.proofs.BeginLemmas.{end_unsaved, disk_calls, disk_keeps_end, disk_asks_none, none_started_in, only_prepared, saving_told}
-use Rattle.job_begin.proofs.StandLemmas.{fresh_kept, has_cells, start_begins}
+use Rattle.job_begin.proofs.BeginLemmas.{end_unsaved, disk_calls, disk_keeps_end, disk_asks_none, none_started_in, only_prepared, saving_told, spoken_since}
+use Rattle.job_begin.proofs.StandLemmas.{fresh_kept, has_cells}
+use Rattle.job_run.proofs.EndLemmas.{uncaused_ends}
 use Rattle.job_run.proofs.StartLemmas.{fresh_ends}
 use Rattle.world.proofs.MomentsLemmas.{told_as, told_both, told_start, told_then}
 use Rattle.job_run.proofs.LaunchLemmas.{ends_then}
@@ -124,7 +125,7 @@ returns-in-Ok-kernel_of-clause-pings g c = c.start.ensures.pings
 -- ---- what the job stands for
 
 pub returns-in_default-clause-stands : goal.returns-in_default-clause-stands
-returns-in_default-clause-stands g c p = told_start (λ now t. fresh_ends p now t.fresh)
+returns-in_default-clause-stands g c p = told_start (λ now t. uncaused_ends p end.NoMemory now refl (fresh_ends p now t.fresh))
 
 pub returns-then-len-eq0-clause-stands : goal.returns-then-len-eq0-clause-stands
 returns-then-len-eq0-clause-stands g c p =
@@ -137,9 +138,14 @@ pub returns-in-Ok-kernel_of-clause-stands : goal.returns-in-Ok-kernel_of-clause-
 returns-in-Ok-kernel_of-clause-stands g c p =
     let e = c.kernel_of.ensures in
     told_then (told_both e.part (e.others p.ask.output)) (c.start.ensures.stands p)
-    (λ x y z s so t. start_begins p c.start.result z (so t.plot (fresh_kept p x y s.0 s.1 t.fresh)))
+    (λ x y z s so t. so t.plot (fresh_kept p x y s.0 s.1 t.fresh))
 
 pub returns-in-Err-clause-stands : goal.returns-in-Err-clause-stands
 returns-in-Err-clause-stands g c p =
     let e = c.kernel_of.ensures in
-    told_as (told_both e.part (e.others p.ask.output)) (λ x y s t. fresh_ends p y (fresh_kept p x y s.0 s.1 t.fresh))
+    told_as (told_both e.part (e.others p.ask.output)) (λ x y s t. uncaused_ends p c.in-Err.end y c.in-Err.ensures.uncaused (fresh_ends p y (fresh_kept p x y s.0 s.1 t.fresh)))
+
+-- ---- the session in which it speaks
+
+pub returns-in-Ok-kernel_of-clause-spoken : goal.returns-in-Ok-kernel_of-clause-spoken
+returns-in-Ok-kernel_of-clause-spoken g c = spoken_since c.args.number c.args.ask.output c.start.result _ _ _ c.kernel_of.ensures.part c.start.ensures.spoken
