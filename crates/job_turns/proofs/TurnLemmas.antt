@@ -8,10 +8,11 @@ use Rattle.world.specs.declared.entry.Entry.TheVariants.{Moment}
 use Rattle.world.specs.Moments.{Since, start}
 use Rattle.world.specs.Places.{time}
 use Rattle.kernel_lines.specs.Line.{taken_of}
+use Rattle.job_end.specs.declared.answer.Answer.{Answer}
 use Rattle.run_journal.specs.Parts.{bytes_put}
 use Rattle.job_journal.specs.Plot.{Plot, facts}
 use Rattle.job_journal.specs.Quiet.{IsQuietNow}
-use Rattle.job_journal.proofs.Quiet.{ended_on}
+use Rattle.job_journal.proofs.Ended.{answered_on}
 use Rattle.job_run.specs.declared.job.Job.{Job}
 use Rattle.job_run.specs.JobStanding.{JobStands}
 use Rattle.job_run.specs.Queues.{line_of}
@@ -36,10 +37,10 @@ turn_owed ms p j before after came rises running taken s = record {
   since = subst (Since (IsQuietNow (facts p)) (Moment ms ∷ came.past)) (sym came.newest) start;
 }
 
-pub turn_ended : (ms : ℕ) (p : Plot) (before after : List Entry) → BringsMoment ms before after → StandsEnded p before → StandsEnded p after
-turn_ended ms p before after came g =
-    let ended = ended_clock p ms came.past g.undated (ended_on p before came.past g.undated (came.quiet (facts p)) g.ended) in
-    subst (StandsEnded p) (sym came.newest) (record { undated = g.undated; ended = ended })
+pub turn_ended : (ms : ℕ) (p : Plot) (a : Answer) (before after : List Entry) → BringsMoment ms before after → StandsEnded p a before → StandsEnded p a after
+turn_ended ms p a before after came g =
+    let ended = ended_clock p a ms came.past g.undated (answered_on p a before came.past g.undated (came.quiet (facts p)) g.answered) in
+    subst (StandsEnded p a) (sym came.newest) (record { undated = g.undated; answered = ended })
 
 -- ---- reads
 
@@ -60,5 +61,6 @@ module _ (conn : Conn) (room : ℕ) (bytes : List ℕ) (p : Plot) where
       → StandsOwed nothing p j after
   read_apart j before after came other s = job_quiet p j before after (came.others (facts p) other) s
 
-  pub read_ended : (before after : List Entry) → BringsBytes conn room bytes before after → conn.job ≢ (facts p).number → StandsEnded p before → StandsEnded p after
-  read_ended before after came other g = ended_waits p before after (came.others (facts p) other) g
+  pub read_ended : (a : Answer) (before after : List Entry) → BringsBytes conn room bytes before after → conn.job ≢ (facts p).number → StandsEnded p a before
+      → StandsEnded p a after
+  read_ended a before after came other g = ended_waits p a before after (came.others (facts p) other) g

@@ -9,9 +9,10 @@ use Rattle.world.specs.Places.{time}
 use Rattle.world.proofs.MomentsLemmas.{since_then}
 use Rattle.save_course.specs.Course.{IsRested}
 use Rattle.job_saves.specs.Calls.{Cast, IsCall, IsCallBy}
+use Rattle.job_end.specs.declared.answer.Answer.{Answer}
 use Rattle.job_journal.specs.Plot.{Plot, facts}
 use Rattle.job_journal.specs.Quiet.{IsQuietNow, is_unread}
-use Rattle.job_journal.proofs.Quiet.{ended_on}
+use Rattle.job_journal.proofs.Ended.{answered_on}
 use Rattle.job_run.specs.Beginning.{IsFresh}
 use Rattle.job_run.specs.declared.execution.Execution.{Execution}
 use Rattle.job_run.specs.declared.job.Job.{Job}
@@ -49,8 +50,8 @@ owed_waits (clock ms) p j before now e w s = turned_waits p j ms before now w s
 owed_waits (piece c bytes) p j before now e w s = absurd (true≢false (sym e))
 owed_waits anything p j before now e w s = tt
 
-pub ended_waits : (p : Plot) (before now : List Entry) → Since (IsQuietNow (facts p)) before now → StandsEnded p before → StandsEnded p now
-ended_waits p before now w g = record { undated = g.undated; ended = ended_on p before now g.undated w g.ended }
+pub ended_waits : (p : Plot) (a : Answer) (before now : List Entry) → Since (IsQuietNow (facts p)) before now → StandsEnded p a before → StandsEnded p a now
+ended_waits p a before now w g = record { undated = g.undated; answered = answered_on p a before now g.undated w g.answered }
 
 pub fresh_waits : (p : Plot) (before now : List Entry) → Since (IsQuietNow (facts p)) before now → IsFresh p before → IsFresh p now
 fresh_waits p before now w f = record {
@@ -66,9 +67,9 @@ pub owed_waits_for : (o : OwedTo) (p : Plot) (j : Job) (c : Cast) (before now : 
     → IsRested (facts p).output before → may_wait o ≡ true → Since (IsNotOf OnClock) before now → StandsOwed o p j before → StandsOwed o p j now
 owed_waits_for o p j c before now elsewhere since rested e off s = owed_waits o p j before now e (calls_quiet (facts p) c before now elsewhere since off rested) s
 
-pub ended_waits_for : (p : Plot) (c : Cast) (before now : List Entry) → SavesElsewhere c (facts p).output → Since (IsCall c) before now → IsRested (facts p).output before
-    → StandsEnded p before → StandsEnded p now
-ended_waits_for p c before now elsewhere since rested g = record { undated = g.undated; ended = ended_calls p c g.undated elsewhere since rested g.ended }
+pub ended_waits_for : (p : Plot) (a : Answer) (c : Cast) (before now : List Entry) → SavesElsewhere c (facts p).output → Since (IsCall c) before now
+    → IsRested (facts p).output before → StandsEnded p a before → StandsEnded p a now
+ended_waits_for p a c before now elsewhere since rested g = record { undated = g.undated; answered = ended_calls p a c g.undated elsewhere since rested g.answered }
 
 pub fresh_waits_for : (p : Plot) (c : Cast) (before now : List Entry) → SavesElsewhere c (facts p).output → Since (IsCall c) before now → IsFresh p before → IsFresh p now
 fresh_waits_for p c before now elsewhere since f = record {
@@ -107,6 +108,7 @@ pub first_waits_for : (p : Plot) (j : Job) (c : Cast) (before now : List Entry) 
 first_waits_for p j c before now elsewhere since rested rises s = record {
   untold = record {
     number_is = s.untold.number_is;
+    output_is = s.untold.output_is;
     undated = s.untold.undated;
     runs = λ e.
         let u = s.untold.runs e in
@@ -114,7 +116,7 @@ first_waits_for p j c before now elsewhere since rested rises s = record {
           stands = calls_go_on p j.number j.run c elsewhere before now since rested s.unread u.stands;
           earlier = omega (arith, u.earlier, rises);
         };
-    ended = λ e. ended_calls p c s.untold.undated elsewhere since rested (s.untold.ended e);
+    ended = λ a e. ended_calls p a c s.untold.undated elsewhere since rested (s.untold.ended a e);
   };
   unread = unread_calls (facts p) c before now since ∙ s.unread;
 }

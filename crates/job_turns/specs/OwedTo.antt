@@ -1,12 +1,14 @@
 -- What a job stands for, by the journal of its world, while others are told what has happened and it waits. A journal has its newest entry first.
-use Rattle.std.specs.Prelude.{◌≡◌, ℕ, Bool, true, false, List}
+use Rattle.std.specs.Prelude.{◌≡◌, ℕ, Bool, true, false, List, Some, None}
 use Rattle.world.specs.declared.chan.Chan.{Chan}
 use Rattle.world.specs.declared.entry.Entry.{Entry}
+use Rattle.job_end.specs.declared.answer.Answer.{Answer}
+use Rattle.job_journal.specs.Ended.{HasAnswered}
 use Rattle.job_journal.specs.Plot.{Plot, facts}
 use Rattle.job_journal.specs.Quiet.{is_unread}
-use Rattle.job_journal.specs.Standing.{HasEndedAs}
 use Rattle.job_run.specs.declared.job.Job.{Job}
 use Rattle.job_run.specs.JobStanding.{IsGotFor, IsTurnedFor, JobStands, JobStandsUntold}
+use Rattle.job_run.specs.Run.{outcome_of}
 
 -- what is still to be told to a job that has begun
 pub data OwedTo : Type 0 where
@@ -37,10 +39,15 @@ pub record StandsFirst (p : Plot) (j : Job) (now : List Entry) : Type 0 where
   pub untold : JobStandsUntold p j now
   pub unread : is_unread (facts p) now ≡ true
 
--- A job has ended, and the texts that were saved are the first of the saves that are due. It wanted no interrupts.
-pub record StandsEnded (p : Plot) (now : List Entry) : Type 0 where
+-- A job that ends now ends with this answer: with that of its end, or for want of memory while it runs.
+pub record IsLeftWith (j : Job) (a : Answer) : Type 0 where
+  pub over : (answer : Answer) → outcome_of j ≡ Some answer → a ≡ answer
+  pub starved : outcome_of j ≡ None → a.status ≡ 12
+
+-- A job has ended with this answer by the journal. It wanted no interrupts.
+pub record StandsEnded (p : Plot) (a : Answer) (now : List Entry) : Type 0 where
   pub undated : (facts p).task.times.interrupt ≡ false
-  pub ended : HasEndedAs p now
+  pub answered : HasAnswered p a now
 
 -- A job stands for the journal but for what is still to be told to it.
 abbrev pub StandsOwed : OwedTo → Plot → Job → List Entry → Type 0

@@ -5,6 +5,7 @@ ghost use Rattle.world.specs.declared.conn.Conn as conn;
 ghost use Rattle.world.specs.declared.entry.Entry.{Entry};
 ghost use Rattle.world.specs.Places.{time};
 ghost use Rattle.kernel_lines.specs.Line.{taken_of};
+ghost use Rattle.job_end.specs.declared.answer.Answer as answer;
 ghost use Rattle.run_journal.specs.Parts.{bytes_put};
 ghost use Rattle.job_journal.specs.Plot.{Plot, facts};
 ghost use Rattle.job_run.specs.declared.job.Job as job;
@@ -22,8 +23,8 @@ pub fn turns_bring_the_clock()
         BringsMoment ms before after → time before ≤ ms → is_some (outcome_of j) ≡ false →
         taken_of (line_of j Iopub) ≡ length (bytes_put (facts p) Iopub before) →
         JobStands p j before → StandsOwed (clock ms) p j after }
-    ensures ended { (ms : ℕ) (p : Plot) (before after : List Entry) →
-        BringsMoment ms before after → StandsEnded p before → StandsEnded p after }
+    ensures ended { (ms : ℕ) (p : Plot) (a : answer.Answer) (before after : List Entry) →
+        BringsMoment ms before after → StandsEnded p a before → StandsEnded p a after }
 {}
 
 /// After a read of the loop the job of the connection is to be told the piece. It concerns no other
@@ -37,7 +38,7 @@ pub fn reads_bring_a_piece()
         (before after : List Entry) → BringsBytes conn room bytes before after →
         conn.job ≢ (facts p).number → StandsOwed nothing p j before →
         StandsOwed nothing p j after }
-    ensures ended { (conn : conn.Conn) (room : ℕ) (bytes : List ℕ) (p : Plot)
+    ensures ended { (conn : conn.Conn) (room : ℕ) (bytes : List ℕ) (p : Plot) (a : answer.Answer)
         (before after : List Entry) → BringsBytes conn room bytes before after →
-        conn.job ≢ (facts p).number → StandsEnded p before → StandsEnded p after }
+        conn.job ≢ (facts p).number → StandsEnded p a before → StandsEnded p a after }
 {}

@@ -5,6 +5,7 @@ ghost use Rattle.world.specs.Moments.{Since};
 ghost use Rattle.world.specs.Parts.{IsNotOf, OnClock};
 ghost use Rattle.world.specs.Places.{time};
 ghost use Rattle.save_course.specs.Course.{IsRested};
+ghost use Rattle.job_end.specs.declared.answer.Answer as answer;
 ghost use Rattle.job_saves.specs.Calls.{Cast, IsCall};
 ghost use Rattle.job_journal.specs.Plot.{Plot, facts};
 ghost use Rattle.job_journal.specs.Quiet.{IsQuietNow};
@@ -19,8 +20,8 @@ pub fn jobs_wait()
     ensures stands { (o : OwedTo) (p : Plot) (j : job.Job) (before now : List Entry) →
         may_wait o ≡ true → Since (IsQuietNow (facts p)) before now → StandsOwed o p j before →
         StandsOwed o p j now }
-    ensures ended { (p : Plot) (before now : List Entry) →
-        Since (IsQuietNow (facts p)) before now → StandsEnded p before → StandsEnded p now }
+    ensures ended { (p : Plot) (a : answer.Answer) (before now : List Entry) →
+        Since (IsQuietNow (facts p)) before now → StandsEnded p a before → StandsEnded p a now }
     ensures fresh { (p : Plot) (before now : List Entry) →
         Since (IsQuietNow (facts p)) before now → IsFresh p before → IsFresh p now }
 {}
@@ -37,9 +38,9 @@ pub fn jobs_wait_for_others()
         SavesElsewhere c (facts p).output → Since (IsCall c) before now →
         IsRested (facts p).output before → time before ≤ time now →
         StandsOwed first_clock p j before → StandsOwed first_clock p j now }
-    ensures ended { (p : Plot) (c : Cast) (before now : List Entry) →
+    ensures ended { (p : Plot) (a : answer.Answer) (c : Cast) (before now : List Entry) →
         SavesElsewhere c (facts p).output → Since (IsCall c) before now →
-        IsRested (facts p).output before → StandsEnded p before → StandsEnded p now }
+        IsRested (facts p).output before → StandsEnded p a before → StandsEnded p a now }
     ensures fresh { (p : Plot) (c : Cast) (before now : List Entry) →
         SavesElsewhere c (facts p).output → Since (IsCall c) before now → IsFresh p before →
         IsFresh p now }
