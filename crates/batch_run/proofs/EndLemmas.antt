@@ -18,6 +18,7 @@ use Rattle.world.proofs.MomentsLemmas.{told_start, since_as}
 use Rattle.ready_loop.specs.Offers.{Extends}
 use Rattle.job_end.specs.declared.answer.Answer.{Answer}
 use Rattle.cell_core.specs.Task.{Task}
+use Rattle.job_journal.specs.Ended.{HasAnswered}
 use Rattle.job_saves.specs.Course.{Origin}
 use Rattle.job_saves.proofs.CourseLemmas.{job_ends}
 use Rattle.nb_model.specs.declared.notebook.Notebook.{Notebook}
@@ -25,9 +26,9 @@ use Rattle.job_saves.specs.Reads.{first_of}
 use Rattle.job_begin.specs.Begun.{origin_of, counted_task}
 use Rattle.batch_run.specs.declared.slot.Slot.{Slot}
 use Rattle.batch_run.specs.declared.slot.Slot.TheVariants.{Waiting, Running, Ended}
-use Rattle.batch_run.specs.Batch.{HasStopped, HasWaited, EndsBy, EndsFollowing, EndsUnread, EndsRead, AreEnds, Makes, nothing, saves, MakesEach, LeavesOthers, CallsOfJobs, CallsOfRun, EndsChildren, IsApart, IsClean, numbered}
+use Rattle.batch_run.specs.Batch.{HasStopped, HasWaited, EndsBy, EndsFollowing, EndsUnread, EndsRead, AreEnds, AreSaid, Makes, nothing, saves, MakesEach, LeavesOthers, CallsOfJobs, CallsOfRun, EndsChildren, IsApart, IsClean, numbered}
 use Rattle.job_run.specs.declared.job.Job.{Job}
-use Rattle.job_turns.specs.OwedTo.{OwedTo}
+use Rattle.job_turns.specs.OwedTo.{OwedTo, StandsEnded}
 use Rattle.job_turns.specs.OwedTo as to
 use Rattle.other_jobs.proofs.Refusals.{shut_unread}
 use Rattle.ready_loop.specs.declared.readiness.Loop.{Loop}
@@ -36,8 +37,8 @@ use Rattle.ready_loop.specs.Standing.{AllShut, StandsFor}
 use Rattle.ready_loop.specs.Wires.{ports_in}
 use Rattle.batch_run.specs.Due.{is_slot_over}
 use Rattle.batch_run.specs.Owed.{AreServed, Owed, SlotFollows, StaysFresh, owed_to}
-use Rattle.batch_run.specs.Owed.{none, begins}
-use Rattle.batch_run.proofs.FollowLemmas.{fresh_start}
+use Rattle.batch_run.specs.Owed.{none, begins, unknown}
+use Rattle.batch_run.proofs.FollowLemmas.{follows_on, fresh_start}
 use Rattle.job_saves.specs.Children.{has_child, HasEnd}
 use Rattle.job_saves.specs.Speaking.{IsWhole, SpeaksWhole}
 use Rattle.batch_run.proofs.CallLemmas.{run_spares}
@@ -112,7 +113,7 @@ served_start n asks slots l before below waiting stands shut = record {
 pub all_start : (n : ℕ) (asks : List Ask) (slots : List Slot) (p : Option (List Entry)) (c : Counts) (here : List ℕ) (most : ℕ) (l : Loop) (clean : Bool) → length slots ≡ n + length asks → length slots ≤ 16
     → EndedBelow n slots → WaitingFrom n slots → ((journal : List Entry) → AllShut journal → (h : History) × StandsFor l h journal)
     → (clean ≡ true → SpeaksWhole p c) → (clean ≡ true → AreIdle (numbered n asks) p) → IfSome p (AreWired (ports_in l))
-    → AllStand (numbered n asks) p (record { size = n + length asks; here = here; counts = c; waits = c.waits; most = most; clean = clean; loop = l; owed = begins n }) slots p c
+    → AllStand (numbered n asks) p (record { size = n + length asks; here = here; counts = c; waits = c.waits; most = most; clean = clean; loop = l; owed = begins n; hushed = λ i. false }) slots p c
 all_start n asks slots p c here most l clean size few below waiting stands spoken idle wired = record {
   size = size;
   asked = asked_start n asks slots size below;
@@ -137,6 +138,7 @@ all_start n asks slots p c here most l clean size few below waiting stands spoke
   served = λ before past st e shut.
       let same : before ≡ past = same_Some _ _ (sym st ∙ e) in
       subst (λ x. AreServed (numbered n asks) (begins n) l slots x) same (served_start n asks slots l before below waiting (stands before shut) shut);
+  said = λ known before past st e i a answer loud at got. let no : Ended answer ≡ Waiting = waiting_start n asks slots waiting i a (Ended answer) at got in absurd (cc);
 }
 
 -- the clock that a world tells
@@ -191,11 +193,8 @@ ends_following : (i : ℕ) (a : Ask) (n : Notebook) (slot : Slot) (before past :
     → EndsFollowing i a n (answer_of (Some slot)) before past
 ends_following i a n Waiting before past ended h = absurd ended
 ends_following i a n (Running j) before past ended h = absurd ended
-ends_following i a n (Ended answer) before past ended h = record {
-  session = h.session;
-  key = h.key;
-  each = λ p plot fresh session key. (h.each p plot fresh session key).ended;
-}
+ends_following i a n (Ended answer) before past ended h =
+    follows_on i a n before past past (λ p. StandsEnded p answer past) (λ p. HasAnswered p answer past) start (λ p plot fresh e. e.answered) h
 
 slot_read : (a : Ask) (first : Notebook) (slot : Slot) (x y : List Entry) → SlotTask a first slot → SlotKernel a first slot x y → EndsRead a first (answer_of (Some slot)) x y
 slot_read a first Waiting x y of kernel = tt
@@ -261,6 +260,20 @@ module _ (n : ℕ) (asks : List Ask) (first : Option (List Entry)) (from : Outse
       let own = some_at asks i (omega (arith, low, are.size, s.size, size)) in
       (end_at answers are i own.0 answer own.1 got).spent is
 
+  answer_is : (slot : Slot) (answer : Answer) → answer_of (Some slot) ≡ Some answer → slot ≡ Ended answer
+  answer_is Waiting answer e = absurd (cc)
+  answer_is (Running j) answer e = absurd (cc)
+  answer_is (Ended x) answer e = ap (λ (y : Answer). Ended y) (same_Some _ _ e)
+
+  -- the last line of each was said
+  pub are_said : (answers : List Answer) → from.owed ≡ none → ((i : ℕ) → from.hushed i ≡ false) → AreAnswers n slots answers → Told first q (AreSaid asks answers (0 < d.say))
+  are_said answers owed loud are = told_of first q Extends (AreSaid asks answers (0 < d.say)) s.told (λ x y st f. record {
+    each = λ i a answer at got.
+        let slot = slot_at (n + i) a (role i a at) in
+        let is = answer_is slot.0 answer (sym (are.each i ∙ ap answer_of slot.1) ∙ got) in
+        s.said (λ u. let no : none ≡ unknown = sym owed ∙ u in absurd (cc)) x y st f (n + i) a answer (loud (n + i)) (role i a at) (slot.1 ∙ ap (λ z. Some z) is);
+  })
+
   pub others_left : Told first q (LeavesOthers asks)
   others_left = told_of first q (CallsOfJobs (numbered n asks) from.here from.clean) (LeavesOthers asks) s.calls (λ x y st f path none.
       since_as (run_spares (numbered n asks) from.here path from.clean (λ k b at. let r = numbered_only n asks k b at in none r.0 b r.2))
@@ -295,6 +308,11 @@ module _ (n : ℕ) (asks : List Ask) (first : Option (List Entry)) (from : Outse
       → IfOk result (λ answers. (i : ℕ) (answer : Answer) → slice_get answers i ≡ Some answer → answer.status ≡ 16 → HasWaited from.most d)
   spent_by (Ok answers) is = end_spent n asks first from slots q d size s answers (subst (AreAnswers n slots) (sym is) all_answers)
   spent_by (Err e) is = tt
+
+  pub said_by : (result : Result (List Answer) NoMemory) → from.owed ≡ none → ((i : ℕ) → from.hushed i ≡ false) → IfOk result (λ answers. answers ≡ answers_from n slots)
+      → IfOk result (λ answers. Told first q (AreSaid asks answers (0 < d.say)))
+  said_by (Ok answers) owed loud is = are_said n asks first from slots q d size s answers owed loud (subst (AreAnswers n slots) (sym is) all_answers)
+  said_by (Err e) owed loud is = tt
 
   pub count_by : (result : Result (List Answer) NoMemory) → IfOk result (λ answers. answers ≡ answers_from n slots) → IfOk result (λ answers. length answers ≡ length asks)
   count_by (Ok answers) is = let same = ap length is in let long = all_answers.size in omega (arith, same, long, size, s.size)

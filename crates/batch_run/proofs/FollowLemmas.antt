@@ -1,5 +1,5 @@
 -- How the jobs in the slots of a run go on standing for the journal, where all connections were shut before it.
-use Rattle.std.proofs.Common.{◌≡◌, ◌≢◌, inl, inr, ◌<◌, ◌≤◌, ◌==◌, ℕ, zero, suc, Bool, true, false, List, [], length, set, Option, Some, Ok, Err, refl, sym, ◌∙◌, ap, subst, arith}
+use Rattle.std.proofs.Common.{◌≡◌, ◌≢◌, inl, inr, ◌∷◌, ◌++◌, append_assoc, ◌<◌, ◌≤◌, ◌==◌, ℕ, zero, suc, Bool, true, false, List, [], length, set, Option, Some, Ok, Err, refl, sym, ◌∙◌, ap, subst, arith}
 use Rattle.std.specs.Prelude.{not, if◌then◌else◌, is_some, slice_get}
 use Rattle.std.proofs.lemmas.Bool.{cases_eq, false≢true, ne_eqb, eq-eqb}
 use Rattle.std.proofs.lemmas.Option.{same_Some}
@@ -10,8 +10,9 @@ use Rattle.words.specs.declared.ask.Ask.{Ask}
 use Rattle.world.specs.declared.chan.Chan.TheVariants.{Iopub}
 use Rattle.world.specs.declared.conn.Conn.{Conn}
 use Rattle.world.specs.declared.entry.Entry.{Entry}
+use Rattle.world.specs.declared.entry.Entry.TheVariants as made
 use Rattle.world.specs.Counts.{Counts}
-use Rattle.world.specs.Moments.{Since}
+use Rattle.world.specs.Moments.{Since, start}
 use Rattle.world.specs.Parts.{IsNotOf, OnClock}
 use Rattle.world.specs.Places.{place_of, time}
 use Rattle.save_course.specs.Course.{IsRested}
@@ -23,13 +24,14 @@ use Rattle.job_journal.specs.Quiet.{IsQuietNow, is_unread}
 use Rattle.job_end.specs.declared.answer.Answer.{Answer}
 use Rattle.job_saves.specs.Calls.{Cast, IsCall}
 use Rattle.job_run.specs.declared.job.Job.{Job}
-use Rattle.job_run.specs.Beginning.{IsFresh}
+use Rattle.job_run.specs.Beginning.{IsFresh, IsSessionOf}
 use Rattle.job_run.specs.JobStanding.{JobStands, JobStandsUntold, KeepsStanding}
 use Rattle.job_run.specs.Queues.{line_of}
 use Rattle.job_run.specs.Run.{IsOther, outcome_of}
 use Rattle.job_begin.specs.Begun.{origin_of}
-use Rattle.job_begin.specs.Standing.{IsPlotWith, BeginsFollowing}
+use Rattle.job_begin.specs.Standing.{IsPlotWith, BeginsFollowing, BeginsSpeaking}
 use Rattle.ready_loop.specs.declared.readiness.Loop.{Loop}
+use Rattle.ready_loop.specs.Offers.{Extends}
 use Rattle.ready_loop.specs.History.{History, conn_on}
 use Rattle.ready_loop.specs.Standing.{StandsFor, put_at}
 use Rattle.other_jobs.specs.Elsewhere.{SavesElsewhere}
@@ -39,7 +41,7 @@ use Rattle.other_jobs.proofs.Calling.{loop_stands}
 use Rattle.other_jobs.proofs.Firsts.{unread_calls}
 use Rattle.other_jobs.proofs.Puts.{taken_is_put}
 use Rattle.other_jobs.proofs.Refusals.{calls_unread}
-use Rattle.job_turns.specs.OwedTo.{OwedTo, StandsEnded, StandsOwed, is_open}
+use Rattle.job_turns.specs.OwedTo.{IsLeftWith, OwedTo, StandsEnded, StandsOwed, is_open}
 use Rattle.job_turns.specs.OwedTo.{may_wait as waits_for}
 use Rattle.job_turns.specs.OwedTo as to
 use Rattle.job_turns.proofs.TellLemmas.{owed_changes, owed_ended, owed_first}
@@ -47,10 +49,11 @@ use Rattle.job_turns.proofs.TurnLemmas.{read_owed, turn_ended, turn_owed}
 use Rattle.job_turns.proofs.WaitLemmas.{ended_waits, ended_waits_for, first_waits_for, fresh_waits, fresh_waits_for, owed_waits, owed_waits_for}
 use Rattle.batch_run.specs.declared.slot.Slot.{Slot}
 use Rattle.batch_run.specs.declared.slot.Slot.TheVariants.{Waiting, Running, Ended}
-use Rattle.batch_run.specs.Owed.{Owed, AreClosed, AreServed, EndedOwed, IsListening, Served, SlotFollows, SlotOwes, StaysFresh, has_lines, is_from, may_wait, owed_to}
+use Rattle.batch_run.specs.Owed.{Owed, AreClosed, AreServed, EndedOwed, Follows, in_any, in_session, IsListening, Served, SlotFollows, SlotOwes, StaysFresh, has_lines, is_from, may_wait, owed_to}
 use Rattle.batch_run.specs.Owed.{none, begins, first_clock, turn_clock, piece, unknown}
 use Rattle.batch_run.specs.Stands.{SlotRuns}
 use Rattle.batch_run.proofs.CallLemmas.{sole, sole_at}
+use Rattle.batch_run.proofs.JournalLemmas.{extension}
 
 -- ---- numbers
 
@@ -128,29 +131,69 @@ lines_all n i low = ap not (from_past n i low)
 
 -- ---- one slot
 
--- what a slot stands for goes on so by each plot
-pub follows_as : (o m : OwedTo) (i : ℕ) (a : Ask) (n : Notebook) (slot next : Slot) (before past after : List Entry)
+-- the session of a job stays the one that was drawn for it
+session_on : (i : ℕ) (output session key : List ℕ) (before past after : List Entry) → Extends past after → IsSessionOf i output session key before past
+    → IsSessionOf i output session key before after
+session_on i output session key before past after grown s =
+    let more = extension grown in
+    record {
+      pairs = s.pairs;
+      session_is = s.session_is;
+      key_is = s.key_is;
+      asked = s.asked;
+      drawn = s.drawn;
+      earlier = s.earlier;
+      since = s.since;
+      ports = s.ports;
+      later = more.0 ++ s.later;
+      split = more.1 ∙ ap (λ (j : List Entry). more.0 ++ j) s.split ∙ sym (append_assoc more.0 s.later (made.Ports i (Some s.ports) ∷ s.asked));
+    }
+
+-- it was drawn since an earlier moment, too
+session_since : (i : ℕ) (output session key : List ℕ) (before past after : List Entry) → Extends before past → IsSessionOf i output session key past after
+    → IsSessionOf i output session key before after
+session_since i output session key before past after grown s =
+    let more = extension grown in
+    record {
+      pairs = s.pairs;
+      session_is = s.session_is;
+      key_is = s.key_is;
+      asked = s.asked;
+      drawn = s.drawn;
+      earlier = s.earlier ++ more.0;
+      since = s.since ∙ ap (λ (j : List Entry). s.earlier ++ j) more.1 ∙ sym (append_assoc s.earlier more.0 before);
+      ports = s.ports;
+      later = s.later;
+      split = s.split;
+    }
+
+-- what stands of each plot of a job goes on so
+pub follows_on : (i : ℕ) (a : Ask) (n : Notebook) (before past after : List Entry) (stands next : Plot → Type 0) → Extends past after
+    → ((p : Plot) → IsPlotWith p i a n → IsFresh p before → stands p → next p) → Follows i a n before past stands → Follows i a n before after next
+follows_on i a n before past after stands next grown go (in_session session key is each) =
+    in_session session key (session_on i a.output session key before past after grown is) (λ p plot fresh s k. go p plot fresh (each p plot fresh s k))
+follows_on i a n before past after stands next grown go (in_any each) = in_any (λ p plot fresh. go p plot fresh (each p plot fresh))
+
+-- so does what a slot stands for
+pub follows_as : (o m : OwedTo) (i : ℕ) (a : Ask) (n : Notebook) (slot next : Slot) (before past after : List Entry) → Extends past after
     → ((p : Plot) → IsPlotWith p i a n → IsFresh p before → SlotOwes o p slot past → SlotOwes m p next after) → SlotFollows o i a n slot before past → SlotFollows m i a n next before after
-follows_as o m i a n slot next before past after go h = record {
-  session = h.session;
-  key = h.key;
-  each = λ p plot fresh session key. go p plot fresh (h.each p plot fresh session key);
-}
+follows_as o m i a n slot next before past after grown go h = follows_on i a n before past after (λ p. SlotOwes o p slot past) (λ p. SlotOwes m p next after) grown go h
 
 -- a job that has ended, whatever is owed to it
-pub ended_owed : (o : OwedTo) (p : Plot) (now : List Entry) → StandsEnded p now → EndedOwed o p now
-ended_owed to.nothing p now e = e
-ended_owed to.first_clock p now e = e
-ended_owed (to.clock ms) p now e = e
-ended_owed (to.piece c bytes) p now e = e
-ended_owed to.anything p now e = tt
+pub ended_owed : (o : OwedTo) (p : Plot) (answer : Answer) (now : List Entry) → StandsEnded p answer now → EndedOwed o p answer now
+ended_owed to.nothing p answer now e = e
+ended_owed to.first_clock p answer now e = e
+ended_owed (to.clock ms) p answer now e = e
+ended_owed (to.piece c bytes) p answer now e = e
+ended_owed to.anything p answer now e = tt
 
-pub ended_on : (o : OwedTo) (p : Plot) (past after : List Entry) → (StandsEnded p past → StandsEnded p after) → EndedOwed o p past → EndedOwed o p after
-ended_on to.nothing p past after go e = go e
-ended_on to.first_clock p past after go e = go e
-ended_on (to.clock ms) p past after go e = go e
-ended_on (to.piece c bytes) p past after go e = go e
-ended_on to.anything p past after go e = tt
+pub ended_on : (o : OwedTo) (p : Plot) (answer : Answer) (past after : List Entry) → (StandsEnded p answer past → StandsEnded p answer after) → EndedOwed o p answer past
+    → EndedOwed o p answer after
+ended_on to.nothing p answer past after go e = go e
+ended_on to.first_clock p answer past after go e = go e
+ended_on (to.clock ms) p answer past after go e = go e
+ended_on (to.piece c bytes) p answer past after go e = go e
+ended_on to.anything p answer past after go e = tt
 
 -- what is stood for of a slot of which nothing is known
 pub owes_anything : (p : Plot) (slot : Slot) (now : List Entry) → SlotOwes to.anything p slot now
@@ -158,9 +201,9 @@ owes_anything p Waiting now = tt
 owes_anything p (Running j) now = tt
 owes_anything p (Ended answer) now = tt
 
-pub follows_anything : (o : OwedTo) (i : ℕ) (a : Ask) (n : Notebook) (slot next : Slot) (before past after : List Entry) → SlotFollows o i a n slot before past
+pub follows_anything : (o : OwedTo) (i : ℕ) (a : Ask) (n : Notebook) (slot next : Slot) (before past after : List Entry) → Extends past after → SlotFollows o i a n slot before past
     → SlotFollows to.anything i a n next before after
-follows_anything o i a n slot next before past after h = follows_as o to.anything i a n slot next before past after (λ p plot fresh s. owes_anything p next after) h
+follows_anything o i a n slot next before past after grown h = follows_as o to.anything i a n slot next before past after grown (λ p plot fresh s. owes_anything p next after) h
 
 -- what goes on of a job that hasn't begun
 pub fresh_as : (o : OwedTo) (i : ℕ) (a : Ask) (before past after : List Entry) → ((p : Plot) → i ≡ p.setting.number → p.ask ≡ a → IsFresh p past → IsFresh p after)
@@ -184,12 +227,12 @@ pub owes_quiet : (o : OwedTo) (p : Plot) (slot : Slot) (past after : List Entry)
     → SlotOwes o p slot after
 owes_quiet o p Waiting past after e quiet s = tt
 owes_quiet o p (Running j) past after e quiet s = owed_waits o p j past after e quiet s
-owes_quiet o p (Ended answer) past after e quiet s = ended_on o p past after (ended_waits p past after quiet) s
+owes_quiet o p (Ended answer) past after e quiet s = ended_on o p answer past after (ended_waits p answer past after quiet) s
 
-pub follows_quiet : (o : OwedTo) (i : ℕ) (a : Ask) (n : Notebook) (slot : Slot) (before past after : List Entry) → waits_for o ≡ true
+pub follows_quiet : (o : OwedTo) (i : ℕ) (a : Ask) (n : Notebook) (slot : Slot) (before past after : List Entry) → Extends past after → waits_for o ≡ true
     → ((f : Facts) → f.number ≡ i → Since (IsQuietNow f) past after) → SlotFollows o i a n slot before past → SlotFollows o i a n slot before after
-follows_quiet o i a n slot before past after e quiet h =
-    follows_as o o i a n slot slot before past after (λ p plot fresh s. owes_quiet o p slot past after e (quiet (facts p) (sym plot.number_is)) s) h
+follows_quiet o i a n slot before past after grown e quiet h =
+    follows_as o o i a n slot slot before past after grown (λ p plot fresh s. owes_quiet o p slot past after e (quiet (facts p) (sym plot.number_is)) s) h
 
 pub fresh_quiet : (o : OwedTo) (i : ℕ) (a : Ask) (before past after : List Entry) → ((f : Facts) → f.number ≡ i → Since (IsQuietNow f) past after)
     → StaysFresh o i a before past → StaysFresh o i a before after
@@ -203,11 +246,11 @@ unread_slot p (Running j) past runs fresh s = s.unread
 unread_slot p (Ended answer) past runs fresh s = absurd (runs answer refl)
 
 -- a job that runs, and is still to be told its first clock
-pub follows_connects : (i job : ℕ) (a : Ask) (n : Notebook) (j : Job) (before past after : List Entry)
+pub follows_connects : (i job : ℕ) (a : Ask) (n : Notebook) (j : Job) (before past after : List Entry) → Extends past after
     → ((f : Facts) → f.number ≡ i → (job ≡ f.number → is_unread f past ≡ true) → Since (IsQuietNow f) past after)
     → SlotFollows to.first_clock i a n (Running j) before past → SlotFollows to.first_clock i a n (Running j) before after
-follows_connects i job a n j before past after quiet h =
-    follows_as to.first_clock to.first_clock i a n (Running j) (Running j) before past after
+follows_connects i job a n j before past after grown quiet h =
+    follows_as to.first_clock to.first_clock i a n (Running j) (Running j) before past after grown
     (λ p plot fresh s. owed_waits to.first_clock p j past after refl (quiet (facts p) (sym plot.number_is) (λ e. s.unread)) s) h
 
 -- one that hasn't begun
@@ -240,7 +283,7 @@ module _ (i : ℕ) (a : Ask) (c : Cast) (elsewhere : SavesElsewhere c a.output) 
   fresh_others o h = fresh_as o i a before past after
       (λ p number ask fresh. fresh_waits_for p c past after (subst (SavesElsewhere c) (sym (ap (λ (x : Ask). x.output) ask)) elsewhere) calls fresh) h
 
-  module _ (n : Notebook) (slot : Slot) (rested : IsRested a.output past) where
+  module _ (n : Notebook) (slot : Slot) (rested : IsRested a.output past) (grown : Extends past after) where
     own_elsewhere : (p : Plot) → IsPlotWith p i a n → SavesElsewhere c (facts p).output
     own_elsewhere p plot = subst (SavesElsewhere c) (output_of_plot p i a n plot) elsewhere
 
@@ -250,112 +293,111 @@ module _ (i : ℕ) (a : Ask) (c : Cast) (elsewhere : SavesElsewhere c a.output) 
     owes_others : (o : OwedTo) (p : Plot) (slot : Slot) → IsPlotWith p i a n → waits_for o ≡ true → Since (IsNotOf OnClock) past after → SlotOwes o p slot past → SlotOwes o p slot after
     owes_others o p Waiting plot e off s = tt
     owes_others o p (Running j) plot e off s = owed_waits_for o p j c past after (own_elsewhere p plot) calls (own_rested p plot) e off s
-    owes_others o p (Ended answer) plot e off s = ended_on o p past after (ended_waits_for p c past after (own_elsewhere p plot) calls (own_rested p plot)) s
+    owes_others o p (Ended answer) plot e off s = ended_on o p answer past after (ended_waits_for p answer c past after (own_elsewhere p plot) calls (own_rested p plot)) s
 
     -- none of the clock
     pub follows_others : (o : OwedTo) → waits_for o ≡ true → Since (IsNotOf OnClock) past after → SlotFollows o i a n slot before past → SlotFollows o i a n slot before after
-    follows_others o e off h = follows_as o o i a n slot slot before past after (λ p plot fresh s. owes_others o p slot plot e off s) h
+    follows_others o e off h = follows_as o o i a n slot slot before past after grown (λ p plot fresh s. owes_others o p slot plot e off s) h
 
     owes_first : (p : Plot) (slot : Slot) → IsPlotWith p i a n → time past ≤ time after → SlotOwes to.first_clock p slot past → SlotOwes to.first_clock p slot after
     owes_first p Waiting plot rises s = tt
     owes_first p (Running j) plot rises s = first_waits_for p j c past after (own_elsewhere p plot) calls (own_rested p plot) rises s
-    owes_first p (Ended answer) plot rises s = ended_waits_for p c past after (own_elsewhere p plot) calls (own_rested p plot) s
+    owes_first p (Ended answer) plot rises s = ended_waits_for p answer c past after (own_elsewhere p plot) calls (own_rested p plot) s
 
     -- while jobs begin they may read the clock
     pub follows_first : time past ≤ time after → SlotFollows to.first_clock i a n slot before past → SlotFollows to.first_clock i a n slot before after
-    follows_first rises h = follows_as to.first_clock to.first_clock i a n slot slot before past after (λ p plot fresh s. owes_first p slot plot rises s) h
+    follows_first rises h = follows_as to.first_clock to.first_clock i a n slot slot before past after grown (λ p plot fresh s. owes_first p slot plot rises s) h
 
 -- ---- a job that begins
 
 -- it runs, and is still to be told its first clock
-pub follows_begun : (i : ℕ) (a : Ask) (n : Notebook) (j : Job) (c : Cast) (before past after : List Entry) → Since (IsCall c) past after → StaysFresh to.first_clock i a before past
-    → BeginsFollowing {E = Answer} i a n (Ok j) past after → SlotFollows to.first_clock i a n (Running j) before after
-follows_begun i a n j c before past after calls fresh began = record {
-  session = j.run.session.name;
-  key = j.run.session.key;
-  each = λ p plot new session key.
-      let now = fresh p plot.number_is plot.ask_is new in
-      owed_first p j after (began p plot now (record { session_is = sym session; key_is = sym key })) (unread_calls (facts p) c past after calls ∙ now.unread);
-}
+pub follows_begun : (i : ℕ) (a : Ask) (n : Notebook) (j : Job) (c : Cast) (before past after : List Entry) → Extends before past → Since (IsCall c) past after
+    → StaysFresh to.first_clock i a before past → BeginsSpeaking {E = Answer} i a.output (Ok j) past after → BeginsFollowing i a n (Ok j) past after
+    → SlotFollows to.first_clock i a n (Running j) before after
+follows_begun i a n j c before past after grown calls fresh speaks began =
+    in_session j.run.session.name j.run.session.key (session_since i a.output j.run.session.name j.run.session.key before past after grown speaks)
+    (λ p plot new session key.
+    let now = fresh p plot.number_is plot.ask_is new in
+    owed_first p j after (began p plot now (record { session_is = sym session; key_is = sym key })) (unread_calls (facts p) c past after calls ∙ now.unread))
 
 -- its begin has ended it
 pub follows_not_begun : (i : ℕ) (a : Ask) (n : Notebook) (answer : Answer) (before past after : List Entry) → StaysFresh to.first_clock i a before past
-    → BeginsFollowing {E = Answer} i a n (Err answer) past after → SlotFollows to.first_clock i a n (Ended answer) before after
-follows_not_begun i a n answer before past after fresh began = record {
-  session = [];
-  key = [];
-  each = λ p plot new session key.
-      let now = fresh p plot.number_is plot.ask_is new in
-      record { undated = now.undated; ended = began p plot now };
-}
+    → BeginsFollowing i a n (Err answer) past after → SlotFollows to.first_clock i a n (Ended answer) before after
+follows_not_begun i a n answer before past after fresh began =
+    in_any
+    (λ p plot new.
+    let now = fresh p plot.number_is plot.ask_is new in
+    record { undated = now.undated; answered = began p plot now })
 
 -- ---- a job that is told something without a call, and one that ends
 
 pub follows_changed : (o : OwedTo) (i : ℕ) (a : Ask) (n : Notebook) (was now : Job) (before past : List Entry) → is_open o ≡ true → KeepsStanding was now
     → SlotFollows o i a n (Running was) before past → SlotFollows o i a n (Running now) before past
 follows_changed o i a n was now before past e keeps h =
-    follows_as o o i a n (Running was) (Running now) before past past (λ p plot fresh s. owed_changes o p was now past e keeps s) h
+    follows_as o o i a n (Running was) (Running now) before past past start (λ p plot fresh s. owed_changes o p was now past e keeps s) h
 
 -- it is told its first clock
 pub follows_clocked : (i : ℕ) (a : Ask) (n : Notebook) (was now : Job) (before past : List Entry) → ((p : Plot) → JobStandsUntold p was past → JobStands p now past)
     → SlotFollows to.first_clock i a n (Running was) before past → SlotFollows to.nothing i a n (Running now) before past
 follows_clocked i a n was now before past told h =
-    follows_as to.first_clock to.nothing i a n (Running was) (Running now) before past past (λ p plot fresh s. told p s.untold) h
+    follows_as to.first_clock to.nothing i a n (Running was) (Running now) before past past start (λ p plot fresh s. told p s.untold) h
 
-finished : (o : OwedTo) (p : Plot) (j : Job) (past after : List Entry) → waits_for o ≡ true → Since (IsQuietNow (facts p)) past after → StandsOwed o p j past → EndedOwed o p after
-finished to.nothing p j past after e quiet s = ended_waits p past after quiet (owed_ended to.nothing p j past e (λ f. absurd (cc)) s)
-finished to.first_clock p j past after e quiet s = ended_waits p past after quiet (owed_ended to.first_clock p j past e (λ f. absurd (cc)) s)
-finished (to.clock ms) p j past after e quiet s = ended_waits p past after quiet (owed_ended (to.clock ms) p j past e (λ f. absurd (cc)) s)
-finished (to.piece c bytes) p j past after e quiet s = absurd (false≢true e)
-finished to.anything p j past after e quiet s = tt
+finished : (o : OwedTo) (p : Plot) (j : Job) (answer : Answer) (past after : List Entry) → waits_for o ≡ true → IsLeftWith j answer → Since (IsQuietNow (facts p)) past after
+    → StandsOwed o p j past → EndedOwed o p answer after
+finished to.nothing p j answer past after e left quiet s = ended_waits p answer past after quiet (owed_ended to.nothing p j answer past e (λ f. absurd (cc)) left s)
+finished to.first_clock p j answer past after e left quiet s = ended_waits p answer past after quiet (owed_ended to.first_clock p j answer past e (λ f. absurd (cc)) left s)
+finished (to.clock ms) p j answer past after e left quiet s = ended_waits p answer past after quiet (owed_ended (to.clock ms) p j answer past e (λ f. absurd (cc)) left s)
+finished (to.piece c bytes) p j answer past after e left quiet s = absurd (false≢true e)
+finished to.anything p j answer past after e left quiet s = tt
 
 -- it ends by calls that are quiet for it
-pub follows_finished : (o : OwedTo) (i : ℕ) (a : Ask) (n : Notebook) (j : Job) (answer : Answer) (before past after : List Entry) → waits_for o ≡ true
-    → ((f : Facts) → Since (IsQuietNow f) past after) → SlotFollows o i a n (Running j) before past → SlotFollows o i a n (Ended answer) before after
-follows_finished o i a n j answer before past after e quiet h =
-    follows_as o o i a n (Running j) (Ended answer) before past after (λ p plot fresh s. finished o p j past after e (quiet (facts p)) s) h
+pub follows_finished : (o : OwedTo) (i : ℕ) (a : Ask) (n : Notebook) (j : Job) (answer : Answer) (before past after : List Entry) → Extends past after → waits_for o ≡ true
+    → IsLeftWith j answer → ((f : Facts) → Since (IsQuietNow f) past after) → SlotFollows o i a n (Running j) before past → SlotFollows o i a n (Ended answer) before after
+follows_finished o i a n j answer before past after grown e left quiet h =
+    follows_as o o i a n (Running j) (Ended answer) before past after grown (λ p plot fresh s. finished o p j answer past after e left (quiet (facts p)) s) h
 
 -- ---- a turn
 
-module _ (ms i : ℕ) (a : Ask) (n : Notebook) (before past after : List Entry) (came : BringsMoment ms past after) where
+module _ (ms i : ℕ) (a : Ask) (n : Notebook) (before past after : List Entry) (came : BringsMoment ms past after) (grown : Extends past after) where
   -- a job that runs knows how many of its octets were put
   pub follows_turned_running : (j : Job) (l : Loop) (h : History) → time past ≤ ms → is_some (outcome_of j) ≡ false → StandsFor l h past → IsListening l i
       → taken_of (line_of j Iopub) ≡ length (put_at h past (place_of (conn_on i Iopub))) → SlotFollows to.nothing i a n (Running j) before past
       → SlotFollows (to.clock ms) i a n (Running j) before after
   follows_turned_running j l h rises runs stands listens taken s =
-      follows_as to.nothing (to.clock ms) i a n (Running j) (Running j) before past after
+      follows_as to.nothing (to.clock ms) i a n (Running j) (Running j) before past after grown
       (λ p plot fresh w. turn_owed ms p j past after came rises runs
       (taken ∙ ap (λ (bytes : List ℕ). length bytes) (taken_is_put (facts p) l h past (conn_on i Iopub) stands listens plot.number_is)) w) s
 
   pub follows_turned_ended : (answer : Answer) → SlotFollows to.nothing i a n (Ended answer) before past → SlotFollows (to.clock ms) i a n (Ended answer) before after
   follows_turned_ended answer s =
-      follows_as to.nothing (to.clock ms) i a n (Ended answer) (Ended answer) before past after (λ p plot fresh w. turn_ended ms p past after came w) s
+      follows_as to.nothing (to.clock ms) i a n (Ended answer) (Ended answer) before past after grown (λ p plot fresh w. turn_ended ms p answer past after came w) s
 
   pub follows_turned_waiting : SlotFollows to.nothing i a n Waiting before past → SlotFollows (to.clock ms) i a n Waiting before after
-  follows_turned_waiting s = follows_as to.nothing (to.clock ms) i a n Waiting Waiting before past after (λ p plot fresh w. tt) s
+  follows_turned_waiting s = follows_as to.nothing (to.clock ms) i a n Waiting Waiting before past after grown (λ p plot fresh w. tt) s
 
 -- ---- a read that brings a piece
 
-module _ (conn : Conn) (room : ℕ) (bytes : List ℕ) (i : ℕ) (a : Ask) (n : Notebook) (before past after : List Entry) (came : BringsBytes conn room bytes past after) where
+module _ (conn : Conn) (room : ℕ) (bytes : List ℕ) (i : ℕ) (a : Ask) (n : Notebook) (before past after : List Entry) (came : BringsBytes conn room bytes past after)
+    (grown : Extends past after) where
   pub follows_read_own : (j : Job) → conn.job ≡ i → is_some (outcome_of j) ≡ false → SlotFollows to.nothing i a n (Running j) before past
       → SlotFollows (to.piece conn.chan bytes) i a n (Running j) before after
   follows_read_own j own runs s =
-      follows_as to.nothing (to.piece conn.chan bytes) i a n (Running j) (Running j) before past after
+      follows_as to.nothing (to.piece conn.chan bytes) i a n (Running j) (Running j) before past after grown
       (λ p plot fresh w. read_owed conn room bytes p j past after came (own ∙ plot.number_is) runs w) s
 
   -- one that has ended, whose connections are closed
   pub follows_read_ended : (answer : Answer) → ((f : Facts) → f.number ≡ i → Since (IsQuietNow f) past after) → SlotFollows to.nothing i a n (Ended answer) before past
       → SlotFollows (to.piece conn.chan bytes) i a n (Ended answer) before after
   follows_read_ended answer quiet s =
-      follows_as to.nothing (to.piece conn.chan bytes) i a n (Ended answer) (Ended answer) before past after
-      (λ p plot fresh w. ended_waits p past after (quiet (facts p) (sym plot.number_is)) w) s
+      follows_as to.nothing (to.piece conn.chan bytes) i a n (Ended answer) (Ended answer) before past after grown
+      (λ p plot fresh w. ended_waits p answer past after (quiet (facts p) (sym plot.number_is)) w) s
 
   pub follows_read_waiting : SlotFollows to.nothing i a n Waiting before past → SlotFollows (to.piece conn.chan bytes) i a n Waiting before after
-  follows_read_waiting s = follows_as to.nothing (to.piece conn.chan bytes) i a n Waiting Waiting before past after (λ p plot fresh w. tt) s
+  follows_read_waiting s = follows_as to.nothing (to.piece conn.chan bytes) i a n Waiting Waiting before past after grown (λ p plot fresh w. tt) s
 
   pub follows_read_other : (slot : Slot) → conn.job ≢ i → SlotFollows to.nothing i a n slot before past → SlotFollows to.nothing i a n slot before after
   follows_read_other slot other s =
-      follows_quiet to.nothing i a n slot before past after refl (λ f own. came.others f (λ e. other (e ∙ own))) s
+      follows_quiet to.nothing i a n slot before past after grown refl (λ f own. came.others f (λ e. other (e ∙ own))) s
 
 -- ---- the loop
 

@@ -37,21 +37,23 @@ use Rattle.job_begin.proofs.EndLemmas.{caused_in, unread_pass, other_kernel, end
 use Rattle.job_begin.proofs.BeginLemmas.{starts_called}
 use Rattle.batch_run.specs.declared.slot.Slot.{Slot}
 use Rattle.batch_run.specs.declared.slot.Slot.TheVariants.{Waiting, Running, Ended}
-use Rattle.batch_run.specs.Stands.{Outset, PlaysRole, SlotPlays, SlotTells, SlotEnds, SlotRuns, SlotTask, SlotKernel, SlotCounted, Stands, waits, spared, begun, AllStand, IsCutOff, IsOutOfWaits, owing, slot_of}
+use Rattle.batch_run.specs.Stands.{Outset, PlaysRole, SlotPlays, SlotTells, SlotEnds, SlotRuns, SlotTask, SlotKernel, SlotCounted, Stands, waits, spared, begun, AllStand, IsCutOff, IsOutOfWaits, hush, owing, slot_of}
 use Rattle.batch_run.proofs.CallLemmas.{counted_is, sole, sole_here, plays, played, played_tells}
 use Rattle.world.proofs.CountsLemmas.{rose_still, rose_since}
 use Rattle.batch_run.proofs.CauseLemmas.{cause_since, waited_still}
 use Rattle.batch_run.proofs.JournalLemmas.{clock_rises, extended, told_at}
 use Rattle.ready_loop.proofs.LookLemmas.{extends_of}
+use Rattle.batch_run.proofs.SaidLemmas.{hushed_own, hushes}
 use Rattle.batch_run.proofs.StandLemmas.{change}
 use Rattle.batch_run.proofs.FollowLemmas.{follows_begun, follows_finished, follows_not_begun, from_same, waits_each}
 use Rattle.batch_run.proofs.PassLemmas.{OnePass, Tells, one_first, one_quiet}
 use Rattle.batch_run.specs.Owed.{Owed, AreClosed, SlotFollows, StaysFresh, may_wait, owed_to}
 use Rattle.batch_run.specs.Owed.{begins}
+use Rattle.job_turns.specs.OwedTo.{IsLeftWith}
 use Rattle.job_turns.specs.OwedTo as to
 use Rattle.run_journal.specs.Job.{Job as Facts}
 use Rattle.job_journal.specs.Quiet.{IsQuietNow}
-use Rattle.job_begin.specs.Standing.{BeginsFollowing}
+use Rattle.job_begin.specs.Standing.{BeginsFollowing, BeginsSpeaking}
 use Rattle.ready_loop.specs.Standing.{AllShut}
 use Rattle.world.specs.Places.{time}
 use Rattle.std.proofs.lemmas.Bool.{false≢true}
@@ -82,8 +84,8 @@ own_ask asks first from slots p c k was found s =
 
 -- what the job of one slot is told goes on with what it stands for by each plot
 abbrev pub OwnPass : Outset → Owed → ℕ → Slot → Slot → Option (List Entry) → Option (List Entry) → Type 0
-OwnPass from rest k was next p q = (a : Ask) (n : Notebook) (before x y : List Entry) → p ≡ Some x → q ≡ Some y → SlotFollows (owed_to from.owed k) k a n was before x
-    → SlotFollows (owed_to rest k) k a n next before y
+OwnPass from rest k was next p q = (a : Ask) (n : Notebook) (before x y : List Entry) → p ≡ Some x → q ≡ Some y → Extends x y
+    → SlotFollows (owed_to from.owed k) k a n was before x → SlotFollows (owed_to rest k) k a n next before y
 
 -- the same of the jobs in all other slots
 abbrev pub OthersPass : (ℕ → Option Ask) → Outset → Owed → ℕ → Option (List Entry) → Option (List Entry) → Type 0
@@ -103,7 +105,7 @@ job_goes_on asks first from slots p q c d k was next rest fits own_passes others
     change asks first from slots p q c d k (Running was) (Running next) rest found (λ e. e) fits so.counts_work (λ e. absurd (cc)) so.spoken
     (λ a at role. (made a at role, played k a from.here true from.clean (or_none p) c next q d (goes a at role)))
     (λ e a at role. played_tells k a from.here true from.clean (or_none p) c next q d (goes a at role) e)
-    (λ a at role h. tt) step count (λ b before x y e f at role calls. others b before x y e f at calls) s
+    (λ a at role h. tt) step count (λ b before x y e f at role calls. others b before x y e f at calls) (λ x before past after ends. absurd (cc)) s
   where
     tells_of : (a : Ask) → asks k ≡ Some a → from.clean ≡ true → TellsAll a was.run.book p c
     tells_of a at e = s.tells e k a (Running was) at found
@@ -142,8 +144,9 @@ job_goes_on asks first from slots p q c d k was next rest fits own_passes others
     step a before past after at role e f rested (spared answer g u h) = absurd (cc)
     step a before past after at role e f rested (begun bytes n begin then acc h gr ext of kernel r follows) =
         let o = origin_of a n begin then in
-        begun bytes n begin then acc h gr (since_then ext (extends_of (told_at p q (Since (IsCall (sole k a from.here true from.clean))) past after (made a at role) e f))) (task ∙ of) tt
-        (subst (λ x. Runs o next x d) f (runs o (subst (λ x. Runs o was x c) (sym e) r))) (λ shut. own_passes a n before past after e f (follows shut))
+        let grown : Extends past after = extends_of (told_at p q (Since (IsCall (sole k a from.here true from.clean))) past after (made a at role) e f) in
+        begun bytes n begin then acc h gr (since_then ext grown) (task ∙ of) tt
+        (subst (λ x. Runs o next x d) f (runs o (subst (λ x. Runs o was x c) (sym e) r))) (λ shut. own_passes a n before past after e f grown (follows shut))
 
 -- what brought its end is of the task of the job that was asked for
 counted_end : (a : Ask) (first : Notebook) (o : Origin) (task : Task) (answer : Answer) (after : List Entry) (d : Counts) → task ≡ task_for a first
@@ -157,21 +160,22 @@ counted_end a first o task answer after d of e = record {
       subst (λ x. IsCausedAfter (output_at o after) x answer.status) (of ∙ sym (counted_is a first t same)) (e.counted task refl fresh);
 }
 
--- the end of a job
+-- the end of a job, of which it is still to be said
 pub job_ends : (asks : ℕ → Option Ask) (first : Option (List Entry)) (from : Outset) (slots : List Slot) (p q : Option (List Entry)) (c d : Counts) (k : ℕ) (was : Job) (answer : Answer)
     → ((o : Origin) → Runs o was p c → EndsWith o (Some (task_of_job was)) answer q d)
     → ((cast : Cast) (since : List Entry) (then : Counts) → HasRole cast since then was p c → HasCalled cast since then q d)
     → HasEnd (number_of was) q
     → IsEnding (output_of_job was) (task_of_job was) answer → (answer.status ≡ 14 → IsLost (outcome_of was)) → (answer.status ≡ 16 → IsSpent (outcome_of was))
-    → ((f : Facts) → Told p q (Since (IsQuietNow f))) → may_wait from.owed ≡ true → AreClosed from.loop k
+    → IsLeftWith was answer → ((f : Facts) → Told p q (Since (IsQuietNow f))) → may_wait from.owed ≡ true → AreClosed from.loop k
     → slice_get slots k ≡ Some (Running was)
-    → AllStand asks first from slots p c → AllStand asks first from (set slots k (Ended answer)) q d
-job_ends asks first from slots p q c d k was answer ends leaves left end lost spent quiet wait closed found s =
-    change asks first from slots p q c d k (Running was) (Ended answer) from.owed found (λ e. e) fits work (λ e. absurd (cc)) so.spoken (λ a at role. (made a at role, tt)) (λ e a at role. tt)
+    → AllStand asks first from slots p c → AllStand asks first (hush k from) (set slots k (Ended answer)) q d
+job_ends asks first from slots p q c d k was answer ends leaves left end lost spent final quiet wait closed found s =
+    change asks first (hush k from) slots p q c d k (Running was) (Ended answer) from.owed found (λ e. e) fits work (λ e. absurd (cc)) so.spoken (λ a at role. (made a at role, tt)) (λ e a at role. tt)
     (λ a at role h before. subst (λ n. HasEnd n q) role.number_is left) step count
-    (λ b before x y e f own role calls i a slot ne other rested. one_quiet (owed_to from.owed i) i a before x y slot (waits_each from.owed i wait) (λ g number. told_at p q (Since (IsQuietNow g)) x y (quiet g) e f)) s
+    (λ b before x y e f own role calls i a slot ne other rested. one_quiet (owed_to from.owed i) i a before x y slot (waits_each from.owed i wait) (λ g number. told_at p q (Since (IsQuietNow g)) x y (quiet g) e f))
+    (λ x before past after ends loud. absurd (false≢true (sym loud ∙ hushed_own k from))) (hushes asks first from slots p c k s)
   where
-    fits : Tells from from.owed k (Running was) (Ended answer)
+    fits : Tells (hush k from) from.owed k (Running was) (Ended answer)
     fits = record { known = λ e. e; lines = λ i e. e; runs = λ j e. absurd (cc); closed = λ x e. closed }
 
     tells_of : (a : Ask) → asks k ≡ Some a → from.clean ≡ true → TellsAll a was.run.book p c
@@ -213,12 +217,13 @@ job_ends asks first from slots p q c d k was answer ends leaves left end lost sp
     step a before past after at role e f rested (begun bytes n begin then acc h gr ext of kernel r follows) =
         let o = origin_of a n begin then in
         let why = ending_caused (output_of_job was) (task_of_job was) answer end in
-        begun bytes n begin then acc h gr (since_then ext (extends_of (told_at p q (Since (IsCall (sole k a from.here true from.clean))) past after (made a at role) e f)))
+        let grown : Extends past after = extends_of (told_at p q (Since (IsCall (sole k a from.here true from.clean))) past after (made a at role) e f) in
+        begun bytes n begin then acc h gr (since_then ext grown)
         (caused_in a (first_of a n) answer.status (subst (λ t. IsCaused t answer.status) of why))
         (other_kernel a (first_of a n) answer.status _ after (ending_other (output_of_job was) (task_of_job was) answer end))
         (counted_end a (first_of a n) o (task_of_job was) answer after d of
         (subst (λ x. EndsWith o (Some (task_of_job was)) answer x d) f (ends o (subst (λ x. Runs o was x c) (sym e) r))))
-        (λ shut. follows_finished (owed_to from.owed k) k a n was answer before past after (waits_each from.owed k wait) (λ g. told_at p q (Since (IsQuietNow g)) past after (quiet g) e f) (follows shut))
+        (λ shut. follows_finished (owed_to from.owed k) k a n was answer before past after grown (waits_each from.owed k wait) final (λ g. told_at p q (Since (IsQuietNow g)) past after (quiet g) e f) (follows shut))
 
 -- what is said of it is the last line of the job that was asked for
 pub end_said : (asks : ℕ → Option Ask) (first : Option (List Entry)) (from : Outset) (slots : List Slot) (p : Option (List Entry)) (c : Counts) (k : ℕ) (was : Job) (answer : Answer)
@@ -228,7 +233,7 @@ end_said asks first from slots p c k was answer end found s =
     let own = own_ask asks first from slots p c k was found s in
     (own.0, own.1, ending_answers (output_of_job was) (Ask.output own.0) (task_of_job was) answer (s.counted k own.0 (Running was) own.1 found).output end)
 
--- ---- a job that begins
+-- ---- a job that begins, of which it is still to be said where it has ended
 
 starts_role : (k : ℕ) (a : Ask) (here : List ℕ) (clean : Bool) (since : List Entry) (then : Counts) (result : Result Job Answer) (q : Option (List Entry)) (d : Counts)
     → StartsInRole (sole k a here true clean) since then result q d → SlotPlays k a (slot_of result)
@@ -274,17 +279,18 @@ begins_counted a from c d most q (Err x) g cause answer unspent output runs fres
   spent = λ e. absurd (unspent e);
 }
 
-begins_follow : (k : ℕ) (a : Ask) (n : Notebook) (c : Cast) (result : Result Job Answer) (before past after : List Entry) → Since (IsCall c) past after → StaysFresh to.first_clock k a before past
-    → BeginsFollowing k a n result past after → SlotFollows to.first_clock k a n (slot_of result) before after
-begins_follow k a n c (Ok j) before past after calls fresh so = follows_begun k a n j c before past after calls fresh so
-begins_follow k a n c (Err answer) before past after calls fresh so = follows_not_begun k a n answer before past after fresh so
+begins_follow : (k : ℕ) (a : Ask) (n : Notebook) (c : Cast) (result : Result Job Answer) (before past after : List Entry) → Extends before past → Since (IsCall c) past after
+    → StaysFresh to.first_clock k a before past → BeginsSpeaking k a.output result past after → BeginsFollowing k a n result past after
+    → SlotFollows to.first_clock k a n (slot_of result) before after
+begins_follow k a n c (Ok j) before past after grown calls fresh speaks so = follows_begun k a n j c before past after grown calls fresh speaks so
+begins_follow k a n c (Err answer) before past after grown calls fresh speaks so = follows_not_begun k a n answer before past after fresh so
 
 begin_stands : (k : ℕ) (a : Ask) (cast : Cast) (from : Counts) (before past after : List Entry) (c d : Counts) (result : Result Job Answer) → CountsGrow from c → Since (IsCall cast) past after
     → (AllShut before → StaysFresh to.first_clock k a before past) → Since (Spares a.output) before past → Begun k a result c d past after → Stands to.first_clock k a from before after d (slot_of result)
 begin_stands k a cast from before past after c d result g calls fresh h (without {answer} e u s) = spared answer (ap slot_of e) (unread_pass a answer.status before past after after h start u) (since_then h s)
-begin_stands k a cast from before past after c d result g calls fresh h (with_notebook bytes n front acc e of kernel b follows) =
+begin_stands k a cast from before past after c d result g calls fresh h (with_notebook bytes n front acc e of kernel b speaks follows) =
     begun bytes n past c acc h g (subst (λ j. Extends (Read a.input 33554432 (found.Whole bytes) ∷ past) j) (sym e) (extended front (Read a.input 33554432 (found.Whole bytes) ∷ past))) (begins_task a (first_of a n) result of) (begins_kernel a (first_of a n) result (Read a.input 33554432 (found.Whole bytes) ∷ past) after kernel) (begins_runs (origin_of a n past c) (counted_task a (first_of a n)) result (Some after) d b)
-    (λ shut. begins_follow k a n cast result before past after calls (fresh shut) follows)
+    (λ shut. begins_follow k a n cast result before past after (extends_of h) calls (fresh shut) speaks follows)
 
 pub job_begins : (asks : ℕ → Option Ask) (first : Option (List Entry)) (from : Outset) (slots : List Slot) (p q : Option (List Entry)) (c d : Counts) (k : ℕ) (a : Ask) (result : Result Job Answer)
     {here : List ℕ} → from.here ≡ here
@@ -295,16 +301,17 @@ pub job_begins : (asks : ℕ → Option Ask) (first : Option (List Entry)) (from
     → IfErr result (λ x. HasCause c d x.status) → IfErr result (IsAnswer a.output) → IfErr result (λ x. x.status ≡ 16 → ⊥) → IfOk result (λ j. output_of_job j ≡ a.output)
     → IfOk result (λ j. RunsCounted c j q d) → IfOk result (λ j. outcome_of j ≡ None) → asks k ≡ Some a → slice_get slots k ≡ Some Waiting
     → AreClosed from.loop k → (a_last b_last : ℕ) → a_last ≡ c.last → IfSome p (λ past. a_last ≡ time past) → b_last ≡ d.last → IfSome q (λ past. b_last ≡ time past)
-    → AllStand asks first (owing (begins k) from) slots p c → AllStand asks first (owing (begins k) from) (set slots k (slot_of result)) q d
+    → AllStand asks first (owing (begins k) from) slots p c → AllStand asks first (hush k (owing (begins k) from)) (set slots k (slot_of result)) q d
 job_begins asks first from slots p q c d k a result {here} here_is begins_so leaves left cause answer unspent output runs fresh own found closed a_last b_last was_last was_time now_last now_time s =
-    change asks first (owing (begins k) from) slots p q c d k Waiting (slot_of result) (begins k) found (λ e. e) fits work (slot_moves result) (starts_called (sole k a from.here true from.clean) (or_none p) c result q d at_first).spoken (λ b at role.
+    change asks first (hush k (owing (begins k) from)) slots p q c d k Waiting (slot_of result) (begins k) found (λ e. e) fits work (slot_moves result) (starts_called (sole k a from.here true from.clean) (or_none p) c result q d at_first).spoken (λ b at role.
     let same : a ≡ b = same_Some _ _ (sym own ∙ at) in
     (subst (λ x. Told p q (Since (IsCall (sole k x from.here true from.clean)))) same made, subst (λ x. SlotPlays k x (slot_of result)) same plays_so))
     (λ e b at role. subst (λ x. SlotTells x (slot_of result) q d) (same_Some _ _ (sym own ∙ at)) (starts_tells k a from.here from.clean (or_none p) c result q d at_first e))
     (λ b at role h. starts_ends k result first p q left h) step count
-    (λ b before x y e f own role calls i x_ask slot ne other rested. one_first i x_ask k b from.here from.clean before x y slot other calls (told_at p q (λ before after. time before ≤ time after) x y rises e f) rested) s
+    (λ b before x y e f own role calls i x_ask slot ne other rested. one_first i x_ask k b from.here from.clean before x y slot other calls (told_at p q (λ before after. time before ≤ time after) x y rises e f) rested)
+    (λ x before past after ends loud. absurd (false≢true (sym loud ∙ hushed_own k (owing (begins k) from)))) (hushes asks first (owing (begins k) from) slots p c k s)
   where
-    fits : Tells (owing (begins k) from) (begins k) k Waiting (slot_of result)
+    fits : Tells (hush k (owing (begins k) from)) (begins k) k Waiting (slot_of result)
     fits = record { known = λ e. absurd (cc); lines = λ i e. e; runs = λ j e lined. absurd (false≢true (sym (ap not (from_same k)) ∙ lined)); closed = λ x e. closed }
 
     start_role : (since : List Entry) → IfSome p (Since (IsCall (sole k a from.here true from.clean)) since) → StartsInRole (sole k a from.here true from.clean) since c result q d

@@ -9,6 +9,7 @@ pub mod LineLemmas
 pub mod LoopLemmas
 pub mod OweLemmas
 pub mod PassLemmas
+pub mod SaidLemmas
 pub mod SlotLemmas
 pub mod StandLemmas
 pub mod JobStandLemmas

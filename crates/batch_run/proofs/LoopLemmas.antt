@@ -24,7 +24,7 @@ use Rattle.ready_loop.specs.declared.next.Next.TheVariants as next
 use Rattle.ready_loop.specs.declared.readiness.Loop.{Loop}
 use Rattle.ready_loop.specs.Begins.{Begins, done, more, failed, BeginMoment, CloseMoment, Closes, is_of_job, port_of, unless_closed}
 use Rattle.ready_loop.specs.History.{History, after_begin, after_names, after_next, chans, conn_on}
-use Rattle.ready_loop.specs.Offers.{JobMoment, OfferMoment}
+use Rattle.ready_loop.specs.Offers.{Extends, JobMoment, OfferMoment}
 use Rattle.ready_loop.specs.Reads.{NextCame, ReadMoment}
 use Rattle.ready_loop.specs.Standing.{Goes, StandsFor}
 use Rattle.ready_loop.specs.States.{SameKnown, begun_at, begun_in, known_at}
@@ -128,16 +128,17 @@ module _ (asks : ℕ → Option Ask) (first : Option (List Entry)) (from : Outse
         let brings = told_at p q (BringsNone old new) x y told e f in
         served_as asks o old new slots slots x y
         (λ s. served_on asks o slots (brings.stands s.history s.stands).0 links (brings.stands s.history s.stands).1 (brings.unread s.history s.stands s.unread) s) served;
+    known = λ u. u;
   }
 
   -- ---- a turn
 
-  turned_slot : (i : ℕ) (a : Ask) (n : Notebook) (before x y : List Entry) (ms : ℕ) (h : History) → NoneOver slots → AreTaken old slots → BringsMoment ms x y → time x ≤ ms → AreServed asks none old slots x
+  turned_slot : (i : ℕ) (a : Ask) (n : Notebook) (before x y : List Entry) (ms : ℕ) (h : History) → NoneOver slots → AreTaken old slots → BringsMoment ms x y → time x ≤ ms → AreServed asks none old slots x → Extends x y
       → (slot : Slot) → slice_get slots i ≡ Some slot → SlotFollows to.nothing i a n slot before x → SlotFollows (to.clock ms) i a n slot before y
-  turned_slot i a n before x y ms h over taken came rises s Waiting got w = follows_turned_waiting ms i a n before x y came w
-  turned_slot i a n before x y ms h over taken came rises s (Ended answer) got w = follows_turned_ended ms i a n before x y came answer w
-  turned_slot i a n before x y ms h over taken came rises s (Running j) got w =
-      follows_turned_running ms i a n before x y came j old s.history rises (sym (ap is_slot_over got) ∙ over.each i) s.stands (s.listens i j got refl) (taken.each i j got s.history x s.stands) w
+  turned_slot i a n before x y ms h over taken came rises s grown Waiting got w = follows_turned_waiting ms i a n before x y came grown w
+  turned_slot i a n before x y ms h over taken came rises s grown (Ended answer) got w = follows_turned_ended ms i a n before x y came grown answer w
+  turned_slot i a n before x y ms h over taken came rises s grown (Running j) got w =
+      follows_turned_running ms i a n before x y came grown j old s.history rises (sym (ap is_slot_over got) ∙ over.each i) s.stands (s.listens i j got refl) (taken.each i j got s.history x s.stands) w
 
   -- the moment that is told is that of the journal, and no earlier than it was before
   pub turn_follow : {due : Option ℕ} {last : ℕ} (given ms : ℕ) → NoneOver slots → AreTaken old slots → Told p q (Turned due (Ok given) last old new) → Told p q (λ x y. time x ≤ time y) → IfSome q (λ past. ms ≡ time past)
@@ -149,11 +150,12 @@ module _ (asks : ℕ → Option Ask) (first : Option (List Entry)) (from : Outse
         let now : ms ≡ time y = subst (λ z. IfSome z (λ past. ms ≡ time past)) f at in
         let same : given ≡ ms = sym (now ∙ ap time came.newest) in
         let low : time x ≤ ms = subst (λ n. time x ≤ n) (sym now) (told_at p q (λ x y. time x ≤ time y) x y rises e f) in
-        record { fresh = λ g h. tt; follows = λ n w. turned_slot i a n before x y ms s.history over taken (subst (λ m. BringsMoment m x y) same came) low s slot got w };
+        record { fresh = λ g h. tt; follows = λ n grown w. turned_slot i a n before x y ms s.history over taken (subst (λ m. BringsMoment m x y) same came) low s grown slot got w };
     served = λ before x y st e f shut s.
         let t = told_at p q (Turned due (Ok given) last old new) x y told e f in
         let on = served_on asks none slots s.history links (t.so s.history s.stands).0 (turns_unread due (Ok given) last old new s.history x y s.stands t s.unread) s in
         record { history = on.history; stands = on.stands; unread = on.unread; listens = λ i j got lined. on.listens i j got refl; closed = on.closed };
+    known = λ u. absurd (cc);
   }
 
   -- ---- a read
@@ -174,13 +176,13 @@ module _ (asks : ℕ → Option Ask) (first : Option (List Entry)) (from : Outse
       }
 
   read_slot : (conn : Conn) (room : ℕ) (bytes : List ℕ) (i : ℕ) (a : Ask) (n : Notebook) (before x y : List Entry) (h : History) → asks i ≡ Some a → NoneOver slots → BringsBytes conn room bytes x y
-      → Since (ReadMoment h) x y → StandsFor old h x → AreServed asks none old slots x → conn.job ≡ i
+      → Since (ReadMoment h) x y → StandsFor old h x → AreServed asks none old slots x → Extends x y → conn.job ≡ i
       → (slot : Slot) → slice_get slots i ≡ Some slot → SlotFollows to.nothing i a n slot before x → SlotFollows (to.piece conn.chan bytes) i a n slot before y
-  read_slot conn room bytes i a n before x y h at over came reads stands s own Waiting got w = follows_read_waiting conn room bytes i a n before x y came w
-  read_slot conn room bytes i a n before x y h at over came reads stands s own (Running j) got w =
-      follows_read_own conn room bytes i a n before x y came j own (sym (ap is_slot_over got) ∙ over.each i) w
-  read_slot conn room bytes i a n before x y h at over came reads stands s own (Ended answer) got w =
-      follows_read_ended conn room bytes i a n before x y came answer
+  read_slot conn room bytes i a n before x y h at over came reads stands s grown own Waiting got w = follows_read_waiting conn room bytes i a n before x y came grown w
+  read_slot conn room bytes i a n before x y h at over came reads stands s grown own (Running j) got w =
+      follows_read_own conn room bytes i a n before x y came grown j own (sym (ap is_slot_over got) ∙ over.each i) w
+  read_slot conn room bytes i a n before x y h at over came reads stands s grown own (Ended answer) got w =
+      follows_read_ended conn room bytes i a n before x y came grown answer
       (λ f number. reads_quiet f old h x y (subst (λ m. m < 16) (sym number) (low_of slots i (Ended answer) few got)) stands
       (λ chan. subst (λ m. begun_at old (place_of (conn_on m chan)) ≡ false) (sym number) (s.closed i a answer at got chan)) reads) w
 
@@ -192,19 +194,20 @@ module _ (asks : ℕ → Option Ask) (first : Option (List Entry)) (from : Outse
         let brings = next_brings (Ok (next.Piece conn n)) room buffer x y (told_at p q (NextCame (Ok (next.Piece conn n)) room buffer) x y came e f) in
         record {
           fresh = λ g h. fresh_piece i a before y;
-          follows = λ book w. elim (cases_eq conn.job i) [
+          follows = λ book grown w. elim (cases_eq conn.job i) [
             | inl own ↦
                 subst (λ t. SlotFollows t i a book slot before y) (sym (piece_own conn (take n buffer) i own))
-                (read_slot conn room (take n buffer) i a book before x y s.history at over brings (goes.so s.history s.stands).1 s.stands s own slot got w)
+                (read_slot conn room (take n buffer) i a book before x y s.history at over brings (goes.so s.history s.stands).1 s.stands s grown own slot got w)
             | inr ne ↦
                 subst (λ t. SlotFollows t i a book slot before y) (sym (piece_other conn (take n buffer) i ne))
-                (follows_read_other conn room (take n buffer) i a book before x y brings slot ne w)
+                (follows_read_other conn room (take n buffer) i a book before x y brings grown slot ne w)
           ];
         };
     served = λ before x y st e f shut s.
         let goes = told_at p q (Goes ReadMoment (after_next (Ok (next.Piece conn n))) old new) x y told e f in
         let on = served_on asks none slots s.history links (goes.so s.history s.stands).0 (reads_unread old s.history x y s.stands (goes.so s.history s.stands).1 s.unread) s in
         record { history = on.history; stands = on.stands; unread = on.unread; listens = λ i j got lined. on.listens i j got refl; closed = on.closed };
+    known = λ u. absurd (cc);
   }
     where
       fresh_chosen : (b : Bool) (i : ℕ) (a : Ask) (before y : List Entry) → StaysFresh (if b then to.piece conn.chan (take n buffer) else to.nothing) i a before y
@@ -289,7 +292,7 @@ module _ {V : Type 0} (asks : ℕ → Option Ask) (first : Option (List Entry)) 
       one_quiet to.first_clock i a before x y (Ended answer) refl (λ f number. begins_quiet f job ports b (λ e. absurd (ne (sym number ∙ sym e))))
   begun_slot i a before x y b (Running j) got = record {
     fresh = λ e. absurd (cc);
-    follows = λ n w. follows_connects i job a n j before x y (λ f number unread. begins_quiet f job ports b unread) w;
+    follows = λ n grown w. follows_connects i job a n j before x y grown (λ f number unread. begins_quiet f job ports b unread) w;
   }
 
   begun_served : (rest : Owed) → ((i : ℕ) → (has_lines (begins job) i ≡ true → IsListening old i) → has_lines rest i ≡ true → IsListening new i) → (x y : List Entry) → p ≡ Some x → q ≡ Some y
@@ -311,12 +314,14 @@ module _ {V : Type 0} (asks : ℕ → Option Ask) (first : Option (List Entry)) 
   begin_follow listens = record {
     each = λ before x y st e f shut s i a slot at got. begun_slot i a before x y (told_at p q (Begins job ports (chans heart) came) x y begun e f) slot got;
     served = λ before x y st e f shut s. begun_served (begins (suc job)) (λ i was lined. lines_begun job old new i listens others was lined) x y e f s;
+    known = λ u. absurd (cc);
   }
 
   pub begin_fails : Follow asks first (served_by (begins job) old from) slots p q (begins job) new
   begin_fails = record {
     each = λ before x y st e f shut s i a slot at got. begun_slot i a before x y (told_at p q (Begins job ports (chans heart) came) x y begun e f) slot got;
     served = λ before x y st e f shut s. begun_served (begins job) (λ i was lined. lines_failed job old new i others was lined) x y e f s;
+    known = λ u. u;
   }
 
 -- ---- octets that are queued
@@ -329,6 +334,7 @@ queue_follow asks first from slots p old new o links stands = record {
       served_as asks o old new slots slots x y
       (λ s. served_on asks o slots (stands s.history x s.stands).0 links (subst (λ z. StandsFor new (stands s.history x s.stands).0 z) (same_Some _ _ (sym e ∙ f)) (stands s.history x s.stands).1)
       (subst RefusedUnread (same_Some _ _ (sym e ∙ f)) s.unread) s) served;
+  known = λ u. u;
 }
 
 pub queue_keeps : (asks : ℕ → Option Ask) (first : Option (List Entry)) (from : Outset) (o : Owed) (slots : List Slot) (p : Option (List Entry)) (c : Counts) (old new : Loop) → ports_in new ≡ ports_in old

@@ -10,6 +10,7 @@ use Rattle.words.specs.declared.ask.Ask.{Ask}
 use Rattle.world.specs.declared.conn.Conn.{Conn}
 use Rattle.world.specs.declared.entry.Entry.{Entry}
 use Rattle.world.specs.Counts.{Counts}
+use Rattle.world.specs.Moments as moments
 use Rattle.world.specs.declared.chan.Chan.{Chan}
 use Rattle.world.specs.declared.chan.Chan.TheVariants.{Iopub}
 use Rattle.world.specs.Places.{place_of}
@@ -39,11 +40,12 @@ use Rattle.batch_run.proofs.FollowLemmas.{clock_other, clock_past, first_other, 
 
 -- where each job and the loop stand so with something else still to be told, all stand
 pub reowe : (asks : ℕ → Option Ask) (start : Option (List Entry)) (from : Outset) (o m : Owed) (slots : List Slot) (p : Option (List Entry)) (c : Counts)
+    → (o ≡ unknown → m ≡ unknown)
     → ((before past : List Entry) (i : ℕ) (a : Ask) (slot : Slot) → slice_get slots i ≡ Some slot → Stands (owed_to o i) i a from.counts before past c slot
     → Stands (owed_to m i) i a from.counts before past c slot)
     → ((past : List Entry) → Served asks o from.loop slots past → Served asks m from.loop slots past)
     → AllStand asks start (owing o from) slots p c → AllStand asks start (owing m from) slots p c
-reowe asks start from o m slots p c each served s = record {
+reowe asks start from o m slots p c known each served s = record {
   size = s.size;
   asked = s.asked;
   grow = s.grow;
@@ -62,6 +64,7 @@ reowe asks start from o m slots p c each served s = record {
   counted = s.counted;
   each = λ before past st e i a slot at got apart rested. each before past i a slot got (s.each before past st e i a slot at got apart rested);
   served = λ before past st e shut. served past (s.served before past st e shut);
+  said = λ is_known. s.said (λ u. is_known (known u));
 }
 
 -- ---- nothing is known any more
@@ -71,12 +74,12 @@ stands_anything : (o : OwedTo) (i : ℕ) (a : Ask) (from : Counts) (before past 
 stands_anything o i a from before past c slot (waits e h fresh) = waits e h (λ shut. tt)
 stands_anything o i a from before past c slot (spared answer e u h) = spared answer e u h
 stands_anything o i a from before past c slot (begun bytes n begin then acc h g ext task kernel runs follows) =
-    begun bytes n begin then acc h g ext task kernel runs (λ shut. follows_anything o i a n slot slot before past past (follows shut))
+    begun bytes n begin then acc h g ext task kernel runs (λ shut. follows_anything o i a n slot slot before past past moments.start (follows shut))
 
 pub forgets : (asks : ℕ → Option Ask) (start : Option (List Entry)) (from : Outset) (o : Owed) {slots : List Slot} {p : Option (List Entry)} {c : Counts}
     → AllStand asks start (owing o from) slots p c → AllStand asks start (owing unknown from) slots p c
 forgets asks start from o {slots} {p} {c} s =
-    reowe asks start from o unknown slots p c (λ before past i a slot got h. stands_anything (owed_to o i) i a from.counts before past c slot h) (λ past h. tt) s
+    reowe asks start from o unknown slots p c (λ u. refl) (λ before past i a slot got h. stands_anything (owed_to o i) i a from.counts before past c slot h) (λ past h. tt) s
 
 -- so it is with the connections that there are
 pub forgets_lines : (asks : ℕ → Option Ask) (start : Option (List Entry)) (from : Outset) (o : Owed) (l : Loop) {slots : List Slot} {p : Option (List Entry)} {c : Counts}
@@ -113,28 +116,28 @@ module _ (asks : ℕ → Option Ask) (start : Option (List Entry)) (from : Outse
   -- the clock of a turn was told to all
   pub clock_done : (ms n : ℕ) → length slots ≤ n → AllStand asks start (owing (turn_clock ms n) from) slots p c → AllStand asks start (owing none from) slots p c
   clock_done ms n few s =
-      reowe asks start from (turn_clock ms n) none slots p c
+      reowe asks start from (turn_clock ms n) none slots p c (λ u. absurd (cc))
       (λ before past. same_each (turn_clock ms n) none slots (λ i low. sym (clock_past ms n i (omega (arith, low, few)))) from.counts before past c)
       (λ past. served_anew asks (turn_clock ms n) none from.loop slots past (λ i j got e. refl)) s
 
   -- and the first clock
   pub first_done : (n : ℕ) → length slots ≤ n → AllStand asks start (owing (first_clock n) from) slots p c → AllStand asks start (owing none from) slots p c
   first_done n few s =
-      reowe asks start from (first_clock n) none slots p c
+      reowe asks start from (first_clock n) none slots p c (λ u. absurd (cc))
       (λ before past. same_each (first_clock n) none slots (λ i low. sym (first_past n i (omega (arith, low, few)))) from.counts before past c)
       (λ past. served_anew asks (first_clock n) none from.loop slots past (λ i j got e. refl)) s
 
   -- once all have begun, the first clock is to be told to each
   pub all_begun : (n : ℕ) → length slots ≤ n → AllStand asks start (owing (begins n) from) slots p c → AllStand asks start (owing (first_clock 0) from) slots p c
   all_begun n few s =
-      reowe asks start from (begins n) (first_clock 0) slots p c (λ before past i a slot got h. h)
+      reowe asks start from (begins n) (first_clock 0) slots p c (λ u. absurd (cc)) (λ before past i a slot got h. h)
       (λ past. served_anew asks (begins n) (first_clock 0) from.loop slots past
       (λ i j got e. let low = slice_get_within slots i (Running j) got in ap not (from_past n i (omega (arith, low, few))))) s
 
   -- a job that doesn't run after its begin wants no connections
   pub one_more_begun : (n : ℕ) → is_slot_running (slice_get slots n) ≡ false → AllStand asks start (owing (begins n) from) slots p c → AllStand asks start (owing (begins (suc n)) from) slots p c
   one_more_begun n gone s =
-      reowe asks start from (begins n) (begins (suc n)) slots p c (λ before past i a slot got h. h)
+      reowe asks start from (begins n) (begins (suc n)) slots p c (λ u. absurd (cc)) (λ before past i a slot got h. h)
       (λ past. served_anew asks (begins n) (begins (suc n)) from.loop slots past (λ i j got e. elim (cases_eq i n) [
         | inl same ↦
             let runs : is_slot_running (slice_get slots n) ≡ true = ap is_slot_running (subst (λ m. slice_get slots m ≡ Some (Running j)) same got) in
@@ -145,20 +148,20 @@ module _ (asks : ℕ → Option Ask) (start : Option (List Entry)) (from : Outse
   -- a job that isn't there is told as well as one that is
   pub reads_past : (n : ℕ) → length slots ≤ n → AllStand asks start (owing (first_clock n) from) slots p c → AllStand asks start (owing (first_clock (suc n)) from) slots p c
   reads_past n few s =
-      reowe asks start from (first_clock n) (first_clock (suc n)) slots p c
+      reowe asks start from (first_clock n) (first_clock (suc n)) slots p c (λ u. absurd (cc))
       (λ before past. same_each (first_clock n) (first_clock (suc n)) slots (λ i low. first_other n i (λ e. omega (arith, low, few, e))) from.counts before past c)
       (λ past. served_anew asks (first_clock n) (first_clock (suc n)) from.loop slots past (λ i j got e. refl)) s
 
   pub clock_past_all : (ms n : ℕ) → length slots ≤ n → AllStand asks start (owing (turn_clock ms n) from) slots p c → AllStand asks start (owing (turn_clock ms (suc n)) from) slots p c
   clock_past_all ms n few s =
-      reowe asks start from (turn_clock ms n) (turn_clock ms (suc n)) slots p c
+      reowe asks start from (turn_clock ms n) (turn_clock ms (suc n)) slots p c (λ u. absurd (cc))
       (λ before past. same_each (turn_clock ms n) (turn_clock ms (suc n)) slots (λ i low. clock_other ms n i (λ e. omega (arith, low, few, e))) from.counts before past c)
       (λ past. served_anew asks (turn_clock ms n) (turn_clock ms (suc n)) from.loop slots past (λ i j got e. refl)) s
 
   pub piece_past : (n : ℕ) (chan : Chan) (bytes : List ℕ) → length slots ≤ n → AllStand asks start (owing (piece (conn_on n chan) bytes) from) slots p c
       → AllStand asks start (owing none from) slots p c
   piece_past n chan bytes few s =
-      reowe asks start from (piece (conn_on n chan) bytes) none slots p c
+      reowe asks start from (piece (conn_on n chan) bytes) none slots p c (λ u. absurd (cc))
       (λ before past. same_each (piece (conn_on n chan) bytes) none slots (λ i low. sym (piece_other (conn_on n chan) bytes i (λ e. omega (arith, low, few, e)))) from.counts before past c)
       (λ past. served_anew asks (piece (conn_on n chan) bytes) none from.loop slots past (λ i j got e. refl)) s
 

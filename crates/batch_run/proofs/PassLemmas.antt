@@ -17,6 +17,7 @@ use Rattle.job_journal.specs.Quiet.{IsQuietNow}
 use Rattle.job_run.specs.declared.job.Job.{Job}
 use Rattle.job_run.specs.Run.{IsOther}
 use Rattle.ready_loop.specs.declared.readiness.Loop.{Loop}
+use Rattle.ready_loop.specs.Offers.{Extends}
 use Rattle.job_turns.specs.OwedTo.{OwedTo}
 use Rattle.job_turns.specs.OwedTo.{may_wait as waits_for}
 use Rattle.job_turns.specs.OwedTo as to
@@ -36,13 +37,13 @@ use Rattle.jtext.proofs.Lists.{slice_get-set_same, slice_get-set_other}
 -- to a job of this number this was still to be told before calls, and that is after them
 pub record OnePass (o r : OwedTo) (i : ℕ) (a : Ask) (before x y : List Entry) (slot : Slot) : Type 0 where
   pub fresh : slot ≡ Waiting → StaysFresh o i a before x → StaysFresh r i a before y
-  pub follows : (n : Notebook) → SlotFollows o i a n slot before x → SlotFollows r i a n slot before y
+  pub follows : (n : Notebook) → Extends x y → SlotFollows o i a n slot before x → SlotFollows r i a n slot before y
 
 -- by entries that are quiet for it
 pub one_quiet : (o : OwedTo) (i : ℕ) (a : Ask) (before x y : List Entry) (slot : Slot) → waits_for o ≡ true → ((f : Facts) → f.number ≡ i → Since (IsQuietNow f) x y) → OnePass o o i a before x y slot
 one_quiet o i a before x y slot e quiet = record {
   fresh = λ f h. fresh_quiet o i a before x y quiet h;
-  follows = λ n h. follows_quiet o i a n slot before x y e quiet h;
+  follows = λ n grown h. follows_quiet o i a n slot before x y grown e quiet h;
 }
 
 -- by calls of another job that read no clock
@@ -52,7 +53,7 @@ one_others o i a k b here clean before x y slot e other calls off rested =
     let elsewhere = sole_elsewhere k b here true clean a.output other in
     record {
       fresh = λ f h. fresh_others i a (sole k b here true clean) elsewhere before x y calls o h;
-      follows = λ n h. follows_others i a (sole k b here true clean) elsewhere before x y calls n slot rested o e off h;
+      follows = λ n grown h. follows_others i a (sole k b here true clean) elsewhere before x y calls n slot rested grown o e off h;
     }
 
 -- by those of a job that begins
@@ -62,17 +63,17 @@ one_first i a k b here clean before x y slot other calls rises rested =
     let elsewhere = sole_elsewhere k b here true clean a.output other in
     record {
       fresh = λ f h. fresh_others i a (sole k b here true clean) elsewhere before x y calls to.first_clock h;
-      follows = λ n h. follows_first i a (sole k b here true clean) elsewhere before x y calls n slot rested rises h;
+      follows = λ n grown h. follows_first i a (sole k b here true clean) elsewhere before x y calls n slot rested grown rises h;
     }
 
 pub one_stays : (o r : OwedTo) (i : ℕ) (a : Ask) (before x y : List Entry) (slot : Slot) → r ≡ o → x ≡ y → OnePass o r i a before x y slot
 one_stays o r i a before x y slot same e =
-    let at_x : OnePass o o i a before x x slot = record { fresh = λ f h. h; follows = λ n h. h } in
+    let at_x : OnePass o o i a before x x slot = record { fresh = λ f h. h; follows = λ n grown h. h } in
     let at_y : OnePass o o i a before x y slot = subst (λ z. OnePass o o i a before x z slot) e at_x in
     subst (λ s. OnePass o s i a before x y slot) (sym same) at_y
 
 pub one_unknown : (o : OwedTo) (i : ℕ) (a : Ask) (before x y : List Entry) (slot : Slot) → OnePass o to.anything i a before x y slot
-one_unknown o i a before x y slot = record { fresh = λ e h. tt; follows = λ n h. follows_anything o i a n slot slot before x y h }
+one_unknown o i a before x y slot = record { fresh = λ e h. tt; follows = λ n grown h. follows_anything o i a n slot slot before x y grown h }
 
 -- what is still to be told, by another name
 pub one_as : (o r s : OwedTo) (i : ℕ) (a : Ask) (before x y : List Entry) (slot : Slot) → s ≡ r → OnePass o r i a before x y slot → OnePass o s i a before x y slot

@@ -12,6 +12,7 @@ use Rattle.world.specs.Counts.{Counts, CountsGrow}
 use Rattle.world.specs.Moments.{Since, start, Told}
 use Rattle.ready_loop.specs.declared.readiness.Loop.{Loop}
 use Rattle.ready_loop.specs.Begins.{is_of_job}
+use Rattle.ready_loop.specs.Offers.{Extends}
 use Rattle.ready_loop.specs.Standing.{IsOfLoop}
 use Rattle.ready_loop.specs.Wires.{ports_in, IsWired, HasPorts}
 use Rattle.job_saves.specs.Children.{ports_of}
@@ -45,11 +46,12 @@ use Rattle.job_begin.proofs.CauseLemmas.{starved_caused}
 use Rattle.job_begin.proofs.EndLemmas.{starved_end, unread_starved, unread_pass, kernel_pass}
 use Rattle.batch_run.specs.declared.slot.Slot.{Slot}
 use Rattle.batch_run.specs.declared.slot.Slot.TheVariants.{Waiting, Running, Ended}
-use Rattle.batch_run.specs.Batch.{IsApart, HasWaited}
-use Rattle.batch_run.specs.Owed.{Owed, AreClosed, Served, may_wait, owed_to}
-use Rattle.batch_run.specs.Stands.{Outset, SlotPlays, SlotTells, SlotEnds, SlotRuns, SlotKernel, SlotCounted, Stands, waits, spared, begun, AllStand, HasEnded, PassBy, AreWired, more_waits, owing, served_by, wires_of}
+use Rattle.batch_run.specs.Batch.{IsApart, HasSaid, HasWaited}
+use Rattle.batch_run.specs.Owed.{Owed, AreClosed, Served, may_wait, owed_to, unknown}
+use Rattle.batch_run.specs.Stands.{Outset, SlotPlays, SlotTells, SlotEnds, SlotRuns, SlotKernel, SlotCounted, Stands, waits, spared, begun, AllStand, HasEnded, PassBy, AreWired, hush, more_waits, owing, served_by, wires_of}
 use Rattle.batch_run.proofs.FollowLemmas.{slot_rested, served_as, served_calls, waits_each}
 use Rattle.batch_run.proofs.PassLemmas.{OnePass, Tells, one_quiet, one_stays, served_moves}
+use Rattle.batch_run.proofs.SaidLemmas.{said_later, said_nothing, said_now, speaks}
 use Rattle.job_turns.specs.OwedTo.{OwedTo}
 use Rattle.job_run.proofs.SaveLemmas.{says_quiet}
 use Rattle.ready_loop.specs.Standing.{AllShut}
@@ -96,7 +98,7 @@ pass_one o r i a from before past after c d slot rested s g one (waits e h fresh
 pass_one o r i a from before past after c d slot rested s g one (spared answer e u h) = spared answer e (unread_pass a answer.status before before past after start s u) (since_then h s)
 pass_one o r i a from before past after c d slot rested s g one (begun bytes n begin then acc h gr ext task kernel runs follows) =
     begun bytes n begin then acc h gr (since_then ext (extends_of s)) task (kernel_slot a (first_of a n) slot (Read a.input 33554432 (found.Whole bytes) ∷ begin) past after s kernel) (runs_pass (origin_of a n begin then) (counted_task a (first_of a n)) slot past after c d s g runs)
-    (λ shut. (one shut (slot_rested a n begin then (counted_task a (first_of a n)) slot past c runs)).follows n (follows shut))
+    (λ shut. (one shut (slot_rested a n begin then (counted_task a (first_of a n)) slot past c runs)).follows n (extends_of s) (follows shut))
 
 -- ---- by the counts alone
 
@@ -151,6 +153,7 @@ pub record Follow (asks : ℕ → Option Ask) (first : Option (List Entry)) (fro
   pub each : (before x y : List Entry) → first ≡ Some before → p ≡ Some x → q ≡ Some y → AllShut before → Served asks from.owed from.loop slots x
       → (i : ℕ) (a : Ask) (slot : Slot) → asks i ≡ Some a → slice_get slots i ≡ Some slot → OnePass (owed_to from.owed i) (owed_to rest i) i a before x y slot
   pub served : (before x y : List Entry) → first ≡ Some before → p ≡ Some x → q ≡ Some y → AllShut before → Served asks from.owed from.loop slots x → Served asks rest next slots y
+  pub known : from.owed ≡ unknown → rest ≡ unknown
 
 -- calls that leave the jobs as they stand
 pub calls_pass : (asks : ℕ → Option Ask) (first : Option (List Entry)) (from : Outset) (slots : List Slot) (p q : Option (List Entry)) (c d : Counts) (most : ℕ) (rest : Owed) (next : Loop)
@@ -181,6 +184,10 @@ calls_pass asks first from slots p q c d most rest next few all pass follow s = 
   served = λ before after st e shut.
       let back = told_back p q (Since (Spares [])) after (pass.spares []) e in
       follow.served before back.0 after st back.1 e shut (s.served before back.0 st back.1 shut);
+  said = λ known before after st e i a answer loud at got.
+      let back = told_back p q (Since (Spares [])) after (pass.spares []) e in
+      said_later answer.line c d before back.0 after (extends_of back.2) pass.grow
+      (s.said (λ u. known (follow.known u)) before back.0 st back.1 i a answer loud at got);
 }
 
 loop_passes : (asks : ℕ → Option Ask) (here : List ℕ) (clean : Bool) (was wires : List (Option ℕ)) (p q : Option (List Entry)) (c d : Counts) → Told p q (Since IsOfLoop) → Told p q (Since (IsWired wires))
@@ -227,31 +234,43 @@ loop_waits {p} {q} {c} {d} old new same wired told grow left rest few all = λ a
     calls_pass asks first (served_by o old from) slots p q c d (from.waits + (left - rest)) owed new (omega (arith, few, s.waits)) (waited_more from.waits (left - rest) c d s.waited all)
     (loop_passes asks from.here from.clean (ports_in old) (ports_in new) p q c d told wired grow (λ e. subst (λ w. IfSome p (AreWired w)) (sym same) (s.wired e))) follow s
 
+-- the last line of a job that has ended
+abbrev line_in : Slot → List ℕ
+line_in (Ended answer) = answer.line
+line_in Waiting = []
+line_in (Running j) = []
+
 -- what is said of the end of a job
 pub saying_keeps : {p q : Option (List Entry)} {c d : Counts} {line : List ℕ} (answer : Answer) → line ≡ answer.line → Told p q (Says line (0 < d.say)) → (0 < c.say → q ≡ p)
     → CountsWork c d
-    → (asks : ℕ → Option Ask) (first : Option (List Entry)) (from : Outset) (slots : List Slot) (i : ℕ) (a : Ask) → may_wait from.owed ≡ true → asks i ≡ Some a → IsAnswer a.output answer
-    → AllStand asks first from slots p c → AllStand asks first from slots q d
-saying_keeps {p} {q} {c} {d} {line} answer same told silent work = λ asks first from slots i a wait own is s. calls_pass asks first from slots p q c d from.waits from.owed from.loop (omega (arith, work.waits, s.waits)) (waited_still from.waits c d work.grow s.waited) (record {
-  calls = told_as (said_by i a from.here true from.clean is s.spoken) (λ x y b. calls_wide asks from.here from.clean i a own b);
-  spoken = λ e. line_speaks from.clean a line (line_is from.clean a is) p q c d told work.grow;
-  idle = λ n b h. record {
-    childless = told_keeps_end (sole i a from.here false false) n (λ number b has starts. absurd (cc)) p q (said_by i a from.here false false is (λ e. absurd (cc))) h.childless;
-    portless = told_asks_none (sole i a from.here false false) n (λ number b has starts. absurd (cc)) p q (said_by i a from.here false false is (λ e. absurd (cc))) h.portless;
-    lacks = lacks_later b.output p q (says_touch told b.output) h.lacks;
-  };
-  wired = λ e h. wired_calls (sole i a from.here true true) (wires_of from) p q refl (said_by i a from.here true true is (λ on. s.spoken e)) h;
-  spares = says_touch told;
-  ends = λ n. told_keeps_end (sole i a from.here false false) n (λ number b has starts. absurd (cc)) p q (said_by i a from.here false false is (λ e. absurd (cc)));
-  grow = work.grow;
-}) (record {
-  each = λ before x y st e f shut served n b slot at got.
-      let said = told_at p q (Says line (0 < d.say)) x y told e f in
-      one_quiet (owed_to from.owed n) n b before x y slot (waits_each from.owed n wait) (λ j number. says_quiet j line (0 < d.say) x y said);
-  served = λ before x y st e f shut served.
-      let calls = told_at p q (Since (IsCall (sole i a from.here false false))) x y (said_by i a from.here false false is (λ e. absurd (cc))) e f in
-      served_as asks from.owed from.loop from.loop slots slots x y (λ t. served_calls asks from.owed from.loop slots (sole i a from.here false false) x y calls t) served;
-}) s
+    → (asks : ℕ → Option Ask) (first : Option (List Entry)) (from : Outset) (slots : List Slot) (i : ℕ) (a : Ask) → may_wait from.owed ≡ true → asks i ≡ Some a
+    → slice_get slots i ≡ Some (Ended answer) → IsAnswer a.output answer → AllStand asks first (hush i from) slots p c → AllStand asks first from slots q d
+saying_keeps {p} {q} {c} {d} {line} answer same told silent work = λ asks first from slots i a wait own ended is s.
+    speaks asks first from slots q d i (λ before after st f grown b x at got.
+    let back = told_back p q (Says line (0 < d.say)) after told f in
+    let was : Extends before back.0 = told_at first p Extends before back.0 s.told st back.1 in
+    subst (λ (l : List ℕ). HasSaid l (0 < d.say) before after) (same ∙ ap (λ (y : Slot). line_in y) (same_Some _ _ (sym ended ∙ got))) (said_now line (0 < d.say) before back.0 after was back.2))
+    (calls_pass asks first (hush i from) slots p q c d from.waits from.owed from.loop (omega (arith, work.waits, s.waits)) (waited_still from.waits c d work.grow s.waited) (record {
+      calls = told_as (said_by i a from.here true from.clean is s.spoken) (λ x y b. calls_wide asks from.here from.clean i a own b);
+      spoken = λ e. line_speaks from.clean a line (line_is from.clean a is) p q c d told work.grow;
+      idle = λ n b h. record {
+        childless = told_keeps_end (sole i a from.here false false) n (λ number b has starts. absurd (cc)) p q (said_by i a from.here false false is (λ e. absurd (cc))) h.childless;
+        portless = told_asks_none (sole i a from.here false false) n (λ number b has starts. absurd (cc)) p q (said_by i a from.here false false is (λ e. absurd (cc))) h.portless;
+        lacks = lacks_later b.output p q (says_touch told b.output) h.lacks;
+      };
+      wired = λ e h. wired_calls (sole i a from.here true true) (wires_of from) p q refl (said_by i a from.here true true is (λ on. s.spoken e)) h;
+      spares = says_touch told;
+      ends = λ n. told_keeps_end (sole i a from.here false false) n (λ number b has starts. absurd (cc)) p q (said_by i a from.here false false is (λ e. absurd (cc)));
+      grow = work.grow;
+    }) (record {
+      each = λ before x y st e f shut served n b slot at got.
+          let said = told_at p q (Says line (0 < d.say)) x y told e f in
+          one_quiet (owed_to from.owed n) n b before x y slot (waits_each from.owed n wait) (λ j number. says_quiet j line (0 < d.say) x y said);
+      served = λ before x y st e f shut served.
+          let calls = told_at p q (Since (IsCall (sole i a from.here false false))) x y (said_by i a from.here false false is (λ e. absurd (cc))) e f in
+          served_as asks from.owed from.loop from.loop slots slots x y (λ t. served_calls asks from.owed from.loop slots (sole i a from.here false false) x y calls t) served;
+      known = λ u. u;
+    }) s)
   where
     line_is : (clean : Bool) (a : Ask) → IsAnswer a.output answer → (begin : List Entry) → IsLine clean a begin line
     line_is clean a is begin = subst (IsLine clean a begin) (sym same) (of_end answer is)
@@ -271,8 +290,9 @@ pub change : (asks : ℕ → Option Ask) (first : Option (List Entry)) (from : O
     → ((a : Ask) → asks k ≡ Some a → SlotCounted a from.counts from.most was p c → SlotCounted a from.counts from.most next q d)
     → ((b : Ask) (before x y : List Entry) → p ≡ Some x → q ≡ Some y → asks k ≡ Some b → SlotPlays k b was → Since (IsCall (sole k b from.here true from.clean)) x y
     → (i : ℕ) (a : Ask) (slot : Slot) → i ≢ k → IsOther b.output a.output → IsRested a.output x → OnePass (owed_to from.owed i) (owed_to rest i) i a before x y slot)
+    → ((answer : Answer) (before past after : List Entry) → next ≡ Ended answer → from.hushed k ≡ false → p ≡ Some past → q ≡ Some after → Extends before past → HasSaid answer.line (0 < d.say) before after)
     → AllStand asks first from slots p c → AllStand asks first (owing rest from) (set slots k next) q d
-change asks first from slots p q c d k was next rest found runs fits work moved spoken calls tells ends step count others s = record {
+change asks first from slots p q c d k was next rest found runs fits work moved spoken calls tells ends step count others says s = record {
   size = length-set slots k next ∙ s.size;
   asked = λ i slot got. elim (cases_eq i k) [
     | inl e ↦ inr (own.0, subst (λ m. asks m ≡ Some own.0) (sym e) own.1)
@@ -342,6 +362,16 @@ change asks first from slots p q c d k was next rest found runs fits work moved 
   served = λ before after st f shut.
       let back = told_back p q (Since (IsCall (sole k own.0 from.here true from.clean))) after made f in
       served_moves asks from rest slots k was next (sole k own.0 from.here true from.clean) back.0 after found fits back.2 (s.served before back.0 st back.1 shut);
+  said = λ known before after st f i b answer loud at got.
+      let back = told_back p q (Since (IsCall (sole k own.0 from.here true from.clean))) after made f in
+      elim (cases_eq i k) [
+        | inl e ↦
+            says answer before back.0 after (here i (Ended answer) e got) (subst (λ m. from.hushed m ≡ false) e loud) back.1 f
+            (told_at first p Extends before back.0 s.told st back.1)
+        | inr ne ↦
+            said_later answer.line c d before back.0 after (extends_of back.2) work.grow
+            (s.said (λ u. known (fits.known u)) before back.0 st back.1 i b answer loud at (sym (slice_get-set_other slots k i next ne) ∙ got))
+      ];
 }
   where
     low : k < length slots
@@ -375,7 +405,10 @@ pub waiting_ends : (asks : ℕ → Option Ask) (first : Option (List Entry)) (fr
     → answer ≡ starved_answer → AreClosed from.loop k → slice_get slots k ≡ Some Waiting → AllStand asks first from slots p c → AllStand asks first from (set slots k (Ended answer)) p c
 waiting_ends asks first from slots p c k answer is closed found s =
     change asks first from slots p p c c k Waiting (Ended answer) from.owed found (λ e. e) fits (work_start c) (λ e. absurd (cc)) s.spoken (λ a at role. (told_start (λ x. start), tt)) (λ e a at role. tt) (λ a at role h. h) step count
-    (λ b before x y e f own role calls i a slot ne other rested. others_stay from from.owed k p (λ i ne. refl) before x y e f i a slot ne) s
+    (λ b before x y e f own role calls i a slot ne other rested. others_stay from from.owed k p (λ i ne. refl) before x y e f i a slot ne)
+    (λ x before past after ends loud e f grown.
+    let none : x.line ≡ [] = sym (ap line_in ends) ∙ ap (λ (y : Answer). y.line) is in
+    subst (λ (l : List ℕ). HasSaid l (0 < c.say) before after) (sym none) (subst (λ j. HasSaid [] (0 < c.say) before j) (same_Some _ _ (sym e ∙ f)) (said_nothing (0 < c.say) before past grown))) s
   where
     fits : Tells from from.owed k Waiting (Ended answer)
     fits = record { known = λ e. e; lines = λ i e. e; runs = λ j e. absurd (cc); closed = λ x e. closed }

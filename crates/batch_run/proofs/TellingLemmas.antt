@@ -1,5 +1,5 @@
 -- How the jobs of a run go on standing once one of them is told something, or isn't, since none runs there.
-use Rattle.std.proofs.Common.{◌≡◌, ◌≢◌, ◌⊎◌, inl, inr, ℕ, suc, true, false, List, set, Option, Some, refl, sym, ◌∙◌, subst}
+use Rattle.std.proofs.Common.{◌≡◌, ◌≢◌, ◌⊎◌, inl, inr, ℕ, suc, true, false, List, set, Option, Some, refl, sym, ◌∙◌, ap, subst}
 use Rattle.std.specs.Prelude.{slice_get, IfSome}
 use Rattle.std.proofs.lemmas.Bool.{cases_eq, false≢true}
 use Rattle.std.proofs.lemmas.Option.{same_Some}
@@ -7,13 +7,14 @@ use Rattle.words.specs.declared.ask.Ask.{Ask}
 use Rattle.world.specs.declared.chan.Chan.{Chan}
 use Rattle.world.specs.declared.entry.Entry.{Entry}
 use Rattle.world.specs.Counts.{Counts}
-use Rattle.world.specs.Moments.{Since, Told}
+use Rattle.world.specs.Moments.{Since, start, Told}
 use Rattle.world.specs.Parts.{IsNotOf, OnClock}
 use Rattle.world.specs.Places.{time}
 use Rattle.ready_loop.specs.History.{conn_on}
 use Rattle.job_saves.specs.Calls.{Cast}
 use Rattle.job_saves.specs.Course.{Origin}
 use Rattle.job_journal.specs.Plot.{Plot}
+use Rattle.job_end.specs.declared.answer.Answer.{Answer}
 use Rattle.job_run.specs.declared.job.Job.{Job}
 use Rattle.job_run.specs.JobStanding.{JobStands, JobStandsUntold, KeepsStanding}
 use Rattle.job_run.specs.Run.{HasRole, KeepsRole, KeepsRun, IsLost, IsSpent, Runs, outcome_of}
@@ -48,7 +49,7 @@ module _ (asks : ℕ → Option Ask) (first : Option (List Entry)) (from : Outse
       → AllStand asks first from slots p c → AllStand asks first from (set slots k (Running next)) p c
   job_changes course calls keeps task output lost spent opens found s =
       job_goes_on asks first from slots p p c c k was next from.owed (fits_runs from from.owed k was next (λ e. e) (λ i e. e))
-      (λ a n before x y e f h.
+      (λ a n before x y e f grown h.
       follows_changed (owed_to from.owed k) k a n was next before y opens keeps (subst (λ z. SlotFollows (owed_to from.owed k) k a n (Running was) before z) (same_Some _ _ (sym e ∙ f)) h))
       (λ b before x y e f own called i a slot ne other rested. others_stay from from.owed k p (λ m differs. refl) before x y e f i a slot ne)
       (λ o r. course o p c r) (λ cast since then l. calls cast since then p c l) task output lost spent found s
@@ -65,9 +66,9 @@ module _ (asks : ℕ → Option Ask) (first : Option (List Entry)) (from : Outse
       → AllStand asks first (owing (first_clock k) from) slots p c → AllStand asks first (owing (first_clock (suc k)) from) (set slots k (Running next)) p c
   job_reads ms course calls keeps stands at found s =
       job_goes_on asks first (owing (first_clock k) from) slots p p c c k was next (first_clock (suc k)) (fits_runs (owing (first_clock k) from) (first_clock (suc k)) k was next (λ e. absurd (cc)) (λ i e. e))
-      (λ a n before x y e f h.
+      (λ a n before x y e f grown h.
       let at_x : time x ≡ ms = subst (λ z. IfSome z (λ past. time past ≡ ms)) e at in
-      let told = follows_as to.first_clock to.nothing k a n (Running was) (Running next) before x x (λ plot is fresh w. stands plot x at_x w.untold)
+      let told = follows_as to.first_clock to.nothing k a n (Running was) (Running next) before x x start (λ plot is fresh w. stands plot x at_x w.untold)
       (subst (λ t. SlotFollows t k a n (Running was) before x) (first_own k) h) in
       subst (λ z. SlotFollows (owed_to (first_clock (suc k)) k) k a n (Running next) before z) (same_Some _ _ (sym e ∙ f)) (subst (λ t. SlotFollows t k a n (Running next) before x) (sym (first_told k)) told))
       (λ b before x y e f own called i a slot ne other rested. others_stay (owing (first_clock k) from) (first_clock (suc k)) k p (λ m differs. first_other k m differs) before x y e f i a slot ne)
@@ -83,9 +84,9 @@ module _ (asks : ℕ → Option Ask) (first : Option (List Entry)) (from : Outse
       → AllStand asks first (owing o from) slots p c → AllStand asks first (owing rest from) (set slots k (Running next)) q d
   job_told o rest m known lines here gone same wait stands s =
       job_goes_on asks first (owing o from) slots p q c d k was next rest (fits_runs (owing o from) rest k was next known lines)
-      (λ a n before x y e f h.
+      (λ a n before x y e f grown h.
       subst (λ t. SlotFollows t k a n (Running next) before y) (sym gone)
-      (follows_as m to.nothing k a n (Running was) (Running next) before x y (λ plot is fresh w. told_at p q (λ x y. StandsOwed m plot was x → JobStands plot next y) x y (stands plot) e f w)
+      (follows_as m to.nothing k a n (Running was) (Running next) before x y grown (λ plot is fresh w. told_at p q (λ x y. StandsOwed m plot was x → JobStands plot next y) x y (stands plot) e f w)
       (subst (λ t. SlotFollows t k a n (Running was) before x) here h)))
       (λ b before x y e f own called i a slot ne other rested.
       one_as (owed_to o i) (owed_to o i) (owed_to rest i) i a before x y slot (same i ne)
@@ -111,12 +112,12 @@ module _ (asks : ℕ → Option Ask) (first : Option (List Entry)) (from : Outse
 
 -- ---- a slot in which none runs
 
-ended_known : (o : OwedTo) (p : Plot) (now : List Entry) → (o ≡ to.anything → ⊥) → EndedOwed o p now → StandsEnded p now
-ended_known to.nothing p now known e = e
-ended_known to.first_clock p now known e = e
-ended_known (to.clock ms) p now known e = e
-ended_known (to.piece chan bytes) p now known e = e
-ended_known to.anything p now known e = absurd (known refl)
+ended_known : (o : OwedTo) (p : Plot) (answer : Answer) (now : List Entry) → (o ≡ to.anything → ⊥) → EndedOwed o p answer now → StandsEnded p answer now
+ended_known to.nothing p answer now known e = e
+ended_known to.first_clock p answer now known e = e
+ended_known (to.clock ms) p answer now known e = e
+ended_known (to.piece chan bytes) p answer now known e = e
+ended_known to.anything p answer now known e = absurd (known refl)
 
 -- it needs to be told nothing
 stands_told : (o : OwedTo) (i : ℕ) (a : Ask) (from : Counts) (before past : List Entry) (c : Counts) (slot : Slot) → is_slot_running (Some slot) ≡ false → (o ≡ to.anything → ⊥)
@@ -127,14 +128,14 @@ stands_told o i a from before past c Waiting gone known (begun bytes n begin the
 stands_told o i a from before past c (Running j) gone known (begun bytes n begin then acc h gr ext task kernel runs follows) = absurd (false≢true (sym gone))
 stands_told o i a from before past c (Ended answer) gone known (begun bytes n begin then acc h gr ext task kernel runs follows) =
     begun bytes n begin then acc h gr ext task kernel runs
-    (λ shut. follows_as o to.nothing i a n (Ended answer) (Ended answer) before past past (λ p is fresh w. ended_known o p past known w) (follows shut))
+    (λ shut. follows_as o to.nothing i a n (Ended answer) (Ended answer) before past past start (λ p is fresh w. ended_known o p answer past known w) (follows shut))
 
 slot_told : (asks : ℕ → Option Ask) (first : Option (List Entry)) (from : Outset) (slots : List Slot) (p : Option (List Entry)) (c : Counts) (k : ℕ) (was : Slot) (o rest : Owed) (m : OwedTo)
     → is_slot_running (Some was) ≡ false → slice_get slots k ≡ Some was → owed_to o k ≡ m → (m ≡ to.anything → ⊥) → owed_to rest k ≡ to.nothing → ((i : ℕ) → i ≢ k → owed_to rest i ≡ owed_to o i)
     → ((past : List Entry) → Served asks o from.loop slots past → Served asks rest from.loop slots past)
     → AllStand asks first (owing o from) slots p c → AllStand asks first (owing rest from) (set slots k was) p c
 slot_told asks first from slots p c k was o rest m idle found here known gone same served s =
-    slot_rests asks first (owing rest from) slots k was p c found (reowe asks first from o rest slots p c each served s)
+    slot_rests asks first (owing rest from) slots k was p c found (reowe asks first from o rest slots p c (λ u. absurd (known (sym here ∙ ap (λ (x : Owed). owed_to x k) u))) each served s)
   where
     each : (before past : List Entry) (i : ℕ) (a : Ask) (slot : Slot) → slice_get slots i ≡ Some slot → Stands (owed_to o i) i a from.counts before past c slot
         → Stands (owed_to rest i) i a from.counts before past c slot

@@ -1,5 +1,6 @@
 -- What a run makes of its jobs' outputs. A journal has its newest entry first.
 use Rattle.std.specs.Prelude.{◌≡◌, ◌≢◌, ◌⊎◌, ◌≤◌, ◌+◌, ◌-◌, ◌^◌, min, ℕ, zero, suc, List, [], ◌∷◌, ◌++◌, Bool, true, false, Option, Some, None, IfSome, Result, Ok, Err, slice_get}
+use Rattle.said_lines.specs.Speech.{Says}
 use Rattle.nb_model.specs.declared.notebook.Notebook.{Notebook}
 use Rattle.nb_load.specs.Loaded.{Accepts}
 use Rattle.words.specs.declared.ask.Ask.{Ask}
@@ -18,7 +19,7 @@ use Rattle.job_saves.specs.Course.{Origin, Ends, LacksSaves}
 use Rattle.job_run.specs.Run.{EndsWith, IsOther}
 use Rattle.ready_loop.specs.Begins.{port_of}
 use Rattle.ready_loop.specs.Standing.{AllShut, IsOfLoop}
-use Rattle.job_journal.specs.Standing.{HasEndedAs}
+use Rattle.job_journal.specs.Ended.{HasAnswered}
 use Rattle.job_saves.specs.Calls.{Cast, IsCall}
 use Rattle.job_saves.specs.Children.{has_child, ports_of}
 use Rattle.job_saves.specs.Speaking.{IsAnswer, IsWhole}
@@ -65,14 +66,15 @@ EndsUnread a answer before after = IfSome answer (λ x. IsUnread a x.status befo
 abbrev pub EndsRead : Ask → Notebook → Option Answer → List Entry → List Entry → Type 0
 EndsRead a first answer before after = IfSome answer (λ x. IsCausedIn a first x.status × HasKernel a first x.status before after)
 
--- The job of this number has ended with an answer. The texts that were saved are the first of the saves that are due by the journal, for each
--- plot that it can have. Nothing had happened to the job before.
+-- The job of this number has ended with an answer, and so it has by the journal, for each plot that it can have. Nothing had happened to the job
+-- before.
 abbrev pub EndsFollowing : ℕ → Ask → Notebook → Option Answer → List Entry → List Entry → Type 0
-EndsFollowing i a n answer before after = IfSome answer (λ x. Follows i a n before (λ p. HasEndedAs p after))
+EndsFollowing i a n answer before after = IfSome answer (λ x. Follows i a n before after (λ p. HasAnswered p x after))
 
 -- What a run makes of a job's output: it isn't touched; or from some moment on, before which it wasn't touched, the input
 -- was read, its bytes give the notebook with its parameters, the saves since are a course of its prefixes, and there are events
--- that stop its core for the cause that its answer names. Where all connections were closed before, the saves follow the journal.
+-- that stop its core for the cause that its answer names. Where all connections were closed before, it has ended by the journal with its
+-- answer.
 pub data Makes (i : ℕ) (a : Ask) (answer : Option Answer) (old new : Counts) (before : List Entry) : List Entry → Type 0 where
   nothing : {after : List Entry} → EndsUnread a answer before after → Since (Spares a.output) before after → Makes i a answer old new before after
   saves : (bytes : List ℕ) (n : Notebook) (begin : List Entry) (then : Counts) (later : List Entry) {after : List Entry} → Accepts a bytes n
@@ -95,6 +97,18 @@ pub record IsEndOf (a : Ask) (old new : Counts) (answer : Answer) : Type 0 where
 -- each answer of a run is that of an end of its job
 abbrev pub AreEnds : List Ask → Counts → Counts → List Answer → Type 0
 AreEnds asks old new answers = (i : ℕ) (a : Ask) (answer : Answer) → slice_get asks i ≡ Some a → slice_get answers i ≡ Some answer → IsEndOf a old new answer
+
+-- A line was said since a moment, up to where a say failed.
+pub record HasSaid (line : List ℕ) (failed : Type 0) (before after : List Entry) : Type 0 where
+  pub earlier : List Entry
+  pub said : List Entry
+  pub later : List Entry
+  pub says : Says line failed (earlier ++ before) said
+  pub split : after ≡ later ++ said
+
+-- the last line of each job was said
+pub record AreSaid (asks : List Ask) (answers : List Answer) (failed : Type 0) (before after : List Entry) : Type 0 where
+  pub each : (i : ℕ) (a : Ask) (answer : Answer) → slice_get asks i ≡ Some a → slice_get answers i ≡ Some answer → HasSaid answer.line failed before after
 
 -- the count of waits is at least this number, or stands at the last value of a `u64`
 abbrev pub HasWaited : ℕ → Counts → Type 0

@@ -17,7 +17,7 @@ use Rattle.other_jobs.specs.Refused.{RefusedUnread}
 use Rattle.job_end.specs.declared.answer.Answer.{Answer}
 use Rattle.job_journal.specs.Plot.{Plot}
 use Rattle.job_run.specs.declared.job.Job.{Job}
-use Rattle.job_run.specs.Beginning.{IsFresh}
+use Rattle.job_run.specs.Beginning.{IsFresh, IsSessionOf}
 use Rattle.job_begin.specs.Standing.{IsPlotWith}
 use Rattle.job_turns.specs.OwedTo.{OwedTo, StandsOwed, StandsEnded}
 use Rattle.job_turns.specs.OwedTo as to
@@ -80,27 +80,28 @@ after_begin (Err e) job = begins job
 
 -- ---- what a job stands for
 
--- This stands of each plot that the job of this number can have, with what it asks and with its notebook. Nothing had happened to the job
--- before. The plot has the session and the key that are drawn for the job.
-pub record Follows (i : ℕ) (a : Ask) (n : Notebook) (before : List Entry) (stands : Plot → Type 0) : Type 0 where
-  pub session : List ℕ
-  pub key : List ℕ
-  pub each : (p : Plot) → IsPlotWith p i a n → IsFresh p before → p.setting.session ≡ session → p.setting.key ≡ key → stands p
+-- This stands of each plot that the job of this number can have, with what it asks and with its notebook. Nothing had happened to the job before.
+-- The plot has the session and the key that were drawn for the job. Where the job has ended before its kernel was started, it may have any.
+pub data Follows (i : ℕ) (a : Ask) (n : Notebook) (before now : List Entry) (stands : Plot → Type 0) : Type 0 where
+  in_session : (session key : List ℕ) → IsSessionOf i a.output session key before now
+      → ((p : Plot) → IsPlotWith p i a n → IsFresh p before → p.setting.session ≡ session → p.setting.key ≡ key → stands p)
+      → Follows i a n before now stands
+  in_any : ((p : Plot) → IsPlotWith p i a n → IsFresh p before → stands p) → Follows i a n before now stands
 
--- Of a job that has ended the texts that were saved are the first of the saves that are due, so long as something is known of it.
-abbrev pub EndedOwed : OwedTo → Plot → List Entry → Type 0
-EndedOwed to.anything p now = Unit {0}
-EndedOwed o p now = StandsEnded p now
+-- A job has ended with this answer by the journal, so long as something is known of it.
+abbrev pub EndedOwed : OwedTo → Plot → Answer → List Entry → Type 0
+EndedOwed to.anything p answer now = Unit {0}
+EndedOwed o p answer now = StandsEnded p answer now
 
 -- the job of a slot stands for the journal but for what it is still to be told
 abbrev pub SlotOwes : OwedTo → Plot → Slot → List Entry → Type 0
 SlotOwes o p Waiting now = Unit {0}
 SlotOwes o p (Running j) now = StandsOwed o p j now
-SlotOwes o p (Ended answer) now = EndedOwed o p now
+SlotOwes o p (Ended answer) now = EndedOwed o p answer now
 
 -- so does that of each plot to which nothing had happened before
 abbrev pub SlotFollows : OwedTo → ℕ → Ask → Notebook → Slot → List Entry → List Entry → Type 0
-SlotFollows o i a n slot before now = Follows i a n before (λ p. SlotOwes o p slot now)
+SlotFollows o i a n slot before now = Follows i a n before now (λ p. SlotOwes o p slot now)
 
 -- While jobs begin, nothing has happened to a job that hasn't begun, where nothing had before.
 abbrev pub StaysFresh : OwedTo → ℕ → Ask → List Entry → List Entry → Type 0

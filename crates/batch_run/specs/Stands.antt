@@ -1,5 +1,5 @@
 -- How the jobs of a run stand while it lasts.
-use Rattle.std.specs.Prelude.{◌≡◌, ◌≢◌, ◌⊎◌, ℕ, zero, suc, Bool, true, false, ◌+◌, ◌-◌, ◌<◌, ◌≤◌, List, [], ◌∷◌, length, Option, Some, None, Result, Ok, Err, slice_get, slice_set, IfSome}
+use Rattle.std.specs.Prelude.{◌≡◌, ◌≢◌, ◌⊎◌, ℕ, zero, suc, Bool, true, false, ◌==◌, ◌||◌, ◌+◌, ◌-◌, ◌<◌, ◌≤◌, List, [], ◌∷◌, length, Option, Some, None, Result, Ok, Err, slice_get, slice_set, IfSome}
 use Rattle.nb_model.specs.declared.notebook.Notebook.{Notebook}
 use Rattle.nb_load.specs.Loaded.{Accepts}
 use Rattle.words.specs.declared.ask.Ask.{Ask}
@@ -37,19 +37,19 @@ use Rattle.job_begin.specs.Begun.{origin_of, counted_task, IsCausedIn, IsUnread,
 use Rattle.batch_run.specs.declared.slot.Slot.{Slot}
 use Rattle.batch_run.specs.declared.slot.Slot.TheVariants.{Waiting, Running, Ended}
 use Rattle.batch_run.specs.declared.fault.Fault.{Fault}
-use Rattle.batch_run.specs.Batch.{IsApart, IsEndOf, HasWaited, CallsOfJobs, HasPort}
+use Rattle.batch_run.specs.Batch.{IsApart, IsEndOf, HasSaid, HasWaited, CallsOfJobs, HasPort}
 use Rattle.batch_run.specs.declared.lines.Lines.{Lines}
 use Rattle.batch_run.specs.Due.{is_slot_over}
 use Rattle.batch_run.specs.Lines.{waits_of}
 use Rattle.batch_run.specs.Owed.{Owed, owed_to, may_wait, after_begin, after_read, after_turn, AreClosed, Served, SlotFollows, StaysFresh}
-use Rattle.batch_run.specs.Owed.{none, begins, first_clock}
+use Rattle.batch_run.specs.Owed.{none, begins, first_clock, unknown}
 use Rattle.job_turns.specs.OwedTo.{OwedTo, is_open}
 use Rattle.said_lines.specs.Speech.{Says}
 use Rattle.batch_run.specs.Kept.{FaultCause}
 
 -- What a run begins with: how many numbers are taken, those of jobs that ran before it among them, its working folder, the counts
 -- of its world, and whether it begins clean. Besides, what it has come to: the count of waits by now, and at most, the connections, and
--- what is still to be told.
+-- what is still to be told. Of a job that has just ended, that is still to be said.
 pub record Outset : Type 0 where
   pub size : ℕ
   pub here : List ℕ
@@ -59,6 +59,7 @@ pub record Outset : Type 0 where
   pub clean : Bool
   pub loop : Loop  -- the connections by now
   pub owed : Owed  -- what is still to be told to the jobs by now
+  pub hushed : ℕ → Bool  -- the jobs of which it is still to be said how they ended
 
 -- the ports that the loop keeps by now for its connections, by places
 abbrev pub wires_of : Outset → List (Option ℕ)
@@ -71,6 +72,10 @@ owing o from = record from { owed = o }
 -- the outset with these connections, and with this still to be told
 abbrev pub served_by : Owed → Loop → Outset → Outset
 served_by o l from = record from { loop = l; owed = o }
+
+-- the outset where it is still to be said how this job ended
+abbrev pub hush : ℕ → Outset → Outset
+hush k from = record from { hushed = λ i. (i == k) || from.hushed i }
 
 -- each port that is kept is that of its connection
 pub record AreWired (wires : List (Option ℕ)) (past : List Entry) : Type 0 where
@@ -166,6 +171,11 @@ HasEnded Waiting = ⊥
 HasEnded (Running j) = ⊥
 HasEnded (Ended answer) = Unit {0}
 
+-- Of each job that has ended its line was said, or is still to be said. Where memory was refused, nothing is known of it.
+abbrev pub EndsSaid : (ℕ → Option Ask) → Option (List Entry) → Outset → List Slot → Option (List Entry) → Counts → Type 0
+EndsSaid asks start from slots journal counts = (from.owed ≡ unknown → ⊥) → (before past : List Entry) → start ≡ Some before → journal ≡ Some past
+    → (i : ℕ) (a : Ask) (answer : Answer) → from.hushed i ≡ false → asks i ≡ Some a → slice_get slots i ≡ Some (Ended answer) → HasSaid answer.line (0 < counts.say) before past
+
 -- how all do, since a world was in this state; a number that is no job's is one of a job that ran before
 pub record AllStand (asks : ℕ → Option Ask) (start : Option (List Entry)) (from : Outset) (slots : List Slot) (journal : Option (List Entry)) (counts : Counts) : Type 0 where
   pub size : length slots ≡ from.size
@@ -188,6 +198,7 @@ pub record AllStand (asks : ℕ → Option Ask) (start : Option (List Entry)) (f
       → (i : ℕ) (a : Ask) (slot : Slot) → asks i ≡ Some a → slice_get slots i ≡ Some slot
       → IsApart asks i a → IsRested a.output before → Stands (owed_to from.owed i) i a from.counts before past counts slot
   pub served : (before past : List Entry) → start ≡ Some before → journal ≡ Some past → AllShut before → Served asks from.owed from.loop slots past
+  pub said : EndsSaid asks start from slots journal counts
 
 -- the slots of all jobs but this one stay as they were
 abbrev pub KeepsOthers : ℕ → List Slot → List Slot → Type 0
@@ -242,6 +253,12 @@ KeepsOwed journal counts old new owed rest was now = (asks : ℕ → Option Ask)
 abbrev pub FinishesAll : {W : Type 0} → (W → Option (List Entry)) → (W → Counts) → W → W → ℕ → List Slot → List Slot → Type 0
 FinishesAll journal counts old new number was now = (asks : ℕ → Option Ask) (start : Option (List Entry)) (from : Outset)
     → may_wait from.owed ≡ true → AreClosed from.loop number
+    → AllStand asks start from was (journal old) (counts old) → AllStand asks start from now (journal new) (counts new)
+
+-- calls that end the job of this number without a word keep all jobs standing, where memory was refused
+abbrev pub StopsAll : {W : Type 0} → (W → Option (List Entry)) → (W → Counts) → W → W → ℕ → List Slot → List Slot → Type 0
+StopsAll journal counts old new number was now = (asks : ℕ → Option Ask) (start : Option (List Entry)) (from : Outset)
+    → from.owed ≡ unknown → AreClosed from.loop number
     → AllStand asks start from was (journal old) (counts old) → AllStand asks start from now (journal new) (counts new)
 
 -- Calls of the loop or of a job keep all jobs standing, with the connections. This was still to be told before them, and that is after them.
@@ -377,6 +394,12 @@ SlotFinishes journal counts old new was now = (asks : ℕ → Option Ask) (start
     → may_wait from.owed ≡ true → AreClosed from.loop k → slice_get slots k ≡ Some was → AllStand asks start from slots (journal old) (counts old)
     → AllStand asks start from (slice_set slots k now) (journal new) (counts new)
 
+-- calls that end the job in one slot without a word keep all standing, where memory was refused
+abbrev pub SlotStops : {W : Type 0} → (W → Option (List Entry)) → (W → Counts) → W → W → Slot → Slot → Type 0
+SlotStops journal counts old new was now = (asks : ℕ → Option Ask) (start : Option (List Entry)) (from : Outset) (slots : List Slot) (k : ℕ)
+    → from.owed ≡ unknown → AreClosed from.loop k → slice_get slots k ≡ Some was → AllStand asks start from slots (journal old) (counts old)
+    → AllStand asks start from (slice_set slots k now) (journal new) (counts new)
+
 -- A change of one slot that calls nothing of the world keeps all standing. Its job isn't owed the clock of a turn or a piece.
 abbrev pub SlotStays : Slot → Slot → Type 0
 SlotStays was now = (asks : ℕ → Option Ask) (start : Option (List Entry)) (from : Outset) (slots : List Slot) (k : ℕ) (journal : Option (List Entry)) (counts : Counts)
@@ -405,11 +428,11 @@ pub record PassBy (asks : ℕ → Option Ask) (here : List ℕ) (clean : Bool) (
   pub ends : (number : ℕ) → KeepsEnd number old new
   pub grow : CountsGrow was now
 
--- what is said of the end of one of the jobs leaves all as they stand
+-- How a job has ended is said, which was still to be said. That leaves all as they stand.
 abbrev pub KeepsSaying : {W : Type 0} → (W → Option (List Entry)) → (W → Counts) → W → W → Answer → Type 0
 KeepsSaying journal counts old new answer = (asks : ℕ → Option Ask) (start : Option (List Entry)) (from : Outset) (slots : List Slot) (i : ℕ) (a : Ask)
-    → may_wait from.owed ≡ true → asks i ≡ Some a → IsAnswer a.output answer → AllStand asks start from slots (journal old) (counts old)
-    → AllStand asks start from slots (journal new) (counts new)
+    → may_wait from.owed ≡ true → asks i ≡ Some a → slice_get slots i ≡ Some (Ended answer) → IsAnswer a.output answer
+    → AllStand asks start (hush i from) slots (journal old) (counts old) → AllStand asks start from slots (journal new) (counts new)
 
 -- each job has
 pub record AllEnded (slots : List Slot) : Type 0 where

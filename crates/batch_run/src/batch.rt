@@ -2,11 +2,12 @@
 ghost use Rattle.std.specs.Prelude.{◌≡◌, ◌<◌, ◌≤◌, ◌+◌, ◌-◌, IfOk, OnOk, List as Plain, Option as Maybe, length};
 ghost use Rattle.std.specs.List.{AllByRecursion};
 ghost use Rattle.ready_loop.specs.States.{IsDrained, IsSound, waits_left};
+ghost use Rattle.said_lines.specs.Between.{SayFailed};
 ghost use Rattle.words.specs.Runnable.{IsRunnable};
 ghost use Rattle.world.specs.Told.{Between};
 ghost use Rattle.world.specs.declared.entry.Entry.{Entry};
 ghost use Rattle.world.specs.Counts.{Counts, CountsGrow};
-ghost use Rattle.batch_run.specs.Batch.{AreEnds, CallsOfRun, EndSpent, EndsChildren, LeavesOthers};
+ghost use Rattle.batch_run.specs.Batch.{AreEnds, AreSaid, CallsOfRun, EndSpent, EndsChildren, LeavesOthers};
 ghost use Rattle.batch_run.specs.Batch.{MakesEach, numbered};
 ghost use Rattle.batch_run.specs.Kept.{IsFreshFrom};
 ghost use Rattle.batch_run.specs.Owed.{after};
@@ -42,8 +43,8 @@ pub fn run_jobs<W: World>(
 
     // What it makes of the output of each job, with the answer that it gives for it. 0, 1, 7, 8, 9,
     // 13 and 15 come only where there are events that stop such a job for that cause. Where all
-    // connections were closed before, the texts that were saved are the first that are due by the
-    // journal, with the kernel's messages in it.
+    // connections were closed before, each job has ended by the journal with its answer. What was
+    // saved, the cause and the line follow the kernel's messages in it.
     ensures jobs { Between W.journal w.old w.new
         (MakesEach first asks result (W.counts w.old) (W.counts w.new)) }
     // Each call is one of the loop or of one of the jobs: none reads or writes another file, starts
@@ -62,6 +63,9 @@ pub fn run_jobs<W: World>(
     // Each is that of an end. 3, 6, 10 and 14 come only where a count of failed calls rose, 16 only
     // where it made all of its waits.
     ensures ends { IfOk result (AreEnds asks (W.counts w.old) (W.counts w.new)) }
+    // The last line of each job was said.
+    ensures said { IfOk result (λ answers. Between W.journal w.old w.new
+        (AreSaid asks answers (SayFailed W.counts w.new))) }
     ensures spent { IfOk result
         (EndSpent limits.now.turns (W.counts w.old) (W.counts w.new)) }
 {
@@ -100,6 +104,8 @@ fn answers_of<W: World>(
     ensures waits { (W.counts w.new).waits ≤ (W.counts w.old).waits + limits.now.turns }
     ensures one_each { IfOk result (λ answers. length answers ≡ length asks) }
     ensures ends { IfOk result (AreEnds asks (W.counts w.old) (W.counts w.new)) }
+    ensures said { IfOk result (λ answers. Between W.journal w.old w.new
+        (AreSaid asks answers (SayFailed W.counts w.new))) }
     ensures spent { IfOk result
         (EndSpent limits.now.turns (W.counts w.old) (W.counts w.new)) }
 {

@@ -35,7 +35,7 @@ impl Jobs {
     ghost use Rattle.batch_run.specs.Owed.{AreClosed, after};
     ghost use Rattle.batch_run.specs.Stands.{AllStand, AllEnded, EndedBelow, FinishesAll, Outset, owing};
     ghost use Rattle.batch_run.specs.Stands.{KeepsOthers, KeepsSaying, SaysEndOf, WaitingFrom, answers_from};
-    ghost use Rattle.batch_run.specs.Stands.{is_slot_running};
+    ghost use Rattle.batch_run.specs.Stands.{StopsAll, is_slot_running};
 
     /// So many jobs from the first number on, of which none has begun. Those of the numbers below ran
     /// before, and have ended.
@@ -193,7 +193,7 @@ impl Jobs {
             IfSome (W.journal w.new)
             (SaysEndOf (slice_get self.new.slots.items number) (SayFailed W.counts w.new)) }
         ensures size { length self.new.slots.items ≡ length self.old.slots.items }
-        ensures stands { FinishesAll W.journal W.counts w.old w.new number
+        ensures stands { StopsAll W.journal W.counts w.old w.new number
             self.old.slots.items self.new.slots.items }
         ensures gone { is_slot_running (slice_get self.new.slots.items number) ≡ false }
     {

@@ -1,7 +1,8 @@
 //! `Slot`, one job of a run.
 ghost use Rattle.std.specs.Prelude.{◌≡◌, IfSome, Some, true};
 ghost use Rattle.said_lines.specs.Between.{SayFailed};
-ghost use Rattle.batch_run.specs.Stands.{EndsSaying, SlotFinishes, KeepsSaying, is_slot_running};
+ghost use Rattle.batch_run.specs.Stands.{EndsSaying, SlotFinishes, SlotStops, KeepsSaying};
+ghost use Rattle.batch_run.specs.Stands.{is_slot_running};
 
 use job_end::Answer;
 use job_run::Job;
@@ -27,7 +28,7 @@ impl Slot {
     ghost use Rattle.batch_run.specs.Owed as owed;
     ghost use Rattle.batch_run.specs.Stands.{HasEnded, SaysEndOf, SlotKeeps, SlotStays, is_slot_running};
     ghost use Rattle.batch_run.specs.Stands.{IsCutOff, IsOutOfWaits, SlotStaysIf};
-    ghost use Rattle.batch_run.specs.Stands.{SlotFinishes, SlotNotes, SlotReads};
+    ghost use Rattle.batch_run.specs.Stands.{SlotFinishes, SlotNotes, SlotReads, SlotStops};
 
     /// The slot of a number before any job begins: where its job ran before, that has ended, and
     /// nothing more is told of it.
@@ -193,7 +194,7 @@ impl Slot {
     /// Ends the child of a job that runs, without a word.
     pub(crate) fn stop<W: World>(&mut self, alloc: Global, w: &mut W)
         ensures ended { HasEnded self.new }
-        ensures stands { SlotFinishes W.journal W.counts w.old w.new self.old self.new }
+        ensures stands { SlotStops W.journal W.counts w.old w.new self.old self.new }
     {
         let slot = mem::replace(self, Slot::Waiting);
         let ended = Slot::Ended(end_of(alloc, w, slot));
@@ -216,7 +217,7 @@ impl Slot {
 
 /// How a job ended: of one that runs the child is ended.
 fn end_of<W: World>(alloc: Global, w: &mut W, slot: Slot) -> Answer
-    ensures { SlotFinishes W.journal W.counts w.old w.new slot (Slot.Ended result) }
+    ensures { SlotStops W.journal W.counts w.old w.new slot (Slot.Ended result) }
 {
     match slot {
         Slot::Running(job) => job.finish(w),

@@ -9,7 +9,7 @@ impl Jobs {
     ghost use Rattle.ready_loop.specs.History.{conn_on};
     ghost use Rattle.batch_run.specs.Owed as owed;
     ghost use Rattle.batch_run.specs.Stands.{ChangesAt, EndedBelow, KeepsOwed, KeepsOthers, StayAll};
-    ghost use Rattle.batch_run.specs.Stands.{FinishesAll, ReadsClock, SameOver, SlotNotes, StayAt};
+    ghost use Rattle.batch_run.specs.Stands.{ReadsClock, SameOver, SlotNotes, StayAt, StopsAll};
     ghost use Rattle.batch_run.specs.Stands.{IsCutOff, IsOutOfWaits, StayAllIf, StayAtIf};
     ghost use Rattle.batch_run.specs.Stands.{WaitingFrom, is_slot_running};
 
@@ -224,7 +224,7 @@ impl Jobs {
         ensures ended { EndedBelow number self.old.slots.items →
             EndedBelow (number + 1) self.new.slots.items }
         ensures size { length self.new.slots.items ≡ length self.old.slots.items }
-        ensures stands { FinishesAll W.journal W.counts w.old w.new number
+        ensures stands { StopsAll W.journal W.counts w.old w.new number
             self.old.slots.items self.new.slots.items }
         ensures gone { is_slot_running (slice_get self.new.slots.items number) ≡ false }
     {

@@ -5,14 +5,14 @@ use Rattle.batch_run.specs.Stands.{AllStand, Outset, more_waits, served_by}
 use Rattle.std.proofs.lemmas.Bool.{false≢true}
 use Rattle.batch_run.proofs.WireLemmas.{wired_fresh}
 use Rattle.batch_run.specs.Lines.{waits_of}
-use Rattle.batch_run.proofs.EndLemmas.{all_start, run_calls, made_by, made_without, none_over_start, others_left, children_end, count_by, ends_by_answers, spent_by}
+use Rattle.batch_run.proofs.EndLemmas.{all_start, run_calls, made_by, made_without, none_over_start, others_left, children_end, count_by, ends_by_answers, said_by, spent_by}
 use Rattle.batch_run.proofs.batch.answers_of.Goals as goal
 
 pub returns-in-Ok : goal.returns-in-Ok
 returns-in-Ok g c =
     let p = g.W.Journal.journal c.args.w.now in
     let l = c.args.running.lines.connections in
-    let n : Outset = record { size = c.args.first + length c.args.asks; here = c.args.limits.now.here; counts = g.W.Journal.counts c.args.w.now; waits = (g.W.Journal.counts c.args.w.now).waits; most = (g.W.Journal.counts c.args.w.now).waits + c.args.limits.now.turns; clean = false; loop = l; owed = begins c.args.first } in
+    let n : Outset = record { size = c.args.first + length c.args.asks; here = c.args.limits.now.here; counts = g.W.Journal.counts c.args.w.now; waits = (g.W.Journal.counts c.args.w.now).waits; most = (g.W.Journal.counts c.args.w.now).waits + c.args.limits.now.turns; clean = false; loop = l; owed = begins c.args.first; hushed = λ i. false } in
     let q = g.W.Journal.journal c.carry_out.new.w in
     let d = g.W.Journal.counts c.carry_out.new.w in
     let then_ = c.carry_out.new.running in
@@ -32,6 +32,7 @@ returns-in-Ok g c =
       waits = omega (arith, s.waits, c.requires.left);
       one_each = count_by c.args.first c.args.asks p m then_.jobs.slots.items q d refl s c.in-Ok.ensures.ended c.into_answers.result c.into_answers.ensures;
       ends = ends_by_answers c.args.first c.args.asks p m then_.jobs.slots.items q d refl s c.in-Ok.ensures.ended c.into_answers.result c.into_answers.ensures;
+      said = said_by c.args.first c.args.asks p m then_.jobs.slots.items q d refl s c.in-Ok.ensures.ended c.into_answers.result refl (λ i. refl) c.into_answers.ensures;
       spent = spent_by c.args.first c.args.asks p m then_.jobs.slots.items q d refl s c.in-Ok.ensures.ended c.into_answers.result c.into_answers.ensures;
     }
 
@@ -39,7 +40,7 @@ pub returns-in-Err : goal.returns-in-Err
 returns-in-Err g c =
     let p = g.W.Journal.journal c.args.w.now in
     let l = c.args.running.lines.connections in
-    let n : Outset = record { size = c.args.first + length c.args.asks; here = c.args.limits.now.here; counts = g.W.Journal.counts c.args.w.now; waits = (g.W.Journal.counts c.args.w.now).waits; most = (g.W.Journal.counts c.args.w.now).waits + c.args.limits.now.turns; clean = false; loop = l; owed = begins c.args.first } in
+    let n : Outset = record { size = c.args.first + length c.args.asks; here = c.args.limits.now.here; counts = g.W.Journal.counts c.args.w.now; waits = (g.W.Journal.counts c.args.w.now).waits; most = (g.W.Journal.counts c.args.w.now).waits + c.args.limits.now.turns; clean = false; loop = l; owed = begins c.args.first; hushed = λ i. false } in
     let q = g.W.Journal.journal c.abandon.new.w in
     let d = g.W.Journal.counts c.abandon.new.w in
     let then_ = c.abandon.new.self in
@@ -60,5 +61,6 @@ returns-in-Err g c =
       waits = omega (arith, s.waits, c.requires.left);
       one_each = tt;
       ends = tt;
+      said = tt;
       spent = tt;
     }
