@@ -1,6 +1,6 @@
 -- Waves that ran one after the other.
 use Rattle.std.proofs.Common.{◌≡◌, ◌<◌, ◌≤◌, ℕ, zero, suc, ◌+◌, ◌-◌, List, [], ◌∷◌, ◌++◌, length, take, drop, get_or, append_assoc, append-nil, refl, sym, ◌∙◌, ap, subst, arith}
-use Rattle.std.specs.Prelude.{Option, OnOk, Result, Ok, Err}
+use Rattle.std.specs.Prelude.{IfOk, Option, OnOk, Result, Ok, Err}
 use Rattle.std.proofs.lemmas.List.{take_more, take-append-drop}
 use Rattle.std.specs.List.{AllByRecursion}
 use Rattle.world.specs.declared.entry.Entry.{Entry}
@@ -9,7 +9,7 @@ use Rattle.job_graph.specs.Waves.{job_count}
 use Rattle.world.specs.Counts.{Counts, CountsGrow}
 use Rattle.world.specs.Moments.{Told}
 use Rattle.world.proofs.CountsLemmas.{grow_start}
-use Rattle.world.proofs.MomentsLemmas.{told_then}
+use Rattle.world.proofs.MomentsLemmas.{told_as, told_then}
 use Rattle.said_lines.specs.Speech.{Says}
 use Rattle.job_end.specs.declared.answer.Answer.{Answer}
 use Rattle.graph_run.specs.declared.ended.Ended.{Ended}
@@ -67,6 +67,14 @@ ends_none (job ∷ jobs) = refl
 pub none_left : (ended whole : List Ended) (jobs : List ℕ) (answers : List Answer) → length answers ≡ 0 → ended ++ ends_of jobs answers ≡ whole → ended ≡ whole
 none_left ended whole jobs [] none is = sym (append-nil ended) ∙ ap (λ es. ended ++ es) (sym (ends_none jobs)) ∙ is
 none_left ended whole jobs (a ∷ answers) none is = absurd (omega (arith, none))
+
+-- ---- the jobs of a run
+
+-- what is told where there are answers
+pub told_ok : {i j : Option (List Entry)} {S : List Entry → List Entry → Type 0} (R : List Answer → List Entry → List Entry → Type 0) (r : Result (List Answer) NoMemory) → Told i j S
+    → IfOk r (λ answers. Told i j (R answers)) → Told i j (λ x y. IfOk r (λ answers. R answers x y))
+told_ok R (Ok answers) told h = h
+told_ok R (Err e) told h = told_as told (λ x y s. tt)
 
 -- ---- one wave
 

@@ -7,16 +7,18 @@ use Rattle.world.specs.Counts.{Counts}
 use Rattle.world.specs.Moments.{Since}
 use Rattle.said_lines.specs.Speech.{Says}
 use Rattle.job_end.specs.declared.answer.Answer.{Answer}
-use Rattle.batch_run.specs.Batch.{MakesEach, CallsOfRun, EndsChildren, LeavesOthers, AreEnds, EndSpent, numbered}
+use Rattle.batch_run.specs.Batch.{MakesEach, CallsOfRun, EndsChildren, LeavesOthers, AreEnds, AreSaid, EndSpent, numbered}
 use Rattle.graph_run.specs.declared.ended.Ended.{Ended}
 use Rattle.graph_run.specs.declared.standing.Standing.{Standing}
 use Rattle.graph_run.specs.declared.tested.Tested.{Tested}
 use Rattle.graph_run.specs.declared.workflow.Workflow.{Workflow}
 use Rattle.graph_run.specs.Tests.{TestsWave, IsTakeRead}
 
--- What a run makes of these jobs on its part of the journal. They have the numbers from the first on, and at most so many waits are made.
+-- What a run makes of these jobs on its part of the journal, in which the last line of each was said. They have the numbers from the first on, and
+-- at most so many waits are made.
 pub record RanJobs (asks : List Ask) (first turns : ℕ) (here : List ℕ) (result : Result (List Answer) NoMemory) (old new : Counts) (before after : List Entry) : Type 0 where
   pub jobs : MakesEach first asks result old new before after
+  pub said : IfOk result (λ answers. AreSaid asks answers (0 < new.say) before after)
   pub calls : CallsOfRun (numbered first asks) here before after
   pub children : EndsChildren (numbered first asks) before after
   pub others : LeavesOthers asks before after
