@@ -10,6 +10,7 @@ use Rattle.world.specs.declared.read_file.ReadFile.TheVariants as found
 use Rattle.world.specs.Moments.{Since, start, more as later}
 use Rattle.world.specs.Touched.{Spares}
 use Rattle.job_end.specs.declared.answer.Answer.{Answer}
+use Rattle.job_end.specs.Answers.{starved_answer}
 use Rattle.nb_model.specs.declared.notebook.Notebook.{Notebook}
 use Rattle.job_saves.specs.Reads.{first_of}
 use Rattle.job_begin.specs.Begun.{IsCausedIn, IsUnread, HasKernel}
@@ -22,7 +23,7 @@ use Rattle.nbrun_top.specs.declared.answer.Answer.{Answer as Last}
 use Rattle.nbrun_top.specs.Asked.{IsExecuting, IsExecuted, IsBatch}
 use Rattle.nbrun_top.specs.Codes.{code_of}
 use Rattle.nbrun_top.specs.Ended.{Answers, plain, not_said, Ended}
-use Rattle.nbrun_top.specs.Executed.{Executed, Runs, HaveRun, of_words, of_file, GivesAsks, GivesNone, IsBare, IsAlone, AreApart, IsCountedIn, IsSavedOnly, untouched, saved, DoesNotWrite, NoneWrites, first_fault, file_read}
+use Rattle.nbrun_top.specs.Executed.{Executed, Runs, HaveRun, of_words, of_file, GivesAsks, GivesNone, IsBare, IsAlone, AreApart, IsCountedIn, IsSavedAlone, IsSavedOnly, untouched, saved, DoesNotWrite, NoneWrites, first_fault, file_read}
 use Rattle.nbrun_top.specs.Executed as executed
 use Rattle.nbrun_top.specs.Lines.{all_lines}
 use Rattle.nbrun_top.specs.Ran.{Ran, IsUntouched}
@@ -174,9 +175,10 @@ followed_code : (rose : Type 0) (status code : ℕ) → Answers rose status code
 followed_code rose status code (plain heard) fed = fed
 followed_code rose status code (not_said f) fed = λ e. absurd (cc)
 
-as_code : (i : ℕ) (a : Ask) (rose : Type 0) (status code : ℕ) (journal : List Entry) → Answers rose status code → IsSavedOnly i a status journal → IsSavedOnly i a code journal
-as_code i a rose status code journal answers (untouched before is unread) = untouched before is (unread_code a rose status code before journal answers unread)
-as_code i a rose status code journal answers (saved bytes n is_open before newer accepted split first so shut caused counted left kernel follows) =
+as_code : (i : ℕ) (a : Ask) (answer : Answer) (rose : Type 0) (status code : ℕ) (journal : List Entry) → Answers rose status code → IsSavedOnly i a answer status journal
+    → IsSavedOnly i a answer code journal
+as_code i a answer rose status code journal answers (untouched before is unread) = untouched before is (unread_code a rose status code before journal answers unread)
+as_code i a answer rose status code journal answers (saved bytes n is_open before newer accepted split first so shut caused counted left kernel follows) =
     saved bytes n is_open before newer accepted split first so (λ e. unsaved_code rose status code answers (shut e)) (caused_code a (first_of a n) rose status code answers caused)
     (counted_code a (first_of a n) rose status code journal answers counted)
     (left_as a (first_of a n) code journal (counted_code a (first_of a n) rose status code journal answers counted))
@@ -184,20 +186,23 @@ as_code i a rose status code journal answers (saved bytes n is_open before newer
     (λ fed. follows (followed_code rose status code answers fed))
 
 one_saved : (a : Ask) (answers : List Answer) (rose : Type 0) (code : ℕ) (journal : List Entry) → HaveRun (a ∷ []) answers journal → Answers rose (first_fault answers) code
-    → IsSavedOnly 0 a code journal
+    → IsSavedAlone a code journal
 one_saved a [] rose code journal run status = let none = run.one_each in absurd (cc)
 one_saved a (x ∷ []) rose code journal run status =
-    as_code 0 a rose x.status code journal (subst (λ n. Answers rose n code) (one_fault x) status) (run.outputs 0 a x refl refl)
+    record { answer = x; saved = as_code 0 a x rose x.status code journal (subst (λ n. Answers rose n code) (one_fault x) status) (run.outputs 0 a x refl refl) }
 one_saved a (x ∷ y ∷ more_) rose code journal run status = absurd (omega (arith, run.one_each))
 
-pub one_prefixes : {here : List ℕ} (words : List (List ℕ)) (rose cut : Type 0) (code : ℕ) (journal : List Entry) → Executed words here rose cut code journal → (a : Ask) → IsExecuted words a → IsSavedOnly 0 a code journal
+pub one_prefixes : {here : List ℕ} (words : List (List ℕ)) (rose cut : Type 0) (code : ℕ) (journal : List Entry) → Executed words here rose cut code journal → (a : Ask) → IsExecuted words a → IsSavedAlone a code journal
 one_prefixes words rose cut code journal (executed.ran _ _ _ _ (of_words b also) runs) a is =
     let same : b ≡ a = one_ask (sym also.asks ∙ is.asks) in
-    subst (λ c. IsSavedOnly 0 c code journal) same (one_saved b runs.answers rose code journal runs.run runs.status)
+    subst (λ c. IsSavedAlone c code journal) same (one_saved b runs.answers rose code journal runs.run runs.status)
 one_prefixes words rose cut code journal (executed.ran _ _ _ _ (of_file file common bytes asks also gives) runs) a is = absurd (no_batch_of_one words a common file is also)
 one_prefixes words rose cut code journal (executed.none file common e on_disk _ also gives says) a is = absurd (no_batch_of_one words a common file is also)
 one_prefixes words rose cut code journal (executed.starved _ says) a is =
-    untouched [] (untouched_path a.output (says_spare a.output start says)) (unread_pass a 12 [] [] [] journal start (says_spare a.output start says) (unread_twelve a 12 [] refl))
+    record {
+      answer = starved_answer;
+      saved = untouched [] (untouched_path a.output (says_spare a.output start says)) (unread_pass a 12 [] [] [] journal start (says_spare a.output start says) (unread_twelve a 12 [] refl));
+    }
 
 pub one_others : {here : List ℕ} (words : List (List ℕ)) (rose cut : Type 0) (code : ℕ) (journal : List Entry) → Executed words here rose cut code journal → (a : Ask) (path : List ℕ) → IsExecuted words a
     → DoesNotWrite a.output path → IsUntouched path journal

@@ -1,6 +1,7 @@
 -- What runs that execute notebooks make of the world.
 use Rattle.std.proofs.Common.{◌≡◌, ◌≢◌, ◌⊎◌, inl, inr, ℕ, zero, suc, ◌+◌, ◌<◌, ◌≤◌, Bool, true, false, List, [], ◌∷◌, ◌++◌, length, length-append, append_assoc, Option, Some, None, if◌then◌else◌, refl, sym, ◌∙◌, ap, subst, arith}
 use Rattle.std.proofs.Math.Logic.{∥∥₁_map}
+use Rattle.std.proofs.lemmas.List.{append-nil}
 use Rattle.std.specs.Prelude.{slice_get}
 use Rattle.std.specs.Str.{bytes_eq}
 use Rattle.nb_model.specs.declared.notebook.Notebook.{Notebook}
@@ -24,7 +25,7 @@ use Rattle.job_end.specs.declared.answer.Answer.{Answer}
 use Rattle.job_saves.specs.Course.{HasSaved, Ends}
 use Rattle.job_saves.proofs.CourseLemmas.{ends_pass}
 use Rattle.job_run.specs.Run.{IsOther, IsNew, IsUnsaved}
-use Rattle.job_run.specs.Told.{cause_of}
+use Rattle.job_run.specs.Beginning.{IsFresh, IsSessionOf}
 use Rattle.job_run.specs.Counted.{IsCausedAfter}
 use Rattle.job_run.specs.Left.{NamesFailed, Leaves}
 use Rattle.job_run.specs.Task.{task_for}
@@ -36,18 +37,18 @@ use Rattle.job_saves.specs.Reads.{first_of}
 use Rattle.job_begin.specs.Begun.{origin_of, IsCausedIn}
 use Rattle.job_begin.proofs.EndLemmas.{uncaused_in, unread_pass, unread_twelve, other_kernel, twelve_other}
 use Rattle.job_begin.specs.Begun.{HasKernel}
-use Rattle.batch_run.specs.Owed.{Follows}
-use Rattle.job_journal.specs.Plot.{facts}
-use Rattle.job_journal.specs.Standing.{HasEndedAs}
-use Rattle.batch_run.specs.Batch.{Makes, nothing, saves, IsNoPath, IsApart, LeavesOthers, CallsOfJobs, EndsChildren, numbered}
-use Rattle.said_lines.specs.Speech.{Says}
+use Rattle.batch_run.specs.Owed.{Follows, in_session as followed, in_any as followed_in_any}
+use Rattle.job_journal.specs.Plot.{Plot, facts}
+use Rattle.job_journal.specs.Ended.{HasAnswered, cause_of}
+use Rattle.batch_run.specs.Batch.{AreSaid, HasSaid, Makes, nothing, saves, IsNoPath, IsApart, LeavesOthers, CallsOfJobs, EndsChildren, numbered}
+use Rattle.said_lines.specs.Speech.{Says, whole as said_whole, none as said_none}
 use Rattle.nbrun_top.specs.declared.end.End.TheVariants as end
 use Rattle.nbrun_top.specs.Ended.{Answers, plain}
-use Rattle.nbrun_top.specs.Executed.{DoesNotWrite, IsAlone, AreApart, IsCountedIn, IsLeftAs, output_of, IsSavedOnly, FollowsJournal, untouched, saved, IsBare, NoneWrites, EndsSpeech, silence, last_line, Runs, first_fault}
+use Rattle.nbrun_top.specs.Executed.{DoesNotWrite, IsAlone, AreApart, IsCountedIn, IsLeftAs, output_of, IsSavedOnly, IsExecutedPlot, FollowsJournal, in_session, in_any, untouched, saved, IsBare, NoneWrites, EndsSpeech, silence, last_line, Runs, first_fault}
 use Rattle.nbrun_top.specs.Lines.{all_lines}
 use Rattle.nbrun_top.specs.Ran.{IsUntouched}
 use Rattle.nbrun_top.proofs.Spared.{apart_from, says_spare, said_childless, spared_moments, at_moment}
-use Rattle.nbrun_top.proofs.Statuses.{all_starved, starved_count, starved_fault, starved_at}
+use Rattle.nbrun_top.proofs.Statuses.{all_starved, starved_count, starved_fault, starved_at, starved_line}
 
 -- ---- what no entry touches
 
@@ -98,37 +99,54 @@ left_as a first status journal counted executes = record {
     broken_by (inr is) = left_for m task status why.BadPeer h (ap cause_of is)
 
 -- what a run makes of the notebook of a job, where nothing was done before it
-follows_journal : (i : ℕ) (a : Ask) (n : Notebook) (before after : List Entry) → IsBare before → Follows i a n before (λ p. HasEndedAs p after) → FollowsJournal i a n after
-follows_journal i a n before after bare f = record {
-  session = f.session;
-  key = f.key;
-  each = λ p plot undated runs session key.
-      f.each p plot (record { undated = undated; runs = runs; unread = bare.unread (facts p); unrenamed = bare.unrenamed (facts p) }) session key;
+fresh_plot : (i : ℕ) (a : Ask) (n : Notebook) (before : List Entry) → IsBare before → (p : Plot) → IsExecutedPlot p i a n → IsFresh p before
+fresh_plot i a n before bare p plot =
+    record { undated = plot.undated; runs = plot.runs; unread = bare.unread (facts p); unrenamed = bare.unrenamed (facts p) }
+
+-- what was drawn since some moment was drawn since the beginning
+since_start : (i : ℕ) (output session key : List ℕ) (before after : List Entry) → IsSessionOf i output session key before after → IsSessionOf i output session key [] after
+since_start i output session key before after s = record {
+  pairs = s.pairs;
+  session_is = s.session_is;
+  key_is = s.key_is;
+  asked = s.asked;
+  drawn = s.drawn;
+  earlier = s.earlier ++ before;
+  since = s.since ∙ sym (append-nil (s.earlier ++ before));
+  ports = s.ports;
+  later = s.later;
+  split = s.split;
 }
 
+follows_journal : (i : ℕ) (a : Ask) (n : Notebook) (answer : Answer) (before after : List Entry) → IsBare before → Follows i a n before after (λ p. HasAnswered p answer after)
+    → FollowsJournal i a n answer after
+follows_journal i a n answer before after bare (followed session key drawn each) =
+    in_session session key (since_start i a.output session key before after drawn) (λ p plot s k. each p plot.is (fresh_plot i a n before bare p plot) s k)
+follows_journal i a n answer before after bare (followed_in_any each) = in_any (λ p plot. each p plot.is (fresh_plot i a n before bare p plot))
+
 module _ (i : ℕ) (a : Ask) (old new : Counts) (before after : List Entry) (bare : IsBare before) where
-  saved_by : (status : ℕ) (bytes : List ℕ) (n : Notebook) (begin : List Entry) (counts : Counts) (newer : List Entry) (is_open : Bool) → Accepts a bytes n
+  saved_by : (answer : Answer) (status : ℕ) (bytes : List ℕ) (n : Notebook) (begin : List Entry) (counts : Counts) (newer : List Entry) (is_open : Bool) → Accepts a bytes n
       → Since (Spares a.output) before begin → after ≡ newer ++ Read a.input 33554432 (found.Whole bytes) ∷ begin
       → Ends (origin_of a n begin counts) is_open (Some after) new → (is_open ≡ false → IsUnsaved status) → IsCausedIn a (first_of a n) status → (IsNew (origin_of a n begin counts) → IsCountedIn a (first_of a n) status after)
-      → HasKernel a (first_of a n) status (Read a.input 33554432 (found.Whole bytes) ∷ begin) after → (status ≢ 12 → FollowsJournal i a n after) → IsSavedOnly i a status after
-  saved_by status bytes n begin counts newer is_open accepted since split ends shut caused counted kernel follows =
+      → HasKernel a (first_of a n) status (Read a.input 33554432 (found.Whole bytes) ∷ begin) after → (status ≢ 12 → FollowsJournal i a n answer after) → IsSavedOnly i a answer status after
+  saved_by answer status bytes n begin counts newer is_open accepted since split ends shut caused counted kernel follows =
       let first = since_then (bare.quiet a.output) since in
       let course : HasSaved (origin_of a n begin counts) is_open after = ends.told refl in
       let by : IsCountedIn a (first_of a n) status after = counted (record { watched = refl; none = none_acked a.output first }) in
       saved bytes n is_open begin newer accepted split (untouched_path a.output first)
       (course_safe a.output a.merge (first_of a n) 0 begin (untouched_since first refl) (none_acked a.output first) is_open course.settled after course.is.course) shut caused by (left_as a (first_of a n) status after by) kernel follows
 
-  pub saved_only : (answer : Answer) → Makes i a (Some answer) old new before after → IsSavedOnly i a answer.status after
+  pub saved_only : (answer : Answer) → Makes i a (Some answer) old new before after → IsSavedOnly i a answer answer.status after
   saved_only answer (nothing unread since) = untouched before (untouched_path a.output (since_then (bare.quiet a.output) since)) unread
   saved_only answer (saves bytes n begin then_ newer accepted caused since grow split ends follows) =
-      saved_by answer.status bytes n begin then_ newer ends.is_open accepted since split ends.ends ends.shut caused.0 (λ fresh task same. ends.counted task same fresh) caused.1
-      (λ fed. follows_journal i a n before after bare (follows bare.shut))
+      saved_by answer answer.status bytes n begin then_ newer ends.is_open accepted since split ends.ends ends.shut caused.0 (λ fresh task same. ends.counted task same fresh) caused.1
+      (λ fed. follows_journal i a n answer before after bare (follows bare.shut))
 
-  pub stopped_only : (status : ℕ) → status ≡ 12 → Makes i a None old new before after → IsSavedOnly i a status after
-  stopped_only status is (nothing unread since) = untouched before (untouched_path a.output (since_then (bare.quiet a.output) since))
+  pub stopped_only : (answer : Answer) (status : ℕ) → status ≡ 12 → Makes i a None old new before after → IsSavedOnly i a answer status after
+  stopped_only answer status is (nothing unread since) = untouched before (untouched_path a.output (since_then (bare.quiet a.output) since))
       (unread_pass a status before after after after since start (unread_twelve a status after is))
-  stopped_only status is (saves bytes n begin then_ newer accepted caused since grow split ends follows) =
-      saved_by status bytes n begin then_ newer ends.is_open accepted since split ends.ends (λ e. inr is) (uncaused_in a (first_of a n) status (ap cause_of is)) (λ fresh. uncounted a (first_of a n) status after (ap cause_of is))
+  stopped_only answer status is (saves bytes n begin then_ newer accepted caused since grow split ends follows) =
+      saved_by answer status bytes n begin then_ newer ends.is_open accepted since split ends.ends (λ e. inr is) (uncaused_in a (first_of a n) status (ap cause_of is)) (λ fresh. uncounted a (first_of a n) status after (ap cause_of is))
       (other_kernel a (first_of a n) status (Read a.input 33554432 (found.Whole bytes) ∷ begin) after (twelve_other status is))
       (λ fed. absurd (fed is))
 
@@ -216,9 +234,9 @@ far_others (a ∷ rest) path long (suc k) b is =
 module _ (asks : List Ask) (here : List ℕ) (rose cut : Type 0) (code : ℕ) (before done after : List Entry) (others : LeavesOthers asks before after) (bare : IsBare before)
     (alone : AreApart asks) (calls : CallsOfJobs (numbered 0 asks) here true before done) (speech : EndsSpeech cut code done after) where
   runs_with : (answers : List Answer) → length answers ≡ length asks
-      → ((i : ℕ) (a : Ask) (answer : Answer) → slice_get asks i ≡ Some a → IsApart (numbered 0 asks) i a → slice_get answers i ≡ Some answer → IsSavedOnly i a answer.status after)
-      → Answers rose (first_fault answers) code → EndsChildren (numbered 0 asks) before after → Runs asks here rose cut code before after
-  runs_with answers count jobs status children =
+      → ((i : ℕ) (a : Ask) (answer : Answer) → slice_get asks i ≡ Some a → IsApart (numbered 0 asks) i a → slice_get answers i ≡ Some answer → IsSavedOnly i a answer answer.status after)
+      → Answers rose (first_fault answers) code → EndsChildren (numbered 0 asks) before after → AreSaid asks answers cut before done → Runs asks here rose cut code before after
+  runs_with answers count jobs status children said =
       let f = front (others (far asks) (far_others asks (far asks) (omega arith))) in
       record {
         answers = answers;
@@ -233,9 +251,18 @@ module _ (asks : List Ask) (here : List ℕ) (rose cut : Type 0) (code : ℕ) (b
         status = status;
         done = done;
         calls = calls;
+        said = said;
         speech = speech;
         children = children;
       }
+
+-- where memory was refused the run says so in place of its jobs, whose last lines are empty
+starved_said : (asks : List Ask) (cut : Type 0) (before past : List Entry) → Front before past → AreSaid asks (all_starved asks) cut before past
+starved_said asks cut before past f = record {
+  each = λ i a answer at is.
+      subst (λ line. HasSaid line cut before past) (sym (starved_line asks i answer is))
+      (record { earlier = []; said = before; later = f.entries; says = said_whole said_none; split = f.split });
+}
 
 -- at a journal in which a path was not touched none waits for the sync of its folder
 rested : (output : List ℕ) {before : List Entry} → IsBare before → IsRested output before
@@ -244,11 +271,11 @@ rested output bare = spared_rest output refl (bare.quiet output)
 pub runs_done : {here : List ℕ} (asks : List Ask) (answers : List Answer) (old new : Counts) (rose cut : Type 0) (code : ℕ) (before after : List Entry)
     → LeavesOthers asks before after → CallsOfJobs (numbered 0 asks) here true before after → EndsChildren (numbered 0 asks) before after
     → ((i : ℕ) (a : Ask) → slice_get asks i ≡ Some a → IsApart (numbered 0 asks) i a → IsRested a.output before → Makes (0 + i) a (slice_get answers i) old new before after)
-    → length answers ≡ length asks → Answers rose (first_fault answers) code → IsBare before → AreApart asks → Runs asks here rose cut code before after
-runs_done {here} asks answers old new rose cut code before after others calls children jobs count status bare alone =
+    → length answers ≡ length asks → Answers rose (first_fault answers) code → AreSaid asks answers cut before after → IsBare before → AreApart asks → Runs asks here rose cut code before after
+runs_done {here} asks answers old new rose cut code before after others calls children jobs count status said bare alone =
     runs_with asks here rose cut code before after after others bare alone calls silence answers count
     (λ i a answer at apart is. saved_only i a old new before after bare answer
-    (subst (λ k. Makes k a (Some answer) old new before after) (omega arith) (subst (λ o. Makes (0 + i) a o old new before after) is (jobs i a at apart (rested a.output bare))))) status children
+    (subst (λ k. Makes k a (Some answer) old new before after) (omega arith) (subst (λ o. Makes (0 + i) a o old new before after) is (jobs i a at apart (rested a.output bare))))) status children said
 
 pub runs_starved : {here : List ℕ} (asks : List Ask) (old mid new : Counts) (rose cut : Type 0) (line : List ℕ) (code : ℕ) (before past after : List Entry)
     → LeavesOthers asks before past → CallsOfJobs (numbered 0 asks) here true before past → EndsChildren (numbered 0 asks) before past
@@ -257,8 +284,9 @@ pub runs_starved : {here : List ℕ} (asks : List Ask) (old mid new : Counts) (r
 runs_starved {here} asks old mid new rose cut line code before past after others calls children jobs grow text says some is bare alone =
     runs_with asks here rose cut code before past after (λ path apart. says_spare path (others path apart) says) bare alone calls
     (last_line is (subst (λ t. Says t cut past after) text says)) (all_starved asks) (starved_count asks)
-    (λ i a answer at apart got. stopped_only i a old new before after bare answer.status (starved_at asks i answer got)
+    (λ i a answer at apart got. stopped_only i a old new before after bare answer answer.status (starved_at asks i answer got)
     (said_after i a old mid new before past after (says_spare a.output start says) grow
     (subst (λ k. Makes k a None old mid before past) (omega arith) (jobs i a at apart (rested a.output bare)))))
     (subst (λ n. Answers rose n code) (sym (starved_fault asks some)) (subst (λ n. Answers rose 12 n) (sym is) (plain (λ zero_ failed. cc))))
-    (λ i a at none. said_childless i says (children i a at none))
+    (λ i a at unborn. said_childless i says (children i a at unborn))
+    (let f = front (others (far asks) (far_others asks (far asks) (omega arith))) in starved_said asks cut before past f)

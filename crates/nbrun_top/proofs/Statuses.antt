@@ -35,6 +35,18 @@ starved_at (a ∷ rest) zero x is = status_same (sym is)
     status_same e = ap (λ o. status_in o) e
 starved_at (a ∷ rest) (suc i) x is = starved_at rest i x is
 
+pub starved_line : (asks : List Ask) (i : ℕ) (x : Answer) → slice_get (all_starved asks) i ≡ Some x → x.line ≡ []
+starved_line [] i x is = cc
+starved_line (a ∷ rest) zero x is = line_same (sym is)
+  where
+    line_in : Option Answer → List ℕ
+    line_in None = []
+    line_in (Some y) = y.line
+
+    line_same : Some x ≡ Some starved_answer → x.line ≡ []
+    line_same e = ap line_in e
+starved_line (a ∷ rest) (suc i) x is = starved_line rest i x is
+
 pub job_status : (faults old now code given : ℕ) (answers slice : List Answer) → faults ≡ old → code ≡ first_fault slice → slice ≡ answers → Answers (Rose faults now) code given
     → Answers (Rose old now) (first_fault answers) given
 job_status faults old now code given answers slice same coded is status =

@@ -21,8 +21,9 @@ use Rattle.run_journal.specs.Job.{Job}
 use Rattle.run_journal.specs.Saves.{renamed_texts}
 use Rattle.job_journal.specs.Plot.{Plot, facts}
 use Rattle.job_journal.specs.Quiet.{is_unread}
-use Rattle.job_journal.specs.Standing.{HasEndedAs}
+use Rattle.job_journal.specs.Ended.{HasAnswered}
 use Rattle.cell_core.specs.Task.{Task}
+use Rattle.job_run.specs.Beginning.{IsSessionOf}
 use Rattle.job_run.specs.Counted.{IsCausedAfter}
 use Rattle.job_run.specs.Left.{NamesFailed}
 use Rattle.job_run.specs.Task.{task_for}
@@ -37,7 +38,7 @@ use Rattle.job_saves.specs.Reads.{first_of}
 use Rattle.job_begin.specs.Begun.{counted_task, IsCausedIn, IsUnread, HasKernel}
 use Rattle.job_begin.specs.Causes.{HasCause}
 use Rattle.job_begin.specs.Standing.{IsPlotWith}
-use Rattle.batch_run.specs.Batch.{CallsOfJobs, EndsChildren, HasWaited, numbered}
+use Rattle.batch_run.specs.Batch.{AreSaid, CallsOfJobs, EndsChildren, HasWaited, numbered}
 use Rattle.nbrun_top.specs.declared.answer.Answer.{Answer as Last}
 use Rattle.nbrun_top.specs.declared.end.End.{End}
 use Rattle.nbrun_top.specs.declared.end.End.TheVariants as end
@@ -128,34 +129,45 @@ pub record IsLeftAs (a : Ask) (first : Notebook) (status : ℕ) (journal : List 
   -- with 7 that of the notebook with no cell settled
   pub not_ready : status ≡ 7 → ∥ IsLeft (output_of a first journal) 0 None ∥₁
 
--- The saves of the job of this number follow the journal. In the session that was drawn for it, and under its key, whatever plot it has: the
--- texts that were renamed onto its output are the first of the saves that are due by the kernel's signed messages. It holds of a job that
--- executes a cell and wants no interrupts.
-pub record FollowsJournal (i : ℕ) (a : Ask) (n : Notebook) (journal : List Entry) : Type 0 where
-  pub session : List ℕ
-  pub key : List ℕ
-  pub each : (p : Plot) → IsPlotWith p i a n → (facts p).task.times.interrupt ≡ false → 0 < length (facts p).task.plan
-      → p.setting.session ≡ session → p.setting.key ≡ key → HasEndedAs p journal
+-- A plot is of the job of this number, with what it asks and with this notebook. The job executes a cell, and wants no interrupts.
+pub record IsExecutedPlot (p : Plot) (i : ℕ) (a : Ask) (n : Notebook) : Type 0 where
+  pub is : IsPlotWith p i a n
+  pub undated : (facts p).task.times.interrupt ≡ false
+  pub runs : 0 < length (facts p).task.plan
+
+-- The job of this number has ended with its answer by the journal, in the session and under the key that were drawn for it. What was saved are the
+-- first of the saves that are due by the kernel's signed messages. Where the status names a cause, the requests tell of it, all saves that are due
+-- were made, and the line says so. Where no kernel was started, it holds in any session.
+pub data FollowsJournal (i : ℕ) (a : Ask) (n : Notebook) (answer : Answer) (journal : List Entry) : Type 0 where
+  in_session : (session key : List ℕ) → IsSessionOf i a.output session key [] journal
+      → ((p : Plot) → IsExecutedPlot p i a n → p.setting.session ≡ session → p.setting.key ≡ key → HasAnswered p answer journal)
+      → FollowsJournal i a n answer journal
+  in_any : ((p : Plot) → IsExecutedPlot p i a n → HasAnswered p answer journal) → FollowsJournal i a n answer journal
 
 -- The output of a job that ended with this status wasn't touched; or the bytes of its input give a notebook with the
 -- parameters, nothing had touched the output before they were read, and then it was saved by prefixes of that notebook,
 -- without a failed save unless the status says so. A status that names a cause comes only where there are events that stop the job for
 -- it, with as many saves as were acknowledged, and a crash then leaves just the text of the last save, which the status asks for. 4 and
--- 5 come only where the input gave no notebook, or 5 where no kernel was found for it. Unless memory was refused, the saves follow the
--- journal. `i`: the job's number.
-pub data IsSavedOnly (i : ℕ) (a : Ask) (status : ℕ) (journal : List Entry) : Type 0 where
-  untouched : (before : List Entry) → IsUntouched a.output journal → IsUnread a status before journal → IsSavedOnly i a status journal
+-- 5 come only where the input gave no notebook, or 5 where no kernel was found for it. Unless memory was refused, the job has ended with this
+-- answer by the journal. `i`: the job's number.
+pub data IsSavedOnly (i : ℕ) (a : Ask) (answer : Answer) (status : ℕ) (journal : List Entry) : Type 0 where
+  untouched : (before : List Entry) → IsUntouched a.output journal → IsUnread a status before journal → IsSavedOnly i a answer status journal
   saved : (bytes : List ℕ) (n : Notebook) (is_open : Bool) (before later : List Entry) → Accepts a bytes n
       → journal ≡ later ++ Read a.input 33554432 (found.Whole bytes) ∷ before → IsUntouched a.output before
       → IsSavedSo a.output a.merge (first_of a n) 0 is_open before journal → (is_open ≡ false → IsUnsaved status)
       → IsCausedIn a (first_of a n) status → IsCountedIn a (first_of a n) status journal → (a.prepare ≡ false → IsLeftAs a (first_of a n) status journal)
       → HasKernel a (first_of a n) status (Read a.input 33554432 (found.Whole bytes) ∷ before) journal
-      → (status ≢ 12 → FollowsJournal i a n journal) → IsSavedOnly i a status journal
+      → (status ≢ 12 → FollowsJournal i a n answer journal) → IsSavedOnly i a answer status journal
+
+-- the one job of a run has ended with an answer, and what it saved is by that answer, where the run ends with this status
+pub record IsSavedAlone (a : Ask) (status : ℕ) (journal : List Entry) : Type 0 where
+  pub answer : Answer
+  pub saved : IsSavedOnly 0 a answer status journal
 
 -- jobs have ended with these answers, one each, and no other path was written to, each input among them
 pub record HaveRun (asks : List Ask) (answers : List Answer) (journal : List Entry) : Type 0 where
   pub one_each : length answers ≡ length asks
-  pub outputs : (i : ℕ) (a : Ask) (answer : Answer) → slice_get asks i ≡ Some a → slice_get answers i ≡ Some answer → IsSavedOnly i a answer.status journal
+  pub outputs : (i : ℕ) (a : Ask) (answer : Answer) → slice_get asks i ≡ Some a → slice_get answers i ≡ Some answer → IsSavedOnly i a answer answer.status journal
   pub inputs : (i : ℕ) (a : Ask) → slice_get asks i ≡ Some a → IsUntouched a.input journal
   pub others : (path : List ℕ) → NoneWrites asks path → IsUntouched path journal
 
@@ -176,7 +188,7 @@ pub data EndsSpeech (cut : Type 0) (code : ℕ) (done : List Entry) : List Entry
   last_line : {after : List Entry} → code ≡ 12 → Says (all_lines [] [] end.NoMemory) cut done after → EndsSpeech cut code done after
 
 -- Jobs have run behind these entries, and the run ends with that status. `done`: when they had ended, with what was said since.
--- Each call was one of the loop or of one of the jobs, and each child that was started has its end.
+-- Each call was one of the loop or of one of the jobs, and each child that was started has its end. The last line of each job was said.
 pub record Runs (asks : List Ask) (here : List ℕ) (rose cut : Type 0) (code : ℕ) (before after : List Entry) : Type 0 where
   pub answers : List Answer
   pub later : List Entry
@@ -185,6 +197,7 @@ pub record Runs (asks : List Ask) (here : List ℕ) (rose cut : Type 0) (code : 
   pub status : Answers rose (first_fault answers) code
   pub done : List Entry
   pub calls : CallsOfJobs (numbered 0 asks) here true before done
+  pub said : AreSaid asks answers cut before done
   pub speech : EndsSpeech cut code done after
   pub children : EndsChildren (numbered 0 asks) before after
 

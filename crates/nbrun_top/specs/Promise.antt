@@ -12,7 +12,7 @@ use Rattle.save_disk.specs.Places.{save_count}
 use Rattle.nbrun_top.specs.Asked.{IsJob, IsPlain, IsExecuting, IsExecuted, IsExercise, IsNoExercise}
 use Rattle.nbrun_top.specs.Crash.{IsSafe}
 use Rattle.nbrun_top.specs.Ended.{Ended, IsHeard, acks_of}
-use Rattle.nbrun_top.specs.Executed.{Executed, IsSavedOnly, DoesNotWrite, StartRose, NetRose, WaitsAll, WaitsAtMost}
+use Rattle.nbrun_top.specs.Executed.{Executed, IsSavedAlone, DoesNotWrite, StartRose, NetRose, WaitsAll, WaitsAtMost}
 use Rattle.nbrun_top.specs.Exercised.{Exercised}
 use Rattle.nbrun_top.specs.ExerciseLine.{IsOutcome}
 use Rattle.nbrun_top.specs.Ran.{IsDelivered, IsOther, IsUntouched}
@@ -42,7 +42,7 @@ pub record Promise {W : Type 0} (journal : W → Option (List Entry)) (counts : 
   -- The one job of the words: at every moment a crash leaves at the output what was there before, or a prefix of the notebook that
   -- was read, the one that was acknowledged last or the next. 0, 1, 7, 8, 9, 13 and 15 come only where there are events that stop
   -- the job for that cause.
-  pub prefixes : FromStart journal old new (λ j. (a : Ask) → IsExecuted words a → IsSavedOnly 0 a result j)
+  pub prefixes : FromStart journal old new (λ j. (a : Ask) → IsExecuted words a → IsSavedAlone a result j)
   -- the one job of the words: at every moment a crash leaves every file as it was that the job doesn't write
   pub others : FromStart journal old new (λ j. (a : Ask) (path : List ℕ) → IsExecuted words a → DoesNotWrite a.output path → IsUntouched path j)
   -- the one job of the words: at every moment a crash leaves its input as it was

@@ -15,8 +15,9 @@ returns-in-Ok-clause-runs g c =
     let new = g.W.Journal.counts c.run_jobs.new.w in
     let status = job_status c.say_faults-faults.result old.say new.say c.first_fault.result c.unless_not_said.result c.in-Ok.answers c.as_slice.result.now c.say_faults-faults.ensures.is
     c.first_fault.ensures c.as_slice.ensures c.unless_not_said.ensures.answers in
-    told_as (told_both (told_both c.in-Ok.ensures.jobs c.in-Ok.ensures.others) (told_both c.in-Ok.ensures.calls c.in-Ok.ensures.children)) (λ x y both quiet clean alone.
-    runs_done c.args.asks c.in-Ok.answers old new (Rose old.say new.say) (0 < new.say) c.unless_not_said.result x y both.0.1 (both.1.0 true (λ e. clean)) both.1.1 both.0.0 c.in-Ok.ensures.one_each status quiet alone)
+    told_as (told_both (told_both (told_both c.in-Ok.ensures.jobs c.in-Ok.ensures.others) (told_both c.in-Ok.ensures.calls c.in-Ok.ensures.children)) c.in-Ok.ensures.said) (λ x y all quiet clean alone.
+    let both = all.0 in
+    runs_done c.args.asks c.in-Ok.answers old new (Rose old.say new.say) (0 < new.say) c.unless_not_said.result x y both.0.1 (both.1.0 true (λ e. clean)) both.1.1 both.0.0 c.in-Ok.ensures.one_each status all.1 quiet alone)
 
 pub returns-in-Err-clause-runs : goal.returns-in-Err-clause-runs
 returns-in-Err-clause-runs g c =
