@@ -5,6 +5,7 @@ use Rattle.std.proofs.Math.Bool.{true≢false}
 use Rattle.std.proofs.lemmas.Bool.{and_parts, cond-false, eqb-true, false_from_ne_true}
 use Rattle.std.proofs.lemmas.List.{nil_from_length, take_all}
 use Rattle.std.proofs.lemmas.Option.{same_Some}
+use Rattle.world.specs.declared.chan.Chan.{Chan}
 use Rattle.world.specs.declared.entry.Entry.{Entry}
 use Rattle.world.specs.Moments.{Since, start, more}
 use Rattle.save_disk.specs.Entries.{SaveOf}
@@ -23,7 +24,7 @@ use Rattle.cell_core.specs.Task.{Task}
 use Rattle.job_end.specs.declared.answer.Answer.{Answer}
 use Rattle.run_journal.specs.Codec.{Arrival}
 use Rattle.run_journal.specs.Job.{Job}
-use Rattle.run_journal.specs.Parts.{saves_of}
+use Rattle.run_journal.specs.Parts.{bytes_got, saves_of}
 use Rattle.run_journal.specs.Requests.{Request, has_idle, is_last_passed, is_over, last_request, reply, requests, used_of}
 use Rattle.run_journal.specs.Why.{are_acked, is_done, is_error, plain_count}
 use Rattle.run_journal.specs.Saves.{Save, closing, is_marked, last_cell, renamed_texts, run_saves, stop_save, stopping}
@@ -41,6 +42,7 @@ use Rattle.job_journal.specs.Saved.{IsAsked, save_of}
 use Rattle.job_journal.specs.Standing.{Parts, StandsBy, HasEndedAs}
 use Rattle.job_journal.specs.Told.{is_stop}
 use Rattle.job_journal.proofs.Acking.{acks_on, requests_on, saved_agrees, saved_made}
+use Rattle.job_journal.proofs.Breaking.{broken_same, bytes_on}
 use Rattle.job_journal.proofs.Dues.{made_few, parts_of_run}
 use Rattle.job_journal.proofs.Making.{made_grows, made_texts, same_texts}
 use Rattle.job_journal.proofs.Quiet.{ended_on}
@@ -265,11 +267,12 @@ stops_by_save p number x past s settled asked text is now save cause f =
 
 -- ---- what stays
 
--- Of a job's requests, its acknowledged saves and the texts that were renamed onto its output nothing has changed.
+-- Of a job's requests, its acknowledged saves, the texts that were renamed onto its output and the octets that it got nothing has changed.
 pub record IsSame (j : Job) (before now : List Entry) : Type 0 where
   pub requests_are : requests j now ≡ requests j before
   pub saves_are : saves_of j now ≡ saves_of j before
   pub texts_are : renamed_texts j now ≡ renamed_texts j before
+  pub bytes_are : (c : Chan) → bytes_got j c now ≡ bytes_got j c before
 
 module _ (j : Job) (before now : List Entry) (s : IsSame j before now) where
   done_stays : is_done j (saves_of j now) (requests j now) ≡ is_done j (saves_of j before) (requests j before)
@@ -295,7 +298,7 @@ module _ (p : Plot) (before now : List Entry) (s : IsSame (facts p) before now) 
     texts = s.texts_are ∙ h.texts ∙ ap (λ rs. map (λ (s : Save). Some s.text) (run_saves (facts p) rs (Some cause))) (sym s.requests_are);
   }
 
-  -- what is said of a cause, by the requests
+  -- what is said of a cause, by the requests and by what was got
   said : (cause : Why) (line : List ℕ) → SaysCause p cause line before → SaysCause p cause line now
   said cause.Done line e = e
   said cause.CellError line e =
@@ -304,7 +307,7 @@ module _ (p : Plot) (before now : List Entry) (s : IsSame (facts p) before now) 
   said cause.KernelLost line e = e
   said cause.TimedOut line e = e ∙ ap (λ rs. spoken_line p.ask.output (reason (ends.TimedOut (index_or_zero (last_cell (facts p).task.plan rs))))) (sym s.requests_are)
   said cause.NoIdle line e = e ∙ ap (λ rs. spoken_line p.ask.output (reason (ends.NoIdle (index_or_zero (last_cell (facts p).task.plan rs))))) (sym s.requests_are)
-  said cause.BadPeer line e = tt
+  said cause.BadPeer line e = record { bad = e.bad; broken = broken_same (facts p) e.bad before now (s.bytes_are e.bad.chan) e.broken; says = e.says }
 
   pub stop_said_stays : (cause : Why) (line : List ℕ) → IsStopSaid p cause line before → IsStopSaid p cause line now
   stop_said_stays cause line h = record { stopped = stop_stays cause h.stopped; says = said cause line h.says }
@@ -320,7 +323,12 @@ texts_on j before now start = refl
 texts_on j before now (more {past} {entry} w q) = same_texts j entry past q.unrenamed ∙ texts_on j before past w
 
 pub same_on : (j : Job) (before now : List Entry) → j.task.times.interrupt ≡ false → Since (IsQuietNow j) before now → IsSame j before now
-same_on j before now plain w = record { requests_are = requests_on j before now plain w; saves_are = acks_on j before now plain w; texts_are = texts_on j before now w }
+same_on j before now plain w = record {
+  requests_are = requests_on j before now plain w;
+  saves_are = acks_on j before now plain w;
+  texts_are = texts_on j before now w;
+  bytes_are = bytes_on j before now w;
+}
 
 pub stopped_on : (p : Plot) (cause : Why) (before now : List Entry) → (facts p).task.times.interrupt ≡ false → Since (IsQuietNow (facts p)) before now
     → HasStoppedFor p cause before → HasStoppedFor p cause now

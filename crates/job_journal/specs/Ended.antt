@@ -2,7 +2,10 @@
 -- nbclient; the statuses are nbrun's own).
 use Rattle.std.specs.Prelude.{◌≡◌, ℕ, ◌==◌, true, false, List, [], map, Option, Some, None, if◌then◌else◌, is_some}
 use Rattle.world.specs.declared.entry.Entry.{Entry}
+use Rattle.world.specs.declared.chan.Chan.{Chan}
 use Rattle.said_lines.specs.Lines.{spoken_line}
+use Rattle.zmtp_wire.specs.declared.fault.WireFault.{WireFault}
+use Rattle.zmtp_wire.specs.Fault.{clip, number_of, place_of}
 use Rattle.cell_core.specs.declared.why.Why.{Why}
 use Rattle.cell_core.specs.declared.why.Why.TheVariants as why
 use Rattle.job_end.specs.declared.answer.Answer.{Answer}
@@ -10,8 +13,8 @@ use Rattle.run_journal.specs.Job.{Job}
 use Rattle.run_journal.specs.Parts.{saves_of}
 use Rattle.run_journal.specs.Requests.{Request, is_over, last_request, reply, requests}
 use Rattle.run_journal.specs.Saves.{Save, renamed_texts, run_saves}
-use Rattle.run_journal.specs.Why.{is_done, is_error}
-use Rattle.run_journal.specs.Ends.{end_by, reason}
+use Rattle.run_journal.specs.Why.{BadStream, bad_by, fault_on, is_done, is_error}
+use Rattle.run_journal.specs.Ends.{BadPeer, end_by, reason}
 use Rattle.job_journal.specs.Plot.{Plot, facts}
 use Rattle.job_journal.specs.Standing.{HasEndedAs}
 
@@ -58,12 +61,31 @@ pub record HasStoppedFor (p : Plot) (cause : Why) (now : List Entry) : Type 0 wh
   pub shown : ShowsCause (facts p) cause now
   pub texts : renamed_texts (facts p) now ≡ map (λ (s : Save). Some s.text) (run_saves (facts p) (requests (facts p) now) (Some cause))
 
+-- ---- a broken stream
+
+-- the stream of this channel with the number and the place that this fault tells
+abbrev pub bad_with : Chan → WireFault → BadStream
+bad_with c f = record { chan = c; number = number_of f; at = place_of f }
+
+-- A stream of the job is broken by the journal, with a fault of this number (RFC 23). Its place is that of the octet that breaks it, and stands still
+-- at 2 ^ 64 - 1.
+pub record IsBrokenAs (j : Job) (bad : BadStream) (now : List Entry) : Type 0 where
+  pub at : ℕ
+  pub fault : fault_on j now bad.chan ≡ Some (bad_by bad.chan (bad.number, at))
+  pub place : bad.at ≡ clip at
+
 -- ---- the answer
 
--- A line says how a job ends that stops for this cause: with the cell of the last request, and with the exception that its reply names. What the
--- line says of a broken stream is left open.
+-- A line names a stream that is broken by the journal: its channel, the number of its fault, and the place of the octet that breaks it.
+pub record NamesBroken (p : Plot) (line : List ℕ) (now : List Entry) : Type 0 where
+  pub bad : BadStream
+  pub broken : IsBrokenAs (facts p) bad now
+  pub says : line ≡ spoken_line p.ask.output (reason (BadPeer bad))
+
+-- A line says how a job ends that stops for this cause: with the cell of the last request, with the exception that its reply names, or with the
+-- stream that is broken.
 abbrev pub SaysCause : Plot → Why → List ℕ → List Entry → Type 0
-SaysCause p why.BadPeer line now = Unit {0}
+SaysCause p why.BadPeer line now = NamesBroken p line now
 SaysCause p cause line now = line ≡ spoken_line p.ask.output (reason (end_by (facts p) now cause))
 
 -- the job of a plot has stopped for this cause, and this line says so

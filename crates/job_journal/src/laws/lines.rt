@@ -1,6 +1,6 @@
 //! What our sides of the connections stand for goes on with the journal, and what a piece brings.
 ghost use Rattle.std.specs.Prelude.{◌≡◌, ◌⊎◌, true, false, ℕ, List, [], ◌∷◌, ◌++◌};
-ghost use Rattle.std.specs.Prelude.{Option, is_some};
+ghost use Rattle.std.specs.Prelude.{Option, Some, is_some};
 ghost use Rattle.world.specs.declared.chan.Chan as chan;
 ghost use Rattle.world.specs.declared.conn.Conn as conn;
 ghost use Rattle.world.specs.declared.entry.Entry.{Entry};
@@ -22,12 +22,14 @@ ghost use Rattle.run_journal.specs.Jupyter.{Speaker, bodies_in, octets_of};
 ghost use Rattle.run_journal.specs.Order.{begins_unread};
 ghost use Rattle.run_journal.specs.Parts.{place, bytes_got};
 ghost use Rattle.run_journal.specs.Requests.{is_broken};
+ghost use Rattle.run_journal.specs.Why.{BadStream};
 ghost use Rattle.run_journal.specs.Agreement.{BringsNothing, is_got};
 ghost use Rattle.run_journal.specs.Queue.{Queued, channel_of, news};
+ghost use Rattle.job_journal.specs.Ended.{IsBrokenAs, bad_with};
 ghost use Rattle.job_journal.specs.Plot.{Plot, facts};
 ghost use Rattle.job_journal.specs.Line.{OnLine, given_as, is_got_at, is_on, parts_of};
 
-use zmtp_wire::laws::{decoder_answers, octets_are, octets_give};
+use zmtp_wire::laws::{decoder_answers, faults_are_placed, octets_are, octets_give};
 
 /// A piece that came stands in the history; what the job queues at its entry is unsent.
 pub fn lines_get_pieces()
@@ -95,15 +97,24 @@ pub fn bytes_are_got()
         ((c : chan.Chan) → begins_unread j c (entry ∷ past) ≡ true) → BringsNothing j entry past }
 {}
 
-/// Where no stream was broken, one is with a piece exactly where our side answers a fault.
+/// Where no stream was broken, one is with a piece exactly where our side answers a fault. The
+/// stream is broken by the journal with the fault that our side answers, and stays so where no
+/// byte comes on its channel.
 pub fn pieces_break_streams()
-    ensures { (p : Plot) (c : chan.Chan) (entry : Entry) (past : List Entry)
+    ensures breaks { (p : Plot) (c : chan.Chan) (entry : Entry) (past : List Entry)
         (fault : Option fault.WireFault) → is_broken (facts p) past ≡ false →
         ((d : chan.Chan) → (d ≡ c) ⊎
         (bytes_got (facts p) d (entry ∷ past) ≡ bytes_got (facts p) d past)) →
         answer_by fault ≡ answer_to (role_on c) (bytes_got (facts p) c (entry ∷ past)) →
         is_broken (facts p) (entry ∷ past) ≡ is_some fault }
+    ensures fault { (p : Plot) (c : chan.Chan) (now : List Entry) (f : fault.WireFault) →
+        answer_by (Some f) ≡ answer_to (role_on c) (bytes_got (facts p) c now) →
+        IsBrokenAs (facts p) (bad_with c f) now }
+    ensures stays { (j : Job) (bad : BadStream) (before now : List Entry) →
+        bytes_got j bad.chan now ≡ bytes_got j bad.chan before → IsBrokenAs j bad before →
+        IsBrokenAs j bad now }
 {
+    faults_are_placed();
     octets_are();
     octets_give();
 }
