@@ -66,7 +66,7 @@ pub ended_clock : (p : Plot) (a : Answer) (ms : ℕ) (past : List Entry) → (fa
     → HasAnswered p a (made.Moment ms ∷ past)
 ended_clock p a ms past plain g =
     answer_stays p past (made.Moment ms ∷ past)
-    (record { requests_are = clock_requests (facts p) ms past plain; saves_are = refl; texts_are = refl }) a (still_ended p ms past plain g.ended) g
+    (record { requests_are = clock_requests (facts p) ms past plain; saves_are = refl; texts_are = refl; bytes_are = λ c. refl }) a (still_ended p ms past plain g.ended) g
 
 -- ---- turns
 
