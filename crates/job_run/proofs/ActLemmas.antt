@@ -68,7 +68,7 @@ pub does_start : (p : Plot) (number : ℕ) (x : Execution) (now : List Entry) �
 does_start p number x now t = (t.0, λ e. inl t.1)
 
 -- the job is stopped
-pub does_stop : (p : Plot) (number : ℕ) (x : Execution) (cause : Why) (e : End) (now : List Entry) → IsStopBy cause x.request e
+pub does_stop : (p : Plot) (number : ℕ) (x : Execution) (cause : Why) (e : End) (now : List Entry) → IsStopBy cause x.request x.broken e
     → DoesAct {U = Unit {0}} p number x (Stop cause) x (Err e) now now
 does_stop p number x cause e now is t = (stop_so p x now cause e t is, λ s. tt)
 

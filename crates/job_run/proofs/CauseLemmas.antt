@@ -1,11 +1,12 @@
 -- The causes of ends, by the counts.
 use Rattle.std.proofs.Common.{◌≡◌, ◌⊎◌, inl, inr, ℕ, ◌≤◌, List, [], Option, Some, None, Result, Ok, Err, refl, sym, ap, ◌∙◌, arith}
 use Rattle.std.specs.Prelude.{false, IfSome, IfErr}
+use Rattle.world.specs.declared.chan.Chan.{Chan}
 use Rattle.world.specs.declared.entry.Entry.{Entry}
 use Rattle.world.specs.Counts.{Counts, CountsGrow, Rose, no_counts}
 use Rattle.world.specs.Moments.{Since, Told}
 use Rattle.world.proofs.CountsLemmas.{grow_start}
-use Rattle.world.proofs.MomentsLemmas.{or_none, at_start}
+use Rattle.world.proofs.MomentsLemmas.{or_none, at_start, told_as}
 use Rattle.words.specs.declared.ask.Ask.{Ask}
 use Rattle.job_end.specs.declared.end.End.{End}
 use Rattle.job_end.specs.declared.end.End.TheVariants as end
@@ -17,9 +18,12 @@ use Rattle.job_saves.specs.Course.{HasPart, KeepsPart}
 use Rattle.job_saves.proofs.ChildLemmas.{told_asks_none, StartsNone, told_keeps_end}
 use Rattle.job_saves.proofs.CourseLemmas.{work_start}
 use Rattle.job_saves.proofs.ToldLemmas.{told_by}
+use Rattle.run_journal.specs.Job.{Job}
+use Rattle.run_journal.specs.Parts.{bytes_got}
 use Rattle.job_run.specs.Run.{EndCause}
 use Rattle.job_run.specs.Told.{EndsBy}
 use Rattle.cell_core.specs.Task.{Task}
+use Rattle.job_run.proofs.BrokenLemmas.{calls_bring_none}
 
 rose_within : (a b c d : ℕ) → a ≤ b → c ≤ d → Rose b c → Rose a d
 rose_within a b c d more later rose = grind (arith, more, later, rose)
@@ -143,6 +147,10 @@ module _ (was now : JobNotebook) (j k : Option (List Entry)) (c d : Counts)
   -- nor are ports asked for
   pub calls_ask_none : (n : ℕ) → AsksNone n j → AsksNone n k
   calls_ask_none n = told_asks_none (alone (output_of was)) n (starts_none (output_of was) n) j k calls_told
+
+  -- no byte of a job is got
+  pub calls_got_none : (facts : Job) → Told j k (λ before now. (chan : Chan) → bytes_got facts chan now ≡ bytes_got facts chan before)
+  calls_got_none facts = told_as calls_told (λ before now w. calls_bring_none facts (alone (output_of was)) before now w)
 
   -- they are of the same output
   pub calls_output : output_of now ≡ output_of was

@@ -34,7 +34,7 @@ use Rattle.cell_core.specs.declared.state.State.TheVariants.{Preparing, Starting
 use Rattle.cell_core.specs.declared.step.Step.{Step}
 use Rattle.cell_core.specs.Acts.{IsTimely, has_stopped, heard}
 use Rattle.cell_core.specs.Answering.{can_answer}
-use Rattle.cell_core.specs.Events.{is_saved, time}
+use Rattle.cell_core.specs.Events.{came, is_broken, is_saved, time}
 use Rattle.cell_core.specs.Holds.{awaits, now_of}
 use Rattle.cell_core.specs.StandsFor.{IsAt, StandsFor, awaits_saved_of, task_of}
 use Rattle.cell_core.specs.Task.{Task}
@@ -68,19 +68,11 @@ use Rattle.job_run.specs.Told.{Hears, MayCome}
 use Rattle.job_run.specs.Used.{TakesEvent}
 use Rattle.job_run.proofs.ActLemmas.{idle_stands}
 use Rattle.job_run.proofs.EndLemmas.{starved_so}
+use Rattle.job_run.proofs.BrokenLemmas.{live_at, none_broke}
 use Rattle.job_run.proofs.StandingLemmas.{answered_kind, told_other}
 use Rattle.job_run.proofs.ToldLemmas.{timely_by}
 
 -- ---- an event that is told comes in time
-
-live_at : (task : Task) (clock : Clock) (is_lost : Bool) (state : State) (events : List Event) → IsAt task clock is_lost state events → has_stopped task events ≡ false → is_stopped state ≡ false
-live_at task clock is_lost (Stopped failing) events a on = absurd (true≢false (sym a.stopped ∙ on))
-live_at task clock is_lost Preparing events a on = refl
-live_at task clock is_lost (Starting due) events a on = refl
-live_at task clock is_lost (Running r) events a on = refl
-live_at task clock is_lost (Passing k) events a on = refl
-live_at task clock is_lost Closing events a on = refl
-live_at task clock is_lost (Failing k w) events a on = refl
 
 -- while no save is awaited, and the job hasn't stopped, the core knows the last clock entry
 time_at : (task : Task) (clock : Clock) (is_lost : Bool) (state : State) (events : List Event) → IsAt task clock is_lost state events → awaits state ≡ false → is_stopped state ≡ false → time events ≡ now_of clock
@@ -114,6 +106,17 @@ passing_other (Reply f) q = absurd (true≢false (sym q))
 passing_other Looked q = absurd (true≢false (sym q))
 passing_other Broken q = absurd (true≢false (sym q))
 
+-- it tells of no broken stream
+passing_whole : (e : Event) → is_passing e ≡ true → is_broken e ≡ false
+passing_whole (Moment ms) q = refl
+passing_whole Lost q = refl
+passing_whole Saved q = refl
+passing_whole Ready q = refl
+passing_whole (Io m) q = refl
+passing_whole (Reply f) q = refl
+passing_whole Looked q = refl
+passing_whole Broken q = absurd (true≢false (sym q))
+
 -- it is answered by a look at most
 passing_idle : (e : Event) (act : Act) → IsOther e → is_passing e ≡ true → can_answer e act ≡ true → is_idle act ≡ true
 passing_idle e Nothing o q k = refl
@@ -137,6 +140,10 @@ module _ (p : Plot) (number : ℕ) (x z : Execution) (e : Event) (answer : Step)
       timely_told x named e s.parts.core.told hears may calm s.parts.core.hears.stands
       (subst (λ task. has_stopped task (heard task s.parts.core.told) ≡ false) (sym s.parts.is_for.task_is) s.parts.core.hears.goes_on)
 
+  -- no broken stream was told
+  unbroken : {A : Type 0} (clock : ℕ) (now : List Entry) (s : Stands p number (record x { clock = clock }) now) → is_broken e ≡ false → came is_broken (e ∷ s.parts.core.told) ≡ true → A
+  unbroken clock now s whole = none_broke (facts p) x.core s.parts.core.told s.parts.core.hears s.parts.is_for.task_is calm e whole
+
   idle_by : (clock : ℕ) (now : List Entry) → Stands p number (record x { clock = clock }) now → is_passing e ≡ true → is_idle answer.act ≡ true
   idle_by clock now s q =
       passing_idle e answer.act (passing_other e q) q
@@ -147,7 +154,8 @@ module _ (p : Plot) (number : ℕ) (x z : Execution) (e : Event) (answer : Step)
   told_goes_by clock now q s =
       let k : Execution = record x { clock = clock } in
       let to : StandsTo p number (record k { core = z.core }) answer.act now
-      = told_other p number k z.core e answer now s took (other ∙ sym calm) (timely_by_stands clock now s) (record k { core = z.core }) refl (passing_other e q) in
+      = told_other p number k z.core e answer now s took (other ∙ sym calm) (timely_by_stands clock now s) (record k { core = z.core }) refl (unbroken clock now s (passing_whole e q))
+      (passing_other e q) in
       let so : Stands p number (record (record x { core = z.core }) { clock = clock }) now = idle_stands p number (record k { core = z.core }) answer.act now (idle_by clock now s q) to in
       record { rest = rest; stands = subst (λ (v : Execution). Stands p number (record v { clock = clock }) now) (sym rest) so }
 
@@ -159,8 +167,9 @@ module _ (p : Plot) (number : ℕ) (x z : Execution) (e : Event) (answer : Step)
       (subst (λ (v : Execution). GoesBy p number clock x v now) (sym stays.same) (told_goes_by clock now q s), stays.no_end, same idle)
 
   -- another event that changes no request: what its act is for is due by the journal
-  pub step_stands : (now : List Entry) → IsOther e → Stands p number x now → StandsTo p number z answer.act now
-  step_stands now o s = told_other p number x z.core e answer now s took (other ∙ sym calm) (timely_by_stands x.clock now s) z rest o
+  pub step_stands : (now : List Entry) → IsOther e → is_broken e ≡ false → Stands p number x now → StandsTo p number z answer.act now
+  step_stands now o whole s =
+      told_other p number x z.core e answer now s took (other ∙ sym calm) (timely_by_stands x.clock now s) z rest (unbroken x.clock now s whole) o
 
 -- nothing was told
 pub passes_still : (p : Plot) (number : ℕ) (x : Execution) (now : List Entry) → PassesBy {U = Unit {0}} p number x x (Ok tt) now now

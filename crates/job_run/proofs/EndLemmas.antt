@@ -8,9 +8,12 @@ use Rattle.jtext.specs.Print.{quote}
 use Rattle.jcontent.specs.declared.content.Content.{Content}
 use Rattle.jcontent.specs.declared.content.Content.TheVariants as content
 use Rattle.jcontent.specs.declared.reply.ReplyIs.TheVariants as reply_is
+use Rattle.world.specs.declared.chan.Chan.{Chan}
+use Rattle.world.specs.declared.chan.Chan.TheVariants as chan
 use Rattle.world.specs.declared.entry.Entry.{Entry}
 use Rattle.world.specs.Moments.{Since}
 use Rattle.said_lines.specs.Lines.{spoken_line}
+use Rattle.zmtp_wire.specs.declared.fault.WireFault.{WireFault}
 use Rattle.cell_core.specs.declared.why.Why.{Why}
 use Rattle.cell_core.specs.declared.why.Why.TheVariants as why
 use Rattle.cell_core.specs.Task.{cell_of}
@@ -22,14 +25,14 @@ use Rattle.job_end.specs.Reasons.{line_of, of_cell}
 use Rattle.job_end.specs.Statuses.{status_of}
 use Rattle.job_saves.specs.Course.{IsEndOfSave}
 use Rattle.run_journal.specs.Codec.{Arrival}
-use Rattle.run_journal.specs.Ends.{index_or_zero, name_in, name_of, stopping_cell}
+use Rattle.run_journal.specs.Ends.{BadPeer, index_or_zero, name_in, name_of, reason, stopping_cell}
 use Rattle.run_journal.specs.Job.{Job}
 use Rattle.run_journal.specs.Requests.{Request as Asked, first as first_of, is_fatal, is_over, last_request, reply, requests}
 use Rattle.run_journal.specs.Saves.{Save, last_cell, run_saves}
 use Rattle.run_journal.specs.Why.{is_error}
 use Rattle.run_journal.proofs.Growth.{begins_self}
 use Rattle.run_journal.proofs.Safety.{few_requests}
-use Rattle.job_journal.specs.Ended.{HasAnswered, HasStoppedFor, IsStopSaid, SaysCause, cause_of}
+use Rattle.job_journal.specs.Ended.{HasAnswered, HasStoppedFor, IsStopSaid, NamesBroken, SaysCause, bad_with, cause_of}
 use Rattle.job_journal.specs.Plot.{Plot, facts}
 use Rattle.job_journal.specs.Quiet.{IsQuietNow}
 use Rattle.job_journal.specs.Standing.{HasEndedAs}
@@ -38,8 +41,8 @@ use Rattle.job_journal.proofs.Ended.{answered_on}
 use Rattle.job_run.proofs.NotedLemmas.{place}
 use Rattle.job_run.specs.declared.execution.Execution.{Execution}
 use Rattle.job_run.specs.declared.request.Request.{Request}
-use Rattle.job_run.specs.Standing.{EndsSo, IsToStop, NotesErrorOf, error_by, error_in, sent_of}
-use Rattle.job_run.specs.Stopping.{IsStopBy, cell_in, name_noted, or_empty}
+use Rattle.job_run.specs.Standing.{EndsSo, IsToStop, NotesBroken, NotesErrorOf, error_by, error_in, sent_of}
+use Rattle.job_run.specs.Stopping.{IsPeerEnd, IsStopBy, cell_in, name_noted, or_empty}
 use Rattle.job_run.specs.Told.{IsEndOfLaunch, IsOutside}
 
 -- ---- an end that names no cause
@@ -169,6 +172,22 @@ name_by j None [] k q on at noted fatal = absurd (cc)
 name_by j None (x ∷ rs) k q on at noted fatal = elim on [ ]
 name_by j (Some r) rs k q on at noted fatal = name_at j k q q.replies r.error fatal (noted r refl)
 
+-- the stream that broke
+peer_line : (output : List ℕ) (c : Chan) (f : WireFault) → line_of output (end.BadPeer c f) ≡ spoken_line output (reason (BadPeer (bad_with c f)))
+peer_line output chan.Shell f = refl
+peer_line output chan.Control f = refl
+peer_line output chan.Iopub f = refl
+peer_line output chan.Heart f = refl
+
+peer_named : (broken : Option (Chan × WireFault)) (e : End) → IsPeerEnd broken e → cause_of (status_of e) ≡ Some why.BadPeer
+peer_named None e is = absurd is
+peer_named (Some b) e is = ap (λ k. cause_of (status_of k)) is
+
+peer_says : (p : Plot) (broken : Option (Chan × WireFault)) (now : List Entry) (e : End) → NotesBroken (facts p) broken now → IsPeerEnd broken e → NamesBroken p (line_of p.ask.output e) now
+peer_says p broken now e n is =
+    let named : e ≡ end.BadPeer n.chan n.fault = subst (λ o. IsPeerEnd o e) n.noted is in
+    record { bad = bad_with n.chan n.fault; broken = n.is; says = ap (line_of p.ask.output) named ∙ peer_line p.ask.output n.chan n.fault }
+
 module _ (p : Plot) (x : Execution) (now : List Entry) where
   abbrev rs : List Asked
   rs = requests (facts p) now
@@ -185,7 +204,7 @@ module _ (p : Plot) (x : Execution) (now : List Entry) where
           name_by (facts p) x.request rs v.0 v.1 t.request f (t.noted v.0 v.1 f) (and_parts (is_over v.1) (is_fatal (facts p) v.0 (reply v.1)) e).1
 
   -- what the line of the end says
-  says_so : (cause : Why) → IsToStop p x cause now → (e : End) → IsStopBy cause x.request e → SaysCause p cause (line_of p.ask.output e) now
+  says_so : (cause : Why) → IsToStop p x cause now → (e : End) → IsStopBy cause x.request x.broken e → SaysCause p cause (line_of p.ask.output e) now
   says_so why.Done t e is = ap (line_of p.ask.output) is
   says_so why.CellError t e is =
       ap (line_of p.ask.output) is
@@ -195,19 +214,19 @@ module _ (p : Plot) (x : Execution) (now : List Entry) where
   says_so why.KernelLost t e is = ap (line_of p.ask.output) is
   says_so why.TimedOut t e is = ap (line_of p.ask.output) is ∙ ap (λ cell. spoken_line p.ask.output (of_cell cell (codes "timed out"))) (cell_is why.TimedOut t)
   says_so why.NoIdle t e is = ap (line_of p.ask.output) is ∙ ap (λ cell. spoken_line p.ask.output (of_cell cell (codes "no idle"))) (cell_is why.NoIdle t)
-  says_so why.BadPeer t e is = tt
+  says_so why.BadPeer t e is = peer_says p x.broken now e (t.broken refl) is
 
   -- its status names the cause
-  named_so : (cause other : Why) (e : End) → IsStopBy cause x.request e → cause_of (status_of e) ≡ Some other → cause ≡ other
+  named_so : (cause other : Why) (e : End) → IsStopBy cause x.request x.broken e → cause_of (status_of e) ≡ Some other → cause ≡ other
   named_so why.Done other e is f = let both : Some why.Done ≡ Some other = sym (ap (λ k. cause_of (status_of k)) is) ∙ f in cc
   named_so why.CellError other e is f = let both : Some why.CellError ≡ Some other = sym (ap (λ k. cause_of (status_of k)) is) ∙ f in cc
   named_so why.NotReady other e is f = let both : Some why.NotReady ≡ Some other = sym (ap (λ k. cause_of (status_of k)) is) ∙ f in cc
   named_so why.KernelLost other e is f = let both : Some why.KernelLost ≡ Some other = sym (ap (λ k. cause_of (status_of k)) is) ∙ f in cc
   named_so why.TimedOut other e is f = let both : Some why.TimedOut ≡ Some other = sym (ap (λ k. cause_of (status_of k)) is) ∙ f in cc
   named_so why.NoIdle other e is f = let both : Some why.NoIdle ≡ Some other = sym (ap (λ k. cause_of (status_of k)) is) ∙ f in cc
-  named_so why.BadPeer other e is f = let both : Some why.BadPeer ≡ Some other = sym (ap cause_of is) ∙ f in cc
+  named_so why.BadPeer other e is f = let both : Some why.BadPeer ≡ Some other = sym (peer_named x.broken e is) ∙ f in cc
 
-  answered : (cause : Why) → IsToStop p x cause now → (e : End) → IsStopBy cause x.request e → (a : Answer) → Answers p.ask.output e a → HasAnswered p a now
+  answered : (cause : Why) → IsToStop p x cause now → (e : End) → IsStopBy cause x.request x.broken e → (a : Answer) → Answers p.ask.output e a → HasAnswered p a now
   answered cause t e is _ said = record {
     ended = stopped_ended p cause now t.stopped;
     stopped = λ other f.
@@ -216,5 +235,5 @@ module _ (p : Plot) (x : Execution) (now : List Entry) where
   answered cause t e is _ starved = uncaused_answer p starved_answer now refl (stopped_ended p cause now t.stopped)
 
   -- the end by which it stops the job
-  pub stop_so : (cause : Why) (e : End) → IsToStop p x cause now → IsStopBy cause x.request e → EndsSo p e now
+  pub stop_so : (cause : Why) (e : End) → IsToStop p x cause now → IsStopBy cause x.request x.broken e → EndsSo p e now
   stop_so cause e t is = λ a answers. answered cause t e is a answers

@@ -1,6 +1,7 @@
 pub mod ActLemmas
 pub mod AskLemmas
 pub mod BeginLemmas
+pub mod BrokenLemmas
 pub mod CauseLemmas
 pub mod CellLemmas
 pub mod ClockLemmas

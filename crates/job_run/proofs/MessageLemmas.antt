@@ -22,7 +22,7 @@ use Rattle.cell_core.specs.declared.machine.Core.{Core}
 use Rattle.cell_core.specs.declared.step.Step.{Step}
 use Rattle.cell_core.specs.Acts.{IsTimely, act_of, takes_of, has_stopped, heard}
 use Rattle.cell_core.specs.Answering.{is_message, save_at_end}
-use Rattle.cell_core.specs.Events.{is_saved}
+use Rattle.cell_core.specs.Events.{came, is_broken, is_saved}
 use Rattle.cell_core.specs.Requests.{Standing, standing}
 use Rattle.cell_core.specs.StandsFor.{task_of, awaits_saved_of}
 use Rattle.cell_core.specs.Task.{Task, cell_of}
@@ -55,6 +55,7 @@ use Rattle.job_journal.proofs.Steps.{hears_next}
 use Rattle.job_run.specs.declared.execution.Execution.{Execution}
 use Rattle.job_run.specs.declared.request.Request.{Request}
 use Rattle.job_run.specs.Heard.{arrivals_of, is_of as is_of_message, is_parent_of}
+use Rattle.job_run.proofs.BrokenLemmas.{none_broke}
 use Rattle.job_run.proofs.EndLemmas.{starved_so}
 use Rattle.job_run.proofs.ListenLemmas.{arrivals_more, one_more}
 use Rattle.job_run.proofs.NotedLemmas.{noted_all, noted_passes}
@@ -216,6 +217,7 @@ module _ (p : Plot) (number : ℕ) (x : Execution) (standing_then : ℕ) (done r
             noted = noted_all p number (parts_of x) Iopub done (m ∷ rest) entry past w x.request done refl noted;
           };
           due = subst (λ es. IsAsked (facts p).task es settled) (sym two.1) (asked_save (facts p) told e settled w.core.hears.goes_on (sym answered ∙ is));
+          broken = λ f. none_broke (facts p) x.core told w.core.hears w.is_for.task_is calm e refl (ap (came is_broken) (sym two.1) ∙ f);
         }
 
     io_dealt : IsDealt p number z Iopub (done ++ m ∷ []) rest entry past answer.act

@@ -8,6 +8,7 @@ use Rattle.jcontent.specs.declared.content.Content.{Content}
 use Rattle.jcontent.specs.declared.content.Content.TheVariants.{ExecReply}
 use Rattle.jcontent.specs.declared.reply.ReplyIs.{ReplyIs}
 use Rattle.cell_core.specs.declared.act.Act.TheVariants.{Nothing, Save}
+use Rattle.cell_core.specs.Events.{came, is_broken}
 use Rattle.cell_core.specs.declared.event.Event.{Event}
 use Rattle.cell_core.specs.declared.event.Event.TheVariants.{Reply}
 use Rattle.cell_core.specs.declared.machine.Core.{Core}
@@ -40,6 +41,7 @@ use Rattle.job_journal.proofs.Saving.{asked_save}
 use Rattle.job_run.specs.declared.execution.Execution.{Execution}
 use Rattle.job_run.specs.declared.request.Request.{Request}
 use Rattle.job_run.specs.Heard.{is_parent_of}
+use Rattle.job_run.proofs.BrokenLemmas.{none_broke}
 use Rattle.job_run.proofs.NotedLemmas.{same_place, has_come, noted_more, noted_replied}
 use Rattle.job_run.specs.Standing.{DoesAct, IsAskedFor, IsOwn, IsToSave, NotesSoFar, StaysStill, Uses, UsesOrEnds, all_used, open_request, parts_of, sent_of}
 use Rattle.job_run.specs.Used.{NotesReply, SameRequest, TakesEvent, UsesReply, is_tagged_in, none, some}
@@ -136,9 +138,8 @@ module _ (p : Plot) (number : ℕ) (x : Execution) (standing_then : ℕ) (done r
     reply_over : has_ended (standing (facts p).task (reply_told ∷ told_before)) ≡ true → (settled : ℕ) → answer.act ≡ Save settled → IsToSave p number replied settled (entry ∷ past)
     reply_over t settled is =
         let two = reply_ends p number (parts_of x) m done rest entry past w core book answer.takes reply_mine reply_for reply_heard reply_takes reply_used t in
-        let asks = subst (λ es. IsAsked (facts p).task es settled) (sym two.1) (asked_save (facts p) told_before reply_told settled w.core.hears.goes_on (sym reply_answered ∙ is)) in
-        let both : (s : StandsBy p number (parts_of replied) [] [] (entry ∷ past)) × IsAsked (facts p).task s.core.told settled
-        = subst (λ (q : Parts). (s : StandsBy p number q [] [] (entry ∷ past)) × IsAsked (facts p).task s.core.told settled) (sym parts_are) (two.0, asks) in
+        let both : (s : StandsBy p number (parts_of replied) [] [] (entry ∷ past)) × (s.core.told ≡ reply_told ∷ told_before)
+        = subst (λ (q : Parts). (s : StandsBy p number q [] [] (entry ∷ past)) × (s.core.told ≡ reply_told ∷ told_before)) (sym parts_are) two in
         record {
           stands = record {
             parts = both.0;
@@ -146,7 +147,9 @@ module _ (p : Plot) (number : ℕ) (x : Execution) (standing_then : ℕ) (done r
             noted = noted_replied p number (parts_of x) done (m ∷ rest) entry past w request (done ++ m ∷ []) rest (sym (append_assoc done (m ∷ []) rest))
                 (has_come p number (parts_of x) done rest m entry past w reply_mine) noted_then;
           };
-          due = both.1;
+          due = subst (λ es. IsAsked (facts p).task es settled) (sym both.1)
+              (asked_save (facts p) told_before reply_told settled w.core.hears.goes_on (sym reply_answered ∙ is));
+          broken = λ f. none_broke (facts p) x.core told_before w.core.hears w.is_for.task_is calm reply_told refl (ap (came is_broken) (sym both.1) ∙ f);
         }
 
     reply_dealt : IsDealt p number replied Shell (done ++ m ∷ []) rest entry past answer.act

@@ -51,6 +51,7 @@ use Rattle.job_journal.specs.Told.{Hears, is_stop}
 use Rattle.job_journal.specs.Used.{OnBook, OnRequest, Sent, last}
 use Rattle.job_journal.proofs.Acking.{agrees_on, requests_on, saved_sends, saved_waits, unnamed_going}
 use Rattle.job_journal.proofs.Again.{saves_again, unnamed_again}
+use Rattle.job_journal.proofs.Breaking.{bytes_on}
 use Rattle.job_journal.proofs.Ended.{stopped_on, stops_by_save}
 use Rattle.job_journal.proofs.Ending.{ends_standing, failed_ends}
 use Rattle.job_journal.proofs.Plots.{for_still, text_is}
@@ -59,11 +60,13 @@ use Rattle.job_journal.proofs.Saving.{asked_save}
 use Rattle.job_journal.proofs.Steps.{hears_next}
 use Rattle.job_run.specs.declared.execution.Execution.{Execution}
 use Rattle.job_run.specs.declared.request.Request.{Request}
-use Rattle.job_run.specs.Standing.{EndsSo, IsAskedFor, IsToSave, NotesError, StandsTo, parts_of, sent_of}
+use Rattle.job_run.specs.Standing.{EndsSo, IsAskedFor, IsToSave, NotesBroken, NotesError, StandsTo, parts_of, sent_of}
 use Rattle.job_run.specs.Used.{TakesEvent}
+use Rattle.job_run.proofs.BrokenLemmas.{notes_on, saves_bring_none}
 use Rattle.job_run.proofs.EndLemmas.{starved_so, uncaused_ends}
 use Rattle.job_run.proofs.NotedLemmas.{noted_none}
 use Rattle.job_run.proofs.StayLemmas.{is_final, requests_kept}
+use Rattle.job_run.proofs.ToldLemmas.{peer_broke}
 
 -- ---- the kernel is started before any request
 
@@ -199,6 +202,12 @@ module _ (p : Plot) (number : ℕ) (x : Execution) (settled : ℕ) (before : Lis
       noted_behind : is_final answer.act ≡ true → NotesError (facts p) x.request (requests (facts p) after)
       noted_behind final = subst (NotesError (facts p) x.request) (sym (requests_behind final)) t.stands.noted
 
+      -- the stream that broke is broken as it was
+      broken_behind : NotesBroken (facts p) x.broken before → NotesBroken (facts p) x.broken after
+      broken_behind =
+          notes_on (facts p) x.broken before after
+          (λ c. bytes_on (facts p) mid after quiet c ∙ saves_bring_none (facts p) (facts p).output (text_of (notebook_of book)) done before mid saved c)
+
       -- another save follows: the core has been told of this one
       module _ (n : ℕ) (is : answer.act ≡ Save n) where
         abbrev ongoing : Hears (facts p) next (Saved ∷ told)
@@ -240,6 +249,7 @@ module _ (p : Plot) (number : ℕ) (x : Execution) (settled : ℕ) (before : Lis
             noted = noted_behind (ap is_final is);
           };
           due = asked_save (facts p) told Saved n t.stands.parts.core.hears.goes_on (sym act_is ∙ is);
+          broken = λ f. broken_behind (t.broken f);
         }
 
       saved_by : (act : Act) → answer.act ≡ act → StandsTo p number z act after
@@ -268,6 +278,7 @@ module _ (p : Plot) (number : ℕ) (x : Execution) (settled : ℕ) (before : Lis
             (stops_by_save p number (parts_of x) before t.stands.parts settled t.due (text_of (notebook_of book)) same_text mid saved cause (sym act_is ∙ is));
         request = subst (OnRequest (facts p) (sent_of x.request)) (sym (requests_behind (ap is_final is))) t.stands.parts.request;
         noted = noted_behind (ap is_final is);
+        broken = λ f. broken_behind (t.broken (peer_broke (facts p).task Saved told (sym act_is ∙ is ∙ ap (λ w. Stop w) f)));
       }
 
       -- what the core answers is due by the journal

@@ -1,5 +1,5 @@
 -- The session in which a job speaks, by what its start asked of the world.
-use Rattle.std.proofs.Common.{◌≡◌, ℕ, List, [], ◌∷◌, ◌++◌, Option, Some, Result, Ok, Err, refl, ◌∙◌, ap, subst}
+use Rattle.std.proofs.Common.{◌≡◌, ℕ, List, [], ◌∷◌, ◌++◌, append_assoc, Option, Some, Result, Ok, Err, refl, sym, ◌∙◌, ap, subst}
 use Rattle.std.specs.Prelude.{IfOk}
 use Rattle.world.specs.declared.entry.Entry.{Entry}
 use Rattle.world.specs.declared.entry.Entry.TheVariants.{Ports}
@@ -11,7 +11,7 @@ use Rattle.kernel_talk.specs.Requests.{identifier}
 use Rattle.job_end.specs.declared.end.End.{End}
 use Rattle.job_notebook.specs.State.{output_of}
 use Rattle.job_saves.specs.Sessions.{IsSaveCall, key_of}
-use Rattle.job_run.specs.Beginning.{HasSession, SavesAndAsks, SpeaksOn}
+use Rattle.job_run.specs.Beginning.{HasSession, IsSessionOf, SavesAndAsks, SpeaksOn}
 use Rattle.job_run.specs.declared.execution.Execution.{Execution}
 use Rattle.job_run.specs.declared.job.Job.{Job}
 
@@ -44,3 +44,19 @@ pub session_spoken : (old new : Option (List Entry)) (number : ℕ) (output : Li
 session_spoken old new number output pairs x (Ok j) output_is name key on asks =
     told_as asks (λ before after a begin draws. session_of number output pairs x j begin before after output_is name key on draws a)
 session_spoken old new number output pairs x (Err e) output_is name key on asks = tt
+
+-- what was drawn since a moment was drawn since an earlier one
+pub session_since : (number : ℕ) (output session key : List ℕ) (before mid after added : List Entry) → mid ≡ added ++ before → IsSessionOf number output session key mid after
+    → IsSessionOf number output session key before after
+session_since number output session key before mid after added is s = record {
+  pairs = s.pairs;
+  session_is = s.session_is;
+  key_is = s.key_is;
+  asked = s.asked;
+  drawn = s.drawn;
+  earlier = s.earlier ++ added;
+  since = s.since ∙ ap (λ past. s.earlier ++ past) is ∙ sym (append_assoc s.earlier added before);
+  ports = s.ports;
+  later = s.later;
+  split = s.split;
+}

@@ -11,7 +11,7 @@ use Rattle.cell_core.specs.declared.machine.Core.{Core}
 use Rattle.cell_core.specs.declared.step.Step.{Step}
 use Rattle.cell_core.specs.Acts.{IsTimely, act_of, has_stopped, heard}
 use Rattle.cell_core.specs.Answering.{can_answer}
-use Rattle.cell_core.specs.Events.{is_saved}
+use Rattle.cell_core.specs.Events.{came, is_broken, is_saved}
 use Rattle.cell_core.specs.StandsFor.{task_of, awaits_saved_of}
 use Rattle.cell_core.proofs.Answering.{answers_kind, no_interrupt, sent_at_start}
 use Rattle.run_journal.specs.Agreement.{IsOther, moment, looked, lost, broken}
@@ -26,8 +26,9 @@ use Rattle.job_journal.proofs.Saving.{asked_save}
 use Rattle.job_journal.proofs.Steps.{hears_next}
 use Rattle.job_end.specs.declared.end.End.{End}
 use Rattle.job_run.specs.declared.execution.Execution.{Execution}
-use Rattle.job_run.specs.Standing.{EndsSo, Stands, StandsOrEnds, StandsTo, StandsToOrEnds, parts_of}
+use Rattle.job_run.specs.Standing.{EndsSo, NotesBroken, Stands, StandsOrEnds, StandsTo, StandsToOrEnds, parts_of}
 use Rattle.job_run.specs.Used.{TakesEvent}
+use Rattle.job_run.proofs.ToldLemmas.{peer_broke}
 
 other_unsaved : (e : Event) → IsOther e → is_saved e ≡ false
 other_unsaved e (moment ms) = refl
@@ -82,27 +83,33 @@ module _ (p : Plot) (number : ℕ) (x : Execution) (core : Core) (e : Event) (an
   pub answered_kind : can_answer e answer.act ≡ true
   answered_kind = subst (λ (act : Act). can_answer e act ≡ true) (sym (t.act told s.parts.core.hears.stands timely)) kind
 
-  other_by : IsOther e → (act : Act) → answer.act ≡ act → StandsTo p number (record x { core = core }) act now
-  other_by o Nothing is = other_stands o (ap is_stop is)
-  other_by o Look is = other_stands o (ap is_stop is)
-  other_by o Start is =
+  -- where it was told of a broken stream, it is noted which
+  abbrev Noted : Type 0
+  Noted = came is_broken (e ∷ told) ≡ true → NotesBroken (facts p) x.broken now
+
+  other_by : Noted → IsOther e → (act : Act) → answer.act ≡ act → StandsTo p number (record x { core = core }) act now
+  other_by broke o Nothing is = other_stands o (ap is_stop is)
+  other_by broke o Look is = other_stands o (ap is_stop is)
+  other_by broke o Start is =
       absurd (true≢false (sym (subst (λ (act : Act). can_answer e act ≡ true) (sym (t.act told s.parts.core.hears.stands timely) ∙ is) kind) ∙ other_unsaved e o))
-  other_by o (Send cell) is = absurd (not_start e o (sent_at_start (facts p).task e told cell (sym answered ∙ is)))
-  other_by o Interrupt is = no_interrupt (facts p).task e told s.parts.undated (sym answered ∙ is)
-  other_by o (Save settled) is = record {
+  other_by broke o (Send cell) is = absurd (not_start e o (sent_at_start (facts p).task e told cell (sym answered ∙ is)))
+  other_by broke o Interrupt is = no_interrupt (facts p).task e told s.parts.undated (sym answered ∙ is)
+  other_by broke o (Save settled) is = record {
     stands = other_stands o (ap is_stop is);
     due = subst (λ es. IsAsked (facts p).task es settled) (sym (told_parts o (ap is_stop is)).1)
         (asked_save (facts p) told e settled s.parts.core.hears.goes_on (sym answered ∙ is));
+    broken = λ f. broke (ap (came is_broken) (sym (told_parts o (ap is_stop is)).1) ∙ f);
   }
-  other_by o (Stop cause) is = record {
+  other_by broke o (Stop cause) is = record {
     stopped = stops_by_other p number (parts_of x) now s.parts e cause o (sym answered ∙ is);
     request = s.parts.request;
     noted = s.noted;
+    broken = λ f. broke (peer_broke (facts p).task e told (sym answered ∙ is ∙ ap (λ w. Stop w) f));
   }
 
   -- an event of the clock, a look, a loss or a broken stream was told: what its act is for is due by the journal
-  pub told_other : (y : Execution) → y ≡ record x { core = core } → IsOther e → StandsTo p number y answer.act now
-  told_other y rest o = subst (λ k. StandsTo p number k answer.act now) (sym rest) (other_by o answer.act refl)
+  pub told_other : (y : Execution) → y ≡ record x { core = core } → Noted → IsOther e → StandsTo p number y answer.act now
+  told_other y rest broke o = subst (λ k. StandsTo p number k answer.act now) (sym rest) (other_by broke o answer.act refl)
 
 -- ---- where a job ends, and that is passed on
 

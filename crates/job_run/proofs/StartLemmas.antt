@@ -23,6 +23,7 @@ use Rattle.cell_core.specs.declared.event.Event.TheVariants.{Saved}
 use Rattle.cell_core.specs.declared.why.Why.{Why}
 use Rattle.cell_core.specs.declared.why.Why.TheVariants as why
 use Rattle.cell_core.specs.Acts.{has_stopped, heard, is_empty}
+use Rattle.cell_core.specs.Events.{came, is_broken}
 use Rattle.cell_core.specs.Saves.{after_preparation, pending_saves, why as cause_by}
 use Rattle.cell_core.specs.StandsFor.{task_of}
 use Rattle.cell_core.specs.Task.{Task}
@@ -139,7 +140,11 @@ module _ (p : Plot) (number : ℕ) (x : Execution) (now : List Entry) (b : IsToB
 
   -- the first save is due
   pub begin_saves : IsToSave p number k 0 now
-  begin_saves = record { stands = stands; due = subst (λ es. IsAsked j.task es 0) (sym told_none) first_asked }
+  begin_saves = record {
+    stands = stands;
+    due = subst (λ es. IsAsked j.task es 0) (sym told_none) first_asked;
+    broken = λ f. absurd (true≢false (sym f ∙ ap (came is_broken) told_none));
+  }
 
 -- once it was made
 pub saved_first : (p : Plot) (number : ℕ) (x y : Execution) (output : List ℕ) (before now : List Entry) → IsToBegin p number x before → Since (IsSaveCall output) before now → y.clock ≡ x.clock
@@ -201,7 +206,7 @@ told_later p j ms past unread rises s = record {
       let answer = s.ended a is in
       let h = answer.ended in
       let same : requests (facts p) past ≡ requests (facts p) (made.Moment ms ∷ past) = none_requested p past unread ∙ sym (none_requested p (made.Moment ms ∷ past) unread) in
-      answer_stays p past (made.Moment ms ∷ past) (record { requests_are = sym same; saves_are = refl; texts_are = refl }) a
+      answer_stays p past (made.Moment ms ∷ past) (record { requests_are = sym same; saves_are = refl; texts_are = refl; bytes_are = λ c. refl }) a
       (record {
         cause = h.cause;
         count = h.count;
@@ -365,7 +370,7 @@ module _ (p : Plot) (x : Execution) (now : List Entry) (was : requests (facts (i
   said_in why.NoIdle line e s = absurd (subst (λ rs. LacksIdle (last_request 0 rs)) was e)
   said_in why.TimedOut line e s = absurd (subst (λ rs. LacksReply (last_request 0 rs)) was e)
   said_in why.KernelLost line e s = s
-  said_in why.BadPeer line e s = tt
+  said_in why.BadPeer line e s = record { bad = s.bad; broken = record { at = s.broken.at; fault = s.broken.fault; place = s.broken.place }; says = s.says }
 
   -- so a job has ended with an answer in whichever session
   answered_in : (a : Answer) → HasAnswered elsewhere a now → HasAnswered p a now

@@ -8,6 +8,7 @@ use Rattle.world.specs.declared.entry.Entry.{Entry}
 use Rattle.world.specs.declared.entry.Entry.TheVariants.{Got, Moment}
 use Rattle.world.specs.Moments.{Since}
 use Rattle.world.specs.Places.{is_at, time}
+use Rattle.zmtp_wire.specs.declared.fault.WireFault.{WireFault}
 use Rattle.zmtp_wire.specs.Decoder.{Answer}
 use Rattle.zmtp_peer.specs.Peer.{Brings}
 use Rattle.kernel_lines.specs.Happened.{History, Came, came_in}
@@ -22,7 +23,9 @@ use Rattle.cell_core.specs.declared.event.Event.{Event}
 use Rattle.cell_core.specs.declared.event.Event.TheVariants as event
 use Rattle.cell_core.specs.declared.event.Event.TheVariants.{Saved}
 use Rattle.cell_core.specs.Answering.{can_answer}
+use Rattle.cell_core.specs.Events.{came, is_broken}
 use Rattle.cell_core.specs.declared.why.Why.{Why}
+use Rattle.cell_core.specs.declared.why.Why.TheVariants.{BadPeer}
 use Rattle.job_end.specs.declared.answer.Answer.{Answer as JobAnswer}
 use Rattle.job_end.specs.declared.end.End.{End}
 use Rattle.job_end.specs.Answers.{Answers}
@@ -31,7 +34,7 @@ use Rattle.run_journal.specs.Codec.{Arrival}
 use Rattle.run_journal.specs.Job.{Job as Facts}
 use Rattle.run_journal.specs.Requests.{Request as Asked, last_request, reply, requests}
 use Rattle.run_journal.specs.Parts.{place, bytes_put}
-use Rattle.job_journal.specs.Ended.{HasAnswered, HasStoppedFor}
+use Rattle.job_journal.specs.Ended.{HasAnswered, HasStoppedFor, IsBrokenAs, bad_with}
 use Rattle.job_journal.specs.Piece.{HasCome, Within, with_done}
 use Rattle.job_journal.specs.Plot.{Plot, facts}
 use Rattle.job_journal.specs.Quiet.{IsQuietNow}
@@ -106,6 +109,20 @@ pub record StandsUntold (p : Plot) (number : ℕ) (x : Execution) (now : List En
   pub stands : Stands p number (record x { clock = time now }) now
   pub earlier : x.clock ≤ time now
 
+-- ---- a stream that broke
+
+-- The stream of this channel is broken by the journal with this fault, where our side answers one.
+abbrev pub BreaksAs : Facts → Chan → Option WireFault → List Entry → Type 0
+BreaksAs j c None now = Unit {0}
+BreaksAs j c (Some f) now = IsBrokenAs j (bad_with c f) now
+
+-- A stream is noted as broken, and it is broken by the journal with the fault that is noted.
+pub record NotesBroken (j : Facts) (noted_is : Option (Chan × WireFault)) (now : List Entry) : Type 0 where
+  pub chan : Chan
+  pub fault : WireFault
+  pub noted : noted_is ≡ Some (chan, fault)
+  pub is : IsBrokenAs j (bad_with chan fault) now
+
 -- ---- an execution whose core has answered
 
 -- a request of this cell stands by the journal, and is still to be sent
@@ -113,17 +130,19 @@ pub record IsToSendCell (p : Plot) (number : ℕ) (x : Execution) (cell : ℕ) (
   pub parts : IsToSend p number (parts_of x) cell now
   pub asked : IsAskedFor p x
 
--- a save that settles so many cells is due, and is still to be made
+-- A save that settles so many cells is due, and is still to be made. Where the core was told of a broken stream, it is noted which.
 pub record IsToSave (p : Plot) (number : ℕ) (x : Execution) (settled : ℕ) (now : List Entry) : Type 0 where
   pub stands : Stands p number x now
   pub due : IsAsked (facts p).task stands.parts.core.told settled
+  pub broken : came is_broken stands.parts.core.told ≡ true → NotesBroken (facts p) x.broken now
 
 -- The core stops the job for this cause: by the journal it has stopped for it. The request that the job has is the last one, and the exception that
--- is noted with it is the one that its reply names.
+-- is noted with it is the one that its reply names. Where a stream broke, it is noted which.
 pub record IsToStop (p : Plot) (x : Execution) (cause : Why) (now : List Entry) : Type 0 where
   pub stopped : HasStoppedFor p cause now
   pub request : OnRequest (facts p) (sent_of x.request) (requests (facts p) now)
   pub noted : NotesError (facts p) x.request (requests (facts p) now)
+  pub broken : cause ≡ BadPeer → NotesBroken (facts p) x.broken now
 
 -- The job of a plot ends so: whatever answer that end gives, the job has ended with it by the journal.
 abbrev pub EndsSo : Plot → End → List Entry → Type 0

@@ -28,6 +28,16 @@ pub record Tells (core : Core) (clock : ℕ) (is_named : Bool) : Type 0 where
 abbrev pub Hears : Core → ℕ → Bool → Type 0
 Hears core clock is_named = ∥ Tells core clock is_named ∥₁
 
+-- A core was told of a broken stream before it stopped.
+pub record KnowsBroken (core : Core) : Type 0 where
+  pub events : List Event
+  pub stands : StandsFor core events
+  pub broken : came is_broken (heard (task_of core) events) ≡ true
+
+-- a core that was told of a broken stream still was
+abbrev pub KeepsBroken : Core → Core → Type 0
+KeepsBroken old new = KnowsBroken old → KnowsBroken new
+
 -- an event may be told: a clock entry in time, a broken stream by its name
 abbrev pub MayCome : Core → ℕ → Bool → Event → Type 0
 MayCome core clock is_named (Moment t) = (t ≡ clock) × ((events : List Event) → StandsFor core events → time (heard (task_of core) events) ≤ t → IsTimely (task_of core) (Moment t) events)

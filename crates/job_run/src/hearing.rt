@@ -12,7 +12,7 @@ use world::{Chan, Disk, Say};
 use zmtp_wire::{Messages as Bodies, WireFault};
 
 impl Execution {
-    ghost use Rattle.std.specs.Prelude.{◌≡◌, true, is_some, IfOk, OnOk, List as Plain, [], ◌∷◌, ◌++◌};
+    ghost use Rattle.std.specs.Prelude.{◌≡◌, true, Some, is_some, IfOk, OnOk, List as Plain, [], ◌∷◌, ◌++◌};
     ghost use Rattle.kernel_talk.specs.Asking.{Asked};
     ghost use Rattle.run_journal.specs.Codec.{Arrival};
     ghost use Rattle.run_journal.specs.Jupyter.{arrival_of};
@@ -25,9 +25,11 @@ impl Execution {
     ghost use Rattle.std.specs.Prelude.{ℕ};
     ghost use Rattle.world.specs.declared.chan.Chan.{Chan as Channel};
     ghost use Rattle.world.specs.Moments.{Told};
-    ghost use Rattle.job_journal.specs.Plot.{Plot};
-    ghost use Rattle.job_run.specs.Standing.{HasFed, HasListened, IsGot, Stands, StandsOrEnds};
-    ghost use Rattle.job_run.specs.Standing.{UsesOrEnds};
+    ghost use Rattle.run_journal.specs.Why.{fault_on};
+    ghost use Rattle.job_journal.specs.Ended.{IsBrokenAs, bad_with};
+    ghost use Rattle.job_journal.specs.Plot.{Plot, facts};
+    ghost use Rattle.job_run.specs.Standing.{BreaksAs, HasFed, HasListened, IsGot, Stands};
+    ghost use Rattle.job_run.specs.Standing.{StandsOrEnds, UsesOrEnds};
 
     /// A piece came on this channel. All that it brings is heard, then the kernel may have come to be
     /// ready, and then what is of the request that stood is used.
@@ -45,6 +47,10 @@ impl Execution {
         ensures stands { (p : Plot) (number : ℕ) → Told (W.journal w.old) (W.journal w.new)
             (λ before after. IsGot p number self.old chan piece.now before →
             StandsOrEnds p number self.new result after) }
+        // A piece that breaks its stream ends the job.
+        ensures ends { (p : Plot) (number : ℕ) → Told (W.journal w.old) (W.journal w.new)
+            (λ before after. IsGot p number self.old chan piece.now before →
+            is_some (fault_on (facts p) after chan) ≡ true → OnOk result ⊥) }
     {
         let (bodies, fault) = self.lines.feed(chan, piece)?;
         match self.on_bodies(w, chan, bodies) {
@@ -214,8 +220,11 @@ impl Execution {
         requires calm { IsCalm self.old }
         ensures goes { Proceeds W.journal W.counts w.old w.new self.old self.new Nothing result }
         ensures stands { (p : Plot) (number : ℕ) → Told (W.journal w.old) (W.journal w.new)
-            (λ before after. Stands p number self.old before →
-            StandsOrEnds p number self.new result after) }
+            (λ before after. BreaksAs (facts p) chan fault before →
+            Stands p number self.old before → StandsOrEnds p number self.new result after) }
+        ensures ends { (p : Plot) (number : ℕ) → Told (W.journal w.old) (W.journal w.new)
+            (λ before after. BreaksAs (facts p) chan fault before →
+            Stands p number self.old before → is_some fault ≡ true → OnOk result ⊥) }
     {
         match fault {
             Some(fault) => self.on_broken(w, chan, fault),
@@ -233,8 +242,11 @@ impl Execution {
         requires calm { IsCalm self.old }
         ensures goes { Proceeds W.journal W.counts w.old w.new self.old self.new Nothing result }
         ensures stands { (p : Plot) (number : ℕ) → Told (W.journal w.old) (W.journal w.new)
-            (λ before after. Stands p number self.old before →
-            StandsOrEnds p number self.new result after) }
+            (λ before after. IsBrokenAs (facts p) (bad_with chan fault) before →
+            Stands p number self.old before → StandsOrEnds p number self.new result after) }
+        ensures ends { (p : Plot) (number : ℕ) → Told (W.journal w.old) (W.journal w.new)
+            (λ before after. IsBrokenAs (facts p) (bad_with chan fault) before →
+            Stands p number self.old before → OnOk result ⊥) }
     {
         self.note_broken(chan, fault);
         let step = self.tell(Event::Broken);
@@ -246,6 +258,7 @@ impl Execution {
         requires holds { Holds self.old }
         ensures holds { Holds self.new }
         ensures named { is_some self.new.broken ≡ true }
+        ensures noted { self.new.broken ≡ Some (chan, fault) }
         ensures core { self.new.core ≡ self.old.core }
         ensures clock { self.new.clock ≡ self.old.clock }
         ensures terms { self.new.terms ≡ self.old.terms }

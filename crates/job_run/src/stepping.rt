@@ -16,7 +16,7 @@ const RAISES: &str = "raises-exception";
 impl Execution {
     ghost use Rattle.std.specs.Prelude.{◌≡◌, ℕ, ◌<◌, ◌≤◌, ◌^◌, ◌+◌, true, false, is_some};
     ghost use Rattle.std.specs.Prelude.{IfOk, IfErr, IfSome, OnOk};
-    ghost use Rattle.cell_core.specs.Events.{is_saved};
+    ghost use Rattle.cell_core.specs.Events.{is_broken, is_saved};
     ghost use Rattle.cell_core.specs.Holds.{IsSmall, is_save};
     ghost use Rattle.cell_core.specs.Sending.{next_of, saves_ahead};
     ghost use Rattle.cell_core.specs.StandsFor.{task_of};
@@ -37,6 +37,7 @@ impl Execution {
     ghost use Rattle.job_saves.specs.Course.{stays_open, keeps_open};
     ghost use Rattle.cell_core.specs.declared.act.Act.TheVariants.{Nothing};
     ghost use Rattle.job_run.specs.Steps.{Proceeds, OnlySaves, ReadsNoClock};
+    ghost use Rattle.job_run.specs.Told.{KeepsBroken};
     ghost use Rattle.job_run.specs.Used.{TakesEvent};
     ghost use Rattle.world.specs.declared.entry.Entry.{Entry};
     ghost use Rattle.cell_core.specs.Answering.{can_answer};
@@ -77,9 +78,9 @@ impl Execution {
         ensures goes { Proceeds W.journal W.counts w.old w.new self.old self.new Nothing result }
         ensures saves { OnlySaves W.journal w.old w.new self.old.book }
         ensures asks { OnOk result (AsksOnce self.old self.new) }
-        // Where the execution stood for the journal, it stands for the journal again. An event of
-        // the clock and a loss bring no call.
-        ensures stands { IsOther e → (p : Plot) (number : ℕ) →
+        // Where the execution stood for the journal, it stands for the journal again, by an event
+        // of the clock, a look or a loss. An event of the clock and a loss bring no call.
+        ensures stands { IsOther e → is_broken e ≡ false → (p : Plot) (number : ℕ) →
             Told (W.journal w.old) (W.journal w.new) (λ before after.
             ExecutionStands p number self.old before →
             StandsOrEnds p number self.new result after) }
@@ -131,6 +132,7 @@ impl Execution {
             StandsOrEnds p number (record self.new { clock = clock }) result after) }
         ensures still { is_idle act ≡ true → StaysStill self.old self.new result ×
             (W.journal w.new ≡ W.journal w.old) }
+        ensures broken { OnOk result (KeepsBroken self.old.core self.new.core) }
     {
         let mut act = act;
         while let Act::Save(settled) = act {
@@ -168,6 +170,7 @@ impl Execution {
             (λ before after. (clock : ℕ) →
             IsToSave p number (record self.old { clock = clock }) settled before →
             StandsToOrEnds p number (record self.new { clock = clock }) result after) }
+        ensures broken { OnOk result (KeepsBroken self.old.core self.new.core) }
     {
         self.save(w, settled)?;
         Ok(self.core.step(Event::Saved).act)
@@ -179,6 +182,7 @@ impl Execution {
         requires todo { IsToDo self.old act }
         requires other { is_save act ≡ false }
         ensures holds { Holds self.new }
+        ensures core { self.new.core ≡ self.old.core }
         ensures calm { OnOk result (IsCalm self.new) }
         ensures course { StaysOn self.old.book self.new.book }
         ensures calls { KeepsPart self.old.book self.new.book }
@@ -375,8 +379,9 @@ impl Execution {
         ensures own { IfOk result (EndsBy (task_of self.now.core)) }
         ensures counts { (n : OutputAt) → StopsAfter n (task_of self.now.core) why →
             IfOk result (EndsAfter n (task_of self.now.core)) }
-        // It names the cell of the request that stands, and the exception that is noted with it.
-        ensures names { IfOk result (IsStopBy why self.now.request) }
+        // It names the cell of the request that stands, the exception that is noted with it, or the
+        // stream that broke.
+        ensures names { IfOk result (IsStopBy why self.now.request self.now.broken) }
     {
         match why {
             Why::Done => Ok(End::Done),
@@ -405,7 +410,8 @@ impl Execution {
         ensures own { IfOk result (EndsBy (task_of self.now.core)) }
         ensures counts { (n : OutputAt) → StopsAfter n (task_of self.now.core) cause.CellError →
             IfOk result (EndsAfter n (task_of self.now.core)) }
-        ensures names { IfOk result (IsStopBy cause.CellError self.now.request) }
+        ensures names { IfOk result
+            (IsStopBy cause.CellError self.now.request self.now.broken) }
     {
         let name = self.error_name()?;
         Ok(End::CellError {
@@ -421,7 +427,7 @@ impl Execution {
         ensures own { EndsBy (task_of self.now.core) result }
         ensures counts { (n : OutputAt) → StopsAfter n (task_of self.now.core) cause.BadPeer →
             EndsAfter n (task_of self.now.core) result }
-        ensures names { IsStopBy cause.BadPeer self.now.request result }
+        ensures names { IsStopBy cause.BadPeer self.now.request self.now.broken result }
     {
         let (chan, fault) = self.broken.unwrap();
         End::BadPeer { chan, fault }

@@ -31,7 +31,8 @@ impl Job {
     ghost use Rattle.world.specs.Moments.{Since, Told};
     ghost use Rattle.world.specs.Places.{time};
     ghost use Rattle.run_journal.specs.Job.{Job as Facts};
-    ghost use Rattle.job_journal.specs.Plot.{Plot};
+    ghost use Rattle.run_journal.specs.Why.{fault_on};
+    ghost use Rattle.job_journal.specs.Plot.{Plot, facts};
     ghost use Rattle.job_journal.specs.Quiet.{IsQuietNow};
     ghost use Rattle.job_journal.specs.Ended.{HasAnswered};
     ghost use Rattle.job_run.specs.JobStanding.{IsGotFor, IsTurnedFor, JobStands};
@@ -138,6 +139,11 @@ impl Job {
         // journal before, the job stands for the journal again.
         ensures stands { (p : Plot) → Told (W.journal w.old) (W.journal w.new) (λ before after.
             IsGotFor p self.old chan piece.now before → JobStands p self.new after) }
+        // A piece that breaks its stream by the journal ends the job.
+        ensures ends { (p : Plot) → Told (W.journal w.old) (W.journal w.new) (λ before after.
+            IsGotFor p self.old chan piece.now before →
+            is_some (fault_on (facts p) after chan) ≡ true →
+            is_some (outcome self.new) ≡ true) }
     {
         if self.is_over() {
             return Ok(());

@@ -3,6 +3,7 @@ use Rattle.world.specs.Moments.{start}
 use Rattle.world.proofs.MomentsLemmas.{since_then, told_as, told_start, told_then}
 use Rattle.job_saves.specs.Course.{Stands}
 use Rattle.job_run.proofs.AskLemmas.{acts_once}
+use Rattle.job_run.proofs.BrokenLemmas.{on_ok}
 use Rattle.job_run.proofs.CountLemmas.{counts_on, quiet_at}
 use Rattle.job_run.proofs.CauseLemmas.{calls_output}
 use Rattle.job_run.proofs.StandingLemmas.{ended_so}
@@ -10,6 +11,7 @@ use Rattle.job_run.proofs.StepLemmas.{goes_err}
 use Rattle.job_saves.proofs.SessionLemmas.{saves_then}
 use Rattle.job_notebook.specs.State.{output_of}
 use Rattle.job_run.specs.Standing.{StandsTo, is_idle}
+use Rattle.job_run.specs.Told.{KnowsBroken}
 use Rattle.job_run.proofs.ActLemmas.{acts_on, busy_save, ended_does, stays_from}
 use Rattle.job_run.proofs.execution.Execution.act.Goals as goal
 
@@ -29,6 +31,7 @@ loop-act-init g c = record {
   clock = refl;
   sent = refl;
   kind = λ e. e;
+  broken = λ b. b;
   still = λ e. (refl, refl, refl);
 }
 
@@ -54,6 +57,7 @@ loop-act-preserved g c =
       clock = e.clock ∙ i.clock;
       sent = e.sent ∙ i.sent;
       kind = λ k. e.kind;
+      broken = λ b. e.broken (i.broken b);
       still = λ k. absurd (busy_save k (sym (i.still k).1 ∙ c.in-Save.is));
     }
 
@@ -82,6 +86,7 @@ returns g c =
           (λ before after so. acts_on q number c.args.self.now c.loop-act.self c.perform.new.self c.args.act c.loop-act.act c.perform.result before after
           (λ t. subst (λ clock. StandsTo q number (record c.loop-act.self { clock = clock }) c.loop-act.act after) (sym i.clock) (so c.args.self.now.clock t)) i.sent i.kind (p.stands q number after));
       clock = p.clock ∙ i.clock;
+      broken = on_ok c.perform.result (λ b. subst KnowsBroken (sym p.core) (i.broken b));
       unsent = λ q number. told_as (i.stands q number) (λ before after so none clock t. p.unsent q number clock after none (so clock t));
       still = λ e. (stays_from c.args.self.now c.loop-act.self c.perform.new.self c.perform.result (i.still e).0 (p.still (ap is_idle (i.still e).1 ∙ e)), (i.still e).2);
     }

@@ -12,6 +12,7 @@ use Rattle.job_saves.specs.Sessions.{IsSaveCall}
 use Rattle.job_run.specs.Held.{Holds, IsToDo}
 use Rattle.job_run.specs.Counted.{IsCountedAt}
 use Rattle.job_run.specs.Steps.{ReadsNoClock}
+use Rattle.job_run.specs.Told.{KeepsBroken}
 use Rattle.job_run.proofs.execution.Execution.act.Given as goal
 
 abbrev pub invariant-loop-act : goal.invariant-loop-act
@@ -33,6 +34,7 @@ invariant-loop-act g l =
       clock : l.self.clock ≡ l.fn.self.clock;
       sent : l.self.sent ≡ l.fn.self.sent;
       kind : can_answer Saved l.fn.act ≡ true → can_answer Saved l.act ≡ true;
+      broken : KeepsBroken l.fn.self.core l.self.core;
       still : is_idle l.fn.act ≡ true → (l.self ≡ l.fn.self) × (l.act ≡ l.fn.act) × (g.W.Journal.journal l.w ≡ g.W.Journal.journal l.fn.w);
     }
 

@@ -19,7 +19,9 @@ use Rattle.said_lines.specs.Between.{SayFailed}
 use Rattle.job_run.specs.declared.execution.Execution.{Execution}
 use Rattle.job_run.specs.Standing.{StandsTo}
 use Rattle.job_run.specs.Used.{TakesEvent}
+use Rattle.job_run.specs.Told.{KnowsBroken}
 use Rattle.job_run.proofs.ActLemmas.{kind_saved}
+use Rattle.job_run.proofs.BrokenLemmas.{broken_more}
 use Rattle.job_run.proofs.ReadLemmas.{saves_read}
 use Rattle.job_run.proofs.SaveLemmas.{saved_to, says_quiet, unsaved_ends}
 use Rattle.job_run.proofs.StandingLemmas.{ended_to}
@@ -123,3 +125,10 @@ pub returns-clause-kind : goal.returns-clause-kind
 returns-clause-kind g c =
     let y = c.save.new.self in
     kind_saved y.core y.clock (is_some y.broken) c.step.result.act (ap awaits_saved_of c.save.ensures.core ∙ c.requires.todo.awaits) c.step.ensures.act c.save.ensures.holds.heard
+
+pub returns-clause-broken : goal.returns-clause-broken
+returns-clause-broken g c b =
+    let y = c.save.new.self in
+    let s = c.step.ensures in
+    let was : KnowsBroken y.core = subst KnowsBroken (sym c.save.ensures.core) b in
+    broken_more y.core c.step.new.self Saved s.same was (s.stands was.events was.stands tt)

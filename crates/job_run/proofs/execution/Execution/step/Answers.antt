@@ -20,12 +20,12 @@ pub returns-clause-asks : goal.returns-clause-asks
 returns-clause-asks g c = once_from c.act.result c.args.self.now c.tell-step.new.self c.act.new.self c.tell-step.ensures.session c.act.ensures.asks
 
 pub returns-clause-stands : goal.returns-clause-stands
-returns-clause-stands g c o p number =
+returns-clause-stands g c o whole p number =
     let x = c.args.self.now in
     let t = c.tell-step in
     told_as (c.act.ensures.stands p number)
     (λ before after does s.
-    (does (step_stands p number x t.new.self c.args.e t.result (is_some x.broken) t.ensures.rest t.ensures.takes c.requires.holds.heard c.requires.may c.requires.calm c.requires.other before o s)).0)
+    (does (step_stands p number x t.new.self c.args.e t.result (is_some x.broken) t.ensures.rest t.ensures.takes c.requires.holds.heard c.requires.may c.requires.calm c.requires.other before o whole s)).0)
 
 pub returns-clause-passes : goal.returns-clause-passes
 returns-clause-passes g c q p number =

@@ -2,6 +2,7 @@ use Rattle.std.proofs.Common.{refl, rules, sym, ◌∙◌}
 use Rattle.std.proofs.Math.Bool.{true≢false}
 use Rattle.world.specs.Moments.{start}
 use Rattle.world.proofs.MomentsLemmas.{told_as, told_start}
+use Rattle.job_run.proofs.BrokenLemmas.{by_end}
 use Rattle.job_run.proofs.JobLemmas.{got_run, job_stands}
 use Rattle.job_saves.specs.Course.{stays_open}
 use Rattle.cell_core.specs.StandsFor.{task_of}
@@ -50,3 +51,12 @@ returns-then-is_over-clause-goes g c = record {
   keeps = search rules;
   ends = search rules;
 }
+
+pub returns-clause-ends : goal.returns-clause-ends
+returns-clause-ends g c p =
+    let j = c.args.self.now in
+    told_as (c.on_piece-heard.ensures.ends p j.number)
+    (λ before after so got some. by_end c.on_piece-heard.result (so (got_run p j c.args.chan c.args.piece.now before got) some) c.outcome_of.ensures.ends)
+
+pub returns-then-is_over-clause-ends : goal.returns-then-is_over-clause-ends
+returns-then-is_over-clause-ends g c p = told_start (λ now got some. absurd (true≢false (sym (sym c.is_over.ensures ∙ c.if-is_over.true) ∙ got.running)))
