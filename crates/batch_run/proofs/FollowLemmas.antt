@@ -23,6 +23,7 @@ use Rattle.job_journal.specs.Plot.{Plot, facts}
 use Rattle.job_journal.specs.Quiet.{IsQuietNow, is_unread}
 use Rattle.job_end.specs.declared.answer.Answer.{Answer}
 use Rattle.job_saves.specs.Calls.{Cast, IsCall}
+use Rattle.job_run.proofs.SpeakLemmas.{session_since}
 use Rattle.job_run.specs.declared.job.Job.{Job}
 use Rattle.job_run.specs.Beginning.{IsFresh, IsSessionOf}
 use Rattle.job_run.specs.JobStanding.{JobStands, JobStandsUntold, KeepsStanding}
@@ -147,24 +148,6 @@ session_on i output session key before past after grown s =
       ports = s.ports;
       later = more.0 ++ s.later;
       split = more.1 ∙ ap (λ (j : List Entry). more.0 ++ j) s.split ∙ sym (append_assoc more.0 s.later (made.Ports i (Some s.ports) ∷ s.asked));
-    }
-
--- it was drawn since an earlier moment, too
-session_since : (i : ℕ) (output session key : List ℕ) (before past after : List Entry) → Extends before past → IsSessionOf i output session key past after
-    → IsSessionOf i output session key before after
-session_since i output session key before past after grown s =
-    let more = extension grown in
-    record {
-      pairs = s.pairs;
-      session_is = s.session_is;
-      key_is = s.key_is;
-      asked = s.asked;
-      drawn = s.drawn;
-      earlier = s.earlier ++ more.0;
-      since = s.since ∙ ap (λ (j : List Entry). s.earlier ++ j) more.1 ∙ sym (append_assoc s.earlier more.0 before);
-      ports = s.ports;
-      later = s.later;
-      split = s.split;
     }
 
 -- what stands of each plot of a job goes on so
@@ -315,7 +298,8 @@ pub follows_begun : (i : ℕ) (a : Ask) (n : Notebook) (j : Job) (c : Cast) (bef
     → StaysFresh to.first_clock i a before past → BeginsSpeaking {E = Answer} i a.output (Ok j) past after → BeginsFollowing i a n (Ok j) past after
     → SlotFollows to.first_clock i a n (Running j) before after
 follows_begun i a n j c before past after grown calls fresh speaks began =
-    in_session j.run.session.name j.run.session.key (session_since i a.output j.run.session.name j.run.session.key before past after grown speaks)
+    in_session j.run.session.name j.run.session.key
+    (session_since i a.output j.run.session.name j.run.session.key before past after (extension grown).0 (extension grown).1 speaks)
     (λ p plot new session key.
     let now = fresh p plot.number_is plot.ask_is new in
     owed_first p j after (began p plot now (record { session_is = sym session; key_is = sym key })) (unread_calls (facts p) c past after calls ∙ now.unread))

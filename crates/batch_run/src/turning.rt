@@ -199,6 +199,7 @@ impl Running {
         for chan in [Chan::Shell, Chan::Control, Chan::Heart] {
             self.tell_taken_on(Conn { job, chan });
         }
+        // IOPub comes last, so that its count is the one that stands afterwards.
         self.tell_taken_on(Conn {
             job,
             chan: Chan::Iopub,

@@ -1,5 +1,5 @@
 -- What the steps of a job's begin make together.
-use Rattle.std.proofs.Common.{◌≡◌, inl, inr, ℕ, Bool, true, false, List, [], ◌∷◌, ◌++◌, length, append_assoc, Option, Some, None, Result, Ok, Err, refl, sym, ap, subst, ◌∙◌, arith, length-append}
+use Rattle.std.proofs.Common.{◌≡◌, inl, inr, ℕ, Bool, true, false, List, [], ◌∷◌, ◌++◌, length, Option, Some, None, Result, Ok, Err, refl, sym, ap, subst, ◌∙◌, arith, length-append}
 use Rattle.std.specs.Prelude.{IfSome, IfOk, IfErr, if◌then◌else◌}
 use Rattle.nb_model.specs.declared.notebook.Notebook.{Notebook}
 use Rattle.nb_model.specs.Prepared.{prepared_notebook}
@@ -32,6 +32,7 @@ use Rattle.job_notebook.specs.declared.notebook.JobNotebook.{JobNotebook}
 use Rattle.job_notebook.specs.State.{merge_of, output_of}
 use Rattle.job_saves.proofs.CourseLemmas.{told_as, told_on, calls_on, begins_pass, work_start}
 use Rattle.job_journal.specs.Plot.{Plot}
+use Rattle.job_run.proofs.SpeakLemmas.{session_since}
 use Rattle.job_run.specs.declared.job.Job.{Job}
 use Rattle.job_run.specs.Beginning.{HasSession, IsFresh}
 use Rattle.cell_core.specs.Task.{Task}
@@ -122,18 +123,7 @@ module _ {E : Type 0} (a : Ask) (number : ℕ) (here : List ℕ) (result : Resul
 
 -- its words were drawn since an earlier moment too
 earlier_session : (number : ℕ) (output : List ℕ) (j : Job) (before mid after : List Entry) → Appends before mid → HasSession number output j mid after → HasSession number output j before after
-earlier_session number output j before mid after a s = record {
-  pairs = s.pairs;
-  session_is = s.session_is;
-  key_is = s.key_is;
-  asked = s.asked;
-  drawn = s.drawn;
-  earlier = s.earlier ++ a.added;
-  since = s.since ∙ ap (λ past. s.earlier ++ past) a.is ∙ sym (append_assoc s.earlier a.added before);
-  ports = s.ports;
-  later = s.later;
-  split = s.split;
-}
+earlier_session number output j before mid after a s = session_since number output j.run.session.name j.run.session.key before mid after a.added a.is s
 
 -- some calls, and then the start of the job
 pub spoken_since : {P : List Entry → Type 0} (number : ℕ) (output : List ℕ) (r : Result Job End) (i j k : Option (List Entry)) → Told i j (Since P)

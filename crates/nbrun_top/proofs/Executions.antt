@@ -24,6 +24,7 @@ use Rattle.save_course.proofs.RestLemmas.{none_waits, spared_rest}
 use Rattle.job_end.specs.declared.answer.Answer.{Answer}
 use Rattle.job_saves.specs.Course.{HasSaved, Ends}
 use Rattle.job_saves.proofs.CourseLemmas.{ends_pass}
+use Rattle.job_run.proofs.SpeakLemmas.{session_since}
 use Rattle.job_run.specs.Run.{IsOther, IsNew, IsUnsaved}
 use Rattle.job_run.specs.Beginning.{IsFresh, IsSessionOf}
 use Rattle.job_run.specs.Counted.{IsCausedAfter}
@@ -103,25 +104,10 @@ fresh_plot : (i : ℕ) (a : Ask) (n : Notebook) (before : List Entry) → IsBare
 fresh_plot i a n before bare p plot =
     record { undated = plot.undated; runs = plot.runs; unread = bare.unread (facts p); unrenamed = bare.unrenamed (facts p) }
 
--- what was drawn since some moment was drawn since the beginning
-since_start : (i : ℕ) (output session key : List ℕ) (before after : List Entry) → IsSessionOf i output session key before after → IsSessionOf i output session key [] after
-since_start i output session key before after s = record {
-  pairs = s.pairs;
-  session_is = s.session_is;
-  key_is = s.key_is;
-  asked = s.asked;
-  drawn = s.drawn;
-  earlier = s.earlier ++ before;
-  since = s.since ∙ sym (append-nil (s.earlier ++ before));
-  ports = s.ports;
-  later = s.later;
-  split = s.split;
-}
-
 follows_journal : (i : ℕ) (a : Ask) (n : Notebook) (answer : Answer) (before after : List Entry) → IsBare before → Follows i a n before after (λ p. HasAnswered p answer after)
     → FollowsJournal i a n answer after
 follows_journal i a n answer before after bare (followed session key drawn each) =
-    in_session session key (since_start i a.output session key before after drawn) (λ p plot s k. each p plot.is (fresh_plot i a n before bare p plot) s k)
+    in_session session key (session_since i a.output session key [] before after before (sym (append-nil before)) drawn) (λ p plot s k. each p plot.is (fresh_plot i a n before bare p plot) s k)
 follows_journal i a n answer before after bare (followed_in_any each) = in_any (λ p plot. each p plot.is (fresh_plot i a n before bare p plot))
 
 module _ (i : ℕ) (a : Ask) (old new : Counts) (before after : List Entry) (bare : IsBare before) where
