@@ -1,8 +1,9 @@
 -- What an entry makes of the bytes got on a connection.
-use Rattle.std.proofs.Common.{◌≡◌, ℕ, List, [], ◌∷◌, ◌++◌, Bool, true, false, cond, refl, ◌∙◌, ap, arith}
+use Rattle.std.proofs.Common.{◌≡◌, ◌⊎◌, inl, inr, ℕ, List, [], ◌∷◌, ◌++◌, Bool, true, false, cond, refl, ◌∙◌, ap, arith}
 use Rattle.std.specs.Prelude.{◌==◌}
-use Rattle.std.proofs.lemmas.Bool.{cond-true, cond-false, eq-eqb, eqb-true, false_from_ne_true}
+use Rattle.std.proofs.lemmas.Bool.{cases_Bool, cond-true, cond-false, eq-eqb, eqb-true, false_from_ne_true}
 use Rattle.world.specs.declared.chan.Chan.{Chan}
+use Rattle.world.specs.declared.chan.Chan.TheVariants as chan
 use Rattle.world.specs.declared.conn.Conn.{Conn}
 use Rattle.world.specs.declared.connected.Connected.TheVariants as connected
 use Rattle.world.specs.declared.did.Did.TheVariants as did
@@ -65,3 +66,31 @@ other_channel j c d conn at away =
     false_from_ne_true (is_at (place j d) conn) (λ same.
     not_both (chan_number d == chan_number c)
     (eq-eqb (chan_number d) (chan_number c) (let e = eqb-true (place j c) _ at in let f = eqb-true (place j d) _ same in omega (arith, e, f))) away)
+
+-- a channel has its own number
+same_channel : (c d : Chan) → chan_number c ≡ chan_number d → c ≡ d
+same_channel chan.Shell chan.Shell e = refl
+same_channel chan.Shell chan.Control e = cc
+same_channel chan.Shell chan.Iopub e = cc
+same_channel chan.Shell chan.Heart e = cc
+same_channel chan.Control chan.Shell e = cc
+same_channel chan.Control chan.Control e = refl
+same_channel chan.Control chan.Iopub e = cc
+same_channel chan.Control chan.Heart e = cc
+same_channel chan.Iopub chan.Shell e = cc
+same_channel chan.Iopub chan.Control e = cc
+same_channel chan.Iopub chan.Iopub e = refl
+same_channel chan.Iopub chan.Heart e = cc
+same_channel chan.Heart chan.Shell e = cc
+same_channel chan.Heart chan.Control e = cc
+same_channel chan.Heart chan.Iopub e = cc
+same_channel chan.Heart chan.Heart e = refl
+
+-- bytes come on one connection alone
+pub got_on_one : (j : Job) (c d : Chan) (conn : Conn) (room : ℕ) (bytes : List ℕ) (past : List Entry) → is_at (place j c) conn ≡ true
+    → (d ≡ c) ⊎ (bytes_got j d (made.Got conn room bytes ∷ past) ≡ bytes_got j d past)
+got_on_one j c d conn room bytes past at = elim (cases_Bool (is_at (place j d) conn)) [
+  | inl same ↦
+      inl (same_channel d c (let e = eqb-true (place j c) _ at in let f = eqb-true (place j d) _ same in omega (arith, e, f)))
+  | inr off ↦ inr (got_elsewhere j d conn room bytes past off)
+]

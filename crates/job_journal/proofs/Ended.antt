@@ -42,7 +42,7 @@ use Rattle.job_journal.specs.Saved.{IsAsked, save_of}
 use Rattle.job_journal.specs.Standing.{Parts, StandsBy, HasEndedAs}
 use Rattle.job_journal.specs.Told.{is_stop}
 use Rattle.job_journal.proofs.Acking.{acks_on, requests_on, saved_agrees, saved_made}
-use Rattle.job_journal.proofs.Breaking.{broken_same, bytes_on}
+use Rattle.job_journal.proofs.Breaking.{broken_same, bytes_on, whole_same}
 use Rattle.job_journal.proofs.Dues.{made_few, parts_of_run}
 use Rattle.job_journal.proofs.Making.{made_grows, made_texts, same_texts}
 use Rattle.job_journal.proofs.Quiet.{ended_on}
@@ -310,7 +310,11 @@ module _ (p : Plot) (before now : List Entry) (s : IsSame (facts p) before now) 
   said cause.BadPeer line e = record { bad = e.bad; broken = broken_same (facts p) e.bad before now (s.bytes_are e.bad.chan) e.broken; says = e.says }
 
   pub stop_said_stays : (cause : Why) (line : List ℕ) → IsStopSaid p cause line before → IsStopSaid p cause line now
-  stop_said_stays cause line h = record { stopped = stop_stays cause h.stopped; says = said cause line h.says }
+  stop_said_stays cause line h = record {
+    stopped = stop_stays cause h.stopped;
+    whole = λ late. whole_same (facts p) before now s.bytes_are (h.whole late);
+    says = said cause line h.says;
+  }
 
   -- so a job that has ended keeps its answer, if the texts that were saved are still the first of the saves that are due
   pub answer_stays : (a : Answer) → HasEndedAs p now → HasAnswered p a before → HasAnswered p a now

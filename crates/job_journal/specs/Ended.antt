@@ -11,7 +11,8 @@ use Rattle.cell_core.specs.declared.why.Why.TheVariants as why
 use Rattle.job_end.specs.declared.answer.Answer.{Answer}
 use Rattle.run_journal.specs.Job.{Job}
 use Rattle.run_journal.specs.Parts.{saves_of}
-use Rattle.run_journal.specs.Requests.{Request, is_over, last_request, reply, requests}
+use Rattle.run_journal.specs.Agreement.{is_at_once}
+use Rattle.run_journal.specs.Requests.{Request, is_broken, is_over, last_request, reply, requests}
 use Rattle.run_journal.specs.Saves.{Save, renamed_texts, run_saves}
 use Rattle.run_journal.specs.Why.{BadStream, bad_by, fault_on, is_done, is_error}
 use Rattle.run_journal.specs.Ends.{BadPeer, end_by, reason}
@@ -61,7 +62,11 @@ pub record HasStoppedFor (p : Plot) (cause : Why) (now : List Entry) : Type 0 wh
   pub shown : ShowsCause (facts p) cause now
   pub texts : renamed_texts (facts p) now ≡ map (λ (s : Save). Some s.text) (run_saves (facts p) (requests (facts p) now) (Some cause))
 
--- ---- a broken stream
+-- ---- broken streams
+
+-- no stream of a job is broken by the journal (RFC 23)
+abbrev pub IsWhole : Job → List Entry → Type 0
+IsWhole j now = is_broken j now ≡ false
 
 -- the stream of this channel with the number and the place that this fault tells
 abbrev pub bad_with : Chan → WireFault → BadStream
@@ -88,9 +93,11 @@ abbrev pub SaysCause : Plot → Why → List ℕ → List Entry → Type 0
 SaysCause p why.BadPeer line now = NamesBroken p line now
 SaysCause p cause line now = line ≡ spoken_line p.ask.output (reason (end_by (facts p) now cause))
 
--- the job of a plot has stopped for this cause, and this line says so
+-- The job of a plot has stopped for this cause, and this line says so. A broken stream stops a job before a loss and a time that is over do: where one
+-- of these has stopped it, no stream of the job is broken.
 pub record IsStopSaid (p : Plot) (cause : Why) (line : List ℕ) (now : List Entry) : Type 0 where
   pub stopped : HasStoppedFor p cause now
+  pub whole : is_at_once cause ≡ false → IsWhole (facts p) now
   pub says : SaysCause p cause line now
 
 -- The job of a plot has ended with this answer. The texts that were saved are the first of the saves that are due. Where the status names a cause,

@@ -20,6 +20,7 @@ ghost use Rattle.run_journal.specs.Arrivals.{is_ready};
 ghost use Rattle.run_journal.specs.Requests.{requests};
 ghost use Rattle.run_journal.specs.Saves.{renamed_texts};
 ghost use Rattle.run_journal.specs.Agreement.{Agrees};
+ghost use Rattle.job_journal.specs.Ended.{IsWhole};
 ghost use Rattle.job_journal.specs.Made.{HasMade, passing_saves};
 ghost use Rattle.job_journal.specs.Plot.{Plot, IsFor, facts, first};
 ghost use Rattle.job_journal.specs.Quiet.{is_unread};
@@ -28,8 +29,9 @@ ghost use Rattle.job_journal.specs.Told.{AgreesBut};
 
 use zmtp_wire::laws::no_octets;
 
-/// Before any byte was got for a job its connections have none, its kernel isn't ready and no
-/// request stands. A core that was told of each acknowledged save, and of nothing else, agrees.
+/// Before any byte was got for a job its connections have none, its kernel isn't ready, no request
+/// stands and no stream is broken. A core that was told of each acknowledged save, and of nothing
+/// else, agrees.
 pub fn nothing_has_come()
     ensures bytes { (j : Job) (now : List Entry) → is_unread j now ≡ true → (c : chan.Chan) →
         bytes_got j c now ≡ [] }
@@ -39,6 +41,8 @@ pub fn nothing_has_come()
         is_ready (facts p) now ≡ false }
     ensures requests { (p : Plot) (now : List Entry) → is_unread (facts p) now ≡ true →
         requests (facts p) now ≡ [] }
+    ensures whole { (p : Plot) (now : List Entry) → is_unread (facts p) now ≡ true →
+        IsWhole (facts p) now }
 {
     no_octets();
 }

@@ -22,14 +22,14 @@ ghost use Rattle.run_journal.specs.Jupyter.{Speaker, bodies_in, octets_of};
 ghost use Rattle.run_journal.specs.Order.{begins_unread};
 ghost use Rattle.run_journal.specs.Parts.{place, bytes_got};
 ghost use Rattle.run_journal.specs.Requests.{is_broken};
-ghost use Rattle.run_journal.specs.Why.{BadStream};
+ghost use Rattle.run_journal.specs.Why.{BadStream, fault_on};
 ghost use Rattle.run_journal.specs.Agreement.{BringsNothing, is_got};
 ghost use Rattle.run_journal.specs.Queue.{Queued, channel_of, news};
-ghost use Rattle.job_journal.specs.Ended.{IsBrokenAs, bad_with};
+ghost use Rattle.job_journal.specs.Ended.{IsBrokenAs, IsWhole, bad_with};
 ghost use Rattle.job_journal.specs.Plot.{Plot, facts};
 ghost use Rattle.job_journal.specs.Line.{OnLine, given_as, is_got_at, is_on, parts_of};
 
-use zmtp_wire::laws::{decoder_answers, faults_are_placed, octets_are, octets_give};
+use zmtp_wire::laws::decoder_answers;
 
 /// A piece that came stands in the history; what the job queues at its entry is unsent.
 pub fn lines_get_pieces()
@@ -113,8 +113,15 @@ pub fn pieces_break_streams()
     ensures stays { (j : Job) (bad : BadStream) (before now : List Entry) →
         bytes_got j bad.chan now ≡ bytes_got j bad.chan before → IsBrokenAs j bad before →
         IsBrokenAs j bad now }
-{
-    faults_are_placed();
-    octets_are();
-    octets_give();
-}
+{}
+
+/// Where no stream was broken and bytes came on one channel alone, none is broken where that one
+/// isn't. Where no byte came, none is broken that wasn't.
+pub fn streams_stay_whole()
+    ensures there { (j : Job) (c : chan.Chan) (before now : List Entry) → IsWhole j before →
+        ((d : chan.Chan) → (d ≡ c) ⊎ (bytes_got j d now ≡ bytes_got j d before)) →
+        is_some (fault_on j now c) ≡ false → IsWhole j now }
+    ensures whole { (j : Job) (before now : List Entry) →
+        ((c : chan.Chan) → bytes_got j c now ≡ bytes_got j c before) → IsWhole j before →
+        IsWhole j now }
+{}
