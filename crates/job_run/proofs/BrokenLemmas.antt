@@ -1,6 +1,6 @@
 -- Streams that break: the journal has the fault that is noted, and while a job goes on its core was told of none.
-use Rattle.std.proofs.Common.{◌≡◌, ◌≢◌, ◌⊎◌, ℕ, List, [], ◌∷◌, ◌++◌, Bool, true, false, not, cond, ◌&&◌, ◌||◌, Option, Some, None, Ok, Err, refl, sym, ◌∙◌, ap, subst}
-use Rattle.std.specs.Prelude.{IfErr, OnOk, Result, is_some, option_map}
+use Rattle.std.proofs.Common.{◌≡◌, ◌≢◌, ℕ, List, [], ◌∷◌, Bool, true, false, not, cond, ◌&&◌, ◌||◌, Option, Some, None, Ok, Err, refl, sym, ◌∙◌, ap, subst}
+use Rattle.std.specs.Prelude.{IfErr, OnOk, Result, is_some}
 use Rattle.std.specs.Result.{IsErrAnd}
 use Rattle.std.proofs.Math.Bool.{true≢false}
 use Rattle.std.proofs.lemmas.Bool.{cond-false, false_from_ne_true}
@@ -12,10 +12,8 @@ use Rattle.world.specs.Moments.{Since, start, more}
 use Rattle.world.specs.Parts.{IsOf, OnDisk, OnWire, part_of}
 use Rattle.words.specs.declared.ask.Ask.{Ask}
 use Rattle.zmtp_wire.specs.declared.fault.WireFault.{WireFault}
-use Rattle.zmtp_wire.specs.Decoder.{Answer}
-use Rattle.zmtp_wire.proofs.MeaningLemmas.{brought, fault_placed, is_broken as is_wire_broken, is_stream, meant_alone}
-use Rattle.zmtp_wire.specs.Meaning.{answer_to, contexts_in, messages_in, rest_in}
-use Rattle.zmtp_wire.specs.Stream.{broken as breaks, stream}
+use Rattle.zmtp_wire.proofs.MeaningLemmas.{brought}
+use Rattle.zmtp_wire.specs.Meaning.{answer_to}
 use Rattle.zmtp_peer.specs.Peer.{Brings}
 use Rattle.kernel_lines.specs.Ends.{answer_by}
 use Rattle.kernel_lines.specs.Happened.{History, came_in}
@@ -49,15 +47,15 @@ use Rattle.run_journal.specs.Job.{Job}
 use Rattle.run_journal.specs.Jupyter.{Speaker}
 use Rattle.run_journal.specs.Parts.{bytes_got}
 use Rattle.run_journal.specs.Why.{bad_by, fault_on}
-use Rattle.job_journal.specs.Ended.{IsBrokenAs, bad_with}
+use Rattle.job_journal.specs.Ended.{bad_with}
 use Rattle.job_journal.specs.Plot.{Plot, facts, speaker}
 use Rattle.job_journal.specs.Standing.{OnLines, Reads}
 use Rattle.job_journal.specs.Told.{Hears}
-use Rattle.job_journal.proofs.Breaking.{FaultLaws, breaks_on as fault_answered, broken_same, fault_breaks}
+use Rattle.job_journal.proofs.Breaking.{breaks_on as fault_answered, broken_same, fault_breaks, mapped}
 use Rattle.job_journal.proofs.Bytes.{got_more}
 use Rattle.job_run.specs.declared.execution.Execution.{Execution}
 use Rattle.job_run.specs.Held.{IsCalm}
-use Rattle.job_run.specs.Standing.{BreaksAs, IsGot, NotesBroken, Stands, StandsOrEnds}
+use Rattle.job_run.specs.Standing.{BreaksAs, IsGot, NotesBroken, StandsOrEnds}
 use Rattle.job_run.specs.Told.{KeepsBroken, KnowsBroken}
 
 -- ---- what the core was told
@@ -245,20 +243,9 @@ reads s j ls now on chan.Control = record { past = on.control.past; out = on.con
 reads s j ls now on chan.Iopub = record { past = on.iopub.past; out = on.iopub.out; role = on.iopub.role; stands = on.iopub.stands; got = on.iopub.got }
 reads s j ls now on chan.Heart = on.heart
 
-wire_laws : FaultLaws
-wire_laws = record {
-  none = λ r b e. sym (meant_alone r b (messages_in r b) (contexts_in r b) (Ok tt) (stream (messages_in r b) (contexts_in r b) (rest_in r b) (is_stream r b e))).2;
-  some = λ r b x at e. sym (meant_alone r b (messages_in r b) (contexts_in r b) (Err x) (breaks x at (messages_in r b) (contexts_in r b) (is_wire_broken r b x at e))).2;
-  placed = λ r b x at e. fault_placed b r x at (messages_in r b) (contexts_in r b) (is_wire_broken r b x at e);
-}
-
-mapped : {A B : Type 0} (f : A → B) (o : Option A) → is_some (option_map f o) ≡ is_some o
-mapped f None = refl
-mapped f (Some x) = refl
-
 breaks_by : (p : Plot) (c : Chan) (now : List Entry) (fault : Option WireFault) → answer_by fault ≡ answer_to (role_on c) (bytes_got (facts p) c now) → BreaksAs (facts p) c fault now
 breaks_by p c now None e = tt
-breaks_by p c now (Some f) e = fault_breaks wire_laws p c now f e
+breaks_by p c now (Some f) e = fault_breaks p c now f e
 
 -- what our side answers at a piece that was got
 module _ (p : Plot) (number : ℕ) (x : Execution) (c : Chan) (bytes : List ℕ) (bodies : List (List (List ℕ))) (fault : Option WireFault) (now : List Entry)
@@ -291,7 +278,7 @@ module _ (p : Plot) (number : ℕ) (x : Execution) (c : Chan) (bytes : List ℕ)
   -- and it answers one where the stream is broken
   pub got_faulty : (after : List Entry) → bytes_got j c after ≡ bytes_got j c now → is_some (fault_on j after c) ≡ true → is_some fault ≡ true
   got_faulty after same some =
-      sym (fault_answered wire_laws p c (bytes_got j c now) fault answers)
+      sym (fault_answered p c (bytes_got j c now) fault answers)
       ∙ ap (λ b. is_some (j.codec.fault c b)) (sym same)
       ∙ sym (mapped (bad_by c) (j.codec.fault c (bytes_got j c after)))
       ∙ some

@@ -34,7 +34,7 @@ use Rattle.cell_core.specs.declared.state.State.TheVariants.{Preparing, Starting
 use Rattle.cell_core.specs.declared.step.Step.{Step}
 use Rattle.cell_core.specs.Acts.{IsTimely, has_stopped, heard}
 use Rattle.cell_core.specs.Answering.{can_answer}
-use Rattle.cell_core.specs.Events.{came, is_broken, is_saved, time}
+use Rattle.cell_core.specs.Events.{came, is_broken, is_looked, is_saved, time}
 use Rattle.cell_core.specs.Holds.{awaits, now_of}
 use Rattle.cell_core.specs.StandsFor.{IsAt, StandsFor, awaits_saved_of, task_of}
 use Rattle.cell_core.specs.Task.{Task}
@@ -48,6 +48,7 @@ use Rattle.run_journal.specs.Job.{Job}
 use Rattle.run_journal.specs.Parts.{bytes_put}
 use Rattle.run_journal.specs.Requests.{requests}
 use Rattle.job_journal.specs.Line.{parts_of as message_of}
+use Rattle.job_journal.specs.Ended.{IsWhole}
 use Rattle.job_journal.specs.Plot.{Plot, IsFor, facts, speaker}
 use Rattle.job_journal.specs.Quiet.{IsQuietNow}
 use Rattle.job_journal.specs.Standing.{HasEndedAs, Sends, StandsBy, question}
@@ -117,6 +118,17 @@ passing_whole (Reply f) q = refl
 passing_whole Looked q = refl
 passing_whole Broken q = absurd (true≢false (sym q))
 
+-- and is no look
+passing_unlooked : {A : Type 0} (e : Event) → is_passing e ≡ true → is_looked e ≡ true → A
+passing_unlooked (Moment ms) q l = absurd (true≢false (sym l))
+passing_unlooked Lost q l = absurd (true≢false (sym l))
+passing_unlooked Saved q l = absurd (true≢false (sym l))
+passing_unlooked Ready q l = absurd (true≢false (sym l))
+passing_unlooked (Io m) q l = absurd (true≢false (sym l))
+passing_unlooked (Reply f) q l = absurd (true≢false (sym l))
+passing_unlooked Looked q l = absurd (true≢false (sym q))
+passing_unlooked Broken q l = absurd (true≢false (sym l))
+
 -- it is answered by a look at most
 passing_idle : (e : Event) (act : Act) → IsOther e → is_passing e ≡ true → can_answer e act ≡ true → is_idle act ≡ true
 passing_idle e Nothing o q k = refl
@@ -155,7 +167,7 @@ module _ (p : Plot) (number : ℕ) (x z : Execution) (e : Event) (answer : Step)
       let k : Execution = record x { clock = clock } in
       let to : StandsTo p number (record k { core = z.core }) answer.act now
       = told_other p number k z.core e answer now s took (other ∙ sym calm) (timely_by_stands clock now s) (record k { core = z.core }) refl (unbroken clock now s (passing_whole e q))
-      (passing_other e q) in
+      (passing_unlooked e q) (passing_other e q) in
       let so : Stands p number (record (record x { core = z.core }) { clock = clock }) now = idle_stands p number (record k { core = z.core }) answer.act now (idle_by clock now s q) to in
       record { rest = rest; stands = subst (λ (v : Execution). Stands p number (record v { clock = clock }) now) (sym rest) so }
 
@@ -167,9 +179,9 @@ module _ (p : Plot) (number : ℕ) (x z : Execution) (e : Event) (answer : Step)
       (subst (λ (v : Execution). GoesBy p number clock x v now) (sym stays.same) (told_goes_by clock now q s), stays.no_end, same idle)
 
   -- another event that changes no request: what its act is for is due by the journal
-  pub step_stands : (now : List Entry) → IsOther e → is_broken e ≡ false → Stands p number x now → StandsTo p number z answer.act now
-  step_stands now o whole s =
-      told_other p number x z.core e answer now s took (other ∙ sym calm) (timely_by_stands x.clock now s) z rest (unbroken x.clock now s whole) o
+  pub step_stands : (now : List Entry) → IsOther e → is_broken e ≡ false → (is_looked e ≡ true → IsWhole (facts p) now) → Stands p number x now → StandsTo p number z answer.act now
+  step_stands now o whole seen s =
+      told_other p number x z.core e answer now s took (other ∙ sym calm) (timely_by_stands x.clock now s) z rest (unbroken x.clock now s whole) seen o
 
 -- nothing was told
 pub passes_still : (p : Plot) (number : ℕ) (x : Execution) (now : List Entry) → PassesBy {U = Unit {0}} p number x x (Ok tt) now now

@@ -1,5 +1,5 @@
 -- What a job stands for, by its execution and its end.
-use Rattle.std.proofs.Common.{◌≡◌, ◌≤◌, arith, ℕ, true, false, List, ◌∷◌, [], Option, Some, None, Result, Ok, Err, refl, sym, ◌∙◌, ap, subst}
+use Rattle.std.proofs.Common.{◌≡◌, ◌≤◌, inl, inr, arith, ℕ, true, false, List, ◌∷◌, [], Option, Some, None, Result, Ok, Err, refl, sym, ◌∙◌, ap, subst}
 use Rattle.std.specs.Prelude.{is_some, IfOk, IfErr, IfSome}
 use Rattle.std.proofs.Math.Bool.{true≢false}
 use Rattle.world.specs.declared.chan.Chan.{Chan}
@@ -10,11 +10,12 @@ use Rattle.kernel_lines.specs.declared.lines.Lines.{Lines}
 use Rattle.job_end.specs.declared.answer.Answer.{Answer}
 use Rattle.job_end.specs.declared.end.End.{End}
 use Rattle.job_end.specs.Answers.{Answers}
-use Rattle.job_journal.specs.Ended.{HasAnswered}
+use Rattle.job_journal.specs.Ended.{HasAnswered, IsWhole}
 use Rattle.job_journal.specs.Plot.{Plot, facts}
 use Rattle.job_journal.specs.Quiet.{IsQuietNow, is_quiet}
 use Rattle.job_journal.specs.Standing.{Hands, HasEndedAs}
 use Rattle.job_journal.proofs.Acking.{requests_on}
+use Rattle.job_journal.proofs.Breaking.{bytes_on, whole_same, whole_there}
 use Rattle.job_journal.proofs.Ended.{answered_on}
 use Rattle.job_journal.proofs.Ending.{ends_standing}
 use Rattle.job_journal.proofs.Handing.{hands_out}
@@ -25,6 +26,11 @@ use Rattle.job_run.specs.JobStanding.{IsGotFor, IsTurnedFor, JobStands, JobStand
 use Rattle.job_run.specs.Standing.{IsGot, IsTurned, NotesError, Stands, StandsOrEnds, StandsUntold, parts_of}
 use Rattle.job_run.specs.Told.{IsOutside}
 use Rattle.job_run.proofs.EndLemmas.{outside_so}
+use Rattle.world.specs.declared.entry.Entry.TheVariants as made
+use Rattle.run_journal.specs.Parts.{bytes_got}
+use Rattle.run_journal.specs.Why.{fault_on}
+use Rattle.std.proofs.lemmas.Bool.{false_from_ne_true}
+use Rattle.job_journal.proofs.Bytes.{got_on_one}
 
 -- ---- executions
 
@@ -68,6 +74,7 @@ job_on R p j before now turns w s = record {
   output_is = s.output_is;
   undated = s.undated;
   runs = λ e. turns (s.runs e);
+  whole = λ e. whole_same (facts p) before now (bytes_on (facts p) before now w) (s.whole e);
   ended = λ a is. answered_on p a before now s.undated w (s.ended a is);
 }
 
@@ -78,7 +85,14 @@ pub job_quiet_untold : (p : Plot) (j : Job) (before now : List Entry) → Since 
 job_quiet_untold p j before now w s = job_on StandsUntold p j before now (untold_quiet p j.number j.run before now w) w s
 
 pub job_untold : (p : Plot) (j : Job) (now : List Entry) → JobStands p j now → JobStandsUntold p j now
-job_untold p j now s = record { number_is = s.number_is; output_is = s.output_is; undated = s.undated; runs = λ e. untold_of p j.number j.run now (s.runs e); ended = s.ended }
+job_untold p j now s = record {
+  number_is = s.number_is;
+  output_is = s.output_is;
+  undated = s.undated;
+  runs = λ e. untold_of p j.number j.run now (s.runs e);
+  whole = s.whole;
+  ended = s.ended;
+}
 
 -- the texts that were saved are the first of the saves that are due
 pub job_saved : (p : Plot) (j : Job) (now : List Entry) → JobStandsUntold p j now → HasEndedAs p now
@@ -107,6 +121,7 @@ keeps_standing was now number output outcome clock turns = record { stands = tol
       runs = λ e.
           subst (λ n. Stands p n now.run journal) (sym number)
           (subst (λ c. Stands p was.number (record now.run { clock = c }) journal) (sym clock) (turns p was.number was.run.clock journal (s.runs (running e))));
+      whole = λ e. s.whole (running e);
       ended = λ a is. s.ended a (sym outcome ∙ is);
     }
 
@@ -122,6 +137,7 @@ keeps_standing was now number output outcome clock turns = record { stands = tol
       output_is = output ∙ s.output_is;
       undated = s.undated;
       runs = λ e. subst (λ n. StandsUntold p n now.run journal) (sym number) (unclocked_run p journal (s.runs (running e)));
+      whole = λ e. s.whole (running e);
       ended = λ a is. s.ended a (sym outcome ∙ is);
     }
 
@@ -152,6 +168,7 @@ keeps_ended was now e number output over outside answers = record {
     output_is = output ∙ s.output_is;
     undated = s.undated;
     runs = λ off. absurd (true≢false (sym over ∙ off));
+    whole = λ off. absurd (true≢false (sym over ∙ off));
     ended = λ a is. so p journal (job_untold p was journal s) a is;
   };
   untold = λ p journal s. record {
@@ -159,6 +176,7 @@ keeps_ended was now e number output over outside answers = record {
     output_is = output ∙ s.output_is;
     undated = s.undated;
     runs = λ off. absurd (true≢false (sym over ∙ off));
+    whole = λ off. absurd (true≢false (sym over ∙ off));
     ended = λ a is. so p journal s a is;
   };
 }
@@ -171,19 +189,21 @@ keeps_ended was now e number output over outside answers = record {
 
 pub job_stands : (p : Plot) (j : Job) (mid : Execution) (done : Result (Unit {0}) End) (now : List Entry) → j.number ≡ p.setting.number → j.paths.output ≡ p.ask.output
     → (facts p).task.times.interrupt ≡ false → IfOk done (λ u. (j.run ≡ mid) × (j.outcome ≡ None)) → IfErr done (λ e. is_some j.outcome ≡ true)
-    → IfErr done (λ e. IfSome j.outcome (Answers j.paths.output e)) → StandsOrEnds p j.number mid done now → JobStands p j now
-job_stands p j mid (Ok u) now number output undated goes ends answers s = record {
+    → IfErr done (λ e. IfSome j.outcome (Answers j.paths.output e)) → (is_some j.outcome ≡ false → IsWhole (facts p) now) → StandsOrEnds p j.number mid done now → JobStands p j now
+job_stands p j mid (Ok u) now number output undated goes ends answers whole s = record {
   number_is = number;
   output_is = output;
   undated = undated;
   runs = λ e. subst (λ (x : Execution). Stands p j.number x now) (sym goes.0) s;
+  whole = whole;
   ended = λ a is. (let both : None ≡ Some a = sym goes.1 ∙ is in absurd (cc));
 }
-job_stands p j mid (Err k) now number output undated goes ends answers s = record {
+job_stands p j mid (Err k) now number output undated goes ends answers whole s = record {
   number_is = number;
   output_is = output;
   undated = undated;
   runs = λ e. absurd (true≢false (sym ends ∙ e));
+  whole = whole;
   ended = λ a is. s a (answer_of j.paths.output p.ask.output k j.outcome a output answers is);
 }
 
@@ -200,6 +220,26 @@ turned_run p j ms entry now quiet t = record {
   rises = t.rises;
   since = more t.since (quiet_kind (facts p) entry now quiet);
 }
+
+-- no stream is broken by it, and by calls that bring no byte
+pub turned_whole : (p : Plot) (j : Job) (ms : ℕ) (entry : Entry) (before mid after : List Entry) → is_quiet (facts p) entry ≡ true → mid ≡ entry ∷ before
+    → ((c : Chan) → bytes_got (facts p) c after ≡ bytes_got (facts p) c mid) → IsTurnedFor p j ms before → IsWhole (facts p) after
+turned_whole p j ms entry before mid after quiet is same t =
+    whole_same (facts p) t.past after
+    (λ c.
+    same c
+    ∙ ap (bytes_got (facts p) c) is
+    ∙ bytes_on (facts p) (made.Moment ms ∷ t.past) (entry ∷ before) (more t.since (quiet_kind (facts p) entry before quiet)) c) (t.stands.whole t.running)
+
+-- a piece that leaves its own stream whole breaks none
+pub got_whole : (p : Plot) (j : Job) (c : Chan) (bytes : List ℕ) (before after : List Entry) → ((d : Chan) → bytes_got (facts p) d after ≡ bytes_got (facts p) d before)
+    → (is_some (fault_on (facts p) after c) ≡ true → ⊥) → IsGotFor p j c bytes before → IsWhole (facts p) after
+got_whole p j c bytes before after same intact g =
+    whole_there (facts p) c g.past after (g.stands.whole g.running)
+    (λ d. elim (got_on_one (facts p) c d g.conn g.room bytes g.past g.at) [
+      | inl at ↦ inl at
+      | inr away ↦ inr (same d ∙ ap (bytes_got (facts p) d) g.is ∙ away)
+    ]) (false_from_ne_true (is_some (fault_on (facts p) after c)) intact)
 
 -- ---- the clock, after its begin
 
@@ -220,5 +260,6 @@ job_clocked p was now ms journal number output outcome rest turns at s = record 
   runs = λ e.
       subst (λ n. Stands p n now.run journal) (sym number)
       (told_clock p was.number was.run now.run ms journal rest turns at (s.runs (ap (λ (a : Option Answer). is_some a) (sym outcome) ∙ e)));
+  whole = λ e. s.whole (ap (λ (a : Option Answer). is_some a) (sym outcome) ∙ e);
   ended = λ a is. s.ended a (sym outcome ∙ is);
 }

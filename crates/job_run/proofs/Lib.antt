@@ -32,4 +32,5 @@ pub mod StepLemmas
 pub mod StopLemmas
 pub mod ToldLemmas
 pub mod TurnLemmas
+pub mod WholeLemmas
 pub mod WorkLemmas

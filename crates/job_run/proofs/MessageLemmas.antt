@@ -59,8 +59,9 @@ use Rattle.job_run.proofs.BrokenLemmas.{none_broke}
 use Rattle.job_run.proofs.EndLemmas.{starved_so}
 use Rattle.job_run.proofs.ListenLemmas.{arrivals_more, one_more}
 use Rattle.job_run.proofs.NotedLemmas.{noted_all, noted_passes}
-use Rattle.job_run.specs.Standing.{DoesAct, EndsSo, IsAskedFor, IsOwn, IsToSave, MovesOn, NotesSoFar, Stands, StandsOrEnds, StaysStill, Uses, UsesOrEnds, all_used, open_request, parts_of, sent_of}
+use Rattle.job_run.specs.Standing.{DoesAct, EndsSo, IsAskedFor, IsOwn, IsToSave, MovesOn, NotesSoFar, Stands, StandsOrEnds, StaysStill, Uses, UsesOrEnds, all_used, open_request, parts_of, sent_of, StopsWhole}
 use Rattle.job_run.specs.Used.{TakesEvent, UsesMessage, brief_in}
+use Rattle.job_run.proofs.WholeLemmas.{message_whole}
 
 -- ---- the act at a message
 
@@ -217,6 +218,7 @@ module _ (p : Plot) (number : ℕ) (x : Execution) (standing_then : ℕ) (done r
             noted = noted_all p number (parts_of x) Iopub done (m ∷ rest) entry past w x.request done refl noted;
           };
           due = subst (λ es. IsAsked (facts p).task es settled) (sym two.1) (asked_save (facts p) told e settled w.core.hears.goes_on (sym answered ∙ is));
+          whole = subst (λ es. StopsWhole p es (entry ∷ past)) (sym two.1) (message_whole p x.core told e (entry ∷ past) w.core.hears w.is_for.task_is calm refl t);
           broken = λ f. none_broke (facts p) x.core told w.core.hears w.is_for.task_is calm e refl (ap (came is_broken) (sym two.1) ∙ f);
         }
 

@@ -3,6 +3,7 @@ use Rattle.std.proofs.Common.{◌≡◌, ◌≤◌, arith, ℕ, ◌==◌, Bool, 
 use Rattle.std.specs.Prelude.{if◌then◌else◌}
 use Rattle.std.proofs.Math.Bool.{true≢false}
 use Rattle.std.proofs.lemmas.Bool.{cond-false, eqb-true}
+use Rattle.world.specs.declared.chan.Chan.{Chan}
 use Rattle.world.specs.declared.entry.Entry.{Entry}
 use Rattle.world.specs.Moments.{Since}
 use Rattle.nb_model.specs.declared.notebook.Notebook.{Notebook}
@@ -39,7 +40,7 @@ use Rattle.job_saves.specs.Course.{IsEndOfSave}
 use Rattle.job_saves.specs.Saving.{OnTried, SavesOrEnds}
 use Rattle.run_journal.specs.Agreement.{Agrees}
 use Rattle.run_journal.specs.Job.{Job}
-use Rattle.run_journal.specs.Parts.{saves_of}
+use Rattle.run_journal.specs.Parts.{bytes_got, saves_of}
 use Rattle.run_journal.specs.Requests.{Request as Asked, last_request, requests, used_of}
 use Rattle.run_journal.proofs.Safety.{few_requests}
 use Rattle.job_journal.specs.Plot.{Plot, IsFor, facts, first}
@@ -67,6 +68,8 @@ use Rattle.job_run.proofs.EndLemmas.{starved_so, uncaused_ends}
 use Rattle.job_run.proofs.NotedLemmas.{noted_none}
 use Rattle.job_run.proofs.StayLemmas.{is_final, requests_kept}
 use Rattle.job_run.proofs.ToldLemmas.{peer_broke}
+use Rattle.job_run.proofs.WholeLemmas.{again_whole, stops_as_told}
+use Rattle.job_journal.proofs.Breaking.{whole_same}
 
 -- ---- the kernel is started before any request
 
@@ -202,11 +205,13 @@ module _ (p : Plot) (number : ℕ) (x : Execution) (settled : ℕ) (before : Lis
       noted_behind : is_final answer.act ≡ true → NotesError (facts p) x.request (requests (facts p) after)
       noted_behind final = subst (NotesError (facts p) x.request) (sym (requests_behind final)) t.stands.noted
 
+      -- no byte came
+      bytes_behind : (c : Chan) → bytes_got (facts p) c after ≡ bytes_got (facts p) c before
+      bytes_behind c = bytes_on (facts p) mid after quiet c ∙ saves_bring_none (facts p) (facts p).output (text_of (notebook_of book)) done before mid saved c
+
       -- the stream that broke is broken as it was
       broken_behind : NotesBroken (facts p) x.broken before → NotesBroken (facts p) x.broken after
-      broken_behind =
-          notes_on (facts p) x.broken before after
-          (λ c. bytes_on (facts p) mid after quiet c ∙ saves_bring_none (facts p) (facts p).output (text_of (notebook_of book)) done before mid saved c)
+      broken_behind = notes_on (facts p) x.broken before after bytes_behind
 
       -- another save follows: the core has been told of this one
       module _ (n : ℕ) (is : answer.act ≡ Save n) where
@@ -249,6 +254,7 @@ module _ (p : Plot) (number : ℕ) (x : Execution) (settled : ℕ) (before : Lis
             noted = noted_behind (ap is_final is);
           };
           due = asked_save (facts p) told Saved n t.stands.parts.core.hears.goes_on (sym act_is ∙ is);
+          whole = again_whole p next told after ongoing is_for.task_is is_for.runs (again ∙ ap is_save is) (closes (ap is_save is));
           broken = λ f. broken_behind (t.broken f);
         }
 
@@ -277,6 +283,9 @@ module _ (p : Plot) (number : ℕ) (x : Execution) (settled : ℕ) (before : Lis
         stopped = stopped_on p cause mid after t.stands.parts.undated quiet
             (stops_by_save p number (parts_of x) before t.stands.parts settled t.due (text_of (notebook_of book)) same_text mid saved cause (sym act_is ∙ is));
         request = subst (OnRequest (facts p) (sent_of x.request)) (sym (requests_behind (ap is_final is))) t.stands.parts.request;
+        whole = λ late.
+            whole_same (facts p) before after bytes_behind
+            (t.whole cause (stops_as_told p x.core told cause t.stands.parts.core.hears task_is awaited (sym act_is ∙ is) late) late);
         noted = noted_behind (ap is_final is);
         broken = λ f. broken_behind (t.broken (peer_broke (facts p).task Saved told (sym act_is ∙ is ∙ ap (λ w. Stop w) f)));
       }

@@ -11,10 +11,11 @@ use Rattle.cell_core.specs.declared.machine.Core.{Core}
 use Rattle.cell_core.specs.declared.step.Step.{Step}
 use Rattle.cell_core.specs.Acts.{IsTimely, act_of, has_stopped, heard}
 use Rattle.cell_core.specs.Answering.{can_answer}
-use Rattle.cell_core.specs.Events.{came, is_broken, is_saved}
+use Rattle.cell_core.specs.Events.{came, is_broken, is_looked, is_saved}
 use Rattle.cell_core.specs.StandsFor.{task_of, awaits_saved_of}
 use Rattle.cell_core.proofs.Answering.{answers_kind, no_interrupt, sent_at_start}
 use Rattle.run_journal.specs.Agreement.{IsOther, moment, looked, lost, broken}
+use Rattle.job_journal.specs.Ended.{IsWhole}
 use Rattle.job_journal.specs.Plot.{Plot, facts}
 use Rattle.job_journal.specs.Saved.{IsAsked}
 use Rattle.job_journal.specs.Standing.{StandsBy}
@@ -26,9 +27,10 @@ use Rattle.job_journal.proofs.Saving.{asked_save}
 use Rattle.job_journal.proofs.Steps.{hears_next}
 use Rattle.job_end.specs.declared.end.End.{End}
 use Rattle.job_run.specs.declared.execution.Execution.{Execution}
-use Rattle.job_run.specs.Standing.{EndsSo, NotesBroken, Stands, StandsOrEnds, StandsTo, StandsToOrEnds, parts_of}
+use Rattle.job_run.specs.Standing.{EndsSo, NotesBroken, Stands, StandsOrEnds, StandsTo, StandsToOrEnds, StopsWhole, parts_of}
 use Rattle.job_run.specs.Used.{TakesEvent}
 use Rattle.job_run.proofs.ToldLemmas.{peer_broke}
+use Rattle.job_run.proofs.WholeLemmas.{other_whole, stop_cause}
 
 other_unsaved : (e : Event) → IsOther e → is_saved e ≡ false
 other_unsaved e (moment ms) = refl
@@ -87,29 +89,39 @@ module _ (p : Plot) (number : ℕ) (x : Execution) (core : Core) (e : Event) (an
   abbrev Noted : Type 0
   Noted = came is_broken (e ∷ told) ≡ true → NotesBroken (facts p) x.broken now
 
-  other_by : Noted → IsOther e → (act : Act) → answer.act ≡ act → StandsTo p number (record x { core = core }) act now
-  other_by broke o Nothing is = other_stands o (ap is_stop is)
-  other_by broke o Look is = other_stands o (ap is_stop is)
-  other_by broke o Start is =
+  -- a look comes while no stream is broken
+  abbrev Looks : Type 0
+  Looks = is_looked e ≡ true → IsWhole (facts p) now
+
+  kind_of : (act : Act) → answer.act ≡ act → can_answer e act ≡ true
+  kind_of act is = subst (λ (a : Act). can_answer e a ≡ true) is answered_kind
+
+  other_by : Noted → Looks → IsOther e → (act : Act) → answer.act ≡ act → StandsTo p number (record x { core = core }) act now
+  other_by broke seen o Nothing is = other_stands o (ap is_stop is)
+  other_by broke seen o Look is = other_stands o (ap is_stop is)
+  other_by broke seen o Start is =
       absurd (true≢false (sym (subst (λ (act : Act). can_answer e act ≡ true) (sym (t.act told s.parts.core.hears.stands timely) ∙ is) kind) ∙ other_unsaved e o))
-  other_by broke o (Send cell) is = absurd (not_start e o (sent_at_start (facts p).task e told cell (sym answered ∙ is)))
-  other_by broke o Interrupt is = no_interrupt (facts p).task e told s.parts.undated (sym answered ∙ is)
-  other_by broke o (Save settled) is = record {
+  other_by broke seen o (Send cell) is = absurd (not_start e o (sent_at_start (facts p).task e told cell (sym answered ∙ is)))
+  other_by broke seen o Interrupt is = no_interrupt (facts p).task e told s.parts.undated (sym answered ∙ is)
+  other_by broke seen o (Save settled) is = record {
     stands = other_stands o (ap is_stop is);
     due = subst (λ es. IsAsked (facts p).task es settled) (sym (told_parts o (ap is_stop is)).1)
         (asked_save (facts p) told e settled s.parts.core.hears.goes_on (sym answered ∙ is));
+    whole = subst (λ es. StopsWhole p es now) (sym (told_parts o (ap is_stop is)).1) (other_whole p told e now o seen (Save settled) (kind_of (Save settled) is) refl refl);
     broken = λ f. broke (ap (came is_broken) (sym (told_parts o (ap is_stop is)).1) ∙ f);
   }
-  other_by broke o (Stop cause) is = record {
+  other_by broke seen o (Stop cause) is = record {
     stopped = stops_by_other p number (parts_of x) now s.parts e cause o (sym answered ∙ is);
+    whole = other_whole p told e now o seen (Stop cause) (kind_of (Stop cause) is) refl refl cause
+        (stop_cause (facts p).task e told cause s.parts.core.hears.goes_on (sym answered ∙ is));
     request = s.parts.request;
     noted = s.noted;
     broken = λ f. broke (peer_broke (facts p).task e told (sym answered ∙ is ∙ ap (λ w. Stop w) f));
   }
 
   -- an event of the clock, a look, a loss or a broken stream was told: what its act is for is due by the journal
-  pub told_other : (y : Execution) → y ≡ record x { core = core } → Noted → IsOther e → StandsTo p number y answer.act now
-  told_other y rest broke o = subst (λ k. StandsTo p number k answer.act now) (sym rest) (other_by broke o answer.act refl)
+  pub told_other : (y : Execution) → y ≡ record x { core = core } → Noted → Looks → IsOther e → StandsTo p number y answer.act now
+  told_other y rest broke seen o = subst (λ k. StandsTo p number k answer.act now) (sym rest) (other_by broke seen o answer.act refl)
 
 -- ---- where a job ends, and that is passed on
 

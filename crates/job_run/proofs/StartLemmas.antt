@@ -62,6 +62,9 @@ use Rattle.job_run.specs.Standing.{IsToSave, Stands, parts_of}
 use Rattle.job_run.specs.Task.{AreTermsOf, task_for}
 use Rattle.job_run.proofs.NotedLemmas.{noted_none, noted_unsent}
 use Rattle.job_run.proofs.SaveLemmas.{unsent}
+use Rattle.job_journal.specs.Ended.{IsWhole}
+use Rattle.job_journal.proofs.Breaking.{unread_whole}
+use Rattle.run_journal.specs.Requests.{is_broken as is_any_broken}
 
 -- ---- no byte is got
 
@@ -143,6 +146,7 @@ module _ (p : Plot) (number : ℕ) (x : Execution) (now : List Entry) (b : IsToB
   begin_saves = record {
     stands = stands;
     due = subst (λ es. IsAsked j.task es 0) (sym told_none) first_asked;
+    whole = λ cause f late. unread_whole p now b.fresh.unread;
     broken = λ f. absurd (true≢false (sym f ∙ ap (came is_broken) told_none));
   }
 
@@ -202,6 +206,7 @@ told_later p j ms past unread rises s = record {
   output_is = s.output_is;
   undated = s.undated;
   runs = λ e. let u = s.runs e in record { stands = clock_on p j.number j.run ms past unread u.stands; earlier = omega (arith, u.earlier, rises) };
+  whole = λ e. unread_whole p (made.Moment ms ∷ past) unread;
   ended = λ a is.
       let answer = s.ended a is in
       let h = answer.ended in
@@ -372,6 +377,10 @@ module _ (p : Plot) (x : Execution) (now : List Entry) (was : requests (facts (i
   said_in why.KernelLost line e s = s
   said_in why.BadPeer line e s = record { bad = s.bad; broken = record { at = s.broken.at; fault = s.broken.fault; place = s.broken.place }; says = s.says }
 
+  whole_in : IsWhole (facts elsewhere) now → IsWhole (facts p) now
+  unfolding is_any_broken
+  whole_in e = e
+
   -- so a job has ended with an answer in whichever session
   answered_in : (a : Answer) → HasAnswered elsewhere a now → HasAnswered p a now
   answered_in a h = record {
@@ -383,6 +392,7 @@ module _ (p : Plot) (x : Execution) (now : List Entry) (was : requests (facts (i
             shown = shown_in cause t.stopped.shown;
             texts = sym (same_texts p x now) ∙ t.stopped.texts ∙ ap (λ (ss : List Save). map (λ (s : Save). Some s.text) ss) (saves_in_session p x now was is runs (Some cause));
           };
+          whole = λ late. whole_in (t.whole late);
           says = said_in cause a.line t.stopped.shown t.says;
         };
   }
@@ -421,11 +431,12 @@ starts_as p number ask given x before now (Err e) is fresh unbegun output merge 
 
 -- a job whose first save was made
 pub job_begun : (p : Plot) (j : Job) (number : ℕ) (x : Execution) (now : List Entry) → j.run ≡ x → j.number ≡ number → j.outcome ≡ None → number ≡ p.setting.number → j.paths.output ≡ p.ask.output
-    → (facts p).task.times.interrupt ≡ false → Stands p number x now → JobStands p j now
-job_begun p j number x now run of outcome own output undated s = record {
+    → (facts p).task.times.interrupt ≡ false → IsWhole (facts p) now → Stands p number x now → JobStands p j now
+job_begun p j number x now run of outcome own output undated whole s = record {
   number_is = of ∙ own;
   output_is = output;
   undated = undated;
   runs = λ e. subst (λ n. Stands p n j.run now) (sym of) (subst (λ (v : Execution). Stands p number v now) (sym run) s);
+  whole = λ e. whole;
   ended = λ a is. (let both : None ≡ Some a = sym outcome ∙ is in absurd (cc));
 }

@@ -10,7 +10,7 @@ use Rattle.world.specs.Places.{is_at, time}
 use Rattle.kernel_lines.specs.Line.{taken_of}
 use Rattle.job_end.specs.declared.answer.Answer.{Answer}
 use Rattle.run_journal.specs.Parts.{place, bytes_put}
-use Rattle.job_journal.specs.Ended.{HasAnswered}
+use Rattle.job_journal.specs.Ended.{HasAnswered, IsWhole}
 use Rattle.job_journal.specs.Plot.{Plot, facts}
 use Rattle.job_journal.specs.Quiet.{IsQuietNow}
 use Rattle.job_run.specs.declared.execution.Execution.{Execution}
@@ -20,13 +20,14 @@ use Rattle.job_run.specs.Run.{number_of, outcome_of}
 use Rattle.job_run.specs.Standing.{Stands, StandsUntold}
 use Rattle.job_run.specs.Task.{output_of_job}
 
--- A job has the number and the output of the plot's. While it runs its execution stands for the journal in this sense. Once it has ended, it has
--- ended with its answer by the journal.
+-- A job has the number and the output of the plot's. While it runs its execution stands for the journal in this sense, and no stream of it is broken.
+-- Once it has ended, it has ended with its answer by the journal.
 pub record JobStandsAs (stands : Plot → ℕ → Execution → List Entry → Type 0) (p : Plot) (j : Job) (now : List Entry) : Type 0 where
   pub number_is : number_of j ≡ p.setting.number
   pub output_is : output_of_job j ≡ p.ask.output
   pub undated : (facts p).task.times.interrupt ≡ false
   pub runs : is_some (outcome_of j) ≡ false → stands p (number_of j) j.run now
+  pub whole : is_some (outcome_of j) ≡ false → IsWhole (facts p) now
   pub ended : (a : Answer) → outcome_of j ≡ Some a → HasAnswered p a now
 
 -- a job stands for the journal

@@ -24,17 +24,19 @@ use Rattle.cell_core.specs.declared.event.Event.TheVariants as event
 use Rattle.cell_core.specs.declared.event.Event.TheVariants.{Saved}
 use Rattle.cell_core.specs.Answering.{can_answer}
 use Rattle.cell_core.specs.Events.{came, is_broken}
+use Rattle.cell_core.specs.Saves.{why}
 use Rattle.cell_core.specs.declared.why.Why.{Why}
 use Rattle.cell_core.specs.declared.why.Why.TheVariants.{BadPeer}
 use Rattle.job_end.specs.declared.answer.Answer.{Answer as JobAnswer}
 use Rattle.job_end.specs.declared.end.End.{End}
 use Rattle.job_end.specs.Answers.{Answers}
+use Rattle.run_journal.specs.Agreement.{is_at_once}
 use Rattle.run_journal.specs.Asked.{may_raise}
 use Rattle.run_journal.specs.Codec.{Arrival}
 use Rattle.run_journal.specs.Job.{Job as Facts}
 use Rattle.run_journal.specs.Requests.{Request as Asked, last_request, reply, requests}
 use Rattle.run_journal.specs.Parts.{place, bytes_put}
-use Rattle.job_journal.specs.Ended.{HasAnswered, HasStoppedFor, IsBrokenAs, bad_with}
+use Rattle.job_journal.specs.Ended.{HasAnswered, HasStoppedFor, IsBrokenAs, IsWhole, bad_with}
 use Rattle.job_journal.specs.Piece.{HasCome, Within, with_done}
 use Rattle.job_journal.specs.Plot.{Plot, facts}
 use Rattle.job_journal.specs.Quiet.{IsQuietNow}
@@ -123,6 +125,10 @@ pub record NotesBroken (j : Facts) (noted_is : Option (Chan × WireFault)) (now 
   pub noted : noted_is ≡ Some (chan, fault)
   pub is : IsBrokenAs j (bad_with chan fault) now
 
+-- where these events stop the job for a loss or for a time that is over, no stream is broken by the journal
+abbrev pub StopsWhole : Plot → List Event → List Entry → Type 0
+StopsWhole p told now = (cause : Why) → why (facts p).task told ≡ Some cause → is_at_once cause ≡ false → IsWhole (facts p) now
+
 -- ---- an execution whose core has answered
 
 -- a request of this cell stands by the journal, and is still to be sent
@@ -130,16 +136,20 @@ pub record IsToSendCell (p : Plot) (number : ℕ) (x : Execution) (cell : ℕ) (
   pub parts : IsToSend p number (parts_of x) cell now
   pub asked : IsAskedFor p x
 
--- A save that settles so many cells is due, and is still to be made. Where the core was told of a broken stream, it is noted which.
+-- A save that settles so many cells is due, and is still to be made. Where the core was told of a broken stream, it is noted which. Where a loss or a
+-- time that is over stops the job, none is broken.
 pub record IsToSave (p : Plot) (number : ℕ) (x : Execution) (settled : ℕ) (now : List Entry) : Type 0 where
   pub stands : Stands p number x now
   pub due : IsAsked (facts p).task stands.parts.core.told settled
+  pub whole : StopsWhole p stands.parts.core.told now
   pub broken : came is_broken stands.parts.core.told ≡ true → NotesBroken (facts p) x.broken now
 
 -- The core stops the job for this cause: by the journal it has stopped for it. The request that the job has is the last one, and the exception that
--- is noted with it is the one that its reply names. Where a stream broke, it is noted which.
+-- is noted with it is the one that its reply names. Where a stream broke, it is noted which. Where a loss or a time that is over stops the job, none
+-- is broken.
 pub record IsToStop (p : Plot) (x : Execution) (cause : Why) (now : List Entry) : Type 0 where
   pub stopped : HasStoppedFor p cause now
+  pub whole : is_at_once cause ≡ false → IsWhole (facts p) now
   pub request : OnRequest (facts p) (sent_of x.request) (requests (facts p) now)
   pub noted : NotesError (facts p) x.request (requests (facts p) now)
   pub broken : cause ≡ BadPeer → NotesBroken (facts p) x.broken now

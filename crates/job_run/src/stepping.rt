@@ -16,7 +16,7 @@ const RAISES: &str = "raises-exception";
 impl Execution {
     ghost use Rattle.std.specs.Prelude.{◌≡◌, ℕ, ◌<◌, ◌≤◌, ◌^◌, ◌+◌, true, false, is_some};
     ghost use Rattle.std.specs.Prelude.{IfOk, IfErr, IfSome, OnOk};
-    ghost use Rattle.cell_core.specs.Events.{is_broken, is_saved};
+    ghost use Rattle.cell_core.specs.Events.{is_broken, is_looked, is_saved};
     ghost use Rattle.cell_core.specs.Holds.{IsSmall, is_save};
     ghost use Rattle.cell_core.specs.Sending.{next_of, saves_ahead};
     ghost use Rattle.cell_core.specs.StandsFor.{task_of};
@@ -41,6 +41,7 @@ impl Execution {
     ghost use Rattle.job_run.specs.Used.{TakesEvent};
     ghost use Rattle.world.specs.declared.entry.Entry.{Entry};
     ghost use Rattle.cell_core.specs.Answering.{can_answer};
+    ghost use Rattle.job_journal.specs.Ended.{IsWhole};
     ghost use Rattle.job_journal.specs.Plot.{Plot, facts};
     ghost use Rattle.run_journal.specs.Agreement.{IsOther};
     ghost use Rattle.run_journal.specs.Requests.{requests};
@@ -79,10 +80,12 @@ impl Execution {
         ensures saves { OnlySaves W.journal w.old w.new self.old.book }
         ensures asks { OnOk result (AsksOnce self.old self.new) }
         // Where the execution stood for the journal, it stands for the journal again, by an event
-        // of the clock, a look or a loss. An event of the clock and a loss bring no call.
+        // of the clock, a loss, or a look while no stream is broken. An event of the clock and a
+        // loss bring no call.
         ensures stands { IsOther e → is_broken e ≡ false → (p : Plot) (number : ℕ) →
             Told (W.journal w.old) (W.journal w.new) (λ before after.
             ExecutionStands p number self.old before →
+            (is_looked e ≡ true → IsWhole (facts p) before) →
             StandsOrEnds p number self.new result after) }
         ensures passes { is_passing e ≡ true → (p : Plot) (number : ℕ) →
             Told (W.journal w.old) (W.journal w.new) (PassesBy p number self.old self.new result) }

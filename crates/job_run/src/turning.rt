@@ -24,7 +24,8 @@ impl Execution {
     ghost use Rattle.std.specs.Prelude.{List};
     ghost use Rattle.world.specs.declared.entry.Entry.{Entry};
     ghost use Rattle.world.specs.Moments.{Told};
-    ghost use Rattle.job_journal.specs.Plot.{Plot};
+    ghost use Rattle.job_journal.specs.Ended.{IsWhole};
+    ghost use Rattle.job_journal.specs.Plot.{Plot, facts};
     ghost use Rattle.job_run.specs.Standing.{GoesBy, HasTurned, IsTurned, PassesBy};
     ghost use Rattle.job_run.specs.Standing.{Stands, StandsOrEnds};
 
@@ -213,9 +214,10 @@ impl Execution {
         requires holds { Holds self.old }
         requires calm { IsCalm self.old }
         ensures goes { Proceeds W.journal W.counts w.old w.new self.old self.new Nothing result }
-        // Where the execution stood for the journal, it stands for the journal again.
+        // Where the execution stood for the journal and no stream was broken, it stands for the
+        // journal again.
         ensures stands { (p : Plot) (number : ℕ) → Told (W.journal w.old) (W.journal w.new)
-            (λ before after. Stands p number self.old before →
+            (λ before after. Stands p number self.old before → IsWhole (facts p) before →
             StandsOrEnds p number self.new result after) }
     {
         self.step(w, Event::Looked)?;

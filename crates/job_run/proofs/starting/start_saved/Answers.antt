@@ -15,13 +15,14 @@ use Rattle.job_run.proofs.StopLemmas.{starts_by, launches, of_run, at_paths}
 use Rattle.cell_core.specs.StandsFor.{task_of}
 use Rattle.job_run.specs.Told.{EndsBy}
 use Rattle.job_run.proofs.starting.start_saved.Goals as goal
-use Rattle.world.proofs.MomentsLemmas.{told_as, told_then}
+use Rattle.world.proofs.MomentsLemmas.{told_as, told_both, told_then}
 use Rattle.std.proofs.lemmas.Result.{IfOk-weaker}
 use Rattle.job_notebook.specs.State.{output_of}
 use Rattle.job_journal.specs.Plot.{facts}
 use Rattle.job_journal.proofs.Acking.{requests_on}
 use Rattle.job_run.specs.Beginning.{AsksPorts, SpeaksOn}
 use Rattle.job_run.specs.declared.paths.Paths.{Paths}
+use Rattle.job_journal.proofs.Breaking.{unread_whole}
 use Rattle.job_run.proofs.StartLemmas.{job_begun, none_requested, saves_unread}
 
 pub returns-in-Ok-clause-course : goal.returns-in-Ok-clause-course
@@ -108,10 +109,10 @@ returns-in-Ok-clause-terms g c =
 
 pub returns-in-Ok-clause-stands : goal.returns-in-Ok-clause-stands
 returns-in-Ok-clause-stands g c p =
-    told_then (c.in-Ok.ensures.stands p c.args.number) (c.with_kernel.ensures.stands p)
+    told_then (told_both (c.in-Ok.ensures.stands p c.args.number) c.save_first.ensures.saves) (c.with_kernel.ensures.stands p)
     (λ x y z first then output b.
     then (job_begun p c.job_of.result c.args.number c.save_first.new.self y c.job_of.ensures.run c.job_of.ensures.number c.job_of.ensures.outcome b.is_for.number_is
-    (ap (λ (q : Paths). q.output) c.job_of.ensures.paths ∙ output) b.fresh.undated (first b)))
+    (ap (λ (q : Paths). q.output) c.job_of.ensures.paths ∙ output) b.fresh.undated (unread_whole p y (saves_unread (facts p) (output_of c.args.run.book) x y first.1 b.fresh.unread)) (first.0 b)))
 
 pub returns-in-Err-clause-stands : goal.returns-in-Err-clause-stands
 returns-in-Err-clause-stands g c p = told_as (c.in-Err.ensures.stands p c.args.number) (λ x y first output b. first b)

@@ -1,4 +1,5 @@
 use Rattle.std.proofs.Common.{◌≡◌, false, ap, subst, sym, ◌∙◌}
+use Rattle.std.proofs.Math.Bool.{true≢false}
 use Rattle.cell_core.specs.Acts.{has_stopped, heard}
 use Rattle.cell_core.specs.StandsFor.{StandsFor, awaits_saved_of, task_of}
 use Rattle.cell_core.specs.declared.machine.Core.{Core}
@@ -28,7 +29,7 @@ returns-clause-stands g c p number =
     (does
     (told_other p number b.new.self t.new.self.core Broken t.result before (broken_stands p number c.args.self.now b.new.self before b.ensures.rest s) t.ensures.takes
     (sym (ap awaits_saved_of b.ensures.core ∙ c.requires.calm)) tt t.new.self t.ensures.rest
-    (λ f. record { chan = c.args.chan; fault = c.args.fault; noted = b.ensures.noted; is = is }) broken)).0)
+    (λ f. record { chan = c.args.chan; fault = c.args.fault; noted = b.ensures.noted; is = is }) (λ e. absurd (true≢false (sym e))) broken)).0)
 
 pub returns-clause-ends : goal.returns-clause-ends
 returns-clause-ends g c p number =

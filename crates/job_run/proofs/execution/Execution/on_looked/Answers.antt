@@ -15,9 +15,9 @@ returns-in_err-step-clause-goes g c = goes_err c.from_residual.ensures.1 c.in_er
 pub returns-clause-stands : goal.returns-clause-stands
 returns-clause-stands g c p number =
     told_then (c.in_ok-step.ensures.stands looked refl p number) (c.lose.ensures.passes p number)
-    (λ x y z first pass s. passes_on p number c.step.new.self c.lose.new.self c.lose.result y z pass (first s))
+    (λ x y z first pass s whole. passes_on p number c.step.new.self c.lose.new.self c.lose.result y z pass (first s (λ e. whole)))
 
 pub returns-in_err-step-clause-stands : goal.returns-in_err-step-clause-stands
 returns-in_err-step-clause-stands g c p number =
     told_as (c.in_err-step.ensures.stands looked refl p number)
-    (λ x z first s. ended_so p number c.step.new.self c.from_residual.result _ z c.from_residual.ensures.1 (first s))
+    (λ x z first s whole. ended_so p number c.step.new.self c.from_residual.result _ z c.from_residual.ensures.1 (first s (λ e. whole)))

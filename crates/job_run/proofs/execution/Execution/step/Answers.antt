@@ -24,8 +24,8 @@ returns-clause-stands g c o whole p number =
     let x = c.args.self.now in
     let t = c.tell-step in
     told_as (c.act.ensures.stands p number)
-    (λ before after does s.
-    (does (step_stands p number x t.new.self c.args.e t.result (is_some x.broken) t.ensures.rest t.ensures.takes c.requires.holds.heard c.requires.may c.requires.calm c.requires.other before o whole s)).0)
+    (λ before after does s seen.
+    (does (step_stands p number x t.new.self c.args.e t.result (is_some x.broken) t.ensures.rest t.ensures.takes c.requires.holds.heard c.requires.may c.requires.calm c.requires.other before o whole seen s)).0)
 
 pub returns-clause-passes : goal.returns-clause-passes
 returns-clause-passes g c q p number =

@@ -1,6 +1,9 @@
 use Rattle.std.proofs.Common.{refl, rules, sym, ◌∙◌}
 use Rattle.world.specs.Moments.{start}
-use Rattle.world.proofs.MomentsLemmas.{told_as, told_start}
+use Rattle.world.proofs.MomentsLemmas.{told_as, told_both, told_start}
+use Rattle.job_journal.specs.Plot.{facts}
+use Rattle.job_journal.proofs.Breaking.{whole_same}
+use Rattle.job_run.proofs.CauseLemmas.{calls_got_none}
 use Rattle.job_run.proofs.JobLemmas.{job_stands}
 use Rattle.job_saves.specs.Course.{stays_open}
 use Rattle.cell_core.specs.StandsFor.{task_of}
@@ -33,13 +36,16 @@ returns-clause-stands g c p =
     let j = c.args.self.now in
     let e = c.outcome_of in
     let t = c.on_looked-looked in
-    told_as (t.ensures.stands p j.number)
+    let running = sym c.is_over.ensures ∙ c.if-is_over.false in
+    told_as
+    (told_both (t.ensures.stands p j.number)
+    (calls_got_none j.run.book t.new.self.book (g.W.Journal.journal c.args.w.now) (g.W.Journal.journal t.new.w) (g.W.Journal.counts c.args.w.now) (g.W.Journal.counts t.new.w) t.ensures.goes.step.calls (facts p)))
     (λ before after so s.
     job_stands p _ t.new.self t.result after s.number_is s.output_is s.undated e.ensures.goes e.ensures.ends e.ensures.answers
-    (so (s.runs (sym c.is_over.ensures ∙ c.if-is_over.false))))
+    (λ on. whole_same (facts p) before after so.1 (s.whole running)) (so.0 (s.runs running) (s.whole running)))
 
 pub returns-then-is_over-clause-stands : goal.returns-then-is_over-clause-stands
-returns-then-is_over-clause-stands g c p = told_start (λ now s. record { number_is = s.number_is; output_is = s.output_is; undated = s.undated; runs = s.runs; ended = s.ended })
+returns-then-is_over-clause-stands g c p = told_start (λ now s. record { number_is = s.number_is; output_is = s.output_is; undated = s.undated; runs = s.runs; whole = s.whole; ended = s.ended })
 
 pub returns-then-is_over-clause-goes : goal.returns-then-is_over-clause-goes
 returns-then-is_over-clause-goes g c = record {

@@ -3,9 +3,11 @@ use Rattle.std.proofs.Math.Bool.{true≢false}
 use Rattle.world.specs.declared.entry.Entry.TheVariants.{Looked}
 use Rattle.world.specs.Moments.{Since, more, start}
 use Rattle.world.specs.Parts.{IsNotOf, OnClock}
-use Rattle.world.proofs.MomentsLemmas.{since_then, tells_as, told_start, told_then}
+use Rattle.world.proofs.MomentsLemmas.{since_then, tells_as, told_both, told_start, told_then}
+use Rattle.job_journal.specs.Plot.{facts}
+use Rattle.job_run.proofs.CauseLemmas.{calls_got_none}
 use Rattle.job_run.specs.Standing.{IsTurned}
-use Rattle.job_run.proofs.JobLemmas.{job_stands, turned_run}
+use Rattle.job_run.proofs.JobLemmas.{job_stands, turned_run, turned_whole}
 use Rattle.world.proofs.CountsLemmas.{grow_same}
 use Rattle.job_saves.specs.Course.{stays_open}
 use Rattle.cell_core.specs.StandsFor.{task_of}
@@ -47,10 +49,13 @@ returns-clause-stands g c p =
     let j = c.args.self.now in
     let e = c.outcome_of in
     let t = c.on_moment-turned in
-    told_then c.look.ensures.tells (t.ensures.stands p j.number)
+    told_then c.look.ensures.tells
+    (told_both (t.ensures.stands p j.number)
+    (calls_got_none j.run.book t.new.self.book (g.W.Journal.journal c.look.new.self) (g.W.Journal.journal t.new.w) (g.W.Journal.counts c.look.new.self) (g.W.Journal.counts t.new.w) t.ensures.goes.step.calls (facts p)))
     (λ x y z is so turned.
+    let run = subst (IsTurned p j.number j.run c.args.ms) (sym is) (turned_run p j c.args.ms (Looked j.number c.look.result) x refl turned) in
     job_stands p _ t.new.self t.result z turned.stands.number_is turned.stands.output_is turned.stands.undated e.ensures.goes e.ensures.ends e.ensures.answers
-    (so (subst (IsTurned p j.number j.run c.args.ms) (sym is) (turned_run p j c.args.ms (Looked j.number c.look.result) x refl turned))))
+    (λ on. turned_whole p j c.args.ms (Looked j.number c.look.result) x y z refl is so.1 turned) (so.0 run))
 
 pub returns-then-is_over-clause-stands : goal.returns-then-is_over-clause-stands
 returns-then-is_over-clause-stands g c p = told_start (λ now turned. absurd (true≢false (sym (sym c.is_over.ensures ∙ c.if-is_over.true) ∙ turned.running)))

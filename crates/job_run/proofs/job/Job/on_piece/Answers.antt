@@ -1,9 +1,11 @@
 use Rattle.std.proofs.Common.{refl, rules, sym, ◌∙◌}
 use Rattle.std.proofs.Math.Bool.{true≢false}
 use Rattle.world.specs.Moments.{start}
-use Rattle.world.proofs.MomentsLemmas.{told_as, told_start}
+use Rattle.world.proofs.MomentsLemmas.{told_as, told_both, told_start}
+use Rattle.job_journal.specs.Plot.{facts}
+use Rattle.job_run.proofs.CauseLemmas.{calls_got_none}
 use Rattle.job_run.proofs.BrokenLemmas.{by_end}
-use Rattle.job_run.proofs.JobLemmas.{got_run, job_stands}
+use Rattle.job_run.proofs.JobLemmas.{got_run, got_whole, job_stands}
 use Rattle.job_saves.specs.Course.{stays_open}
 use Rattle.cell_core.specs.StandsFor.{task_of}
 use Rattle.job_run.proofs.StopLemmas.{job_ends}
@@ -35,10 +37,14 @@ pub returns-clause-stands : goal.returns-clause-stands
 returns-clause-stands g c p =
     let j = c.args.self.now in
     let e = c.outcome_of in
-    told_as (c.on_piece-heard.ensures.stands p j.number)
+    let t = c.on_piece-heard in
+    told_as
+    (told_both (told_both (t.ensures.stands p j.number) (t.ensures.ends p j.number))
+    (calls_got_none j.run.book t.new.self.book (g.W.Journal.journal c.args.w.now) (g.W.Journal.journal t.new.w) (g.W.Journal.counts c.args.w.now) (g.W.Journal.counts t.new.w) t.ensures.goes.step.calls (facts p)))
     (λ before after so got.
-    job_stands p _ c.on_piece-heard.new.self c.on_piece-heard.result after got.stands.number_is got.stands.output_is got.stands.undated e.ensures.goes e.ensures.ends e.ensures.answers
-    (so (got_run p j c.args.chan c.args.piece.now before got)))
+    let run = got_run p j c.args.chan c.args.piece.now before got in
+    job_stands p _ t.new.self t.result after got.stands.number_is got.stands.output_is got.stands.undated e.ensures.goes e.ensures.ends e.ensures.answers
+    (λ on. got_whole p j c.args.chan c.args.piece.now before after so.1 (λ some. true≢false (sym (by_end t.result (so.0.1 run some) e.ensures.ends) ∙ on)) got) (so.0.0 run))
 
 pub returns-then-is_over-clause-stands : goal.returns-then-is_over-clause-stands
 returns-then-is_over-clause-stands g c p = told_start (λ now got. absurd (true≢false (sym (sym c.is_over.ensures ∙ c.if-is_over.true) ∙ got.running)))

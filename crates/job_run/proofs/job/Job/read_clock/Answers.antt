@@ -44,5 +44,6 @@ returns-then-is_over-clause-stands c p journal at s = record {
   output_is = s.output_is;
   undated = s.undated;
   runs = λ e. absurd (true≢false (sym (sym c.is_over.ensures ∙ c.if-is_over.true) ∙ e));
+  whole = λ e. absurd (true≢false (sym (sym c.is_over.ensures ∙ c.if-is_over.true) ∙ e));
   ended = s.ended;
 }
