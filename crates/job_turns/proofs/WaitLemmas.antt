@@ -12,6 +12,7 @@ use Rattle.job_saves.specs.Calls.{Cast, IsCall, IsCallBy}
 use Rattle.job_end.specs.declared.answer.Answer.{Answer}
 use Rattle.job_journal.specs.Plot.{Plot, facts}
 use Rattle.job_journal.specs.Quiet.{IsQuietNow, is_unread}
+use Rattle.job_journal.proofs.Breaking.{unread_whole}
 use Rattle.job_journal.proofs.Ended.{answered_on}
 use Rattle.job_run.specs.Beginning.{IsFresh}
 use Rattle.job_run.specs.declared.execution.Execution.{Execution}
@@ -116,6 +117,7 @@ first_waits_for p j c before now elsewhere since rested rises s = record {
           stands = calls_go_on p j.number j.run c elsewhere before now since rested s.unread u.stands;
           earlier = omega (arith, u.earlier, rises);
         };
+    whole = λ e. unread_whole p now (unread_calls (facts p) c before now since ∙ s.unread);
     ended = λ a e. ended_calls p a c s.untold.undated elsewhere since rested (s.untold.ended a e);
   };
   unread = unread_calls (facts p) c before now since ∙ s.unread;
