@@ -116,14 +116,22 @@ ends_looks j (entry ∷ past) = not (is_wait entry) || is_empty_list (course j p
 abbrev pub EndsLooks : Job → List Entry → Type 0
 EndsLooks j past = all_along (ends_looks j) past ≡ true
 
+-- The core's clock at which request k came to stand, and that at its reply, stand in this relation to those of the journal.
+pub record ClocksOnBy (agrees : ℕ → ℕ → Type 0) (k : ℕ) (told later : List Event) (r : Request) : Type 0 where
+  pub stood : agrees (stood_at (record { request = k; later = later }) told) r.clock
+  pub replied : (m : Arrival × ℕ) → reply r ≡ Some m → agrees (replied_at (record { request = k; later = later }) told) m.1
+
+-- the same of each request that stands
+abbrev pub ClocksBy : (ℕ → ℕ → Type 0) → Job → List Event → List Entry → Type 0
+ClocksBy agrees j told past = (k : ℕ) (r : Request) → slice_get (requests j past) k ≡ Some r → IsSomeAnd (core.after j.task k told) (λ later. ClocksOnBy agrees k told later r)
+
 -- The core has the clock at which request k came to stand, and that at its reply.
-pub record ClocksOn (k : ℕ) (told later : List Event) (r : Request) : Type 0 where
-  pub stood : stood_at (record { request = k; later = later }) told ≡ r.clock
-  pub replied : (m : Arrival × ℕ) → reply r ≡ Some m → replied_at (record { request = k; later = later }) told ≡ m.1
+abbrev pub ClocksOn : ℕ → List Event → List Event → Request → Type 0
+ClocksOn k told later r = ClocksOnBy (λ m n. m ≡ n) k told later r
 
 -- the core has the clock at which each request came to stand, and that at its reply
 abbrev pub Clocks : Job → List Event → List Entry → Type 0
-Clocks j told past = (k : ℕ) (r : Request) → slice_get (requests j past) k ≡ Some r → IsSomeAnd (core.after j.task k told) (λ later. ClocksOn k told later r)
+Clocks j told past = ClocksBy (λ m n. m ≡ n) j told past
 
 -- an entry brings a message or a reply for the last request, or makes the kernel ready
 abbrev pub brings : Job → Entry → List Entry → Bool
