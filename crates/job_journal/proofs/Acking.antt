@@ -49,7 +49,7 @@ use Rattle.job_journal.specs.Saved.{IsAsked, save_of}
 use Rattle.job_journal.specs.Standing.{Parts, OnLines, StandsBy, IsToSend, HasEndedAs}
 use Rattle.job_journal.specs.Starting.{is_calm, is_ongoing, saved}
 use Rattle.job_journal.specs.Talk.{OnTalk, has_number}
-use Rattle.job_journal.specs.Told.{AgreesBut, Hears}
+use Rattle.job_journal.specs.Told.{AgreesBut, Hears, KeepsUp}
 use Rattle.job_journal.specs.Used.{OnBook, OnRequest, anew}
 use Rattle.job_journal.proofs.Dues.{made_few, made_of_passes, saves_at_next}
 use Rattle.job_journal.proofs.Lines.{line_stays}
@@ -57,6 +57,7 @@ use Rattle.job_journal.proofs.Making.{due_while_running, made_grows, made_next}
 use Rattle.job_journal.proofs.Quiet.{acks_stay, asking_stays, lines_keep, pings_stay, quiet_kind, ready_same, requests_same, requests_stay, stands_on, talk_keeps}
 use Rattle.job_journal.proofs.Readying.{is_next_one, news_anew, news_still}
 use Rattle.job_journal.proofs.Saving.{next_save, unnamed}
+use Rattle.job_journal.proofs.Steps.{up_saved, up_still}
 use Rattle.job_journal.proofs.Starting.{act_is, none_stands, sent_stands}
 use Rattle.job_journal.proofs.Talks.{anew_number, requests_grow, talk_on}
 
@@ -73,6 +74,12 @@ acks_on j before now plain (moments.more {past} {entry} w q) = acks_stay j plain
 pub agrees_on : (j : Job) (told : List Event) (before now : List Entry) → moments.Since (IsQuietNow j) before now → Agrees j told before → Agrees j told now
 agrees_on j told before now moments.start a = a
 agrees_on j told before now (moments.more {past} {entry} w q) a = agree_unheard j entry told past q.still.nothing q.still.acks (agrees_on j told before past w a)
+
+-- and the core's clock doesn't fall behind
+pub up_on : (j : Job) (told : List Event) (before now : List Entry) → moments.Since (IsQuietNow j) before now → Agrees j told before → KeepsUp j told [] before → KeepsUp j told [] now
+up_on j told before now moments.start a up = up
+up_on j told before now (moments.more {past} {entry} w q) a up =
+    up_still j entry told past q.still.nothing q.still.acks q.still.clock (agrees_on j told before past w a) (up_on j told before past w a up)
 
 -- the writes of a save are quiet
 pub writes_quiet : (j : Job) (path text : List ℕ) (before : List Entry) {rest : List ℕ} {now : List Entry} → save_entries.Writes path text (made.Created path Done ∷ before) rest now
@@ -157,7 +164,7 @@ module _ (p : Plot) (number : ℕ) (x : Parts) (past : List Entry) (h : StandsBy
   counted : saves_of j renamed ≡ saves_of j past
   counted = acks_stay j h.undated (made.Renamed tmp j.output Done) synced still ∙ acks_on j past synced h.undated chain
 
-  is_ack : is_acknowledging j acked ≡ true
+  pub is_ack : is_acknowledging j acked ≡ true
   is_ack =
       ap (λ b. b && (bytes_eq tmp tmp && bytes_eq j.output j.output)) (same_bytes (disk.folder_of j.output))
       ∙ ap (λ b. b && bytes_eq j.output j.output) (same_bytes tmp)
@@ -166,11 +173,16 @@ module _ (p : Plot) (number : ℕ) (x : Parts) (past : List Entry) (h : StandsBy
   one : saves_of j acked ≡ saves_of j renamed + 1
   one = cond-true (is_acknowledging j acked) (saves_of j renamed + 1) (saves_of j renamed) is_ack
 
-  agreed : Agrees j told renamed
+  pub agreed : Agrees j told renamed
   agreed = agree_unheard j (made.Renamed tmp j.output Done) told synced still.nothing still.acks (agrees_on j told past synced chain h.core.agrees)
 
   pub then_agreed : Agrees j (event.Saved ∷ told) acked
   then_agreed = agree_saved j sync told renamed nothing is_ack agreed
+
+  pub agreed_up : KeepsUp j told [] renamed
+  agreed_up =
+      up_still j (made.Renamed tmp j.output Done) told synced still.nothing still.acks still.clock (agrees_on j told past synced chain h.core.agrees)
+      (up_on j told past synced chain h.core.agrees h.core.up)
 
   -- the save was the next that is due, by the core's cause
   pub made_one : HasMade j (run_saves j (requests j past) (core_saves.why j.task told)) (saves_of j acked) acked
@@ -280,7 +292,7 @@ module _ (p : Plot) (number : ℕ) (x : Parts) (past : List Entry) (h : StandsBy
   module _ (next : Core) (book : JobNotebook) (is_for : IsFor p number x.session next book) (kept : OnBook j (first p) book (requests j past))
       (hears : Hears j next (event.Saved ∷ told)) where
     abbrev core_then : AgreesBut j next [] acked
-    core_then = record { told = event.Saved ∷ told; hears = hears; agrees = then_agreed }
+    core_then = record { told = event.Saved ∷ told; hears = hears; agrees = then_agreed; up = up_saved j sync told renamed is_ack refl agreed then_agreed agreed_up }
 
     -- the next request comes to stand where it is sent
     sends_then : (cell : ℕ) → act_of j.task event.Saved told ≡ act.Send cell → IsToSend p number (record x { core = next; book = book }) cell acked

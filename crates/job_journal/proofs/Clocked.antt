@@ -1,5 +1,5 @@
 -- A clock entry, and the question that it may bring.
-use Rattle.std.proofs.Common.{◌≡◌, ℕ, ◌+◌, List, [], ◌∷◌, ◌++◌, length, Bool, true, false, ◌&&◌, not, cond, Some, refl, sym, ◌∙◌, ap, subst, arith, length-append}
+use Rattle.std.proofs.Common.{◌≡◌, ℕ, ◌+◌, ◌≤◌, List, [], ◌∷◌, ◌++◌, length, Bool, true, false, ◌&&◌, not, cond, Some, refl, sym, ◌∙◌, ap, subst, arith, length-append}
 use Rattle.std.specs.Prelude.{count_by, nat_lt}
 use Rattle.std.proofs.lemmas.Bool.{cond-true, cond-false, cond_both}
 use Rattle.std.proofs.lemmas.List.{append-nil}
@@ -17,6 +17,7 @@ use Rattle.kernel_lines.specs.Line.{StandsFor}
 use Rattle.kernel_lines.specs.Lines.{line_on}
 use Rattle.kernel_lines.specs.declared.line.Line.{Line}
 use Rattle.kernel_lines.specs.declared.lines.Lines.{Lines}
+use Rattle.cell_core.specs.Events as events
 use Rattle.run_journal.specs.Codec.{Info, Ping}
 use Rattle.run_journal.specs.Job.{Job}
 use Rattle.run_journal.specs.Jupyter.{Speaker}
@@ -30,6 +31,7 @@ use Rattle.job_journal.specs.Line.{OnLine, gives, is_on, parts_of, sent_on}
 use Rattle.job_journal.specs.Plot.{Plot, facts, speaker, first, IsFor}
 use Rattle.job_journal.specs.Standing.{Parts, OnLines, Sends, StandsBy, question}
 use Rattle.job_journal.specs.Talk.{OnTalk, has_number}
+use Rattle.job_journal.specs.Told.{was_asked}
 use Rattle.job_journal.specs.Used.{OnBook, OnRequest}
 use Rattle.job_journal.proofs.Books.{none_anew}
 use Rattle.job_journal.proofs.Lines.{line_sends, line_skips, line_stays}
@@ -122,8 +124,8 @@ module _ (p : Plot) (number : ℕ) (x : Parts) (past : List Entry) (ms : ℕ) (h
       by : (s n q z c : ℕ) → s + n ≡ c → n ≡ q + z → z ≡ 0 → s + q ≡ c
       by s n q z c e f g = omega (arith, e, f, g)
 
-  stands_at : (a : Asked) → a ≡ ask_state j now → StandsBy p number (record x { clock = ms; asking = a }) questions [] now
-  stands_at a e = record {
+  stands_at : (was_asked j now ≡ true → ms ≤ events.time h.core.told) → (a : Asked) → a ≡ ask_state j now → StandsBy p number (record x { clock = ms; asking = a }) questions [] now
+  stands_at up a e = record {
     undated = h.undated;
     is_for = h.is_for;
     lines = lines_now;
@@ -133,7 +135,7 @@ module _ (p : Plot) (number : ℕ) (x : Parts) (past : List Entry) (ms : ℕ) (h
     book = subst (OnBook j (first p) x.book) (sym same) h.book;
     request = subst (OnRequest j x.request) (sym same) h.request;
     sent = h.sent ∙ ap (λ (rs : List Request). length rs) (sym same);
-    core = agrees_quiet j x.core [] entry past nothing refl h.core;
+    core = agrees_quiet j x.core [] entry past nothing refl h.core up;
     made = subst (λ rs. HasMade j (passing_saves j rs) (saves_of j past) now) (sym same) (made_stays j (passing_saves j (requests j past)) (saves_of j past) entry past refl h.made);
     ready = h.ready ∙ sym ready_still;
     clock = refl;
@@ -144,20 +146,20 @@ module _ (p : Plot) (number : ℕ) (x : Parts) (past : List Entry) (ms : ℕ) (h
     asks_is = ap (λ b. asks x.asking b ms) can_is ∙ ap (λ (a : Asked). asks a (can_ask j past) ms) h.talk.asks
 
     -- the kernel isn't asked
-    pub clock_passes : asks x.asking can ms ≡ false → StandsBy p number (record x { clock = ms }) [] [] now
-    clock_passes e =
+    pub clock_passes : (was_asked j now ≡ true → ms ≤ events.time h.core.told) → asks x.asking can ms ≡ false → StandsBy p number (record x { clock = ms }) [] [] now
+    clock_passes up e =
         let still : ask_state j now ≡ ask_state j past = asks_at j ms past ∙ cond-false (asks (ask_state j past) (can_ask j past) ms) _ _ (sym asks_is ∙ e) in
         subst (λ qs. StandsBy p number (record x { clock = ms }) qs [] now) (none_grown _ _ _ (ap (λ (a : Asked). length a.ids) still))
-        (stands_at x.asking (h.talk.asks ∙ sym still))
+        (stands_at up x.asking (h.talk.asks ∙ sym still))
 
     -- the kernel is asked: the question is to be sent
-    pub clock_asks : asks x.asking can ms ≡ true
+    pub clock_asks : ms ≤ events.time h.core.told → asks x.asking can ms ≡ true
         → StandsBy p number
         (record x {
           clock = ms;
           asking = record { ids = x.asking.ids ++ message_id p.setting.session (x.session.made + 1) ∷ []; at = Some ms; told = x.asking.told; heard = x.asking.heard };
         }) (question (x.session.made + 1) ms ∷ []) [] now
-    clock_asks e =
+    clock_asks up e =
         let a : Asked = ask_state j past in
         let asked : ask_state j now ≡ record { ids = a.ids ++ j.msg_id (length a.ids + 1) ∷ []; at = Some ms; told = a.told; heard = a.heard }
         = asks_at j ms past ∙ cond-true (asks a (can_ask j past) ms) _ _ (sym asks_is ∙ e) in
@@ -172,7 +174,7 @@ module _ (p : Plot) (number : ℕ) (x : Parts) (past : List Entry) (ms : ℕ) (h
           clock = ms;
           asking = record { ids = x.asking.ids ++ message_id p.setting.session (x.session.made + 1) ∷ []; at = Some ms; told = x.asking.told; heard = x.asking.heard };
         }) qs [] now) one
-        (stands_at (record { ids = x.asking.ids ++ message_id p.setting.session (x.session.made + 1) ∷ []; at = Some ms; told = x.asking.told; heard = x.asking.heard })
+        (stands_at (λ asked. up) (record { ids = x.asking.ids ++ message_id p.setting.session (x.session.made + 1) ∷ []; at = Some ms; told = x.asking.told; heard = x.asking.heard })
         (ap (λ n. record { ids = x.asking.ids ++ message_id p.setting.session n ∷ []; at = Some ms; told = x.asking.told; heard = x.asking.heard }) (made_all ∙ ap (λ n. n + 1) counted_are)
         ∙ ap (λ (b : Asked). record { ids = b.ids ++ message_id p.setting.session (length a.ids + 1) ∷ []; at = Some ms; told = b.told; heard = b.heard }) h.talk.asks
         ∙ sym asked))

@@ -1,13 +1,14 @@
 -- A core that stops: what the journal tells of the cause then, and what was saved.
 use Rattle.std.proofs.Common.{◌≡◌, ℕ, ◌+◌, ◌-◌, ◌<◌, ◌≤◌, List, [], ◌∷◌, ◌++◌, length, map, drop, Bool, true, false, ◌&&◌, not, cond, Option, Some, None, is_some, refl, sym, ◌∙◌, ap, subst, arith, length-append, length-drop}
-use Rattle.std.specs.Prelude.{is_none, option_map, ◌==◌}
+use Rattle.std.specs.Prelude.{is_none, nat_le, option_map, ◌==◌}
 use Rattle.std.proofs.Math.Bool.{true≢false}
-use Rattle.std.proofs.lemmas.Bool.{and_parts, cond-false, eqb-true, false_from_ne_true}
+use Rattle.std.proofs.lemmas.Bool.{and_parts, cond-false, eqb-true, false_from_ne_true, or_right}
 use Rattle.std.proofs.lemmas.List.{nil_from_length, take_all}
 use Rattle.std.proofs.lemmas.Option.{same_Some}
 use Rattle.world.specs.declared.chan.Chan.{Chan}
 use Rattle.world.specs.declared.entry.Entry.{Entry}
 use Rattle.world.specs.Moments.{Since, start, more}
+use Rattle.world.specs.Places.{time}
 use Rattle.save_disk.specs.Entries.{SaveOf}
 use Rattle.said_lines.specs.Lines.{spoken_line}
 use Rattle.progress_save.specs.Saved.{done}
@@ -34,7 +35,7 @@ use Rattle.run_journal.specs.Agreement.{Agrees, AgreesOn, IsOther}
 use Rattle.run_journal.proofs.Agreeing.{agree_other}
 use Rattle.run_journal.proofs.Asking.{Stands, nothing, last, stands, last_numbered, error_same, done_same}
 use Rattle.run_journal.proofs.Growth.{go_self, no_stop}
-use Rattle.job_journal.specs.Ended.{HasAnswered, HasStoppedFor, IsStopSaid, LacksIdle, LacksReply, SaysCause, ShowsCause}
+use Rattle.job_journal.specs.Ended.{HasAnswered, HasPassed, HasStoppedFor, IsLateStop, IsStopSaid, IsTimeOver, LacksIdle, LacksReply, SaysCause, ShowsCause, has_come, idle_due, reply_due}
 use Rattle.job_journal.specs.Made.{HasMade, passing_saves}
 use Rattle.job_journal.specs.Plot.{Plot, facts}
 use Rattle.job_journal.specs.Quiet.{IsQuietNow}
@@ -65,7 +66,7 @@ stop_by task es [] None cause f =
 -- ---- the first row that holds
 
 -- What the row of a cause says. The rows are those of an executed plan, an error, a kernel that wasn't ready, a missing idle and an overrun.
-abbrev Row : Bool → Bool → Bool → Bool → Bool → Why → Type 0
+abbrev pub Row : Bool → Bool → Bool → Bool → Bool → Why → Type 0
 Row d c n i t cause.Done = d ≡ true
 Row d c n i t cause.CellError = c ≡ true
 Row d c n i t cause.NotReady = n ≡ true
@@ -74,7 +75,7 @@ Row d c n i t cause.TimedOut = t ≡ true
 Row d c n i t cause.KernelLost = (d ≡ false) × (c ≡ false)
 Row d c n i t cause.BadPeer = (d ≡ false) × (c ≡ false)
 
-first_row : (d c b l n i t : Bool) (w : Why)
+pub first_row : (d c b l n i t : Bool) (w : Why)
     → cond d (Some cause.Done) (cond c (Some cause.CellError) (cond b (Some cause.BadPeer) (cond l (Some cause.KernelLost)
     (cond n (Some cause.NotReady) (cond i (Some cause.NoIdle) (cond t (Some cause.TimedOut) None)))))) ≡ Some w
     → Row d c n i t w
@@ -267,12 +268,34 @@ stops_by_save p number x past s settled asked text is now save cause f =
 
 -- ---- what stays
 
--- Of a job's requests, its acknowledged saves, the texts that were renamed onto its output and the octets that it got nothing has changed.
+-- Of a job's requests and the octets that it got nothing has changed, and what the clock had come to it has still come to. Then a time that was over
+-- is over, and no stream is broken where none was.
+module _ (j : Job) (before now : List Entry) (requests_are : requests j now ≡ requests j before) (bytes_are : (c : Chan) → bytes_got j c now ≡ bytes_got j c before)
+    (came : (at : ℕ) → has_come at before ≡ true → has_come at now ≡ true) where
+  passed_stays : (due : Option ℕ) → HasPassed due before → HasPassed due now
+  passed_stays None e = absurd e
+  passed_stays (Some at) e = came at e
+
+  over_stays : (cause : Why) → IsTimeOver j cause before → IsTimeOver j cause now
+  over_stays cause.TimedOut e = subst (λ rs. HasPassed (reply_due j (last_request 0 rs)) now) (sym requests_are) (passed_stays (reply_due j (last_request 0 (requests j before))) e)
+  over_stays cause.NoIdle e = subst (λ rs. HasPassed (idle_due (last_request 0 rs)) now) (sym requests_are) (passed_stays (idle_due (last_request 0 (requests j before))) e)
+  over_stays cause.Done e = tt
+  over_stays cause.CellError e = tt
+  over_stays cause.NotReady e = tt
+  over_stays cause.KernelLost e = tt
+  over_stays cause.BadPeer e = tt
+
+  pub late_stays : (cause : Why) → IsLateStop j cause before → IsLateStop j cause now
+  late_stays cause h = record { whole = whole_same j before now bytes_are h.whole; over = over_stays cause h.over }
+
+-- Of a job's requests, its acknowledged saves, the texts that were renamed onto its output and the octets that it got nothing has changed. What the
+-- clock has come to it has still come to.
 pub record IsSame (j : Job) (before now : List Entry) : Type 0 where
   pub requests_are : requests j now ≡ requests j before
   pub saves_are : saves_of j now ≡ saves_of j before
   pub texts_are : renamed_texts j now ≡ renamed_texts j before
   pub bytes_are : (c : Chan) → bytes_got j c now ≡ bytes_got j c before
+  pub came : (at : ℕ) → has_come at before ≡ true → has_come at now ≡ true
 
 module _ (j : Job) (before now : List Entry) (s : IsSame j before now) where
   done_stays : is_done j (saves_of j now) (requests j now) ≡ is_done j (saves_of j before) (requests j before)
@@ -312,7 +335,7 @@ module _ (p : Plot) (before now : List Entry) (s : IsSame (facts p) before now) 
   pub stop_said_stays : (cause : Why) (line : List ℕ) → IsStopSaid p cause line before → IsStopSaid p cause line now
   stop_said_stays cause line h = record {
     stopped = stop_stays cause h.stopped;
-    whole = λ late. whole_same (facts p) before now s.bytes_are (h.whole late);
+    late = λ late. late_stays (facts p) before now s.requests_are s.bytes_are s.came cause (h.late late);
     says = said cause line h.says;
   }
 
@@ -326,12 +349,21 @@ pub texts_on : (j : Job) (before now : List Entry) → Since (IsQuietNow j) befo
 texts_on j before now start = refl
 texts_on j before now (more {past} {entry} w q) = same_texts j entry past q.unrenamed ∙ texts_on j before past w
 
+-- what the clock has come to it has still come to
+pub come_still : (at : ℕ) (entry : Entry) (past : List Entry) → has_come at past ≡ true → has_come at (entry ∷ past) ≡ true
+come_still at entry past e = or_right (nat_le at (time (entry ∷ past))) (has_come at past) e
+
+pub come_on : {Rule : List Entry → Type 0} (at : ℕ) (before now : List Entry) → Since Rule before now → has_come at before ≡ true → has_come at now ≡ true
+come_on at before now start e = e
+come_on at before now (more {past} {entry} w q) e = come_still at entry past (come_on at before past w e)
+
 pub same_on : (j : Job) (before now : List Entry) → j.task.times.interrupt ≡ false → Since (IsQuietNow j) before now → IsSame j before now
 same_on j before now plain w = record {
   requests_are = requests_on j before now plain w;
   saves_are = acks_on j before now plain w;
   texts_are = texts_on j before now w;
   bytes_are = bytes_on j before now w;
+  came = λ at. come_on at before now w;
 }
 
 pub stopped_on : (p : Plot) (cause : Why) (before now : List Entry) → (facts p).task.times.interrupt ≡ false → Since (IsQuietNow (facts p)) before now

@@ -32,6 +32,7 @@ use Rattle.job_journal.specs.Quiet.{IsStill, IsQuietNow}
 use Rattle.job_journal.specs.Saved.{IsAsked, save_of}
 use Rattle.job_journal.specs.Standing.{Parts, StandsBy, IsToSend, HasEndedAs}
 use Rattle.job_journal.specs.Told.{Hears}
+use Rattle.job_journal.proofs.Steps.{up_other}
 use Rattle.job_journal.proofs.Acking.{requests_on, writes_quiet}
 use Rattle.job_journal.proofs.Making.{made_grows, made_unsynced}
 use Rattle.job_journal.proofs.Pieces.{piece_facts, piece_keeps_made}
@@ -76,7 +77,12 @@ other_told p number x unsent now h e next o is_for hears = (
     book = h.book;
     request = h.request;
     sent = h.sent;
-    core = record { told = e ∷ h.core.told; hears = hears; agrees = agree_other (facts p) e h.core.told now o h.core.agrees };
+    core = record {
+      told = e ∷ h.core.told;
+      hears = hears;
+      agrees = agree_other (facts p) e h.core.told now o h.core.agrees;
+      up = up_other (facts p) x.core next e h.core.told now h.core.hears hears h.core.agrees (agree_other (facts p) e h.core.told now o h.core.agrees) h.core.up;
+    };
     made = h.made;
     ready = h.ready;
     clock = h.clock;

@@ -3,8 +3,10 @@ pub mod Bytes
 pub mod Lines
 pub mod Heard
 pub mod Left
+pub mod Late
 pub mod Books
 pub mod Steps
+pub mod KeepingUp
 pub mod Knows
 pub mod Talks
 pub mod Signatures

@@ -22,7 +22,7 @@ use Rattle.run_journal.specs.Agreement.{Agrees, told_on}
 use Rattle.job_journal.specs.Piece.{RepliesBy, TakesBy, Within, has_ended, is_of}
 use Rattle.job_journal.specs.Plot.{Plot, facts, first, IsFor}
 use Rattle.job_journal.specs.Standing.{Parts, StandsBy}
-use Rattle.job_journal.specs.Told.{AgreesBut, Hears}
+use Rattle.job_journal.specs.Told.{AgreesBut, Hears, KeepsUp}
 use Rattle.job_journal.specs.Used.{KnowsOf, OnBook, is_own, is_reply, left_io, left_replies, so_far, with_io, with_reply}
 use Rattle.job_journal.proofs.Books.{book_ends, book_ignores, book_passes, book_replied, book_replies, book_rests, book_takes, none_anew, request_stays}
 use Rattle.job_journal.proofs.Knows.{knows_io, knows_reply, takes_io, takes_reply}
@@ -112,8 +112,8 @@ module _ (p : Plot) (number : ℕ) (x : Parts) (m : Arrival) (done rest : List A
         core = record {
           told = w.core.told;
           hears = w.core.hears;
-          agrees = subst (λ es. Agrees ij (told_on es w.core.told) (entry ∷ past))
-              (io_left_other ij ir m rest off ∙ ap (λ r. left_io ij r rest) same) w.core.agrees;
+          agrees = subst (λ es. Agrees ij (told_on es w.core.told) (entry ∷ past)) (io_left_other ij ir m rest off ∙ ap (λ r. left_io ij r rest) same) w.core.agrees;
+          up = subst (λ es. KeepsUp ij w.core.told es (entry ∷ past)) (io_left_other ij ir m rest off ∙ ap (λ r. left_io ij r rest) same) w.core.up;
         };
         knows = subst (KnowsOf ij w.core.told w.k) same w.knows;
         made = w.made;
@@ -145,6 +145,9 @@ module _ (p : Plot) (number : ℕ) (x : Parts) (m : Arrival) (done rest : List A
     io_agrees : Agrees ij (told_on (left_io ij (with_io ir m) rest) (event.Io (brief_of m) ∷ w.core.told)) (entry ∷ past)
     io_agrees = subst (λ es. Agrees ij (told_on es w.core.told) (entry ∷ past)) (io_left_own ij ir m rest io_mine w.is_open) w.core.agrees
 
+    io_up : KeepsUp ij (event.Io (brief_of m) ∷ w.core.told) (left_io ij (with_io ir m) rest) (entry ∷ past)
+    io_up = let up = subst (λ es. KeepsUp ij w.core.told es (entry ∷ past)) (io_left_own ij ir m rest io_mine w.is_open) w.core.up in record { requests = up.requests; clock = up.clock }
+
     io_knows : KnowsOf ij (event.Io (brief_of m) ∷ w.core.told) w.k (with_io ir m)
     io_knows = knows_io ij w.core.told w.k ir m w.knows
 
@@ -173,6 +176,7 @@ module _ (p : Plot) (number : ℕ) (x : Parts) (m : Arrival) (done rest : List A
         told = event.Io (brief_of m) ∷ w.core.told;
         hears = hears;
         agrees = subst (λ r. Agrees ij (told_on (left_io ij r rest) (event.Io (brief_of m) ∷ w.core.told)) (entry ∷ past)) io_more io_agrees;
+        up = subst (λ r. KeepsUp ij (event.Io (brief_of m) ∷ w.core.told) (left_io ij r rest) (entry ∷ past)) io_more io_up;
       };
       knows = subst (KnowsOf ij (event.Io (brief_of m) ∷ w.core.told) w.k) io_more io_knows;
       made = w.made;
@@ -196,6 +200,7 @@ module _ (p : Plot) (number : ℕ) (x : Parts) (m : Arrival) (done rest : List A
                 told = event.Io (brief_of m) ∷ w.core.told;
                 hears = hears;
                 agrees = subst (λ es. Agrees ij (told_on es (event.Io (brief_of m) ∷ w.core.told)) (entry ∷ past)) (io_left_over ij (with_io ir m) rest over) io_agrees;
+                up = subst (λ es. KeepsUp ij (event.Io (brief_of m) ∷ w.core.told) es (entry ∷ past)) (io_left_over ij (with_io ir m) rest over) io_up;
               }),
           refl,
         )
@@ -242,8 +247,8 @@ module _ (p : Plot) (number : ℕ) (x : Parts) (m : Arrival) (done rest : List A
         core = record {
           told = w.core.told;
           hears = w.core.hears;
-          agrees = subst (λ es. Agrees sj (told_on es w.core.told) (entry ∷ past))
-              (replies_left_other sj w.k sr m rest off ∙ ap (λ r. left_replies sj w.k r rest) same) w.core.agrees;
+          agrees = subst (λ es. Agrees sj (told_on es w.core.told) (entry ∷ past)) (replies_left_other sj w.k sr m rest off ∙ ap (λ r. left_replies sj w.k r rest) same) w.core.agrees;
+          up = subst (λ es. KeepsUp sj w.core.told es (entry ∷ past)) (replies_left_other sj w.k sr m rest off ∙ ap (λ r. left_replies sj w.k r rest) same) w.core.up;
         };
         knows = subst (KnowsOf sj w.core.told w.k) same w.knows;
         made = w.made;
@@ -278,6 +283,11 @@ module _ (p : Plot) (number : ℕ) (x : Parts) (m : Arrival) (done rest : List A
     reply_agrees : Agrees sj (told_on (left_replies sj w.k (with_reply sr m (time past)) rest) (told_reply ∷ w.core.told)) (entry ∷ past)
     reply_agrees = subst (λ es. Agrees sj (told_on es w.core.told) (entry ∷ past)) (replies_left_own sj w.k sr m (time past) rest reply_mine w.is_open) w.core.agrees
 
+    reply_up : KeepsUp sj (told_reply ∷ w.core.told) (left_replies sj w.k (with_reply sr m (time past)) rest) (entry ∷ past)
+    reply_up =
+        let up = subst (λ es. KeepsUp sj w.core.told es (entry ∷ past)) (replies_left_own sj w.k sr m (time past) rest reply_mine w.is_open) w.core.up in
+        record { requests = up.requests; clock = up.clock }
+
     reply_knows : KnowsOf sj (told_reply ∷ w.core.told) w.k (with_reply sr m (time past))
     reply_knows = knows_reply sj w.core.told w.k sr m (time past) w.knows
 
@@ -306,6 +316,7 @@ module _ (p : Plot) (number : ℕ) (x : Parts) (m : Arrival) (done rest : List A
         told = told_reply ∷ w.core.told;
         hears = hears;
         agrees = subst (λ r. Agrees sj (told_on (left_replies sj w.k r rest) (told_reply ∷ w.core.told)) (entry ∷ past)) reply_more reply_agrees;
+        up = subst (λ r. KeepsUp sj (told_reply ∷ w.core.told) (left_replies sj w.k r rest) (entry ∷ past)) reply_more reply_up;
       };
       knows = subst (KnowsOf sj (told_reply ∷ w.core.told) w.k) reply_more reply_knows;
       made = w.made;
@@ -330,6 +341,7 @@ module _ (p : Plot) (number : ℕ) (x : Parts) (m : Arrival) (done rest : List A
                 told = told_reply ∷ w.core.told;
                 hears = hears;
                 agrees = subst (λ es. Agrees sj (told_on es (told_reply ∷ w.core.told)) (entry ∷ past)) (replies_left_over sj w.k s rest over) reply_agrees;
+                up = subst (λ es. KeepsUp sj (told_reply ∷ w.core.told) es (entry ∷ past)) (replies_left_over sj w.k s rest over) reply_up;
               }),
           refl,
         )

@@ -31,13 +31,13 @@ use Rattle.job_journal.specs.Piece.{HasCome, IsPiece, Within, has_ended, is_of, 
 use Rattle.job_journal.specs.Plot.{Plot, facts, speaker, first}
 use Rattle.job_journal.specs.Standing.{Parts, OnLines, StandsBy}
 use Rattle.job_journal.specs.Talk.{OnTalk}
-use Rattle.job_journal.specs.Told.{AgreesBut}
+use Rattle.job_journal.specs.Told.{AgreesBut, KeepsUp}
 use Rattle.job_journal.specs.Used.{KnowsOf, OnBook, OnRequest, Sent, last, left_io, left_replies, nothing, so_far, with_messages}
 use Rattle.job_journal.proofs.Books.{book_begins, book_ends, none_anew, parent_is, request_stays}
 use Rattle.job_journal.proofs.Knows.{knows_first}
 use Rattle.job_journal.proofs.Left.{came_io, came_replies, no_news}
 use Rattle.job_journal.proofs.Making.{made_grows, made_stays}
-use Rattle.job_journal.proofs.Steps.{agrees_came}
+use Rattle.job_journal.proofs.Steps.{agrees_came, up_came}
 use Rattle.job_journal.proofs.Talks.{asks_on, news_none}
 
 -- ---- what a piece is not
@@ -169,7 +169,7 @@ module _ (p : Plot) (number : ℕ) (x : Parts) (c : Chan) (ms : List Arrival) (e
   none = piece_queues_none j entry past h.undated given steady
 
   came : AgreesBut j x.core (came_for j (last_request 0 (requests j past)) entry past) now
-  came = agrees_came j x.core entry past given.acks steady h.core
+  came = agrees_came j x.core entry past given.acks given.unclocked steady h.core
 
   -- where nothing comes for a request
   stands_now : came_for j (last_request 0 (requests j past)) entry past ≡ []
@@ -245,9 +245,8 @@ module _ (p : Plot) (number : ℕ) (x : Parts) (c : Chan) (ms : List Arrival) (e
         core = record {
           told = h.core.told;
           hears = h.core.hears;
-          agrees = subst (λ es. Agrees j (told_on es h.core.told) now)
-              (ap (λ o. came_for j o entry past) w.is ∙ left_is w.k w.r c h.iopub h.shell ∙ ap (λ r. left_on c j w.k r ms) same)
-              (agree_came j entry h.core.told past given.acks steady h.core.agrees);
+          agrees = subst (λ es. Agrees j (told_on es h.core.told) now) (left_by w.k w.r w.is same) (agree_came j entry h.core.told past given.acks steady h.core.agrees);
+          up = subst (λ es. KeepsUp j h.core.told es now) (left_by w.k w.r w.is same) (up_came j entry h.core.told past given.acks given.unclocked steady h.core.agrees h.core.up);
         };
         knows = subst (KnowsOf j h.core.told w.k) same know;
         made = piece_keeps_made j entry past given h.made;
@@ -255,6 +254,10 @@ module _ (p : Plot) (number : ℕ) (x : Parts) (c : Chan) (ms : List Arrival) (e
         clock = h.clock ∙ sym given.time_is;
       }
     where
+      left_by : (k : ℕ) (r : Request) → last_request 0 (requests j past) ≡ Some (k, r) → r ≡ with_done j c r [] past
+          → came_for j (last_request 0 (requests j past)) entry past ≡ left_on c j k (with_done j c r [] past) ms
+      left_by k r e f = ap (λ o. came_for j o entry past) e ∙ left_is k r c h.iopub h.shell ∙ ap (λ r. left_on c j k r ms) f
+
       begun : (c : Chan) → OnBook j (first p) x.book (so_far j (on_iopub c []) (on_shell c []) past)
       begun chan.Shell = book_begins j (first p) x.book past h.book
       begun chan.Control = book_begins j (first p) x.book past h.book

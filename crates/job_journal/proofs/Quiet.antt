@@ -49,7 +49,7 @@ use Rattle.job_journal.proofs.Bytes.{no_bytes}
 use Rattle.job_journal.proofs.Heard.{seen_stays}
 use Rattle.job_journal.proofs.Lines.{line_stays}
 use Rattle.job_journal.proofs.Making.{made_stays}
-use Rattle.job_journal.proofs.Steps.{agrees_quiet}
+use Rattle.job_journal.proofs.Steps.{agrees_still}
 use Rattle.job_journal.proofs.Talks.{never, news_none}
 
 -- ---- an entry that brings no byte and isn't of the clock
@@ -162,7 +162,7 @@ stands_still p number x unsent pending entry past quiet h =
       book = subst (OnBook j (first p) x.book) (sym rs) h.book;
       request = subst (OnRequest j x.request) (sym rs) h.request;
       sent = h.sent ∙ ap (λ (xs : List Request). length xs) (sym rs);
-      core = agrees_quiet j x.core pending entry past q.nothing q.acks h.core;
+      core = agrees_still j x.core pending entry past q.nothing q.acks q.clock h.core;
       made = made_keeps j h.undated entry past q quiet.unrenamed h.made;
       ready = h.ready ∙ sym (ready_same j entry past q.nothing q.clock);
       clock = h.clock ∙ sym (time_stays entry past q.clock);
@@ -193,7 +193,7 @@ sends_still p number x cell entry past quiet h =
       iopub_seen = seen_stays p.setting.key j chan.Iopub entry past x.iopub_seen (q.nothing chan.Iopub) h.iopub_seen;
       book = h.book;
       sent = h.sent;
-      core = agrees_quiet j x.core [] entry past q.nothing q.acks h.core;
+      core = agrees_still j x.core [] entry past q.nothing q.acks q.clock h.core;
       made = made_keeps j h.undated entry past q quiet.unrenamed h.made;
       ready = h.ready ∙ sym (ready_same j entry past q.nothing q.clock);
       clock = h.clock ∙ sym (time_stays entry past q.clock);

@@ -29,6 +29,7 @@ use Rattle.job_journal.specs.Standing.{Parts, OnLines, StandsBy, IsNext, IsToSen
 use Rattle.job_journal.specs.Starting.{StandsAnew, is_calm, ready}
 use Rattle.job_journal.specs.Talk.{OnTalk, has_number, heard_on_iopub, heard_on_shell}
 use Rattle.job_journal.specs.Told.{Hears}
+use Rattle.job_journal.proofs.Steps.{agrees_ready}
 use Rattle.job_journal.specs.Used.{OnBook, OnRequest, anew}
 use Rattle.job_journal.proofs.Coming.{iopub_silent, shell_silent}
 use Rattle.job_journal.proofs.Pieces.{PieceFacts, piece_facts, piece_keeps_made, queued_same}
@@ -145,7 +146,7 @@ module _ (p : Plot) (number : ℕ) (x : Parts) (c : Chan) (ms : List Arrival) (e
           iopub_seen = h.iopub_seen;
           book = h.book;
           sent = h.sent;
-          core = record { told = event.Ready ∷ h.core.told; hears = hears; agrees = agreed };
+          core = agrees_ready j x.core next entry past given.acks given.unclocked was so h.core hears;
           made = piece_keeps_made j entry past given h.made;
           ready = sym so;
           clock = h.clock ∙ sym given.time_is;
@@ -168,7 +169,7 @@ module _ (p : Plot) (number : ℕ) (x : Parts) (c : Chan) (ms : List Arrival) (e
           book = subst (OnBook j (first p) x.book) (sym still) h.book;
           request = subst (OnRequest j x.request) (sym still) h.request;
           sent = h.sent ∙ ap (λ (rs : List Request). length rs) (sym still);
-          core = record { told = event.Ready ∷ h.core.told; hears = hears; agrees = agreed };
+          core = agrees_ready j x.core next entry past given.acks given.unclocked was so h.core hears;
           made = piece_keeps_made j entry past given h.made;
           ready = sym so;
           clock = h.clock ∙ sym given.time_is;

@@ -1,18 +1,21 @@
 -- How a job has ended, by the journal: what its requests tell of the cause, what was saved by then, and what its answer says (papermill and
 -- nbclient; the statuses are nbrun's own).
-use Rattle.std.specs.Prelude.{◌≡◌, ℕ, ◌==◌, true, false, List, [], map, Option, Some, None, if◌then◌else◌, is_some}
+use Rattle.std.specs.Prelude.{◌≡◌, ◌+◌, ℕ, ◌==◌, Bool, true, false, List, [], map, Option, Some, None, if◌then◌else◌, is_some, nat_le, option_map, IsSomeAnd}
 use Rattle.world.specs.declared.entry.Entry.{Entry}
+use Rattle.world.specs.Places.{time}
 use Rattle.world.specs.declared.chan.Chan.{Chan}
 use Rattle.said_lines.specs.Lines.{spoken_line}
 use Rattle.zmtp_wire.specs.declared.fault.WireFault.{WireFault}
 use Rattle.zmtp_wire.specs.Fault.{clip, number_of, place_of}
 use Rattle.cell_core.specs.declared.why.Why.{Why}
 use Rattle.cell_core.specs.declared.why.Why.TheVariants as why
+use Rattle.cell_core.specs.Deadlines.{idle_ms}
+use Rattle.cell_core.specs.Events.{ever}
 use Rattle.job_end.specs.declared.answer.Answer.{Answer}
 use Rattle.run_journal.specs.Job.{Job}
 use Rattle.run_journal.specs.Parts.{saves_of}
 use Rattle.run_journal.specs.Agreement.{is_at_once}
-use Rattle.run_journal.specs.Requests.{Request, is_broken, is_over, last_request, reply, requests}
+use Rattle.run_journal.specs.Requests.{Request, deadline, is_broken, is_over, last_request, reply, requests}
 use Rattle.run_journal.specs.Saves.{Save, renamed_texts, run_saves}
 use Rattle.run_journal.specs.Why.{BadStream, bad_by, fault_on, is_done, is_error}
 use Rattle.run_journal.specs.Ends.{BadPeer, end_by, reason}
@@ -79,6 +82,38 @@ pub record IsBrokenAs (j : Job) (bad : BadStream) (now : List Entry) : Type 0 wh
   pub fault : fault_on j now bad.chan ≡ Some (bad_by bad.chan (bad.number, at))
   pub place : bad.at ≡ clip at
 
+-- ---- times that are over
+
+-- the journal's clock has come to this moment
+abbrev pub has_come : ℕ → List Entry → Bool
+has_come at now = ever (λ past. nat_le at (time past)) now
+
+-- there is a deadline, and the journal's clock has come to it
+abbrev pub HasPassed : Option ℕ → List Entry → Type 0
+HasPassed due now = IsSomeAnd due (λ at. has_come at now ≡ true)
+
+-- the deadline of the last request's reply, where a limit is given: so long after the request came to stand (nbclient, `timeout`)
+abbrev pub reply_due : Job → Option (ℕ × Request) → Option ℕ
+reply_due j None = None
+reply_due j (Some r) = deadline j r.1
+
+-- the deadline of the last request's idle: 4,000 ms after its reply (nbclient, `iopub_timeout`)
+abbrev pub idle_due : Option (ℕ × Request) → Option ℕ
+idle_due None = None
+idle_due (Some r) = option_map (λ m. m.1 + idle_ms) (reply r.1)
+
+-- By the journal's clock the time for a reply is over where a job has stopped for an overrun, and the time for an idle where it lacks one.
+abbrev pub IsTimeOver : Job → Why → List Entry → Type 0
+IsTimeOver j why.TimedOut now = HasPassed (reply_due j (last_request 0 (requests j now))) now
+IsTimeOver j why.NoIdle now = HasPassed (idle_due (last_request 0 (requests j now))) now
+IsTimeOver j _ now = Unit {0}
+
+-- What holds where a loss or a time that is over has stopped a job. A broken stream stops a job before these do: no stream of it is broken. The time is
+-- over.
+pub record IsLateStop (j : Job) (cause : Why) (now : List Entry) : Type 0 where
+  pub whole : IsWhole j now
+  pub over : IsTimeOver j cause now
+
 -- ---- the answer
 
 -- A line names a stream that is broken by the journal: its channel, the number of its fault, and the place of the octet that breaks it.
@@ -93,11 +128,11 @@ abbrev pub SaysCause : Plot → Why → List ℕ → List Entry → Type 0
 SaysCause p why.BadPeer line now = NamesBroken p line now
 SaysCause p cause line now = line ≡ spoken_line p.ask.output (reason (end_by (facts p) now cause))
 
--- The job of a plot has stopped for this cause, and this line says so. A broken stream stops a job before a loss and a time that is over do: where one
--- of these has stopped it, no stream of the job is broken.
+-- The job of a plot has stopped for this cause, and this line says so. Where a loss or a time that is over has stopped it, no stream of the job is
+-- broken, and that time is over.
 pub record IsStopSaid (p : Plot) (cause : Why) (line : List ℕ) (now : List Entry) : Type 0 where
   pub stopped : HasStoppedFor p cause now
-  pub whole : is_at_once cause ≡ false → IsWhole (facts p) now
+  pub late : is_at_once cause ≡ false → IsLateStop (facts p) cause now
   pub says : SaysCause p cause line now
 
 -- The job of a plot has ended with this answer. The texts that were saved are the first of the saves that are due. Where the status names a cause,

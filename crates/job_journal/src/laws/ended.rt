@@ -1,7 +1,8 @@
 //! How a job ends that stops: what its requests tell of the cause, and what was saved.
-ghost use Rattle.std.specs.Prelude.{◌≡◌, ℕ, false, List, []};
+ghost use Rattle.std.specs.Prelude.{◌≡◌, ◌≤◌, ℕ, false, List, [], Some};
 ghost use Rattle.world.specs.declared.entry.Entry.{Entry};
 ghost use Rattle.world.specs.Moments.{Since};
+ghost use Rattle.world.specs.Places.{time};
 ghost use Rattle.save_disk.specs.Entries.{SaveOf};
 ghost use Rattle.progress_save.specs.Saved.{done};
 ghost use Rattle.cell_core.specs.declared.act.Act.TheVariants.{Stop};
@@ -9,10 +10,13 @@ ghost use Rattle.cell_core.specs.declared.event.Event.{Event};
 ghost use Rattle.cell_core.specs.declared.event.Event.TheVariants.{Saved};
 ghost use Rattle.cell_core.specs.declared.why.Why.{Why};
 ghost use Rattle.cell_core.specs.Acts.{act_of};
+ghost use Rattle.cell_core.specs.Events as events;
+ghost use Rattle.cell_core.specs.Saves.{why};
 ghost use Rattle.job_end.specs.declared.answer.Answer.{Answer};
-ghost use Rattle.run_journal.specs.Agreement.{IsOther};
+ghost use Rattle.run_journal.specs.Agreement.{Agrees, ClocksBy, IsOther};
+ghost use Rattle.run_journal.specs.Job.{Job};
 ghost use Rattle.run_journal.specs.Requests.{requests, used_of};
-ghost use Rattle.job_journal.specs.Ended.{HasAnswered, HasStoppedFor};
+ghost use Rattle.job_journal.specs.Ended.{HasAnswered, HasStoppedFor, IsTimeOver};
 ghost use Rattle.job_journal.specs.Plot.{Plot, facts};
 ghost use Rattle.job_journal.specs.Quiet.{IsQuietNow};
 ghost use Rattle.job_journal.specs.Saved.{IsAsked, save_of};
@@ -31,6 +35,15 @@ pub fn jobs_stop()
         asked.asked).text → (now : List Entry) → SaveOf (facts p).output text done past now →
         (cause : Why) → act_of (facts p).task Saved s.core.told ≡ Stop cause →
         HasStoppedFor p cause now }
+{}
+
+/// A look stops a core for a time that is over by the clock that the core knows. Where that clock is
+/// neither behind the journal's nor ahead of it, the time is over by the journal's.
+pub fn times_are_over()
+    ensures { (j : Job) (told : List Event) (now : List Entry) → j.task.times.interrupt ≡ false →
+        Agrees j told now → ClocksBy (λ m n. n ≤ m) j told now → events.Rising told →
+        events.time told ≤ time now → (cause : Why) → why j.task told ≡ Some cause →
+        IsTimeOver j cause now }
 {}
 
 /// Quiet entries change nothing of how a job has stopped, nor of what its answer says.

@@ -1,6 +1,6 @@
 //! All parts of an execution go on with the journal: at entries that change nothing, at those of
 //! the clock, and where a connection is served.
-ghost use Rattle.std.specs.Prelude.{◌≡◌, ◌+◌, ℕ, Bool, true, false, List, [], ◌∷◌, ◌++◌};
+ghost use Rattle.std.specs.Prelude.{◌≡◌, ◌≤◌, ◌+◌, ℕ, Bool, true, false, List, [], ◌∷◌, ◌++◌};
 ghost use Rattle.std.specs.Prelude.{Some, length};
 ghost use Rattle.world.specs.declared.chan.Chan as chan;
 ghost use Rattle.world.specs.declared.chan.Chan.TheVariants.{Heart, Iopub, Shell};
@@ -19,6 +19,7 @@ ghost use Rattle.kernel_lines.specs.Lines.{OthersStay, line_on, can_ask as lines
 ghost use Rattle.kernel_talk.specs.Asking.{asks};
 ghost use Rattle.kernel_talk.specs.Requests.{Identity, message_id};
 ghost use Rattle.cell_core.specs.declared.event.Event.{Event};
+ghost use Rattle.cell_core.specs.Events as events;
 ghost use Rattle.run_journal.specs.Codec.{Info};
 ghost use Rattle.run_journal.specs.Job.{Job};
 ghost use Rattle.run_journal.specs.Order.{begins_unread};
@@ -31,6 +32,7 @@ ghost use Rattle.job_journal.specs.Plot.{Plot, IsFor, facts, speaker};
 ghost use Rattle.job_journal.specs.Quiet.{IsQuiet, IsQuietNow, is_quiet};
 ghost use Rattle.job_journal.specs.Standing.{Hands, Parts, Sends, StandsBy, IsToSend};
 ghost use Rattle.job_journal.specs.Standing.{HasEndedAs, question};
+ghost use Rattle.job_journal.specs.Told.{was_asked};
 
 use crate::laws::talk::the_kernel_can_be_asked;
 
@@ -103,15 +105,18 @@ pub fn connections_are_served()
 {}
 
 /// A clock entry: the kernel is asked where it can be and the gap has passed, and then the question
-/// is to be sent. It is sent once its message was made and given to the connection for shell.
+/// is to be sent. It is sent once its message was made and given to the connection for shell. The
+/// core was told the clock, unless the kernel was never asked.
 pub fn clock_entries_ask()
     ensures passes { (p : Plot) (number : ℕ) (x : Parts) (past : List Entry) (ms : ℕ) →
-        StandsBy p number x [] [] past → (can : Bool) → can ≡ can_ask (facts p) past →
+        (h : StandsBy p number x [] [] past) → (can : Bool) → can ≡ can_ask (facts p) past →
+        (was_asked (facts p) (Moment ms ∷ past) ≡ true → ms ≤ events.time h.core.told) →
         asks x.asking can ms ≡ false →
         StandsBy p number (record x { clock = ms }) [] [] (Moment ms ∷ past) }
     ensures asks { (p : Plot) (number : ℕ) (x : Parts) (past : List Entry) (ms : ℕ) →
-        StandsBy p number x [] [] past → (can : Bool) → can ≡ can_ask (facts p) past →
-        asks x.asking can ms ≡ true → StandsBy p number (record x {
+        (h : StandsBy p number x [] [] past) → (can : Bool) → can ≡ can_ask (facts p) past →
+        ms ≤ events.time h.core.told → asks x.asking can ms ≡ true →
+        StandsBy p number (record x {
           clock = ms;
           asking = record {
             ids = x.asking.ids ++ message_id p.setting.session (x.session.made + 1) ∷ [];
