@@ -21,20 +21,16 @@ use Rattle.kernel_lines.specs.Line.{StandsFor as LineStandsFor, role_of}
 use Rattle.kernel_lines.specs.Lines.{line_on, role_on}
 use Rattle.kernel_lines.specs.declared.line.Line.{Line}
 use Rattle.kernel_lines.specs.declared.lines.Lines.{Lines}
-use Rattle.cell_core.specs.declared.clock.Clock.{Clock}
 use Rattle.cell_core.specs.declared.event.Event.{Event}
 use Rattle.cell_core.specs.declared.event.Event.TheVariants.{Broken}
 use Rattle.cell_core.specs.declared.machine.Core.{Core}
-use Rattle.cell_core.specs.declared.state.State.{State}
-use Rattle.cell_core.specs.declared.state.State.TheVariants.{Preparing, Starting, Running, Passing, Closing, Failing, Stopped}
 use Rattle.cell_core.specs.declared.why.Why.{Why}
 use Rattle.cell_core.specs.declared.why.Why.TheVariants as why
 use Rattle.cell_core.specs.Acts.{awaits_saved, has_stopped, heard, is_empty}
 use Rattle.cell_core.specs.Events.{came, is_broken, is_lost, look_since}
 use Rattle.cell_core.specs.Requests.{standing}
 use Rattle.cell_core.specs.Saves.{is_cell_error, is_done, late_cause, pending_saves, why as why_of}
-use Rattle.cell_core.specs.Holds.{awaits}
-use Rattle.cell_core.specs.StandsFor.{IsAt, StandsFor, awaits_saved_of, task_of}
+use Rattle.cell_core.specs.StandsFor.{StandsFor, awaits_saved_of, task_of}
 use Rattle.cell_core.specs.Task.{Task}
 use Rattle.cell_core.proofs.Answering.{heard_all}
 use Rattle.cell_core.proofs.Moving.{is_stopped}
@@ -57,6 +53,7 @@ use Rattle.job_run.specs.declared.execution.Execution.{Execution}
 use Rattle.job_run.specs.Held.{IsCalm}
 use Rattle.job_run.specs.Standing.{BreaksAs, IsGot, NotesBroken, StandsOrEnds}
 use Rattle.job_run.specs.Told.{KeepsBroken, KnowsBroken}
+use Rattle.job_run.proofs.LiveLemmas.{hears_at, live_at}
 
 -- ---- what the core was told
 
@@ -97,26 +94,6 @@ none_broke j core told h task_is calm e other =
 
 -- ---- what it still was told
 
--- a core that hasn't stopped is in no state of one that has
-pub live_at : (task : Task) (clock : Clock) (is_lost : Bool) (state : State) (events : List Event) → IsAt task clock is_lost state events → has_stopped task events ≡ false → is_stopped state ≡ false
-live_at task clock is_lost (Stopped failing) events a on = absurd (true≢false (sym a.stopped ∙ on))
-live_at task clock is_lost Preparing events a on = refl
-live_at task clock is_lost (Starting due) events a on = refl
-live_at task clock is_lost (Running r) events a on = refl
-live_at task clock is_lost (Passing k) events a on = refl
-live_at task clock is_lost Closing events a on = refl
-live_at task clock is_lost (Failing k w) events a on = refl
-
--- while no save is awaited, and the job hasn't stopped, no broken stream was told
-whole_at : (task : Task) (clock : Clock) (is_lost : Bool) (state : State) (events : List Event) → IsAt task clock is_lost state events → awaits state ≡ false → is_stopped state ≡ false → came is_broken events ≡ false
-whole_at task clock is_lost Preparing events a calm live = absurd (true≢false calm)
-whole_at task clock is_lost (Starting due) events a calm live = a.hears.unbroken
-whole_at task clock is_lost (Running r) events a calm live = a.hears.unbroken
-whole_at task clock is_lost (Passing k) events a calm live = absurd (true≢false calm)
-whole_at task clock is_lost Closing events a calm live = absurd (true≢false calm)
-whole_at task clock is_lost (Failing k w) events a calm live = absurd (true≢false calm)
-whole_at task clock is_lost (Stopped failing) events a calm live = absurd (true≢false live)
-
 more_heard : (b : Bool) (e : Event) (events : List Event) → came is_broken events ≡ true → came is_broken (cond b events (e ∷ events)) ≡ true
 more_heard true e events k = k
 more_heard false e events k = or_more (is_broken e) (came is_broken events) k
@@ -152,7 +129,7 @@ goes_nowhere j core told h task_is calm b =
     let task : Task = task_of core in
     let on : has_stopped task (heard task told) ≡ false = subst (λ t. has_stopped t (heard t told) ≡ false) (sym task_is) h.goes_on in
     let live : is_stopped core.state ≡ false = live_at task core.clock core.lost core.state (heard task told) h.stands.so on in
-    true≢false (sym b.broken ∙ whole_at task core.clock core.lost core.state (heard task b.events) b.stands.so calm live)
+    true≢false (sym b.broken ∙ (hears_at task core.clock core.lost core.state (heard task b.events) b.stands.so calm live).unbroken)
 
 pub broken_ends : {U : Type 0} (p : Plot) (number : ℕ) (old : Core) (y : Execution) (r : Result U End) (now : List Entry) → KnowsBroken old → OnOk r (KeepsBroken old y.core) → OnOk r (IsCalm y)
     → StandsOrEnds p number y r now → OnOk r ⊥

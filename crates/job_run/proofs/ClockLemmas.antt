@@ -2,8 +2,6 @@
 use Rattle.std.proofs.Common.{◌≡◌, ◌⊎◌, inl, inr, ◌+◌, ◌≤◌, arith, ℕ, Bool, true, false, List, [], ◌∷◌, ◌++◌, length, Some, Result, Ok, Err, refl, sym, ◌∙◌, ap, subst}
 use Rattle.std.specs.Prelude.{codes, if◌then◌else◌, OnOk}
 use Rattle.std.proofs.Math.Bool.{true≢false}
-use Rattle.std.proofs.Math.Bridge.{le_prop}
-use Rattle.std.proofs.Math.Logic.{∥∥₁_elim}
 use Rattle.std.proofs.lemmas.Bool.{cases_Bool}
 use Rattle.world.specs.declared.chan.Chan.TheVariants.{Shell, Iopub, Heart}
 use Rattle.world.specs.declared.entry.Entry.{Entry}
@@ -26,19 +24,17 @@ use Rattle.kernel_lines.specs.Lines as sides
 use Rattle.kernel_lines.specs.declared.lines.Lines.{Lines}
 use Rattle.cell_core.specs.declared.act.Act.{Act}
 use Rattle.cell_core.specs.declared.act.Act.TheVariants.{Nothing, Start, Send, Look, Interrupt, Save, Stop}
-use Rattle.cell_core.specs.declared.clock.Clock.{Clock}
 use Rattle.cell_core.specs.declared.event.Event.{Event}
 use Rattle.cell_core.specs.declared.event.Event.TheVariants.{Saved, Ready, Io, Reply, Moment, Looked, Lost, Broken}
-use Rattle.cell_core.specs.declared.state.State.{State}
-use Rattle.cell_core.specs.declared.state.State.TheVariants.{Preparing, Starting, Running, Passing, Closing, Failing, Stopped}
 use Rattle.cell_core.specs.declared.step.Step.{Step}
-use Rattle.cell_core.specs.Acts.{IsTimely, has_stopped, heard}
+use Rattle.cell_core.specs.declared.machine.Core.{Core}
+use Rattle.cell_core.specs.Acts.{IsTimely, has_stopped, heard, wants_look_of}
+use Rattle.cell_core.specs.StandsFor.{Hears as CoreHears}
 use Rattle.cell_core.specs.Answering.{can_answer}
 use Rattle.cell_core.specs.Events.{came, is_broken, is_looked, is_saved, time}
-use Rattle.cell_core.specs.Holds.{awaits, now_of}
-use Rattle.cell_core.specs.StandsFor.{IsAt, StandsFor, awaits_saved_of, task_of}
-use Rattle.cell_core.specs.Task.{Task}
-use Rattle.cell_core.proofs.Moving.{is_stopped}
+use Rattle.cell_core.specs.Holds.{is_save, now_of}
+use Rattle.cell_core.specs.StandsFor.{StandsFor, awaits_saved_of, task_of}
+use Rattle.cell_core.proofs.Answering.{answers_kind, heard_all}
 use Rattle.job_end.specs.declared.end.End.{End}
 use Rattle.job_end.specs.declared.end.End.TheVariants.{NoMemory}
 use Rattle.run_journal.specs.Agreement.{IsOther, moment, lost}
@@ -61,39 +57,28 @@ use Rattle.job_journal.proofs.Plots.{for_still}
 use Rattle.job_journal.proofs.Quiet.{requests_same, stands_on}
 use Rattle.job_journal.proofs.Subscribing.{OwedLaws, asks_by_lines}
 use Rattle.job_journal.proofs.Talks.{asks_at}
+use Rattle.job_journal.proofs.Steps.{goes_next}
+use Rattle.job_journal.specs.Told.{is_stop}
 use Rattle.job_run.specs.declared.execution.Execution.{Execution}
 use Rattle.job_run.specs.Held.{IsSaid}
 use Rattle.job_run.specs.Said.{QueuesNext, next_message}
-use Rattle.job_run.specs.Standing.{EndsSo, GoesBy, HasTurned, IsTurned, NotesError, PassesBy, Stands, StandsOrEnds, StandsTo, StaysStill, is_idle, is_passing, parts_of}
+use Rattle.job_run.specs.Standing.{EndsSo, GoesBy, GoesOnBy, HasTurned, HearsClock, IsTurned, KeepsClock, KnowsBy, NotesError, PassesBy, Stands, StandsOrEnds, StandsTo, StaysStill, is_idle, is_passing, parts_of}
 use Rattle.job_run.specs.Told.{Hears, MayCome}
 use Rattle.job_run.specs.Used.{TakesEvent}
 use Rattle.job_run.proofs.ActLemmas.{idle_stands}
 use Rattle.job_run.proofs.EndLemmas.{starved_so}
-use Rattle.job_run.proofs.BrokenLemmas.{live_at, none_broke}
+use Rattle.job_run.proofs.BrokenLemmas.{none_broke}
+use Rattle.job_run.proofs.LiveLemmas.{heard_so, within_clock}
 use Rattle.job_run.proofs.StandingLemmas.{answered_kind, told_other}
 use Rattle.job_run.proofs.ToldLemmas.{timely_by}
 
 -- ---- an event that is told comes in time
 
--- while no save is awaited, and the job hasn't stopped, the core knows the last clock entry
-time_at : (task : Task) (clock : Clock) (is_lost : Bool) (state : State) (events : List Event) → IsAt task clock is_lost state events → awaits state ≡ false → is_stopped state ≡ false → time events ≡ now_of clock
-time_at task clock is_lost Preparing events a calm live = absurd (true≢false calm)
-time_at task clock is_lost (Starting due) events a calm live = a.hears.now
-time_at task clock is_lost (Running r) events a calm live = a.hears.now
-time_at task clock is_lost (Passing k) events a calm live = absurd (true≢false calm)
-time_at task clock is_lost Closing events a calm live = absurd (true≢false calm)
-time_at task clock is_lost (Failing k w) events a calm live = absurd (true≢false calm)
-time_at task clock is_lost (Stopped failing) events a calm live = absurd (true≢false live)
-
 pub timely_told : (x : Execution) (named : Bool) (e : Event) (told : List Event) → Hears x.core x.clock named → MayCome x.core x.clock named e → awaits_saved_of x.core ≡ false → StandsFor x.core told
     → has_stopped (task_of x.core) (heard (task_of x.core) told) ≡ false → IsTimely (task_of x.core) e told
 timely_told x named e told hears may calm stands on =
-    let task : Task = task_of x.core in
-    let live : is_stopped x.core.state ≡ false = live_at task x.core.clock x.core.lost x.core.state (heard task told) stands.so on in
-    let now : time (heard task told) ≡ now_of x.core.clock = time_at task x.core.clock x.core.lost x.core.state (heard task told) stands.so calm live in
     timely_by x.core x.clock named e told may stands
-    (∥∥₁_elim hears le_prop (λ t.
-    subst (λ n. n ≤ x.clock) (time_at task x.core.clock x.core.lost x.core.state (heard task t.events) t.stands.so calm live ∙ sym now) t.timed))
+    (subst (λ es. time es ≤ x.clock) (sym (heard_all (task_of x.core) told on)) (within_clock x.core told stands calm on x.clock named hears))
 
 -- ---- an event of the clock, or a loss
 
@@ -147,10 +132,11 @@ passing_idle Broken act o q k = absurd (true≢false (sym q))
 
 module _ (p : Plot) (number : ℕ) (x z : Execution) (e : Event) (answer : Step) (named : Bool) (rest : z ≡ record x { core = z.core }) (took : TakesEvent e answer x.core z.core)
     (hears : Hears x.core x.clock named) (may : MayCome x.core x.clock named e) (calm : awaits_saved_of x.core ≡ false) (other : is_saved e ≡ false) where
+  going : (clock : ℕ) (now : List Entry) (s : Stands p number (record x { clock = clock }) now) → has_stopped (task_of x.core) (heard (task_of x.core) s.parts.core.told) ≡ false
+  going clock now s = subst (λ task. has_stopped task (heard task s.parts.core.told) ≡ false) (sym s.parts.is_for.task_is) s.parts.core.hears.goes_on
+
   timely_by_stands : (clock : ℕ) (now : List Entry) (s : Stands p number (record x { clock = clock }) now) → IsTimely (task_of x.core) e s.parts.core.told
-  timely_by_stands clock now s =
-      timely_told x named e s.parts.core.told hears may calm s.parts.core.hears.stands
-      (subst (λ task. has_stopped task (heard task s.parts.core.told) ≡ false) (sym s.parts.is_for.task_is) s.parts.core.hears.goes_on)
+  timely_by_stands clock now s = timely_told x named e s.parts.core.told hears may calm s.parts.core.hears.stands (going clock now s)
 
   -- no broken stream was told
   unbroken : {A : Type 0} (clock : ℕ) (now : List Entry) (s : Stands p number (record x { clock = clock }) now) → is_broken e ≡ false → came is_broken (e ∷ s.parts.core.told) ≡ true → A
@@ -181,7 +167,58 @@ module _ (p : Plot) (number : ℕ) (x z : Execution) (e : Event) (answer : Step)
   -- another event that changes no request: what its act is for is due by the journal
   pub step_stands : (now : List Entry) → IsOther e → is_broken e ≡ false → (is_looked e ≡ true → IsWhole (facts p) now) → Stands p number x now → StandsTo p number z answer.act now
   step_stands now o whole seen s =
-      told_other p number x z.core e answer now s took (other ∙ sym calm) (timely_by_stands x.clock now s) z rest (unbroken x.clock now s whole) seen o
+      told_other p number x z.core e answer now s took (other ∙ sym calm) (timely_by_stands x.clock now s) z rest (unbroken x.clock now s whole)
+      (λ l. (seen l, subst (λ n. time s.parts.core.told ≤ n) s.parts.clock (within_clock x.core s.parts.core.told s.parts.core.hears.stands calm (going x.clock now s) x.clock named hears))) o
+
+-- ---- the clock that the core knows
+
+-- the core of an execution that goes on was told an event of the clock, or a loss
+module _ (x z : Execution) (e : Event) (answer : Step) (named : Bool) (took : TakesEvent e answer x.core z.core) (hears : Hears x.core x.clock named) (may : MayCome x.core x.clock named e)
+    (calm : awaits_saved_of x.core ≡ false) (other : is_saved e ≡ false) (passing : is_passing e ≡ true) (awaited : awaits_saved_of z.core ≡ is_save answer.act)
+    (told : List Event) (on : GoesOnBy x.core told) where
+  timely : IsTimely (task_of x.core) e told
+  timely = timely_told x named e told hears may calm on.stands on.goes_on
+
+  kind : can_answer e answer.act ≡ true
+  kind = subst (λ (act : Act). can_answer e act ≡ true) (sym (took.act told on.stands timely))
+      (answers_kind (task_of x.core) x.core.clock x.core.lost x.core.state e told on.stands.so (other ∙ sym calm) timely on.goes_on x.core.later)
+
+  idle : is_idle answer.act ≡ true
+  idle = passing_idle e answer.act (passing_other e passing) passing kind
+
+  idle_goes : (act : Act) → is_idle act ≡ true → (is_stop act ≡ false) × (is_save act ≡ false)
+  idle_goes Nothing i = (refl, refl)
+  idle_goes Start i = (refl, refl)
+  idle_goes Look i = (refl, refl)
+  idle_goes (Send cell) i = absurd (true≢false (sym i))
+  idle_goes Interrupt i = absurd (true≢false (sym i))
+  idle_goes (Save n) i = absurd (true≢false (sym i))
+  idle_goes (Stop cause) i = absurd (true≢false (sym i))
+
+  goes_then : has_stopped (task_of z.core) (heard (task_of z.core) (e ∷ told)) ≡ false
+  goes_then =
+      subst (λ task. has_stopped task (heard task (e ∷ told)) ≡ false) (sym took.same)
+      (goes_next (task_of x.core) e told answer.act on.goes_on (took.act told on.stands timely) (idle_goes answer.act idle).0)
+
+  -- it knows the clock by that event
+  knows_then : now_of z.core.clock ≡ time (e ∷ told)
+  knows_then = sym (heard_so z.core (e ∷ told) (took.stands told on.stands timely) (awaited ∙ (idle_goes answer.act idle).1) goes_then).now
+
+  pub step_knows : {U : Type 0} (y : Execution) (r : Result U End) → (is_idle answer.act ≡ true → StaysStill z y r) → OnOk r (now_of y.core.clock ≡ time (e ∷ told))
+  step_knows y (Ok u) still = ap (λ (v : Execution). now_of v.core.clock) (still idle).same ∙ knows_then
+  step_knows y (Err k) still = tt
+
+-- where an execution wants no look its core is told the clock
+pub clock_heard : {U : Type 0} (x y : Execution) (r : Result U End) → KnowsBy (Moment x.clock) x y r → HearsClock x y r
+clock_heard x y (Ok u) knows told on still = let same : now_of y.core.clock ≡ x.clock = knows told on in omega (arith, same)
+clock_heard x y (Err e) knows told on still = tt
+
+-- a loss leaves the clock
+pub loss_keeps : {U : Type 0} (x y : Execution) (r : Result U End) → awaits_saved_of x.core ≡ false → KnowsBy Lost x y r → KeepsClock x y r
+loss_keeps x y (Ok u) calm knows told on =
+    let same : now_of y.core.clock ≡ now_of x.core.clock = knows told on ∙ (heard_so x.core told on.stands calm on.goes_on).now in
+    omega (arith, same)
+loss_keeps x y (Err e) calm knows told on = tt
 
 -- nothing was told
 pub passes_still : (p : Plot) (number : ℕ) (x : Execution) (now : List Entry) → PassesBy {U = Unit {0}} p number x x (Ok tt) now now
@@ -198,32 +235,79 @@ passes_on p number x y (Ok u) before after pass s =
 
 -- ---- a turn
 
--- the execution has noted the moment
-pub has_turned : (p : Plot) (number : ℕ) (x y : Execution) (ms : ℕ) (now : List Entry) → y ≡ record x { clock = y.clock } → (x.clock ≤ ms → y.clock ≡ ms) → IsTurned p number x ms now
-    → HasTurned p number y now
-has_turned p number x y ms now rest turns t =
-    let within : x.clock ≤ ms = omega (arith, t.stands.earlier, t.rises) in
-    record {
-      past = t.past;
-      stands = subst (λ (v : Execution). Stands p number (record v { clock = places.time t.past }) t.past) (sym rest) t.stands.stands;
-      taken = subst (λ (v : Execution). taken_of (line_on v.lines Iopub) ≡ length (bytes_put (facts p) Iopub t.past)) (sym rest) t.taken;
-      since = subst (λ n. Since (IsQuietNow (facts p)) (made.Moment n ∷ t.past) now) (sym (turns within)) t.since;
-    }
+-- the core of an execution that stands for the journal goes on by what it was told
+goes_by : (p : Plot) (number : ℕ) (x : Execution) (past : List Entry) (s : Stands p number (record x { clock = places.time past }) past) → GoesOnBy x.core s.parts.core.told
+goes_by p number x past s = record {
+  stands = s.parts.core.hears.stands;
+  goes_on = subst (λ task. has_stopped task (heard task s.parts.core.told) ≡ false) (sym s.parts.is_for.task_is) s.parts.core.hears.goes_on;
+}
 
-pub turned_on : {U : Type 0} (p : Plot) (number : ℕ) (x y : Execution) (r : Result U End) (before after : List Entry) → PassesBy p number x y r before after → HasTurned p number x before
-    → HasTurned p number y after
-turned_on p number x y r before after pass h =
+-- and knows the clock by it
+told_so : (p : Plot) (number : ℕ) (x : Execution) (past : List Entry) (s : Stands p number (record x { clock = places.time past }) past) → awaits_saved_of x.core ≡ false
+    → CoreHears x.core.clock x.core.lost s.parts.core.told
+told_so p number x past s calm = let g = goes_by p number x past s in heard_so x.core s.parts.core.told g.stands calm g.goes_on
+
+-- the moment of a turn is noted: before it the execution stood for the journal
+module _ (p : Plot) (number : ℕ) (x y : Execution) (ms : ℕ) (now : List Entry) (rest : y ≡ record x { clock = y.clock }) (turns : x.clock ≤ ms → y.clock ≡ ms) (t : IsTurned p number x ms now) where
+  noted_is : y.clock ≡ ms
+  noted_is = turns (omega (arith, t.stands.earlier, t.rises))
+
+  abbrev stood : Stands p number (record y { clock = places.time t.past }) t.past
+  stood = subst (λ (v : Execution). Stands p number (record v { clock = places.time t.past }) t.past) (sym rest) t.stands.stands
+
+  turned_on : GoesOnBy y.core stood.parts.core.told
+  turned_on = record {
+    stands = stood.parts.core.hears.stands;
+    goes_on = subst (λ task. has_stopped task (heard task stood.parts.core.told) ≡ false) (sym stood.parts.is_for.task_is) stood.parts.core.hears.goes_on;
+  }
+
+  unlooked : wants_look_of (task_of y.core) stood.parts.core.told ≡ false
+  unlooked = subst (λ (c : Core). StandsFor c stood.parts.core.told → wants_look_of (task_of c) stood.parts.core.told ≡ false) (sym (ap (λ (v : Execution). v.core) rest)) (t.unlooked stood.parts.core.told)
+      turned_on.stands
+
+  -- its core is told the clock: it has turned
+  pub has_turned : (z : Execution) (after : List Entry) → PassesBy {U = Unit {0}} p number y z (Ok tt) now after → HearsClock {U = Unit {0}} y z (Ok tt) → awaits_saved_of z.core ≡ false
+      → HasTurned p number z after
+  has_turned z after pass hears calm =
+      let g = pass (places.time t.past) t.past stood in
+      record {
+        past = t.past;
+        stands = g.0.stands;
+        knows = knows_clock z y.clock t.past g.0.stands calm (ap (λ (v : Execution). v.clock) g.0.rest) (hears stood.parts.core.told turned_on unlooked);
+        taken = subst (λ (v : Execution). taken_of (line_on v.lines Iopub) ≡ length (bytes_put (facts p) Iopub t.past)) (sym (g.0.rest ∙ ap (λ (v : Execution). record v { core = z.core }) rest)) t.taken;
+        since = subst (λ n. Since (IsQuietNow (facts p)) (made.Moment n ∷ t.past) after) (sym (ap (λ (v : Execution). v.clock) g.0.rest ∙ noted_is))
+            (subst (λ es. Since (IsQuietNow (facts p)) (made.Moment ms ∷ t.past) es) (sym g.2) t.since);
+      }
+    where
+      knows_clock : (z : Execution) (clock : ℕ) (past : List Entry) (s : Stands p number (record z { clock = places.time past }) past) → awaits_saved_of z.core ≡ false → z.clock ≡ clock
+          → clock ≤ now_of z.core.clock → z.clock ≤ time s.parts.core.told
+      knows_clock z clock past s calm same within =
+          let now = (told_so p number z past s calm).now in omega (arith, same, within, now)
+
+  pub turned_goes : (z : Execution) (e : End) (after : List Entry) → PassesBy {U = Unit {0}} p number y z (Err e) now after → ⊥
+  turned_goes z e after pass = (pass (places.time t.past) t.past stood).1
+
+-- a loss is told after it
+pub turned_loses : (p : Plot) (number : ℕ) (x y : Execution) (before after : List Entry) → PassesBy {U = Unit {0}} p number x y (Ok tt) before after → KeepsClock {U = Unit {0}} x y (Ok tt)
+    → awaits_saved_of x.core ≡ false → awaits_saved_of y.core ≡ false → HasTurned p number x before → HasTurned p number y after
+turned_loses p number x y before after pass keeps calm calm_then h =
     let g = pass (places.time h.past) h.past h.stands in
+    let was = (told_so p number x h.past h.stands calm).now in
+    let now = (told_so p number y h.past g.0.stands calm_then).now in
+    let within : now_of x.core.clock ≤ now_of y.core.clock = keeps h.stands.parts.core.told (goes_by p number x h.past h.stands) in
+    let clock : y.clock ≡ x.clock = ap (λ (v : Execution). v.clock) g.0.rest in
+    let knew : x.clock ≤ time h.stands.parts.core.told = h.knows in
     record {
       past = h.past;
       stands = g.0.stands;
+      knows = omega (arith, was, now, within, clock, knew);
       taken = subst (λ (v : Execution). taken_of (line_on v.lines Iopub) ≡ length (bytes_put (facts p) Iopub h.past)) (sym g.0.rest) h.taken;
       since = subst (λ now. Since (IsQuietNow (facts p)) (made.Moment y.clock ∷ h.past) now) (sym g.2)
           (subst (λ (v : Execution). Since (IsQuietNow (facts p)) (made.Moment v.clock ∷ h.past) before) (sym g.0.rest) h.since);
     }
 
-pub turned_goes : (p : Plot) (number : ℕ) (x y : Execution) (e : End) (before after : List Entry) → PassesBy {U = Unit {0}} p number x y (Err e) before after → HasTurned p number x before → ⊥
-turned_goes p number x y e before after pass h = (pass (places.time h.past) h.past h.stands).1
+pub loss_goes : (p : Plot) (number : ℕ) (x y : Execution) (e : End) (before after : List Entry) → PassesBy {U = Unit {0}} p number x y (Err e) before after → HasTurned p number x before → ⊥
+loss_goes p number x y e before after pass h = (pass (places.time h.past) h.past h.stands).1
 
 -- ---- the requests at a clock entry
 
@@ -277,7 +361,7 @@ module _ (p : Plot) (number : ℕ) (x : Execution) (now : List Entry) (h : HasTu
   pub unasked_stands : (can : Bool) → can ≡ can_ask j h.past → asks x.asking can x.clock ≡ false → Stands p number x now
   unasked_stands can is e = record {
     parts = stands_on p number (parts_of x) [] [] (made.Moment x.clock ∷ h.past) now h.since
-        (clock_passes p number (parts_of (record x { clock = places.time h.past })) h.past x.clock h.stands.parts can is e);
+        (clock_passes p number (parts_of (record x { clock = places.time h.past })) h.past x.clock h.stands.parts can is (λ asked. h.knows) e);
     asked = record { terms = h.stands.asked.terms; tagged = h.stands.asked.tagged };
     noted = turned_noted;
   }
@@ -291,7 +375,7 @@ module _ (p : Plot) (number : ℕ) (x : Execution) (now : List Entry) (h : HasTu
       → StandsBy p number (parts_of (record x { asking = more })) (question (x.session.made + 1) x.clock ∷ []) [] now
   asked_parts can is e =
       stands_on p number (parts_of (record x { asking = more })) (question (x.session.made + 1) x.clock ∷ []) [] (made.Moment x.clock ∷ h.past) now h.since
-      (clock_asks p number (parts_of (record x { clock = places.time h.past })) h.past x.clock h.stands.parts can is e)
+      (clock_asks p number (parts_of (record x { clock = places.time h.past })) h.past x.clock h.stands.parts can is h.knows e)
 
   -- wherever a job ends then, the saves that were made are the first that are due
   turned_ends : HasEndedAs p now

@@ -230,7 +230,7 @@ module _ (p : Plot) (x : Execution) (now : List Entry) where
   answered cause t e is _ said = record {
     ended = stopped_ended p cause now t.stopped;
     stopped = λ other f.
-        subst (λ (w : Why). IsStopSaid p w (line_of p.ask.output e) now) (named_so cause other e is f) (record { stopped = t.stopped; whole = t.whole; says = says_so cause t e is });
+        subst (λ (w : Why). IsStopSaid p w (line_of p.ask.output e) now) (named_so cause other e is f) (record { stopped = t.stopped; late = t.late; says = says_so cause t e is });
   }
   answered cause t e is _ starved = uncaused_answer p starved_answer now refl (stopped_ended p cause now t.stopped)
 

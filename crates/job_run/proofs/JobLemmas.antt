@@ -214,6 +214,7 @@ got_run p j c bytes now g = record { conn = g.conn; room = g.room; past = g.past
 -- a turn of a job is one of its execution, behind one quiet entry more
 pub turned_run : (p : Plot) (j : Job) (ms : ℕ) (entry : Entry) (now : List Entry) → is_quiet (facts p) entry ≡ true → IsTurnedFor p j ms now → IsTurned p j.number j.run ms (entry ∷ now)
 turned_run p j ms entry now quiet t = record {
+  unlooked = λ told stands. sym (t.unlooked.runs t.running told stands);
   past = t.past;
   stands = t.stands.runs t.running;
   taken = t.taken;

@@ -32,5 +32,6 @@ pub mod StepLemmas
 pub mod StopLemmas
 pub mod ToldLemmas
 pub mod TurnLemmas
-pub mod WholeLemmas
+pub mod LiveLemmas
+pub mod LateLemmas
 pub mod WorkLemmas

@@ -59,9 +59,9 @@ use Rattle.job_run.proofs.BrokenLemmas.{none_broke}
 use Rattle.job_run.proofs.EndLemmas.{starved_so}
 use Rattle.job_run.proofs.ListenLemmas.{arrivals_more, one_more}
 use Rattle.job_run.proofs.NotedLemmas.{noted_all, noted_passes}
-use Rattle.job_run.specs.Standing.{DoesAct, EndsSo, IsAskedFor, IsOwn, IsToSave, MovesOn, NotesSoFar, Stands, StandsOrEnds, StaysStill, Uses, UsesOrEnds, all_used, open_request, parts_of, sent_of, StopsWhole}
+use Rattle.job_run.specs.Standing.{DoesAct, EndsSo, IsAskedFor, IsOwn, IsToSave, MovesOn, NotesSoFar, Stands, StandsOrEnds, StaysStill, Uses, UsesOrEnds, all_used, open_request, parts_of, sent_of, StopsLate}
 use Rattle.job_run.specs.Used.{TakesEvent, UsesMessage, brief_in}
-use Rattle.job_run.proofs.WholeLemmas.{message_whole}
+use Rattle.job_run.proofs.LateLemmas.{message_late}
 
 -- ---- the act at a message
 
@@ -218,7 +218,7 @@ module _ (p : Plot) (number : ℕ) (x : Execution) (standing_then : ℕ) (done r
             noted = noted_all p number (parts_of x) Iopub done (m ∷ rest) entry past w x.request done refl noted;
           };
           due = subst (λ es. IsAsked (facts p).task es settled) (sym two.1) (asked_save (facts p) told e settled w.core.hears.goes_on (sym answered ∙ is));
-          whole = subst (λ es. StopsWhole p es (entry ∷ past)) (sym two.1) (message_whole p x.core told e (entry ∷ past) w.core.hears w.is_for.task_is calm refl t);
+          late = subst (λ es. StopsLate p es (entry ∷ past)) (sym two.1) (message_late p x.core told e (entry ∷ past) w.core.hears w.is_for.task_is calm refl t);
           broken = λ f. none_broke (facts p) x.core told w.core.hears w.is_for.task_is calm e refl (ap (came is_broken) (sym two.1) ∙ f);
         }
 
@@ -271,7 +271,7 @@ module _ (p : Plot) (number : ℕ) (q : Parts) (done rest : List Arrival) (entry
     book = w.book;
     request = w.request;
     sent = w.sent;
-    core = record { told = w.core.told; hears = w.core.hears; agrees = w.core.agrees };
+    core = record { told = w.core.told; hears = w.core.hears; agrees = w.core.agrees; up = w.core.up };
     knows = w.knows;
     made = w.made;
     ready = w.ready;
@@ -297,7 +297,7 @@ module _ (p : Plot) (number : ℕ) (q : Parts) (done rest : List Arrival) (entry
     book = w.book;
     request = w.request;
     sent = w.sent;
-    core = record { told = w.core.told; hears = w.core.hears; agrees = w.core.agrees };
+    core = record { told = w.core.told; hears = w.core.hears; agrees = w.core.agrees; up = w.core.up };
     knows = w.knows;
     made = w.made;
     ready = w.ready;

@@ -43,10 +43,10 @@ use Rattle.job_run.specs.declared.request.Request.{Request}
 use Rattle.job_run.specs.Heard.{is_parent_of}
 use Rattle.job_run.proofs.BrokenLemmas.{none_broke}
 use Rattle.job_run.proofs.NotedLemmas.{same_place, has_come, noted_more, noted_replied}
-use Rattle.job_run.specs.Standing.{DoesAct, IsAskedFor, IsOwn, IsToSave, NotesSoFar, StaysStill, Uses, UsesOrEnds, all_used, open_request, parts_of, sent_of, StopsWhole}
+use Rattle.job_run.specs.Standing.{DoesAct, IsAskedFor, IsOwn, IsToSave, NotesSoFar, StaysStill, Uses, UsesOrEnds, all_used, open_request, parts_of, sent_of, StopsLate}
 use Rattle.job_run.specs.Used.{NotesReply, SameRequest, TakesEvent, UsesReply, is_tagged_in, none, some}
 use Rattle.job_run.proofs.MessageLemmas.{IsDealt, dealt, dealt_does, message_act, message_answer, message_heard, message_takes, own_left, parent_is}
-use Rattle.job_run.proofs.WholeLemmas.{message_whole}
+use Rattle.job_run.proofs.LateLemmas.{message_late}
 
 replies_by : (takes : Bool) (date : Option (List ℕ)) (given : Notebook) (old new : JobNotebook) (m : Arrival) → date ≡ m.date → (takes ≡ false → new ≡ old)
     → UsesReply takes date old new → RepliesBy takes given old new m
@@ -150,8 +150,8 @@ module _ (p : Plot) (number : ℕ) (x : Execution) (standing_then : ℕ) (done r
           };
           due = subst (λ es. IsAsked (facts p).task es settled) (sym both.1)
               (asked_save (facts p) told_before reply_told settled w.core.hears.goes_on (sym reply_answered ∙ is));
-          whole = subst (λ es. StopsWhole p es (entry ∷ past)) (sym both.1)
-              (message_whole p x.core told_before reply_told (entry ∷ past) w.core.hears w.is_for.task_is calm refl t);
+          late = subst (λ es. StopsLate p es (entry ∷ past)) (sym both.1)
+              (message_late p x.core told_before reply_told (entry ∷ past) w.core.hears w.is_for.task_is calm refl t);
           broken = λ f. none_broke (facts p) x.core told_before w.core.hears w.is_for.task_is calm reply_told refl (ap (came is_broken) (sym both.1) ∙ f);
         }
 

@@ -48,12 +48,12 @@ use Rattle.job_journal.specs.Quiet.{IsQuietNow}
 use Rattle.job_journal.specs.Saved.{save_of}
 use Rattle.job_journal.specs.Standing.{HasEndedAs, StandsBy}
 use Rattle.job_journal.specs.Starting.{is_ongoing}
-use Rattle.job_journal.specs.Told.{Hears, is_stop}
+use Rattle.job_journal.specs.Told.{Hears, KeepsUp, is_stop}
 use Rattle.job_journal.specs.Used.{OnBook, OnRequest, Sent, last}
-use Rattle.job_journal.proofs.Acking.{agrees_on, requests_on, saved_sends, saved_waits, unnamed_going}
+use Rattle.job_journal.proofs.Acking.{agrees_on, requests_on, saved_sends, saved_waits, unnamed_going, up_on}
 use Rattle.job_journal.proofs.Again.{saves_again, unnamed_again}
 use Rattle.job_journal.proofs.Breaking.{bytes_on}
-use Rattle.job_journal.proofs.Ended.{stopped_on, stops_by_save}
+use Rattle.job_journal.proofs.Ended.{come_on, late_stays, stopped_on, stops_by_save}
 use Rattle.job_journal.proofs.Ending.{ends_standing, failed_ends}
 use Rattle.job_journal.proofs.Plots.{for_still, text_is}
 use Rattle.job_journal.proofs.Quiet.{refusal_quiet, sends_on, speech_quiet, stands_on}
@@ -68,8 +68,9 @@ use Rattle.job_run.proofs.EndLemmas.{starved_so, uncaused_ends}
 use Rattle.job_run.proofs.NotedLemmas.{noted_none}
 use Rattle.job_run.proofs.StayLemmas.{is_final, requests_kept}
 use Rattle.job_run.proofs.ToldLemmas.{peer_broke}
-use Rattle.job_run.proofs.WholeLemmas.{again_whole, stops_as_told}
-use Rattle.job_journal.proofs.Breaking.{whole_same}
+use Rattle.job_run.proofs.LateLemmas.{again_late, stops_as_told}
+use Rattle.job_journal.specs.Ended.{has_come}
+use Rattle.save_disk.proofs.Laws.{part_of_save}
 
 -- ---- the kernel is started before any request
 
@@ -209,6 +210,10 @@ module _ (p : Plot) (number : ℕ) (x : Execution) (settled : ℕ) (before : Lis
       bytes_behind : (c : Chan) → bytes_got (facts p) c after ≡ bytes_got (facts p) c before
       bytes_behind c = bytes_on (facts p) mid after quiet c ∙ saves_bring_none (facts p) (facts p).output (text_of (notebook_of book)) done before mid saved c
 
+      -- what the clock had come to it has still come to
+      came_behind : (at : ℕ) → has_come at before ≡ true → has_come at after ≡ true
+      came_behind at e = come_on at mid after quiet (come_on at before mid (part_of_save (facts p).output (text_of (notebook_of book)) before done mid saved) e)
+
       -- the stream that broke is broken as it was
       broken_behind : NotesBroken (facts p) x.broken before → NotesBroken (facts p) x.broken after
       broken_behind = notes_on (facts p) x.broken before after bytes_behind
@@ -232,6 +237,10 @@ module _ (p : Plot) (number : ℕ) (x : Execution) (settled : ℕ) (before : Lis
         agreed : Agrees (facts p) (Saved ∷ told) after
         agreed = agrees_on (facts p) (Saved ∷ told) mid after quiet (subst (λ es. Agrees (facts p) es mid) two.1 two.0.core.agrees)
 
+        agreed_up : KeepsUp (facts p) (Saved ∷ told) [] after
+        agreed_up =
+            up_on (facts p) (Saved ∷ told) mid after quiet (subst (λ es. Agrees (facts p) es mid) two.1 two.0.core.agrees) (subst (λ es. KeepsUp (facts p) es [] mid) two.1 two.0.core.up)
+
         pub then_saves : IsToSave p number z n after
         then_saves = record {
           stands = record {
@@ -245,7 +254,7 @@ module _ (p : Plot) (number : ℕ) (x : Execution) (settled : ℕ) (before : Lis
               book = at_end.book;
               request = at_end.request;
               sent = at_end.sent;
-              core = record { told = Saved ∷ told; hears = ongoing; agrees = agreed };
+              core = record { told = Saved ∷ told; hears = ongoing; agrees = agreed; up = agreed_up };
               made = at_end.made;
               ready = at_end.ready;
               clock = at_end.clock;
@@ -254,7 +263,7 @@ module _ (p : Plot) (number : ℕ) (x : Execution) (settled : ℕ) (before : Lis
             noted = noted_behind (ap is_final is);
           };
           due = asked_save (facts p) told Saved n t.stands.parts.core.hears.goes_on (sym act_is ∙ is);
-          whole = again_whole p next told after ongoing is_for.task_is is_for.runs (again ∙ ap is_save is) (closes (ap is_save is));
+          late = again_late p next told after ongoing is_for.task_is is_for.runs (again ∙ ap is_save is) (closes (ap is_save is));
           broken = λ f. broken_behind (t.broken f);
         }
 
@@ -283,9 +292,9 @@ module _ (p : Plot) (number : ℕ) (x : Execution) (settled : ℕ) (before : Lis
         stopped = stopped_on p cause mid after t.stands.parts.undated quiet
             (stops_by_save p number (parts_of x) before t.stands.parts settled t.due (text_of (notebook_of book)) same_text mid saved cause (sym act_is ∙ is));
         request = subst (OnRequest (facts p) (sent_of x.request)) (sym (requests_behind (ap is_final is))) t.stands.parts.request;
-        whole = λ late.
-            whole_same (facts p) before after bytes_behind
-            (t.whole cause (stops_as_told p x.core told cause t.stands.parts.core.hears task_is awaited (sym act_is ∙ is) late) late);
+        late = λ late.
+            late_stays (facts p) before after (requests_behind (ap is_final is)) bytes_behind came_behind cause
+            (t.late cause (stops_as_told p x.core told cause t.stands.parts.core.hears task_is awaited (sym act_is ∙ is) late) late);
         noted = noted_behind (ap is_final is);
         broken = λ f. broken_behind (t.broken (peer_broke (facts p).task Saved told (sym act_is ∙ is ∙ ap (λ w. Stop w) f)));
       }

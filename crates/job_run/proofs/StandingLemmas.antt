@@ -1,8 +1,9 @@
 -- What an event that the core is told makes of what an execution stands for.
-use Rattle.std.proofs.Common.{◌≡◌, ◌⊎◌, inl, inr, ℕ, true, false, List, [], ◌∷◌, Result, Ok, Err, refl, sym, ◌∙◌, ap, subst}
+use Rattle.std.proofs.Common.{◌≡◌, ◌⊎◌, inl, inr, ◌≤◌, ℕ, true, false, List, [], ◌∷◌, Some, Result, Ok, Err, refl, sym, ◌∙◌, ap, subst}
 use Rattle.std.specs.Result.{IsErrAnd}
 use Rattle.std.proofs.Math.Bool.{true≢false}
 use Rattle.world.specs.declared.entry.Entry.{Entry}
+use Rattle.world.specs.Places as places
 use Rattle.cell_core.specs.declared.act.Act.{Act}
 use Rattle.cell_core.specs.declared.act.Act.TheVariants.{Nothing, Start, Send, Look, Interrupt, Save, Stop}
 use Rattle.cell_core.specs.declared.event.Event.{Event}
@@ -11,26 +12,32 @@ use Rattle.cell_core.specs.declared.machine.Core.{Core}
 use Rattle.cell_core.specs.declared.step.Step.{Step}
 use Rattle.cell_core.specs.Acts.{IsTimely, act_of, has_stopped, heard}
 use Rattle.cell_core.specs.Answering.{can_answer}
-use Rattle.cell_core.specs.Events.{came, is_broken, is_looked, is_saved}
+use Rattle.cell_core.specs.declared.why.Why.{Why}
+use Rattle.cell_core.specs.Events.{came, is_broken, is_looked, is_saved, time}
+use Rattle.cell_core.specs.Saves.{why as why_of}
 use Rattle.cell_core.specs.StandsFor.{task_of, awaits_saved_of}
 use Rattle.cell_core.proofs.Answering.{answers_kind, no_interrupt, sent_at_start}
 use Rattle.run_journal.specs.Agreement.{IsOther, moment, looked, lost, broken}
-use Rattle.job_journal.specs.Ended.{IsWhole}
+use Rattle.run_journal.proofs.Agreeing.{agree_other}
+use Rattle.job_journal.specs.Ended.{IsLateStop, IsWhole}
 use Rattle.job_journal.specs.Plot.{Plot, facts}
 use Rattle.job_journal.specs.Saved.{IsAsked}
 use Rattle.job_journal.specs.Standing.{StandsBy}
 use Rattle.job_journal.specs.Told.{Hears, is_stop}
 use Rattle.job_journal.proofs.Ended.{stops_by_other}
 use Rattle.job_journal.proofs.Ending.{other_told}
+use Rattle.job_journal.proofs.KeepingUp.{clocks_other}
+use Rattle.job_journal.proofs.Late.{time_over}
 use Rattle.job_journal.proofs.Plots.{for_still}
 use Rattle.job_journal.proofs.Saving.{asked_save}
 use Rattle.job_journal.proofs.Steps.{hears_next}
 use Rattle.job_end.specs.declared.end.End.{End}
 use Rattle.job_run.specs.declared.execution.Execution.{Execution}
-use Rattle.job_run.specs.Standing.{EndsSo, NotesBroken, Stands, StandsOrEnds, StandsTo, StandsToOrEnds, StopsWhole, parts_of}
+use Rattle.job_run.specs.Standing.{EndsSo, NotesBroken, Stands, StandsOrEnds, StandsTo, StandsToOrEnds, StopsLate, parts_of}
 use Rattle.job_run.specs.Used.{TakesEvent}
 use Rattle.job_run.proofs.ToldLemmas.{peer_broke}
-use Rattle.job_run.proofs.WholeLemmas.{other_whole, stop_cause}
+use Rattle.job_run.proofs.LateLemmas.{other_late, stop_cause}
+use Rattle.job_run.proofs.LiveLemmas.{heard_so, look_rises, look_time}
 
 other_unsaved : (e : Event) → IsOther e → is_saved e ≡ false
 other_unsaved e (moment ms) = refl
@@ -89,9 +96,26 @@ module _ (p : Plot) (number : ℕ) (x : Execution) (core : Core) (e : Event) (an
   abbrev Noted : Type 0
   Noted = came is_broken (e ∷ told) ≡ true → NotesBroken (facts p) x.broken now
 
-  -- a look comes while no stream is broken
+  -- a look comes while no stream is broken, and the journal's clock isn't behind the core's
   abbrev Looks : Type 0
-  Looks = is_looked e ≡ true → IsWhole (facts p) now
+  Looks = is_looked e ≡ true → IsWhole (facts p) now × (time told ≤ places.time now)
+
+  -- so where a loss or a time that is over stops the job by it, that time is over
+  looks_late : Looks → IsOther e → is_looked e ≡ true → (cause : Why) → why_of (facts p).task (e ∷ told) ≡ Some cause → IsLateStop (facts p) cause now
+  looks_late seen o l cause f =
+      let j = facts p in
+      let agreed = agree_other j e told now o s.parts.core.agrees in
+      record {
+        whole = (seen l).0;
+        over = time_over j (e ∷ told) now s.parts.undated agreed (clocks_other j e told now s.parts.core.agrees agreed s.parts.core.up.requests)
+            (look_rises e told l (heard_so x.core told s.parts.core.hears.stands calm going).rising) (subst (λ n. n ≤ places.time now) (sym (look_time e told l)) (seen l).1) cause f;
+      }
+    where
+      going : has_stopped (task_of x.core) (heard (task_of x.core) told) ≡ false
+      going = subst (λ task. has_stopped task (heard task told) ≡ false) (sym task_is) s.parts.core.hears.goes_on
+
+      calm : awaits_saved_of x.core ≡ false
+      calm = sym order ∙ other_unsaved e o
 
   kind_of : (act : Act) → answer.act ≡ act → can_answer e act ≡ true
   kind_of act is = subst (λ (a : Act). can_answer e a ≡ true) is answered_kind
@@ -107,12 +131,13 @@ module _ (p : Plot) (number : ℕ) (x : Execution) (core : Core) (e : Event) (an
     stands = other_stands o (ap is_stop is);
     due = subst (λ es. IsAsked (facts p).task es settled) (sym (told_parts o (ap is_stop is)).1)
         (asked_save (facts p) told e settled s.parts.core.hears.goes_on (sym answered ∙ is));
-    whole = subst (λ es. StopsWhole p es now) (sym (told_parts o (ap is_stop is)).1) (other_whole p told e now o seen (Save settled) (kind_of (Save settled) is) refl refl);
+    late = subst (λ es. StopsLate p es now) (sym (told_parts o (ap is_stop is)).1)
+        (other_late p told e now o (looks_late seen o) (Save settled) (kind_of (Save settled) is) refl refl);
     broken = λ f. broke (ap (came is_broken) (sym (told_parts o (ap is_stop is)).1) ∙ f);
   }
   other_by broke seen o (Stop cause) is = record {
     stopped = stops_by_other p number (parts_of x) now s.parts e cause o (sym answered ∙ is);
-    whole = other_whole p told e now o seen (Stop cause) (kind_of (Stop cause) is) refl refl cause
+    late = other_late p told e now o (looks_late seen o) (Stop cause) (kind_of (Stop cause) is) refl refl cause
         (stop_cause (facts p).task e told cause s.parts.core.hears.goes_on (sym answered ∙ is));
     request = s.parts.request;
     noted = s.noted;

@@ -1,6 +1,6 @@
 -- What an execution and its job stand for at their start.
 use Rattle.std.proofs.Common.{◌≡◌, ◌⊎◌, inl, inr, ◌<◌, ◌≤◌, ◌==◌, ◌&&◌, ◌||◌, ◌+◌, ◌++◌, arith, replicate, ℕ, Bool, true, false, not, List, [], ◌∷◌, length, map, Option, Some, None, Result, Ok, Err, refl, sym, ◌∙◌, ap, subst}
-use Rattle.std.specs.Prelude.{is_some, nat_lt, IfOk, if◌then◌else◌}
+use Rattle.std.specs.Prelude.{is_some, nat_lt, slice_get, IfOk, if◌then◌else◌}
 use Rattle.std.proofs.Math.Bool.{true≢false}
 use Rattle.std.proofs.lemmas.Bool.{cases_Bool, cond-true, cond-false, cond_both, eqb-true}
 use Rattle.world.specs.declared.entry.Entry.{Entry}
@@ -62,7 +62,12 @@ use Rattle.job_run.specs.Standing.{IsToSave, Stands, parts_of}
 use Rattle.job_run.specs.Task.{AreTermsOf, task_for}
 use Rattle.job_run.proofs.NotedLemmas.{noted_none, noted_unsent}
 use Rattle.job_run.proofs.SaveLemmas.{unsent}
-use Rattle.job_journal.specs.Ended.{IsWhole}
+use Rattle.job_journal.specs.Ended.{IsTimeOver, IsWhole}
+use Rattle.job_journal.specs.Told.{was_asked}
+use Rattle.job_journal.proofs.Ended.{come_still}
+use Rattle.job_journal.proofs.Late.{time_over}
+use Rattle.cell_core.specs.Events.{Rising}
+use Rattle.cell_core.specs.Events.{time as core_time}
 use Rattle.job_journal.proofs.Breaking.{unread_whole}
 use Rattle.run_journal.specs.Requests.{is_broken as is_any_broken}
 
@@ -80,6 +85,10 @@ saves_unread j output before now (more {past} {entry} w h) e =
 
 pub none_requested : (p : Plot) (now : List Entry) → is_unread (facts p) now ≡ true → requests (facts p) now ≡ []
 none_requested p now e = unrequested shaken_none messages_none p now e
+
+-- the kernel wasn't asked
+unasked_yet : (p : Plot) (now : List Entry) → is_unread (facts p) now ≡ true → was_asked (facts p) now ≡ false
+unasked_yet p now e = ap (λ (a : Asked). nat_lt 0 (length a.ids)) (unasked shaken_none messages_none p now e)
 
 -- ---- before the first save
 
@@ -118,6 +127,10 @@ module _ (p : Plot) (number : ℕ) (x : Execution) (now : List Entry) (b : IsToB
     told = [];
     hears = record { stands = b.unbegun.core; meets = tt; goes_on = unstopped j.task };
     agrees = subst (λ n. Agrees j (replicate n Saved) now) none_yet (agrees_unread j now b.fresh.unread);
+    up = record {
+      requests = λ n r e. (let none : None ≡ Some r = sym (ap (λ rs. slice_get rs n) (none_requested p now b.fresh.unread)) ∙ e in absurd (cc));
+      clock = λ e. absurd (true≢false (sym e ∙ unasked_yet p now b.fresh.unread));
+    };
   }
 
   parts : StandsBy p number (parts_of k) [] [] now
@@ -141,12 +154,18 @@ module _ (p : Plot) (number : ℕ) (x : Execution) (now : List Entry) (b : IsToB
   first_asked : IsAsked j.task [] 0
   first_asked = record { asked = after_preparation; at = refl; settled_is = refl; stop_is = refl }
 
+  -- no time is over
+  unheard_over : (cause : Why) → cause_by j.task stands.parts.core.told ≡ Some cause → IsTimeOver j cause now
+  unheard_over cause f =
+      time_over j stands.parts.core.told now b.fresh.undated stands.parts.core.agrees stands.parts.core.up.requests (subst Rising (sym told_none) tt)
+      (subst (λ es. core_time es ≤ time now) (sym told_none) (omega arith)) cause f
+
   -- the first save is due
   pub begin_saves : IsToSave p number k 0 now
   begin_saves = record {
     stands = stands;
     due = subst (λ es. IsAsked j.task es 0) (sym told_none) first_asked;
-    whole = λ cause f late. unread_whole p now b.fresh.unread;
+    late = λ cause f late. record { whole = unread_whole p now b.fresh.unread; over = unheard_over cause f };
     broken = λ f. absurd (true≢false (sym f ∙ ap (came is_broken) told_none));
   }
 
@@ -187,7 +206,8 @@ clock_on p number x ms past unread s =
     let no : asks x.asking (can_ask (facts p) past) ms ≡ false
     = ap (λ (a : Asked). asks a (can_ask (facts p) past) ms) s.parts.talk.asks ∙ never_asked p ms past unread in
     record {
-      parts = clock_passes p number (parts_of (record x { clock = time past })) past ms s.parts (can_ask (facts p) past) refl no;
+      parts = clock_passes p number (parts_of (record x { clock = time past })) past ms s.parts (can_ask (facts p) past) refl
+          (λ e. absurd (true≢false (sym e ∙ unasked_yet p (made.Moment ms ∷ past) unread))) no;
       asked = record { terms = s.asked.terms; tagged = s.asked.tagged };
       noted = noted_unsent (facts p) x.request (requests (facts p) (made.Moment ms ∷ past)) (none_requested p (made.Moment ms ∷ past) unread);
     }
@@ -211,7 +231,7 @@ told_later p j ms past unread rises s = record {
       let answer = s.ended a is in
       let h = answer.ended in
       let same : requests (facts p) past ≡ requests (facts p) (made.Moment ms ∷ past) = none_requested p past unread ∙ sym (none_requested p (made.Moment ms ∷ past) unread) in
-      answer_stays p past (made.Moment ms ∷ past) (record { requests_are = sym same; saves_are = refl; texts_are = refl; bytes_are = λ c. refl }) a
+      answer_stays p past (made.Moment ms ∷ past) (record { requests_are = sym same; saves_are = refl; texts_are = refl; bytes_are = λ c. refl; came = λ at e. come_still at (made.Moment ms) past e }) a
       (record {
         cause = h.cause;
         count = h.count;
@@ -381,6 +401,15 @@ module _ (p : Plot) (x : Execution) (now : List Entry) (was : requests (facts (i
   unfolding is_any_broken
   whole_in e = e
 
+  over_in : (cause : Why) → ShowsCause (facts elsewhere) cause now → IsTimeOver (facts p) cause now
+  over_in why.Done e = tt
+  over_in why.CellError e = tt
+  over_in why.NotReady e = tt
+  over_in why.NoIdle e = absurd (subst (λ rs. LacksIdle (last_request 0 rs)) was e)
+  over_in why.TimedOut e = absurd (subst (λ rs. LacksReply (last_request 0 rs)) was e)
+  over_in why.KernelLost e = tt
+  over_in why.BadPeer e = tt
+
   -- so a job has ended with an answer in whichever session
   answered_in : (a : Answer) → HasAnswered elsewhere a now → HasAnswered p a now
   answered_in a h = record {
@@ -392,7 +421,7 @@ module _ (p : Plot) (x : Execution) (now : List Entry) (was : requests (facts (i
             shown = shown_in cause t.stopped.shown;
             texts = sym (same_texts p x now) ∙ t.stopped.texts ∙ ap (λ (ss : List Save). map (λ (s : Save). Some s.text) ss) (saves_in_session p x now was is runs (Some cause));
           };
-          whole = λ late. whole_in (t.whole late);
+          late = λ late. record { whole = whole_in (t.late late).whole; over = over_in cause t.stopped.shown };
           says = said_in cause a.line t.stopped.shown t.says;
         };
   }

@@ -15,6 +15,7 @@ use Rattle.job_journal.specs.Plot.{Plot, facts}
 use Rattle.job_journal.specs.Quiet.{IsQuietNow}
 use Rattle.job_run.specs.declared.execution.Execution.{Execution}
 use Rattle.job_run.specs.declared.job.Job.{Job}
+use Rattle.job_run.specs.Due.{WantsLook}
 use Rattle.job_run.specs.Queues.{line_of}
 use Rattle.job_run.specs.Run.{number_of, outcome_of}
 use Rattle.job_run.specs.Standing.{Stands, StandsUntold}
@@ -49,9 +50,11 @@ pub record IsGotFor (p : Plot) (j : Job) (c : Chan) (bytes : List ℕ) (now : Li
   pub stands : JobStands p j past
 
 -- The clock was read in a turn with this moment, and since then only entries were made that are quiet for a job that runs. Before it the job
--- stood for the journal but for its clock, and knew how many octets were put on IOPub.
+-- stood for the journal but for its clock, and knew how many octets were put on IOPub. It wants no last look: the clock is read only once each look
+-- that was wanted is done.
 pub record IsTurnedFor (p : Plot) (j : Job) (ms : ℕ) (now : List Entry) : Type 0 where
   pub running : is_some (outcome_of j) ≡ false
+  pub unlooked : WantsLook j false
   pub past : List Entry
   pub stands : JobStandsUntold p j past
   pub taken : taken_of (line_of j Iopub) ≡ length (bytes_put (facts p) Iopub past)

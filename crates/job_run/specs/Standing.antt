@@ -22,8 +22,13 @@ use Rattle.cell_core.specs.declared.act.Act.TheVariants.{Nothing, Start, Send, L
 use Rattle.cell_core.specs.declared.event.Event.{Event}
 use Rattle.cell_core.specs.declared.event.Event.TheVariants as event
 use Rattle.cell_core.specs.declared.event.Event.TheVariants.{Saved}
+use Rattle.cell_core.specs.declared.machine.Core.{Core}
+use Rattle.cell_core.specs.Acts.{has_stopped, heard, wants_look_of}
 use Rattle.cell_core.specs.Answering.{can_answer}
 use Rattle.cell_core.specs.Events.{came, is_broken}
+use Rattle.cell_core.specs.Events.{time as core_time}
+use Rattle.cell_core.specs.Holds.{now_of}
+use Rattle.cell_core.specs.StandsFor.{StandsFor as CoreStandsFor, task_of}
 use Rattle.cell_core.specs.Saves.{why}
 use Rattle.cell_core.specs.declared.why.Why.{Why}
 use Rattle.cell_core.specs.declared.why.Why.TheVariants.{BadPeer}
@@ -36,7 +41,7 @@ use Rattle.run_journal.specs.Codec.{Arrival}
 use Rattle.run_journal.specs.Job.{Job as Facts}
 use Rattle.run_journal.specs.Requests.{Request as Asked, last_request, reply, requests}
 use Rattle.run_journal.specs.Parts.{place, bytes_put}
-use Rattle.job_journal.specs.Ended.{HasAnswered, HasStoppedFor, IsBrokenAs, IsWhole, bad_with}
+use Rattle.job_journal.specs.Ended.{HasAnswered, HasStoppedFor, IsBrokenAs, IsLateStop, bad_with}
 use Rattle.job_journal.specs.Piece.{HasCome, Within, with_done}
 use Rattle.job_journal.specs.Plot.{Plot, facts}
 use Rattle.job_journal.specs.Quiet.{IsQuietNow}
@@ -125,9 +130,9 @@ pub record NotesBroken (j : Facts) (noted_is : Option (Chan × WireFault)) (now 
   pub noted : noted_is ≡ Some (chan, fault)
   pub is : IsBrokenAs j (bad_with chan fault) now
 
--- where these events stop the job for a loss or for a time that is over, no stream is broken by the journal
-abbrev pub StopsWhole : Plot → List Event → List Entry → Type 0
-StopsWhole p told now = (cause : Why) → why (facts p).task told ≡ Some cause → is_at_once cause ≡ false → IsWhole (facts p) now
+-- where these events stop the job for a loss or for a time that is over, no stream is broken by the journal, and that time is over
+abbrev pub StopsLate : Plot → List Event → List Entry → Type 0
+StopsLate p told now = (cause : Why) → why (facts p).task told ≡ Some cause → is_at_once cause ≡ false → IsLateStop (facts p) cause now
 
 -- ---- an execution whose core has answered
 
@@ -137,19 +142,19 @@ pub record IsToSendCell (p : Plot) (number : ℕ) (x : Execution) (cell : ℕ) (
   pub asked : IsAskedFor p x
 
 -- A save that settles so many cells is due, and is still to be made. Where the core was told of a broken stream, it is noted which. Where a loss or a
--- time that is over stops the job, none is broken.
+-- time that is over stops the job, none is broken, and that time is over.
 pub record IsToSave (p : Plot) (number : ℕ) (x : Execution) (settled : ℕ) (now : List Entry) : Type 0 where
   pub stands : Stands p number x now
   pub due : IsAsked (facts p).task stands.parts.core.told settled
-  pub whole : StopsWhole p stands.parts.core.told now
+  pub late : StopsLate p stands.parts.core.told now
   pub broken : came is_broken stands.parts.core.told ≡ true → NotesBroken (facts p) x.broken now
 
 -- The core stops the job for this cause: by the journal it has stopped for it. The request that the job has is the last one, and the exception that
 -- is noted with it is the one that its reply names. Where a stream broke, it is noted which. Where a loss or a time that is over stops the job, none
--- is broken.
+-- is broken, and that time is over.
 pub record IsToStop (p : Plot) (x : Execution) (cause : Why) (now : List Entry) : Type 0 where
   pub stopped : HasStoppedFor p cause now
-  pub whole : is_at_once cause ≡ false → IsWhole (facts p) now
+  pub late : is_at_once cause ≡ false → IsLateStop (facts p) cause now
   pub request : OnRequest (facts p) (sent_of x.request) (requests (facts p) now)
   pub noted : NotesError (facts p) x.request (requests (facts p) now)
   pub broken : cause ≡ BadPeer → NotesBroken (facts p) x.broken now
@@ -204,18 +209,20 @@ is_idle _ = false
 -- ---- the clock
 
 -- The clock was read in a turn with this moment, and since then only entries were made that are quiet for the job. Before it the execution
--- stood for the journal but for its clock, and knew how many octets were put on IOPub.
+-- stood for the journal but for its clock, and knew how many octets were put on IOPub. Its core wants no last look.
 pub record IsTurned (p : Plot) (number : ℕ) (x : Execution) (ms : ℕ) (now : List Entry) : Type 0 where
+  pub unlooked : (told : List Event) → CoreStandsFor x.core told → wants_look_of (task_of x.core) told ≡ false
   pub past : List Entry
   pub stands : StandsUntold p number x past
   pub taken : taken_of (line_on x.lines Iopub) ≡ length (bytes_put (facts p) Iopub past)
   pub rises : time past ≤ ms
   pub since : Since (IsQuietNow (facts p)) (Moment ms ∷ past) now
 
--- The same where the execution has noted the moment as its clock. It has not asked its kernel anything by it yet.
+-- The same where the execution has noted the moment as its clock, and its core was told. It has not asked its kernel anything by it yet.
 pub record HasTurned (p : Plot) (number : ℕ) (x : Execution) (now : List Entry) : Type 0 where
   pub past : List Entry
   pub stands : Stands p number (record x { clock = time past }) past
+  pub knows : x.clock ≤ core_time stands.parts.core.told
   pub taken : taken_of (line_on x.lines Iopub) ≡ length (bytes_put (facts p) Iopub past)
   pub since : Since (IsQuietNow (facts p)) (Moment x.clock ∷ past) now
 
@@ -234,6 +241,23 @@ pub record GoesBy (p : Plot) (number clock : ℕ) (x y : Execution) (now : List 
 abbrev pub PassesBy : {U : Type 0} → Plot → ℕ → Execution → Execution → Result U End → List Entry → List Entry → Type 0
 PassesBy p number x y result before after = (clock : ℕ) (now : List Entry) → Stands p number (record x { clock = clock }) now
     → GoesBy p number clock x y now × IfErr result (λ e. ⊥) × (after ≡ before)
+
+-- a core was told these events, and they haven't stopped its job
+pub record GoesOnBy (core : Core) (told : List Event) : Type 0 where
+  pub stands : CoreStandsFor core told
+  pub goes_on : has_stopped (task_of core) (heard (task_of core) told) ≡ false
+
+-- the core of an execution that goes on was told this event, and knows the clock by it
+abbrev pub KnowsBy : {U : Type 0} → Event → Execution → Execution → Result U End → Type 0
+KnowsBy e x y result = (told : List Event) → GoesOnBy x.core told → OnOk result (now_of y.core.clock ≡ core_time (e ∷ told))
+
+-- where the core of an execution that goes on wanted no last look, it was told the clock
+abbrev pub HearsClock : {U : Type 0} → Execution → Execution → Result U End → Type 0
+HearsClock x y result = (told : List Event) → GoesOnBy x.core told → wants_look_of (task_of x.core) told ≡ false → OnOk result (x.clock ≤ now_of y.core.clock)
+
+-- the core of an execution that goes on knows a clock that isn't earlier than before
+abbrev pub KeepsClock : {U : Type 0} → Execution → Execution → Result U End → Type 0
+KeepsClock x y result = (told : List Event) → GoesOnBy x.core told → OnOk result (now_of x.core.clock ≤ now_of y.core.clock)
 
 -- ---- a piece, as it is heard
 

@@ -45,9 +45,9 @@ impl Execution {
     ghost use Rattle.job_journal.specs.Plot.{Plot, facts};
     ghost use Rattle.run_journal.specs.Agreement.{IsOther};
     ghost use Rattle.run_journal.specs.Requests.{requests};
-    ghost use Rattle.job_run.specs.Standing.{DoesAct, IsToSave, StandsToOrEnds, StaysStill};
+    ghost use Rattle.job_run.specs.Standing.{DoesAct, IsToSave, KnowsBy, StandsToOrEnds};
     ghost use Rattle.job_run.specs.Standing.{PassesBy, Stands as ExecutionStands, StandsOrEnds};
-    ghost use Rattle.job_run.specs.Standing.{StandsTo, is_idle, is_passing};
+    ghost use Rattle.job_run.specs.Standing.{StandsTo, StaysStill, is_idle, is_passing};
     ghost use Rattle.std.specs.Prelude.{List as Bytes, [], Some, slice_get, codes, not, ◌||◌};
     ghost use Rattle.world.specs.declared.chan.Chan.TheVariants as channel;
     ghost use Rattle.zmtp_wire.specs.Meaning.{is_shaken};
@@ -89,6 +89,7 @@ impl Execution {
             StandsOrEnds p number self.new result after) }
         ensures passes { is_passing e ≡ true → (p : Plot) (number : ℕ) →
             Told (W.journal w.old) (W.journal w.new) (PassesBy p number self.old self.new result) }
+        ensures knows { is_passing e ≡ true → KnowsBy e self.old self.new result }
     {
         let step = self.tell(e);
         self.act(w, step.act)

@@ -26,8 +26,8 @@ impl Execution {
     ghost use Rattle.world.specs.Moments.{Told};
     ghost use Rattle.job_journal.specs.Ended.{IsWhole};
     ghost use Rattle.job_journal.specs.Plot.{Plot, facts};
-    ghost use Rattle.job_run.specs.Standing.{GoesBy, HasTurned, IsTurned, PassesBy};
-    ghost use Rattle.job_run.specs.Standing.{Stands, StandsOrEnds};
+    ghost use Rattle.job_run.specs.Standing.{GoesBy, HasTurned, HearsClock, IsTurned};
+    ghost use Rattle.job_run.specs.Standing.{KeepsClock, PassesBy, Stands, StandsOrEnds};
 
     /// The clock was read in a turn, and the child was found ended or not.
     pub(crate) fn on_moment<W: Disk + Say>(
@@ -120,6 +120,7 @@ impl Execution {
         ensures name { OnOk result (self.new.session.name ≡ self.old.session.name) }
         ensures passes { (p : Plot) (number : ℕ) → Told (W.journal w.old) (W.journal w.new)
             (PassesBy p number self.old self.new result) }
+        ensures knows { HearsClock self.old self.new result }
     {
         if self.core.wants_look() {
             return Ok(());
@@ -154,6 +155,7 @@ impl Execution {
         ensures goes { Proceeds W.journal W.counts w.old w.new self.old self.new Nothing result }
         ensures passes { (p : Plot) (number : ℕ) → Told (W.journal w.old) (W.journal w.new)
             (PassesBy p number self.old self.new result) }
+        ensures knows { KeepsClock self.old self.new result }
     {
         if is_lost {
             self.step(w, Event::Lost)

@@ -1,9 +1,10 @@
 use Rattle.std.proofs.Common.{refl, sym, ◌∙◌}
+use Rattle.std.proofs.Math.Bool.{true≢false}
 use Rattle.world.specs.Moments.{start}
 use Rattle.world.proofs.MomentsLemmas.{told_start}
 use Rattle.job_run.proofs.AskLemmas.{once_keyed, once_named}
 use Rattle.std.specs.Prelude.{is_some}
-use Rattle.job_run.proofs.ClockLemmas.{passes_still}
+use Rattle.job_run.proofs.ClockLemmas.{clock_heard, passes_still}
 use Rattle.job_run.proofs.ToldLemmas.{moment_may}
 use Rattle.job_run.proofs.StepLemmas.{goes_still}
 use Rattle.job_run.proofs.execution.Execution.hear_clock.Goals as goal
@@ -37,3 +38,9 @@ returns-clause-name g c = once_named c.step.result c.args.self.now c.step.new.se
 
 pub returns-then-wants_look-clause-goes : goal.returns-then-wants_look-clause-goes
 returns-then-wants_look-clause-goes g c = goes_still c.requires.holds c.requires.calm
+
+pub returns-then-wants_look-clause-knows : goal.returns-then-wants_look-clause-knows
+returns-then-wants_look-clause-knows g c told on still = absurd (true≢false (sym c.if-wants_look.true ∙ c.wants_look.ensures told on.stands ∙ still))
+
+pub returns-clause-knows : goal.returns-clause-knows
+returns-clause-knows g c = clock_heard c.args.self.now c.step.new.self c.step.result (c.step.ensures.knows refl)

@@ -1,10 +1,10 @@
-use Rattle.std.proofs.Common.{Ok, rules, ◌≡◌, ap, subst, sym, ◌∙◌}
+use Rattle.std.proofs.Common.{rules, ◌≡◌, ap, subst, sym, ◌∙◌}
 use Rattle.cell_core.specs.declared.act.Act.TheVariants.{Nothing}
 use Rattle.cell_core.specs.StandsFor.{task_of}
 use Rattle.job_saves.specs.Course.{Stands, HasPart, stays_open}
 use Rattle.job_run.specs.declared.execution.Execution.{Execution}
 use Rattle.world.proofs.MomentsLemmas.{told_as}
-use Rattle.job_run.proofs.ClockLemmas.{turned_goes, turned_on}
+use Rattle.job_run.proofs.ClockLemmas.{loss_goes, turned_loses}
 use Rattle.job_run.proofs.CountLemmas.{counts_on}
 use Rattle.job_run.proofs.execution.Execution.lose_or_ask.Goals as goal
 
@@ -34,9 +34,11 @@ returns-in-Ok-clause-goes g c =
 pub returns-in-Ok-clause-stands : goal.returns-in-Ok-clause-stands
 returns-in-Ok-clause-stands g c p number =
     told_as (c.in-Ok.ensures.passes p number)
-    (λ before after pass h. c.ask_or_end.ensures.stands p number after (turned_on {U = Unit {0}} p number c.args.self.now c.lose.new.self (Ok tt) before after pass h))
+    (λ before after pass h.
+    c.ask_or_end.ensures.stands p number after
+    (turned_loses p number c.args.self.now c.lose.new.self before after pass c.in-Ok.ensures.knows c.requires.calm c.in-Ok.ensures.goes.step.calm h))
 
 pub returns-in-Err-clause-stands : goal.returns-in-Err-clause-stands
 returns-in-Err-clause-stands g c p number =
     told_as (c.in-Err.ensures.passes p number)
-    (λ before after pass h. absurd (turned_goes p number c.args.self.now c.lose.new.self c.in-Err.end before after pass h))
+    (λ before after pass h. absurd (loss_goes p number c.args.self.now c.lose.new.self c.in-Err.end before after pass h))

@@ -5,7 +5,7 @@ use Rattle.job_run.specs.Standing.{is_idle}
 use Rattle.job_run.specs.Steps.{OnlySaves}
 use Rattle.job_run.proofs.ActLemmas.{told_while}
 use Rattle.job_run.proofs.AskLemmas.{once_from}
-use Rattle.job_run.proofs.ClockLemmas.{step_passes, step_stands}
+use Rattle.job_run.proofs.ClockLemmas.{step_knows, step_passes, step_stands}
 use Rattle.job_run.proofs.StepLemmas.{goes_told}
 use Rattle.job_run.proofs.execution.Execution.step.Goals as goal
 
@@ -35,3 +35,10 @@ returns-clause-passes g c q p number =
     (λ before after so.
     step_passes p number x t.new.self c.args.e t.result (is_some x.broken) t.ensures.rest t.ensures.takes c.requires.holds.heard c.requires.may c.requires.calm c.requires.other c.act.new.self c.act.result before after q
     (λ k. (c.act.ensures.still k).0) so.1)
+
+pub returns-clause-knows : goal.returns-clause-knows
+returns-clause-knows g c q told on =
+    let x = c.args.self.now in
+    let t = c.tell-step in
+    step_knows x t.new.self c.args.e t.result (is_some x.broken) t.ensures.takes c.requires.holds.heard c.requires.may c.requires.calm c.requires.other q t.ensures.todo.awaits told on
+    c.act.new.self c.act.result (λ k. (c.act.ensures.still k).0)

@@ -27,17 +27,16 @@ use Rattle.cell_core.specs.StandsFor.{IsAt, awaits_saved_of, failing_in, task_of
 use Rattle.cell_core.specs.Stops.{stopping_of}
 use Rattle.cell_core.specs.Task.{Task, cell_of}
 use Rattle.cell_core.proofs.Answering.{heard_all}
-use Rattle.cell_core.proofs.Moving.{is_stopped}
 use Rattle.cell_core.proofs.OverRuns.{stopped_where}
 use Rattle.cell_core.proofs.Requests.{standing_is}
 use Rattle.cell_core.proofs.Runs.{follows}
 use Rattle.run_journal.specs.Agreement.{IsOther, moment, looked, lost, broken, is_at_once}
-use Rattle.job_journal.specs.Ended.{IsWhole}
+use Rattle.job_journal.specs.Ended.{IsLateStop}
 use Rattle.job_journal.specs.Piece.{has_ended}
 use Rattle.job_journal.specs.Plot.{Plot, facts}
 use Rattle.job_journal.specs.Told.{Hears}
-use Rattle.job_run.specs.Standing.{StopsWhole}
-use Rattle.job_run.proofs.BrokenLemmas.{live_at}
+use Rattle.job_run.specs.Standing.{StopsLate}
+use Rattle.job_run.proofs.LiveLemmas.{heard_so}
 
 -- ---- the rows of the cause
 
@@ -98,17 +97,6 @@ clash b e f = absurd (true≢false (sym e ∙ f))
 
 -- ---- a message
 
--- while no save is awaited, and the job hasn't stopped, no look has found a loss
-unseen_at : (task : Task) (clock : Clock) (is_gone : Bool) (state : State) (events : List Event) → IsAt task clock is_gone state events → awaits state ≡ false → is_stopped state ≡ false
-    → look_since is_lost events ≡ false
-unseen_at task clock is_gone Preparing events a calm live = absurd (true≢false calm)
-unseen_at task clock is_gone (Starting due) events a calm live = a.hears.unseen
-unseen_at task clock is_gone (Running r) events a calm live = a.hears.unseen
-unseen_at task clock is_gone (Passing k) events a calm live = absurd (true≢false calm)
-unseen_at task clock is_gone Closing events a calm live = absurd (true≢false calm)
-unseen_at task clock is_gone (Failing k w) events a calm live = absurd (true≢false calm)
-unseen_at task clock is_gone (Stopped failing) events a calm live = absurd (true≢false live)
-
 neither : (b d : Bool) → b ≡ false → d ≡ false → (b || d) ≡ false
 neither b d e f = cc
 
@@ -116,13 +104,12 @@ off : (b d : Bool) → b ≡ false → (b && d) ≡ false
 off b d e = cc
 
 -- a message by which the request is over stops the job at once, where it does
-pub message_whole : (p : Plot) (core : Core) (told : List Event) (e : Event) (now : List Entry) → Hears (facts p) core told → task_of core ≡ (facts p).task → awaits_saved_of core ≡ false
-    → is_looked e ≡ false → has_ended (standing (facts p).task (e ∷ told)) ≡ true → StopsWhole p (e ∷ told) now
-message_whole p core told e now h task_is calm unlooked over cause f late =
+pub message_late : (p : Plot) (core : Core) (told : List Event) (e : Event) (now : List Entry) → Hears (facts p) core told → task_of core ≡ (facts p).task → awaits_saved_of core ≡ false
+    → is_looked e ≡ false → has_ended (standing (facts p).task (e ∷ told)) ≡ true → StopsLate p (e ∷ told) now
+message_late p core told e now h task_is calm unlooked over cause f late =
     let on : has_stopped (task_of core) (heard (task_of core) told) ≡ false = subst (λ task. has_stopped task (heard task told) ≡ false) (sym task_is) h.goes_on in
-    let live : is_stopped core.state ≡ false = live_at (task_of core) core.clock core.lost core.state (heard (task_of core) told) h.stands.so on in
     let unseen : look_since is_lost told ≡ false
-    = ap (look_since is_lost) (sym (heard_all (task_of core) told on)) ∙ unseen_at (task_of core) core.clock core.lost core.state (heard (task_of core) told) h.stands.so calm live in
+    = (heard_so core told h.stands calm on).unseen in
     clash (is_at_once cause)
     (ended_at_once (facts p).task (e ∷ told) cause over (neither _ _ (off (is_looked e) _ unlooked) unseen) f) late
 
@@ -131,13 +118,14 @@ message_whole p core told e now h task_is calm unlooked over cause f late =
 more_broken : (events : List Event) → came is_broken (event.Broken ∷ events) ≡ true
 more_broken events = refl
 
--- a look stops the job while no stream is broken, and a broken stream stops it at once
-pub other_whole : (p : Plot) (told : List Event) (e : Event) (now : List Entry) → IsOther e → (is_looked e ≡ true → IsWhole (facts p) now) → (act : Act) → can_answer e act ≡ true
-    → can_answer (event.Moment 0) act ≡ false → can_answer event.Lost act ≡ false → StopsWhole p (e ∷ told) now
-other_whole p told e now (moment ms) seen act kind m l cause f late = absurd (true≢false (sym kind ∙ m))
-other_whole p told e now looked seen act kind m l cause f late = seen refl
-other_whole p told e now lost seen act kind m l cause f late = absurd (true≢false (sym kind ∙ l))
-other_whole p told e now broken seen act kind m l cause f late =
+-- a look stops the job while no stream is broken and where that time is over, and a broken stream stops it at once
+pub other_late : (p : Plot) (told : List Event) (e : Event) (now : List Entry) → IsOther e
+    → (is_looked e ≡ true → (cause : Why) → why_of (facts p).task (e ∷ told) ≡ Some cause → IsLateStop (facts p) cause now) → (act : Act) → can_answer e act ≡ true
+    → can_answer (event.Moment 0) act ≡ false → can_answer event.Lost act ≡ false → StopsLate p (e ∷ told) now
+other_late p told e now (moment ms) seen act kind m l cause f late = absurd (true≢false (sym kind ∙ m))
+other_late p told e now looked seen act kind m l cause f late = seen refl cause f
+other_late p told e now lost seen act kind m l cause f late = absurd (true≢false (sym kind ∙ l))
+other_late p told e now broken seen act kind m l cause f late =
     clash (is_at_once cause) (at_once_by (facts p).task (event.Broken ∷ told) cause f (inl (more_broken told))) late
 
 -- the cause by which a core stops is that of its events
@@ -180,9 +168,9 @@ unnamed_at_once task clock is_gone (Failing k w) first past runs a awaited unnam
 unnamed_at_once task clock is_gone (Stopped failing) first past runs a awaited unnamed cause f = absurd (true≢false (sym awaited))
 
 -- so after another save follows on this one
-pub again_whole : (p : Plot) (next : Core) (told : List Event) (now : List Entry) → Hears (facts p) next (event.Saved ∷ told) → task_of next ≡ (facts p).task → 0 < length (facts p).task.plan
-    → awaits_saved_of next ≡ true → stopping_of next ≡ None → StopsWhole p (event.Saved ∷ told) now
-again_whole p next told now h task_is runs awaited unnamed cause f late =
+pub again_late : (p : Plot) (next : Core) (told : List Event) (now : List Entry) → Hears (facts p) next (event.Saved ∷ told) → task_of next ≡ (facts p).task → 0 < length (facts p).task.plan
+    → awaits_saved_of next ≡ true → stopping_of next ≡ None → StopsLate p (event.Saved ∷ told) now
+again_late p next told now h task_is runs awaited unnamed cause f late =
     let task : Task = task_of next in
     let on : has_stopped task (heard task (event.Saved ∷ told)) ≡ false = subst (λ t. has_stopped t (heard t (event.Saved ∷ told)) ≡ false) (sym task_is) h.goes_on in
     clash (is_at_once cause)
