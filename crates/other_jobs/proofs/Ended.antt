@@ -25,7 +25,7 @@ use Rattle.job_journal.specs.Plot.{Plot, facts}
 use Rattle.job_journal.specs.Quiet.{IsQuietNow}
 use Rattle.job_journal.specs.Standing.{HasEndedAs}
 use Rattle.job_journal.proofs.Books.{none_anew}
-use Rattle.job_journal.proofs.Ended.{answer_stays, answered_on, texts_on}
+use Rattle.job_journal.proofs.Ended.{answer_stays, answered_on, come_still, texts_on}
 use Rattle.job_journal.proofs.Making.{made_stays, same_texts}
 use Rattle.job_journal.proofs.Quiet.{requests_same}
 use Rattle.job_journal.proofs.Talks.{asks_at}
@@ -66,7 +66,7 @@ pub ended_clock : (p : Plot) (a : Answer) (ms : ℕ) (past : List Entry) → (fa
     → HasAnswered p a (made.Moment ms ∷ past)
 ended_clock p a ms past plain g =
     answer_stays p past (made.Moment ms ∷ past)
-    (record { requests_are = clock_requests (facts p) ms past plain; saves_are = refl; texts_are = refl; bytes_are = λ c. refl }) a (still_ended p ms past plain g.ended) g
+    (record { requests_are = clock_requests (facts p) ms past plain; saves_are = refl; texts_are = refl; bytes_are = λ c. refl; came = λ at e. come_still at (made.Moment ms) past e }) a (still_ended p ms past plain g.ended) g
 
 -- ---- turns
 
