@@ -14,6 +14,7 @@ use Rattle.job_journal.specs.Plot.{Plot, facts}
 use Rattle.job_journal.specs.Quiet.{IsQuietNow}
 use Rattle.job_journal.proofs.Ended.{answered_on}
 use Rattle.job_run.specs.declared.job.Job.{Job}
+use Rattle.job_run.specs.Due.{WantsLook}
 use Rattle.job_run.specs.JobStanding.{JobStands}
 use Rattle.job_run.specs.Queues.{line_of}
 use Rattle.job_run.specs.Run.{outcome_of}
@@ -27,9 +28,10 @@ use Rattle.job_turns.proofs.WaitLemmas.{ended_waits}
 -- ---- turns
 
 pub turn_owed : (ms : ℕ) (p : Plot) (j : Job) (before after : List Entry) → BringsMoment ms before after → time before ≤ ms → is_some (outcome_of j) ≡ false
-    → taken_of (line_of j Iopub) ≡ length (bytes_put (facts p) Iopub before) → JobStands p j before → StandsOwed (clock ms) p j after
-turn_owed ms p j before after came rises running taken s = record {
+    → WantsLook j false → taken_of (line_of j Iopub) ≡ length (bytes_put (facts p) Iopub before) → JobStands p j before → StandsOwed (clock ms) p j after
+turn_owed ms p j before after came rises running unlooked taken s = record {
   running = running;
+  unlooked = unlooked;
   past = came.past;
   stands = job_untold p j came.past (job_quiet p j before came.past (came.quiet (facts p)) s);
   taken = taken ∙ ap (λ (bytes : List ℕ). length bytes) (sym (came.put (facts p) Iopub));

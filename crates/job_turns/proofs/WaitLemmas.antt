@@ -33,6 +33,7 @@ use Rattle.job_turns.specs.OwedTo.{OwedTo, StandsEnded, StandsFirst, StandsOwed,
 turned_waits : (p : Plot) (j : Job) (ms : ℕ) (before now : List Entry) → Since (IsQuietNow (facts p)) before now → IsTurnedFor p j ms before → IsTurnedFor p j ms now
 turned_waits p j ms before now w t = record {
   running = t.running;
+  unlooked = t.unlooked;
   past = t.past;
   stands = t.stands;
   taken = t.taken;

@@ -9,6 +9,7 @@ ghost use Rattle.job_end.specs.declared.answer.Answer as answer;
 ghost use Rattle.run_journal.specs.Parts.{bytes_put};
 ghost use Rattle.job_journal.specs.Plot.{Plot, facts};
 ghost use Rattle.job_run.specs.declared.job.Job as job;
+ghost use Rattle.job_run.specs.Due.{WantsLook};
 ghost use Rattle.job_run.specs.JobStanding.{JobStands};
 ghost use Rattle.job_run.specs.Queues.{line_of};
 ghost use Rattle.job_run.specs.Run.{outcome_of};
@@ -16,11 +17,12 @@ ghost use Rattle.other_jobs.specs.Reads.{BringsBytes};
 ghost use Rattle.other_jobs.specs.Turns.{BringsMoment};
 ghost use Rattle.job_turns.specs.OwedTo.{StandsEnded, StandsOwed, clock, nothing, piece};
 
-/// After a turn each job that runs is to be told its moment. The job knows how many octets were put
-/// on IOPub. A job that has ended stays so.
+/// After a turn each job that runs is to be told its moment. The job wants no last look, and knows
+/// how many octets were put on IOPub. A job that has ended stays so.
 pub fn turns_bring_the_clock()
     ensures stands { (ms : ℕ) (p : Plot) (j : job.Job) (before after : List Entry) →
         BringsMoment ms before after → time before ≤ ms → is_some (outcome_of j) ≡ false →
+        WantsLook j false →
         taken_of (line_of j Iopub) ≡ length (bytes_put (facts p) Iopub before) →
         JobStands p j before → StandsOwed (clock ms) p j after }
     ensures ended { (ms : ℕ) (p : Plot) (a : answer.Answer) (before after : List Entry) →
