@@ -26,6 +26,7 @@ use Rattle.job_saves.specs.Calls.{Cast, IsCall}
 use Rattle.job_run.proofs.SpeakLemmas.{session_since}
 use Rattle.job_run.specs.declared.job.Job.{Job}
 use Rattle.job_run.specs.Beginning.{IsFresh, IsSessionOf}
+use Rattle.job_run.specs.Due.{WantsLook}
 use Rattle.job_run.specs.JobStanding.{JobStands, JobStandsUntold, KeepsStanding}
 use Rattle.job_run.specs.Queues.{line_of}
 use Rattle.job_run.specs.Run.{IsOther, outcome_of}
@@ -343,13 +344,13 @@ follows_finished o i a n j answer before past after grown e left quiet h =
 -- ---- a turn
 
 module _ (ms i : ℕ) (a : Ask) (n : Notebook) (before past after : List Entry) (came : BringsMoment ms past after) (grown : Extends past after) where
-  -- a job that runs knows how many of its octets were put
-  pub follows_turned_running : (j : Job) (l : Loop) (h : History) → time past ≤ ms → is_some (outcome_of j) ≡ false → StandsFor l h past → IsListening l i
+  -- a job that runs wants no last look, and knows how many of its octets were put
+  pub follows_turned_running : (j : Job) (l : Loop) (h : History) → time past ≤ ms → is_some (outcome_of j) ≡ false → WantsLook j false → StandsFor l h past → IsListening l i
       → taken_of (line_of j Iopub) ≡ length (put_at h past (place_of (conn_on i Iopub))) → SlotFollows to.nothing i a n (Running j) before past
       → SlotFollows (to.clock ms) i a n (Running j) before after
-  follows_turned_running j l h rises runs stands listens taken s =
+  follows_turned_running j l h rises runs unlooked stands listens taken s =
       follows_as to.nothing (to.clock ms) i a n (Running j) (Running j) before past after grown
-      (λ p plot fresh w. turn_owed ms p j past after came rises runs
+      (λ p plot fresh w. turn_owed ms p j past after came rises runs unlooked
       (taken ∙ ap (λ (bytes : List ℕ). length bytes) (taken_is_put (facts p) l h past (conn_on i Iopub) stands listens plot.number_is)) w) s
 
   pub follows_turned_ended : (answer : Answer) → SlotFollows to.nothing i a n (Ended answer) before past → SlotFollows (to.clock ms) i a n (Ended answer) before after

@@ -6,6 +6,7 @@ pub mod FollowLemmas
 pub mod JournalLemmas
 pub mod KeptLemmas
 pub mod LineLemmas
+pub mod LookLemmas
 pub mod LoopLemmas
 pub mod OweLemmas
 pub mod PassLemmas

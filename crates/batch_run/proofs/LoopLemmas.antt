@@ -48,7 +48,7 @@ use Rattle.batch_run.specs.declared.slot.Slot.TheVariants.{Waiting, Running, End
 use Rattle.batch_run.specs.Due.{is_slot_over}
 use Rattle.batch_run.specs.Owed.{Owed, AreClosed, AreServed, IsListening, SlotFollows, StaysFresh, after_read, has_lines, may_wait, owed_to}
 use Rattle.batch_run.specs.Owed.{none, begins, piece, turn_clock}
-use Rattle.batch_run.specs.Stands.{Outset, AllStand, AreTaken, NoneOver, is_slot_running, served_by}
+use Rattle.batch_run.specs.Stands.{Outset, AllStand, AreTaken, NoneOver, NoneWantsLook, is_slot_running, served_by}
 use Rattle.batch_run.proofs.FollowLemmas.{follows_connects, follows_read_ended, follows_read_other, follows_read_own, follows_read_waiting, follows_turned_ended, follows_turned_running, follows_turned_waiting, from_other, from_same, piece_other, piece_own, served_as, waits_each}
 use Rattle.batch_run.proofs.JournalLemmas.{told_at}
 use Rattle.batch_run.proofs.PassLemmas.{OnePass, one_as, one_quiet, one_stays, one_unknown, served_split}
@@ -133,24 +133,24 @@ module _ (asks : ℕ → Option Ask) (first : Option (List Entry)) (from : Outse
 
   -- ---- a turn
 
-  turned_slot : (i : ℕ) (a : Ask) (n : Notebook) (before x y : List Entry) (ms : ℕ) (h : History) → NoneOver slots → AreTaken old slots → BringsMoment ms x y → time x ≤ ms → AreServed asks none old slots x → Extends x y
+  turned_slot : (i : ℕ) (a : Ask) (n : Notebook) (before x y : List Entry) (ms : ℕ) (h : History) → NoneOver slots → AreTaken old slots → NoneWantsLook slots → BringsMoment ms x y → time x ≤ ms → AreServed asks none old slots x → Extends x y
       → (slot : Slot) → slice_get slots i ≡ Some slot → SlotFollows to.nothing i a n slot before x → SlotFollows (to.clock ms) i a n slot before y
-  turned_slot i a n before x y ms h over taken came rises s grown Waiting got w = follows_turned_waiting ms i a n before x y came grown w
-  turned_slot i a n before x y ms h over taken came rises s grown (Ended answer) got w = follows_turned_ended ms i a n before x y came grown answer w
-  turned_slot i a n before x y ms h over taken came rises s grown (Running j) got w =
-      follows_turned_running ms i a n before x y came grown j old s.history rises (sym (ap is_slot_over got) ∙ over.each i) s.stands (s.listens i j got refl) (taken.each i j got s.history x s.stands) w
+  turned_slot i a n before x y ms h over taken unlooked came rises s grown Waiting got w = follows_turned_waiting ms i a n before x y came grown w
+  turned_slot i a n before x y ms h over taken unlooked came rises s grown (Ended answer) got w = follows_turned_ended ms i a n before x y came grown answer w
+  turned_slot i a n before x y ms h over taken unlooked came rises s grown (Running j) got w =
+      follows_turned_running ms i a n before x y came grown j old s.history rises (sym (ap is_slot_over got) ∙ over.each i) (unlooked.each i j got) s.stands (s.listens i j got refl) (taken.each i j got s.history x s.stands) w
 
   -- the moment that is told is that of the journal, and no earlier than it was before
-  pub turn_follow : {due : Option ℕ} {last : ℕ} (given ms : ℕ) → NoneOver slots → AreTaken old slots → Told p q (Turned due (Ok given) last old new) → Told p q (λ x y. time x ≤ time y) → IfSome q (λ past. ms ≡ time past)
+  pub turn_follow : {due : Option ℕ} {last : ℕ} (given ms : ℕ) → NoneOver slots → AreTaken old slots → NoneWantsLook slots → Told p q (Turned due (Ok given) last old new) → Told p q (λ x y. time x ≤ time y) → IfSome q (λ past. ms ≡ time past)
       → Follow asks first (served_by none old from) slots p q (turn_clock ms 0) new
-  turn_follow {due} {last} given ms over taken told rises at = record {
+  turn_follow {due} {last} given ms over taken unlooked told rises at = record {
     each = λ before x y st e f shut s i a slot got_ask got.
         let t = told_at p q (Turned due (Ok given) last old new) x y told e f in
         let came = turn_brings due (Ok given) last old new s.history x y s.stands t in
         let now : ms ≡ time y = subst (λ z. IfSome z (λ past. ms ≡ time past)) f at in
         let same : given ≡ ms = sym (now ∙ ap time came.newest) in
         let low : time x ≤ ms = subst (λ n. time x ≤ n) (sym now) (told_at p q (λ x y. time x ≤ time y) x y rises e f) in
-        record { fresh = λ g h. tt; follows = λ n grown w. turned_slot i a n before x y ms s.history over taken (subst (λ m. BringsMoment m x y) same came) low s grown slot got w };
+        record { fresh = λ g h. tt; follows = λ n grown w. turned_slot i a n before x y ms s.history over taken unlooked (subst (λ m. BringsMoment m x y) same came) low s grown slot got w };
     served = λ before x y st e f shut s.
         let t = told_at p q (Turned due (Ok given) last old new) x y told e f in
         let on = served_on asks none slots s.history links (t.so s.history s.stands).0 (turns_unread due (Ok given) last old new s.history x y s.stands t s.unread) s in

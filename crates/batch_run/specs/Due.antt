@@ -15,6 +15,11 @@ abbrev pub SlotWantsLook : Option Slot → Bool → Type 0
 SlotWantsLook (Some (Running j)) wants = WantsLook j wants
 SlotWantsLook _ wants = wants ≡ false
 
+-- each number below this one has its answer: whether its slot runs a job that wants a last look
+pub record AreLooksBelow (n : ℕ) (slots : List Slot) (looks : List Bool) : Type 0 where
+  pub each : (i : ℕ) → i < n →
+      (wants : Bool) × (slice_get looks i ≡ Some wants) × SlotWantsLook (slice_get slots i) wants
+
 -- the moment at which the clock next brings something to the job of a slot: none where none runs
 abbrev pub IsSlotDue : Slot → Option ℕ → Type 0
 IsSlotDue (Running j) due = IsDue j due

@@ -30,6 +30,7 @@ use Rattle.job_saves.specs.Speaking.{IsAnswer, SpeaksWhole}
 use Rattle.job_saves.specs.Course.{Origin, LacksSaves, TellsAll}
 use Rattle.job_saves.specs.Reads.{first_of}
 use Rattle.job_run.specs.declared.job.Job.{Job}
+use Rattle.job_run.specs.Due.{WantsLook}
 use Rattle.job_run.specs.Run.{Runs, RunsCounted, EndsWith, IsLost, IsSpent, number_of, outcome_of, HasPorts}
 use Rattle.job_run.specs.Queues.{NotesTaken, line_of}
 use Rattle.job_run.specs.Task.{task_for, task_of_job, output_of_job}
@@ -327,6 +328,10 @@ pub record AreTaken (l : Loop) (slots : List Slot) : Type 0 where
   pub each : (i : ℕ) (j : Job) → slice_get slots i ≡ Some (Running j) → (h : History) (journal : List Entry) → StandsFor l h journal
       → taken_of (line_of j Iopub) ≡ length (put_at h journal (place_of (conn_on i Iopub)))
 
+-- no job that runs wants a last look
+pub record NoneWantsLook (slots : List Slot) : Type 0 where
+  pub each : (i : ℕ) (j : Job) → slice_get slots i ≡ Some (Running j) → WantsLook j false
+
 -- the job in a slot was told that so many octets of a channel were taken, and ran before
 pub record NotesAt (chan : Chan) (count : ℕ) (was : Option Slot) (j : Job) : Type 0 where
   pub job : Job
@@ -374,11 +379,11 @@ KeepsLooking journal counts old new kept keeps = (asks : ℕ → Option Ask) (st
     → AllStand asks start (served_by none kept.connections from) slots (journal old) (counts old)
     → AllStand asks start (served_by none keeps.connections (more_waits (waits_of kept - waits_of keeps) from)) slots (journal new) (counts new)
 
--- A turn of the loop that was answered so keeps all jobs standing; then its clock is to be told. No job is over, and each knows how many of its
--- octets were taken.
+-- A turn of the loop that was answered so keeps all jobs standing; then its clock is to be told. No job is over or wants a last look, and each
+-- knows how many of its octets were taken.
 abbrev pub KeepsTurning : {W E : Type 0} → (W → Option (List Entry)) → (W → Counts) → W → W → Result ℕ E → Lines → Lines → Type 0
 KeepsTurning journal counts old new result kept keeps = (asks : ℕ → Option Ask) (start : Option (List Entry)) (from : Outset) (slots : List Slot)
-    → NoneOver slots → AreTaken kept.connections slots
+    → NoneOver slots → AreTaken kept.connections slots → NoneWantsLook slots
     → AllStand asks start (served_by none kept.connections from) slots (journal old) (counts old)
     → AllStand asks start (served_by (after_turn result) keeps.connections (more_waits (waits_of kept - waits_of keeps) from)) slots (journal new) (counts new)
 

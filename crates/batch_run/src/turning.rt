@@ -15,11 +15,12 @@ impl Running {
     ghost use Rattle.std.specs.Prelude.{◌≡◌, ◌<◌, ◌≤◌, ◌^◌, Ok, true, false, OnOk};
     ghost use Rattle.std.specs.Prelude.{length, slice_get, take};
     ghost use Rattle.ready_loop.specs.States.{IsDrained, IsOffered, IsSound};
-    ghost use Rattle.batch_run.specs.Due.{is_slot_over};
+    ghost use Rattle.batch_run.specs.Due.{AreLooksBelow, is_slot_over};
     ghost use Rattle.batch_run.specs.Kept.{IsKept, IsLeft, LeftBy, StaysBegun, goes_on};
     ghost use Rattle.batch_run.specs.Lines.{budget, open_of, reads_of, waits_of};
     ghost use Rattle.batch_run.specs.Stands.{AllEnded, ChangesAt, ChangesOne, KeepsOthers, NoneOver};
     ghost use Rattle.batch_run.specs.Stands.{IsFaultOf, KeepsLines, KeepsLinesIf, KeepsWaiting};
+    ghost use Rattle.batch_run.specs.Stands.{NoneWantsLook};
     ghost use Rattle.batch_run.specs.Stands.{AreTaken, SameOver, StayAll, StayLines, StayLinesAt};
     ghost use Rattle.batch_run.specs.Owed.{after};
     ghost use Rattle.batch_run.specs.Owed as owed;
@@ -255,7 +256,9 @@ impl Running {
     }
 
     // The jobs for which a last look is to be made.
-    fn looks(&self) -> [bool; 16] {
+    fn looks(&self) -> [bool; 16]
+        ensures { AreLooksBelow 16 self.now.jobs.slots.items result }
+    {
         let mut looks = [false; 16];
         for number in 0..16usize {
             looks[number] = self.jobs.wants_look(number);
@@ -303,6 +306,7 @@ impl Running {
         ensures budget { result ≡ Ok true → budget self.new.lines < budget self.old.lines }
         ensures stands { NoneOver self.old.jobs.slots.items →
             AreTaken self.old.lines.connections self.old.jobs.slots.items →
+            NoneWantsLook self.old.jobs.slots.items →
             KeepsWaiting W.journal W.counts w.old w.new (after result owed.none) self.old.lines
             self.new.lines self.old.jobs.slots.items self.new.jobs.slots.items }
         ensures left { waits_of self.new.lines ≤ waits_of self.old.lines }

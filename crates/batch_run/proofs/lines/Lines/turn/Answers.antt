@@ -17,9 +17,9 @@ pub invariant_of-self : goal.invariant_of-self
 invariant_of-self g c = record { begun_are = begun_same c.turn.ensures.known.each c.args.self.now.begun_are }
 
 pub returns-in-Ok-clause-stands : goal.returns-in-Ok-clause-stands
-returns-in-Ok-clause-stands g c = λ asks start from slots over taken s.
+returns-in-Ok-clause-stands g c = λ asks start from slots over taken unlooked s.
     loop_waits c.args.self.now.connections c.turn.new.self c.turn.ensures.ports c.turn.ensures.wires c.turn.ensures.calls (turn_grows c.turn.result (g.W.Journal.counts c.args.w.now) (g.W.Journal.counts c.turn.new.w) c.turn.ensures.cause c.turn.ensures.later) (waits_of c.args.self.now) (waits_left c.turn.new.self) (turn_waits c.turn.result (g.W.Journal.counts c.args.w.now) (g.W.Journal.counts c.turn.new.w) (waits_of c.args.self.now) (waits_left c.turn.new.self) c.turn.ensures.cause c.turn.ensures.left c.turn.ensures.spent).few (turn_waits c.turn.result (g.W.Journal.counts c.args.w.now) (g.W.Journal.counts c.turn.new.w) (waits_of c.args.self.now) (waits_left c.turn.new.self) c.turn.ensures.cause c.turn.ensures.left c.turn.ensures.spent).all asks start from slots none (turn_clock c.last.result 0)
-    (turn_follow asks start from slots (g.W.Journal.journal c.args.w.now) (g.W.Journal.journal c.turn.new.w) c.args.self.now.connections c.turn.new.self s.few (links_same c.turn.ensures.known) c.in-Ok.field-0 c.last.result over taken c.in-Ok.ensures.turned
+    (turn_follow asks start from slots (g.W.Journal.journal c.args.w.now) (g.W.Journal.journal c.turn.new.w) c.args.self.now.connections c.turn.new.self s.few (links_same c.turn.ensures.known) c.in-Ok.field-0 c.last.result over taken unlooked c.in-Ok.ensures.turned
     (clock_rises (g.W.Journal.journal c.args.w.now) (g.W.Journal.journal c.turn.new.w) c.last-before.result c.last.result c.turn.ensures.turned c.last-before.ensures.told c.last.ensures.told
     (subst (λ n. n ≤ c.last.result) (sym c.last-before.ensures.is) (subst (λ n. (g.W.Journal.counts c.args.w.now).last ≤ n) (sym c.last.ensures.is) c.turn.ensures.later))) c.last.ensures.told) s
 
@@ -30,7 +30,7 @@ pub returns-in-Ok-clause-linked : goal.returns-in-Ok-clause-linked
 returns-in-Ok-clause-linked g c = open_same c.turn.ensures.known
 
 pub returns-in-Err-NetFault-clause-stands : goal.returns-in-Err-NetFault-clause-stands
-returns-in-Err-NetFault-clause-stands g c = λ asks start from slots over taken s.
+returns-in-Err-NetFault-clause-stands g c = λ asks start from slots over taken unlooked s.
     loop_waits c.args.self.now.connections c.turn.new.self c.turn.ensures.ports c.turn.ensures.wires c.turn.ensures.calls (turn_grows c.turn.result (g.W.Journal.counts c.args.w.now) (g.W.Journal.counts c.turn.new.w) c.turn.ensures.cause c.turn.ensures.later) (waits_of c.args.self.now) (waits_left c.turn.new.self) (turn_waits c.turn.result (g.W.Journal.counts c.args.w.now) (g.W.Journal.counts c.turn.new.w) (waits_of c.args.self.now) (waits_left c.turn.new.self) c.turn.ensures.cause c.turn.ensures.left c.turn.ensures.spent).few (turn_waits c.turn.result (g.W.Journal.counts c.args.w.now) (g.W.Journal.counts c.turn.new.w) (waits_of c.args.self.now) (waits_left c.turn.new.self) c.turn.ensures.cause c.turn.ensures.left c.turn.ensures.spent).all asks start from slots none none
     (quiet_follow asks start from slots (g.W.Journal.journal c.args.w.now) (g.W.Journal.journal c.turn.new.w) c.args.self.now.connections c.turn.new.self s.few (links_same c.turn.ensures.known) none refl (faults_none c.in-Err-NetFault.ensures.turned)) s
 
@@ -41,7 +41,7 @@ pub returns-in-Err-NetFault-clause-linked : goal.returns-in-Err-NetFault-clause-
 returns-in-Err-NetFault-clause-linked g c = open_same c.turn.ensures.known
 
 pub returns-in-Err-Spent-clause-stands : goal.returns-in-Err-Spent-clause-stands
-returns-in-Err-Spent-clause-stands g c = λ asks start from slots over taken s.
+returns-in-Err-Spent-clause-stands g c = λ asks start from slots over taken unlooked s.
     loop_waits c.args.self.now.connections c.turn.new.self c.turn.ensures.ports c.turn.ensures.wires c.turn.ensures.calls (turn_grows c.turn.result (g.W.Journal.counts c.args.w.now) (g.W.Journal.counts c.turn.new.w) c.turn.ensures.cause c.turn.ensures.later) (waits_of c.args.self.now) (waits_left c.turn.new.self) (turn_waits c.turn.result (g.W.Journal.counts c.args.w.now) (g.W.Journal.counts c.turn.new.w) (waits_of c.args.self.now) (waits_left c.turn.new.self) c.turn.ensures.cause c.turn.ensures.left c.turn.ensures.spent).few (turn_waits c.turn.result (g.W.Journal.counts c.args.w.now) (g.W.Journal.counts c.turn.new.w) (waits_of c.args.self.now) (waits_left c.turn.new.self) c.turn.ensures.cause c.turn.ensures.left c.turn.ensures.spent).all asks start from slots none none
     (quiet_follow asks start from slots (g.W.Journal.journal c.args.w.now) (g.W.Journal.journal c.turn.new.w) c.args.self.now.connections c.turn.new.self s.few (links_same c.turn.ensures.known) none refl (faults_none c.in-Err-Spent.ensures.turned)) s
 
